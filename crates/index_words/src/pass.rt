@@ -1,0 +1,25 @@
+/// What a pass may use: node slots, entry slots, and how many updates it may make.
+#[derive(Clone, Copy, Debug, PartialEq, Eq)]
+pub struct PassSize {
+    pub nodes: u32,
+    pub entries: u32,
+    pub calls: u32,
+}
+
+/// The answer of an update: the place at which the map is as the answer says, and whether the key was
+/// in the map.
+#[derive(Clone, Copy, Debug, PartialEq, Eq)]
+pub struct Done {
+    /// How many updates stand up to and with this place.
+    pub at: u64,
+    pub was: bool,
+}
+
+/// Why a pass refuses an update. The pass is then unchanged.
+#[derive(Clone, Copy, Debug, PartialEq, Eq)]
+pub enum PassError {
+    /// The pass owns no node slot, or fewer than four entry slots.
+    NoSlot,
+    /// The pass has made all updates that it may make.
+    Spent,
+}
