@@ -1,2 +1,3 @@
 pub mod Map
 pub mod History
+pub mod PlainMap

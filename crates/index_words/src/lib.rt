@@ -5,8 +5,10 @@
 
 mod pair;
 mod pass;
+mod plain_map;
 mod update;
 
 pub use pair::Pair;
 pub use pass::{Done, PassError, PassSize};
+pub use plain_map::PlainMap;
 pub use update::{Change, Update};
