@@ -1,0 +1,43 @@
+-- Names and the directory of names. A name is seen as the list of its UTF-8 bytes.
+use Rattle.std.specs.Prelude.{◌≡◌, ℕ, ◌<◌, ◌≤◌, List, [], length, All, Contains}
+use Rattle.std.specs.List.{slice_index_or}
+use Rattle.std.specs.List.Sorted.{IsStrictlySortedBy}
+use Rattle.std.specs.declared.cmp.Ordering.{Ordering}
+use Rattle.std.specs.Ordering.{nat_cmp}
+use Rattle.std.specs.Cmp.Lexicographic.{slice_cmp}
+use Rattle.std.specs.Str.{IsUtf8}
+
+-- the byte order: the first byte that differs decides, and a name stands before its own continuations
+-- (Amazon S3 API reference, ListObjectsV2: keys are listed in UTF-8 binary order)
+abbrev pub byte_order : List ℕ → List ℕ → Ordering
+byte_order = slice_cmp nat_cmp
+
+-- a name that a directory may have: 1 to 1,024 bytes of UTF-8 (Amazon S3 user guide, object key names)
+pub record IsFine (name : List ℕ) : Type 0 where
+  pub not_empty : 0 < length name
+  pub short : length name ≤ 1024
+  pub text : IsUtf8 name
+
+-- the names rise strictly in byte order, so none stands twice
+abbrev pub Rises : List (List ℕ) → Type 0
+Rises names = IsStrictlySortedBy byte_order names
+
+-- a directory: fine names that rise strictly
+pub record IsDirectory (names : List (List ℕ)) : Type 0 where
+  pub rising : Rises names
+  pub fine : All IsFine names
+
+-- the list has exactly the given names, each once, in byte order
+pub record HoldsEachOnce (given held : List (List ℕ)) : Type 0 where
+  pub rising : Rises held
+  pub all : (name : List ℕ) → Contains given name → Contains held name
+  pub no_other : (name : List ℕ) → Contains held name → Contains given name
+
+-- the name at a rank, the place counted from 0; behind the last rank the empty name, which no directory has
+abbrev pub name_at : List (List ℕ) → ℕ → List ℕ
+name_at names rank = slice_index_or names rank []
+
+-- the rank is the place of the name
+pub record IsRank (names : List (List ℕ)) (name : List ℕ) (rank : ℕ) : Type 0 where
+  pub below : rank < length names
+  pub is : name_at names rank ≡ name

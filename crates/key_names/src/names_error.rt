@@ -1,0 +1,9 @@
+/// Why a list of names makes no directory. The number is the place of the first faulty name, from 0.
+#[derive(Clone, Copy, Debug, PartialEq, Eq)]
+pub enum NamesError {
+    /// The name has no bytes: an object key has at least one.
+    Empty(usize),
+    /// The name has more than 1,024 bytes, the most that Amazon S3 takes for an object key.
+    TooLong(usize),
+    NoMemory,
+}
