@@ -2,6 +2,7 @@
 -- a rank in the directory it stands for the name there, so the pairs stand in the byte order of names.
 use Rattle.std.specs.Prelude.{ℕ, ◌+◌, ◌≤◌, Bool, List, [], ◌∷◌, nat_lt, nat_le, ◌==◌, if◌then◌else◌, Option, find}
 use Rattle.std.specs.List.{list_any}
+use Rattle.std.specs.Option.{option_map}
 use Rattle.index_words.specs.declared.pair.Pair.{Pair}
 
 abbrev pub pair : ℕ → ℕ → Pair
@@ -19,6 +20,10 @@ IsMap m = RisesFrom 0 m
 -- whether the key is in the map
 abbrev pub map_has : ℕ → List Pair → Bool
 map_has key m = list_any (λ (p : Pair). p.key == key) m
+
+-- the key's value, where it is in the map
+abbrev pub map_get : ℕ → List Pair → Option ℕ
+map_get key m = option_map (λ (p : Pair). p.val) (find (λ (p : Pair). p.key == key) m)
 
 -- the map with the pair inserted, or with the key's value replaced
 abbrev pub map_put : ℕ → ℕ → List Pair → List Pair

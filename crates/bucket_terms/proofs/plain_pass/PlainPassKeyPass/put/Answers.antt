@@ -1,0 +1,56 @@
+use Rattle.std.proofs.Common.{◌≡◌, ℕ, List, ◌+◌, ◌-◌, [], ◌∷◌, ◌++◌, None, All, length, sym, ap, ◌∙◌, refl, arith, subst, append-nil}
+use Rattle.std.proofs.lemmas.Bool.Decides.{nat_tests}
+use Rattle.std.proofs.lemmas.List.{length_push}
+use Rattle.std.proofs.lemmas.Option.{none-some}
+use Rattle.std.proofs.lemmas.List.Elements.{All-push}
+use Rattle.index_words.specs.declared.pair.Pair.{Pair}
+use Rattle.index_words.specs.Map.{map_has}
+use Rattle.index_words.specs.History.{after}
+use Rattle.index_words.specs.declared.update.Update.{Update}
+use Rattle.index_words.specs.declared.update.Change.TheVariants.{Put}
+use Rattle.index_words.proofs.HistoryLaws.{after-push, after-append}
+use Rattle.bucket_terms.proofs.PlacesLaws.{own_places-own}
+use Rattle.bucket_terms.proofs.plain_pass.PlainPassKeyPass.put.Goals as goal
+
+pub invariant_of-self : goal.invariant_of-self
+invariant_of-self g c =
+    let p = c.self.inside in
+    let old = p.updates.items in
+    let u : Update = record { client = p.number; line = c.args.line; key = c.args.key; change = Put c.args.val } in
+    let items : c.push_reserved.new.self.items ≡ old ++ u ∷ [] = c.push_reserved.ensures.items in
+    let longer : length c.push_reserved.new.self.items ≡ length old + 1 = ap length items ∙ length_push old u in
+    let map = c.put-was.ensures.map in
+    let closed : p.opened ≡ None = rw (← c.self.view_is) at c.requires in
+    record {
+      map = rw (longer, items, after-push old u, map, c.self.invariant.map);
+      small = omega (arith, c.put-was.ensures.size, c.self.invariant.small);
+      own = subst (λ us. All (λ (v : Update). v.client ≡ p.number) us) (sym items) (All-push (λ (v : Update). v.client ≡ p.number) old u c.self.invariant.own refl);
+      update_room = omega (arith, c.self.invariant.update_room, c.push_reserved.ensures.capacity);
+      pair_room = rw map (omega (arith, c.self.invariant.pair_room));
+      snapshot = λ x e. absurd (none-some x (sym closed ∙ e));
+    }
+
+pub returns-clause-made : goal.returns-clause-made
+returns-clause-made g c =
+    let p = c.self.inside in
+    let old = p.updates.items in
+    let u : Update = record { client = p.number; line = c.args.line; key = c.args.key; change = Put c.args.val } in
+    let items : c.push_reserved.new.self.items ≡ old ++ u ∷ [] = c.push_reserved.ensures.items in
+    let longer : length c.push_reserved.new.self.items ≡ length old + 1 = ap length items ∙ length_push old u in
+    let here : c.len.result ≡ length c.push_reserved.new.self.items = omega arith in
+    let closed : p.opened ≡ None = rw (← c.self.view_is) at c.requires in
+    rw (← c.self.view_is) (record {
+      update = record {
+        continues = record { number = refl; seen = (u ∷ [], items); mine = refl; looks = omega arith };
+        above = omega arith;
+        others = [];
+        seen = rw append-nil items;
+        place = here;
+        mine = rw (items, own_places-own p.number old u refl, here, longer);
+        left = omega arith;
+        entries = omega arith;
+        closed = closed;
+      };
+      was = c.put-was.ensures.was ∙ ap (λ (m : List Pair). map_has c.args.key m) (c.self.invariant.map ∙ sym (after-append old (u ∷ []) (length old) (omega arith)) ∙ ap (λ (n : ℕ). after (old ++ u ∷ []) n) (omega arith) ∙ ap (λ (us : List Update). after us (c.len.result - 1)) (sym items));
+      nodes = grind (arith, nat_tests, c.from.ensures);
+    })

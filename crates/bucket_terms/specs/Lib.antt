@@ -1,0 +1,11 @@
+pub mod Entries
+pub mod Token
+pub mod Page
+pub mod Answer
+pub mod LegalRun
+pub mod PassView
+pub mod PlainPass
+pub mod PlainInside
+pub use Rattle.index_words.specs.Map
+pub use Rattle.index_words.specs.History
+pub use Rattle.key_names.specs.Names

@@ -1,0 +1,94 @@
+-- What a pass of the index is to its caller: its number, the history that it knows, its slots and its
+-- open snapshot. Nothing here says that nobody else changes the map between two calls.
+use Rattle.std.specs.Prelude.{◌≡◌, ℕ, ◌+◌, ◌-◌, ◌<◌, ◌≤◌, ◌^◌, ◌⊎◌, ◌==◌, if◌then◌else◌, List, [], ◌∷◌, ◌++◌, length, Option, Some, None}
+use Rattle.index_words.specs.declared.update.Update.{Update}
+use Rattle.index_words.specs.declared.update.Change.{Change}
+use Rattle.index_words.specs.declared.update.Change.TheVariants.{Put}
+use Rattle.index_words.specs.declared.pass.Done.{Done}
+use Rattle.index_words.specs.Map.{map_has}
+use Rattle.index_words.specs.History.{after}
+
+pub record PassView : Type 0 where
+  -- the number of the pass, by which its updates are known
+  pub number : ℕ
+  -- the updates that it knows: a beginning of the index's history
+  pub seen : List Update
+  -- the places of its own updates
+  pub mine : List ℕ
+  -- how many loads of the stamp have fixed a place; a count that stays at its last value
+  pub looks : ℕ
+  -- the number that the last of them gave
+  pub found : ℕ
+  -- the node slots and the entry slots that it owns
+  pub nodes : ℕ
+  pub entries : ℕ
+  -- how many updates it may still make
+  pub left : ℕ
+  -- the number of the open snapshot, if there is one
+  pub opened : Option ℕ
+
+-- the new list begins with the old one
+abbrev pub Extends : {X : Type 0} → List X → List X → Type 0
+Extends {X} old new = (more : List X) × (new ≡ old ++ more)
+
+-- a count of 64 bits has risen by at least `n`, or stands at its last value
+abbrev pub RoseBy : ℕ → ℕ → ℕ → Type 0
+RoseBy n old new = (old + n ≤ new) ⊎ (new ≡ 2 ^ 64 - 1)
+
+-- a count of 64 bits has risen by one, or stands at its last value
+abbrev pub RoseByOne : ℕ → ℕ → Type 0
+RoseByOne old new = (new ≡ old + 1) ⊎ (new ≡ 2 ^ 64 - 1)
+
+-- the places, counted from `at`, of the updates of the pass with this number
+abbrev pub places_from : ℕ → ℕ → List Update → List ℕ
+places_from number at [] = []
+places_from number at (u ∷ us) =
+    if u.client == number then at ∷ places_from number (at + 1) us else places_from number (at + 1) us
+
+abbrev pub own_places : ℕ → List Update → List ℕ
+own_places number updates = places_from number 1 updates
+
+-- what no call of a pass changes, and what only grows
+pub record Continues (old new : PassView) : Type 0 where
+  pub number : new.number ≡ old.number
+  pub seen : Extends old.seen new.seen
+  pub mine : new.mine ≡ own_places new.number new.seen
+  pub looks : old.looks ≤ new.looks
+
+-- an update was made at place `at`, above all that the pass had seen: it stands at the end of the new history
+pub record MadeUpdate (old new : PassView) (line key : ℕ) (change : Change) (at : ℕ) : Type 0 where
+  pub continues : Continues old new
+  pub above : length old.seen < at
+  pub others : List Update
+  pub seen : new.seen ≡ (old.seen ++ others) ++ record { client = old.number; line = line; key = key; change = change } ∷ []
+  pub place : at ≡ length new.seen
+  pub mine : new.mine ≡ old.mine ++ at ∷ []
+  pub left : new.left + 1 ≡ old.left
+  pub entries : old.entries ≤ new.entries + 4
+  pub closed : new.opened ≡ None
+
+-- a put was made. A node slot is used where the key was not there.
+pub record MadePut (old new : PassView) (line key val : ℕ) (done : Done) : Type 0 where
+  pub update : MadeUpdate old new line key (Put val) done.at
+  pub was : done.was ≡ map_has key (after new.seen (done.at - 1))
+  pub nodes : new.nodes + (if done.was then 0 else 1) ≡ old.nodes
+
+-- a load of the stamp has fixed the place `at`, and the pass knows the history up to it
+pub record Looked (old new : PassView) (at : ℕ) : Type 0 where
+  pub continues : Continues old new
+  pub found : new.found ≡ at
+  pub place : at ≡ length new.seen
+  pub mine : new.mine ≡ old.mine
+  pub left : new.left ≡ old.left
+  pub nodes : new.nodes ≡ old.nodes
+  pub entries : new.entries ≡ old.entries
+
+-- a snapshot was opened at place `at`, the number found
+pub record Began (old new : PassView) (at : ℕ) : Type 0 where
+  pub looked : Looked old new at
+  pub looks : RoseByOne old.looks new.looks
+  pub opened : new.opened ≡ Some at
+
+-- the pass lacks the slots that an update may take
+abbrev pub IsOutOfSlots : PassView → Type 0
+IsOutOfSlots pass = (0 < pass.left) × ((pass.nodes < 1) ⊎ (pass.entries < 4))

@@ -1,0 +1,51 @@
+// One caller's way to the map. A pass is used by one caller at a time; other passes of the same index may
+// change the map between two of its calls and, but for an open snapshot, during them.
+ghost use Rattle.std.specs.Prelude.{◌≡◌, ◌<◌, ◌↔◌, ℕ, List, None, Some, IsSome, IfOk, OnErr, IsErrOf};
+ghost use Rattle.index_words.specs.Map.{first_from};
+ghost use Rattle.index_words.specs.History.{after};
+ghost use Rattle.bucket_terms.specs.PassView.{PassView, MadePut, Began, IsOutOfSlots};
+
+use index_words::{Done, Pair, PassError};
+use std::sync::Wait;
+
+/// A pass to an ordered map from ranks to values, of which every update has a number.
+/// A call that takes `rt` may wait for another pass; no call takes memory.
+pub trait KeyPass {
+    /// The index that the pass is of.
+    ghost home: { Self → List ℕ };
+
+    /// What its caller knows of the pass.
+    ghost view: { Self → PassView };
+
+    /// Puts the key with this value, for the request line `line`.
+    fn put<Rt: Wait>(&mut self, rt: &Rt, line: u32, key: u64, val: u64) -> Result<Done, PassError>
+        requires { (view self.old).opened ≡ None }
+        ensures made { IfOk result (MadePut (view self.old) (view self.new) line key val) }
+        ensures spent { IsErrOf result PassError.Spent ↔ ((view self.old).left ≡ 0) }
+        ensures no_slot { IsErrOf result PassError.NoSlot ↔ IsOutOfSlots (view self.old) }
+        ensures unchanged { OnErr result (view self.new ≡ view self.old) }
+        ensures home { home self.new ≡ home self.old };
+
+    /// Opens a snapshot and answers its place.
+    fn begin(&mut self) -> u64
+        requires { (view self.old).opened ≡ None }
+        ensures began { Began (view self.old) (view self.new) result }
+        ensures home { home self.new ≡ home self.old };
+
+    /// The first pair of the open snapshot whose key is at least `key`.
+    fn next_from<Rt: Wait>(&mut self, rt: &Rt, key: u64) -> Option<Pair>
+        requires { IsSome (view self.old).opened }
+        ensures first { (at : ℕ) → (view self.old).opened ≡ Some at → result ≡ first_from key (after (view self.old).seen at) }
+        ensures same { view self.new ≡ view self.old }
+        ensures home { home self.new ≡ home self.old };
+
+    /// Closes the snapshot.
+    fn end(&mut self)
+        requires { IsSome (view self.old).opened }
+        ensures closed { view self.new ≡ record (view self.old) { opened = None } }
+        ensures home { home self.new ≡ home self.old };
+
+    /// The number of the pass.
+    fn client(&self) -> u32
+        ensures { result ≡ (view self.now).number };
+}

@@ -1,0 +1,23 @@
+//! The terms in which a bucket answers: requests, replies, pages, what a legal run is, and the trait of a
+//! pass, the one way in which a caller reaches the map. It stands on `index_words` and `key_names`.
+//! The layers above use the definitions of `specs/`, the clauses of `KeyPass`, and `PlainPass`, a pass over
+//! one sorted list.
+#![tactic(auto)]
+
+mod key_pass;
+mod list_query;
+mod page;
+mod plain_pass;
+mod record;
+mod reply;
+mod request;
+mod token_point;
+
+pub use key_pass::KeyPass;
+pub use list_query::ListQuery;
+pub use page::{Page, PageEntries, PageEntry};
+pub use plain_pass::PlainPass;
+pub use record::Record;
+pub use reply::{Placed, Reply};
+pub use request::Request;
+pub use token_point::TokenPoint;

@@ -1,0 +1,31 @@
+use crate::{ListQuery, Page};
+
+/// The answer to a request.
+#[derive(Debug, Drop)]
+pub enum Reply {
+    /// 200. `was` tells whether the key was there before.
+    Put { was: bool },
+    /// 204, whether or not the key was there (Amazon S3 API reference, DeleteObject).
+    Deleted,
+    /// 200. The record at place `val` of the session's records.
+    Found { val: u64 },
+    /// 404.
+    Missing,
+    /// 200. The query that was answered, with the token that it went on from, and its page.
+    Listed { query: ListQuery, page: Page },
+    /// 400. The continuation token is that of no page, or there is no page to go on from.
+    BadToken,
+    /// 503. The pass had no slot left for the update.
+    NoSlot,
+}
+
+/// A reply with its place in the history.
+#[derive(Debug, Drop)]
+pub struct Placed {
+    pub client: u32,
+    pub line: u32,
+    /// How many updates stand at the moment of the answer. None exactly for a refused request:
+    /// `BadToken` and `NoSlot`.
+    pub at: Option<u64>,
+    pub reply: Reply,
+}
