@@ -1,9 +1,9 @@
 -- What a pass of the index is to its caller: its number, the history that it knows, its slots and its
 -- open snapshot. Nothing here says that nobody else changes the map between two calls.
-use Rattle.std.specs.Prelude.{◌≡◌, ℕ, ◌+◌, ◌-◌, ◌<◌, ◌≤◌, ◌^◌, ◌⊎◌, ◌==◌, if◌then◌else◌, List, [], ◌∷◌, ◌++◌, length, Option, Some, None}
+use Rattle.std.specs.Prelude.{◌≡◌, ℕ, ◌+◌, ◌-◌, ◌<◌, ◌≤◌, ◌^◌, ◌⊎◌, ◌==◌, true, false, MatchBool, if◌then◌else◌, List, [], ◌∷◌, ◌++◌, length, Option, Some, None}
 use Rattle.index_words.specs.declared.update.Update.{Update}
 use Rattle.index_words.specs.declared.update.Change.{Change}
-use Rattle.index_words.specs.declared.update.Change.TheVariants.{Put}
+use Rattle.index_words.specs.declared.update.Change.TheVariants.{Put, Remove}
 use Rattle.index_words.specs.declared.pass.Done.{Done}
 use Rattle.index_words.specs.Map.{map_has}
 use Rattle.index_words.specs.History.{after}
@@ -88,6 +88,24 @@ pub record Began (old new : PassView) (at : ℕ) : Type 0 where
   pub looked : Looked old new at
   pub looks : RoseByOne old.looks new.looks
   pub opened : new.opened ≡ Some at
+
+-- the key was there and was removed. A node slot comes back.
+pub record Removed (old new : PassView) (line key : ℕ) (done : Done) : Type 0 where
+  pub update : MadeUpdate old new line key Remove done.at
+  pub there : map_has key (after new.seen (done.at - 1)) ≡ true
+  pub nodes : new.nodes ≡ old.nodes + 1
+
+-- the key was not there at the place found: no update was made
+pub record FoundAbsent (old new : PassView) (key at : ℕ) : Type 0 where
+  pub looked : Looked old new at
+  pub looks : RoseBy 1 old.looks new.looks
+  pub absent : map_has key (after new.seen at) ≡ false
+  pub closed : new.opened ≡ None
+
+-- a removal was answered: `was` tells whether the key was there
+abbrev pub AnsweredRemoval : PassView → PassView → ℕ → ℕ → Done → Type 0
+AnsweredRemoval old new line key done =
+    MatchBool done.was (Removed old new line key done) (FoundAbsent old new key done.at)
 
 -- the pass lacks the slots that an update may take
 abbrev pub IsOutOfSlots : PassView → Type 0

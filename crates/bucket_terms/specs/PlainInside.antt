@@ -1,5 +1,5 @@
 -- What a plain pass keeps.
-use Rattle.std.specs.Prelude.{◌≡◌, ◌+◌, ◌≤◌, length, All, vec_capacity}
+use Rattle.std.specs.Prelude.{◌≡◌, ◌+◌, ◌^◌, ◌≤◌, length, All, vec_capacity}
 use Rattle.std.specs.Option.{ForSome}
 use Rattle.index_words.specs.declared.update.Update.{Update}
 use Rattle.index_words.specs.History.{after}
@@ -20,11 +20,12 @@ view_of p = record {
 }
 
 -- the list is the map after all updates, which are the pass's own; there is memory for the updates that
--- are left; and an open snapshot is of the whole history
+-- are left; the node slots can't outgrow 64 bits; and an open snapshot is of the whole history
 pub record IsPlainPass (p : Inside) : Type 0 where
   pub map : p.map.pairs ≡ after p.updates.items (length p.updates.items)
   pub small : length p.map.pairs ≤ length p.updates.items
   pub own : All (λ (u : Update). u.client ≡ p.number) p.updates.items
   pub update_room : length p.updates.items + p.left ≤ vec_capacity p.updates
   pub pair_room : length p.updates.items + p.left ≤ p.map.room
+  pub slots : p.nodes + p.left ≤ 2 ^ 33
   pub snapshot : ForSome p.opened (λ at. at ≡ length p.updates.items)

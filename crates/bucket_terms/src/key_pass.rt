@@ -3,7 +3,7 @@
 ghost use Rattle.std.specs.Prelude.{◌≡◌, ◌<◌, ◌↔◌, ℕ, List, None, Some, IsSome, IfOk, OnErr, IsErrOf};
 ghost use Rattle.index_words.specs.Map.{first_from};
 ghost use Rattle.index_words.specs.History.{after};
-ghost use Rattle.bucket_terms.specs.PassView.{PassView, MadePut, Began, IsOutOfSlots};
+ghost use Rattle.bucket_terms.specs.PassView.{PassView, MadePut, AnsweredRemoval, Began, IsOutOfSlots};
 
 use index_words::{Done, Pair, PassError};
 use std::sync::Wait;
@@ -21,6 +21,16 @@ pub trait KeyPass {
     fn put<Rt: Wait>(&mut self, rt: &Rt, line: u32, key: u64, val: u64) -> Result<Done, PassError>
         requires { (view self.old).opened ≡ None }
         ensures made { IfOk result (MadePut (view self.old) (view self.new) line key val) }
+        ensures spent { IsErrOf result PassError.Spent ↔ ((view self.old).left ≡ 0) }
+        ensures no_slot { IsErrOf result PassError.NoSlot ↔ IsOutOfSlots (view self.old) }
+        ensures unchanged { OnErr result (view self.new ≡ view self.old) }
+        ensures home { home self.new ≡ home self.old };
+
+    /// Takes the key out, for the request line `line`. Where it is not there, no update is made: the answer is
+    /// that of a snapshot. The conditions on slots are the same then.
+    fn remove<Rt: Wait>(&mut self, rt: &Rt, line: u32, key: u64) -> Result<Done, PassError>
+        requires { (view self.old).opened ≡ None }
+        ensures made { IfOk result (AnsweredRemoval (view self.old) (view self.new) line key) }
         ensures spent { IsErrOf result PassError.Spent ↔ ((view self.old).left ≡ 0) }
         ensures no_slot { IsErrOf result PassError.NoSlot ↔ IsOutOfSlots (view self.old) }
         ensures unchanged { OnErr result (view self.new ≡ view self.old) }

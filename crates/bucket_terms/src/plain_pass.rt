@@ -99,6 +99,35 @@ impl KeyPass for PlainPass {
         })
     }
 
+    fn remove<Rt: Wait>(&mut self, _rt: &Rt, line: u32, key: u64) -> Result<Done, PassError> {
+        if self.left == 0 {
+            return Err(PassError::Spent);
+        }
+        if !suffices(self.nodes, self.entries) {
+            return Err(PassError::NoSlot);
+        }
+        if !self.map.remove(key) {
+            self.found = self.updates.len() as u64;
+            self.looks = self.looks.saturating_add(1);
+            return Ok(Done {
+                at: self.found,
+                was: false,
+            });
+        }
+        self.updates.push_reserved(Update {
+            client: self.number,
+            line,
+            key,
+            change: Change::Remove,
+        });
+        self.left -= 1;
+        self.nodes += 1;
+        Ok(Done {
+            at: self.updates.len() as u64,
+            was: true,
+        })
+    }
+
     fn begin(&mut self) -> u64 {
         let at = self.updates.len() as u64;
         self.looks = self.looks.saturating_add(1);

@@ -17,5 +17,6 @@ invariant_of-result c =
       own = λ k d below. absurd (omega arith);
       update_room = omega arith;
       pair_room = rw map (omega arith);
+      slots = omega (arith, c.from.ensures);
       snapshot = λ x e. absurd (none-some x e);
     }

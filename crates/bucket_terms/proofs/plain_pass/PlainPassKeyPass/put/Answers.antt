@@ -27,6 +27,7 @@ invariant_of-self g c =
       own = subst (λ us. All (λ (v : Update). v.client ≡ p.number) us) (sym items) (All-push (λ (v : Update). v.client ≡ p.number) old u c.self.invariant.own refl);
       update_room = omega (arith, c.self.invariant.update_room, c.push_reserved.ensures.capacity);
       pair_room = rw map (omega (arith, c.self.invariant.pair_room));
+      slots = omega (arith, c.self.invariant.slots);
       snapshot = λ x e. absurd (none-some x (sym closed ∙ e));
     }
 
