@@ -1,0 +1,23 @@
+//! What is outside the program: bytes that come in and bytes that go out, behind two traits whose clauses
+//! say which bytes, where that can be told, and count the faults. It stands on `key_names`. The layers
+//! above read all input with `read_all` and write each line with `write_all`; `main` alone makes the
+//! standard streams, and the tests take sources and sinks in memory.
+#![tactic(auto)]
+
+mod failed;
+mod failing;
+mod memory;
+mod reading;
+mod sink;
+mod source;
+mod standard;
+mod writing;
+
+pub use failed::Failed;
+pub use failing::FailingSource;
+pub use memory::{MemSink, MemSource};
+pub use reading::{ReadError, read_all};
+pub use sink::Sink;
+pub use source::Source;
+pub use standard::{StdSink, StdSource};
+pub use writing::{WriteFault, write_all};

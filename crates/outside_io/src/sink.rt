@@ -1,0 +1,24 @@
+// Where bytes go.
+ghost use Rattle.std.specs.Prelude.{◌≡◌, ◌<◌, ◌≤◌, ℕ, List, Option, length, take, IfOk, OnErr};
+ghost use Rattle.outside_io.specs.Faults.{Rose};
+ghost use Rattle.outside_io.specs.Sink.{IsTaken};
+
+use crate::Failed;
+
+/// Takes bytes piece by piece, at least one of a piece that has any.
+pub trait Sink {
+    /// The bytes that were taken so far, where the sink tells them.
+    ghost taken: { Self → Option (List ℕ) };
+
+    /// How often the sink has failed. The count stays at 2^64 - 1 once it is there.
+    ghost faults: { Self → ℕ };
+
+    /// Takes the start of `bytes`, and answers how many it took.
+    fn write(&mut self, bytes: &[u8]) -> Result<usize, Failed>
+        ensures most { IfOk result (λ n. n ≤ length bytes.now) }
+        ensures some { IfOk result (λ n. 0 < length bytes.now → 0 < n) }
+        ensures took { IfOk result (λ n. IsTaken (taken self.old) (taken self.new) (take n bytes.now)) }
+        ensures failed { OnErr result (Rose (faults self.old) (faults self.new)) }
+        ensures unchanged { OnErr result (taken self.new ≡ taken self.old) }
+        ensures counted { faults self.old ≤ faults self.new };
+}
