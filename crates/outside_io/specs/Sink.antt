@@ -1,5 +1,7 @@
 -- What a sink takes, by the bytes that were taken before and after; None where the sink tells nothing.
-use Rattle.std.specs.Prelude.{◌≡◌, ℕ, ◌≤◌, List, ◌++◌, Option, Some, None, length, take}
+use Rattle.std.specs.Prelude.{◌≡◌, ℕ, ◌≤◌, List, ◌++◌, Option, Some, None, Result, Ok, Err, length, take, ◌-◌}
+use Rattle.outside_io.specs.declared.failed.Failed.{Failed}
+use Rattle.outside_io.specs.Faults.{one_more}
 
 -- just these bytes were taken: they stand behind what was taken before
 abbrev pub IsTaken : Option (List ℕ) → Option (List ℕ) → List ℕ → Type 0
@@ -21,3 +23,8 @@ pub record Store : Type 0 where
 
 abbrev pub store : List ℕ → ℕ → ℕ → Store
 store taken room faults = record { taken = taken; room = room; faults = faults }
+
+-- the sink in memory after a write of these bytes: it keeps them all, or counts the fault
+abbrev pub written : Store → List ℕ → Result ℕ Failed → Store
+written old bytes (Ok n) = store (old.taken ++ bytes) (old.room - length bytes) old.faults
+written old bytes (Err failed) = store old.taken old.room (one_more old.faults)

@@ -1,8 +1,8 @@
 // A source that fails where it is told to.
-ghost use Rattle.std.specs.Prelude.{◌≡◌, ◌<◌, ◌≤◌, [], Some, length};
+ghost use Rattle.std.specs.Prelude.{◌≡◌, ◌<◌, ◌≤◌, ◌↔◌, Some, length, take, min, Contains, IsErr, IfOk, OnErr};
 ghost use Rattle.outside_io.specs.Faults.{Rose, one_more};
 ghost use Rattle.outside_io.specs.Source.{IsRead, EndsExactly};
-ghost use Rattle.outside_io.specs.Failing.{Plan, plan};
+ghost use Rattle.outside_io.specs.Failing.{Plan, plan, after_read};
 
 use crate::memory::copy_start;
 use crate::{Failed, Source};
@@ -51,7 +51,17 @@ impl Source for FailingSource {
 
     ghost faults = { λ s. s.faults };
 
-    fn read(&mut self, buf: &mut [u8]) -> Result<usize, Failed> {
+    fn read(&mut self, buf: &mut [u8]) -> Result<usize, Failed>
+        ensures planned { IsErr result ↔ Contains self.old.fails (one_more self.old.reads) }
+        ensures most { IfOk result (λ n. n ≡ min (min (length self.old.rest) (length buf.old)) self.old.step) }
+        ensures next { self.new ≡ after_read self.old result }
+        ensures room { IfOk result (λ n. n ≤ length buf.new) }
+        ensures given { IfOk result (λ n. IsRead (Some self.old.rest) (Some self.new.rest) (take n buf.new)) }
+        ensures end { IfOk result (EndsExactly (Some self.old.rest) (length buf.new)) }
+        ensures failed { OnErr result (Rose self.old.faults self.new.faults) }
+        ensures unchanged { OnErr result (Some self.new.rest ≡ Some self.old.rest) }
+        ensures counted { self.old.faults ≤ self.new.faults }
+    {
         self.reads = self.reads.saturating_add(1);
         if self.fails.contains(&self.reads) {
             self.faults = self.faults.saturating_add(1);

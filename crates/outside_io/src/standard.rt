@@ -1,8 +1,10 @@
 // The standard input and output of the process: the edge where nothing is known of the bytes.
-ghost use Rattle.std.specs.Prelude.{None};
+ghost use Rattle.std.specs.Prelude.{◌≡◌, ◌<◌, ◌≤◌, None, length, IfOk, OnErr};
+ghost use Rattle.outside_io.specs.Faults.{Rose, count_after};
 
 use crate::{Failed, Sink, Source};
 use std::io::{Read, Stdin, Stdout, Write};
+use std::marker::Model;
 
 /// The standard input. It tells no bytes, and counts its failures.
 #[derive(Drop)]
@@ -11,8 +13,19 @@ pub struct StdSource {
     faults: u64,
 }
 
+// seen as the count of its faults
+impl Model for StdSource {
+    ghost use Rattle.std.specs.Prelude.{ℕ};
+
+    ghost Value = { ℕ };
+
+    ghost view = { λ s. s.faults };
+}
+
 impl StdSource {
-    pub fn new(rt: &HostRuntime) -> StdSource {
+    pub fn new(rt: &HostRuntime) -> StdSource
+        ensures { result ≡ 0 }
+    {
         StdSource {
             input: rt.stdin(),
             faults: 0,
@@ -23,9 +36,14 @@ impl StdSource {
 impl Source for StdSource {
     ghost rest = { λ _. None };
 
-    ghost faults = { λ s. s.faults };
+    ghost faults = { λ count. count };
 
-    fn read(&mut self, buf: &mut [u8]) -> Result<usize, Failed> {
+    fn read(&mut self, buf: &mut [u8]) -> Result<usize, Failed>
+        ensures count { self.new ≡ count_after self.old result }
+        ensures room { IfOk result (λ n. n ≤ length buf.new) }
+        ensures failed { OnErr result (Rose self.old self.new) }
+        ensures counted { self.old ≤ self.new }
+    {
         match self.input.read(buf) {
             Ok(n) => Ok(n),
             Err(_) => {
@@ -44,8 +62,19 @@ pub struct StdSink {
     faults: u64,
 }
 
+// seen as the count of its faults
+impl Model for StdSink {
+    ghost use Rattle.std.specs.Prelude.{ℕ};
+
+    ghost Value = { ℕ };
+
+    ghost view = { λ s. s.faults };
+}
+
 impl StdSink {
-    pub fn new(rt: &HostRuntime) -> StdSink {
+    pub fn new(rt: &HostRuntime) -> StdSink
+        ensures { result ≡ 0 }
+    {
         StdSink {
             output: rt.stdout(),
             faults: 0,
@@ -56,9 +85,15 @@ impl StdSink {
 impl Sink for StdSink {
     ghost taken = { λ _. None };
 
-    ghost faults = { λ s. s.faults };
+    ghost faults = { λ count. count };
 
-    fn write(&mut self, bytes: &[u8]) -> Result<usize, Failed> {
+    fn write(&mut self, bytes: &[u8]) -> Result<usize, Failed>
+        ensures count { self.new ≡ count_after self.old result }
+        ensures most { IfOk result (λ n. n ≤ length bytes.now) }
+        ensures some { IfOk result (λ n. 0 < length bytes.now → 0 < n) }
+        ensures failed { OnErr result (Rose self.old self.new) }
+        ensures counted { self.old ≤ self.new }
+    {
         if let Ok(n) = self.output.write(bytes)
             && (n > 0 || bytes.is_empty())
         {
