@@ -25,6 +25,6 @@ abbrev pub store : List ℕ → ℕ → ℕ → Store
 store taken room faults = record { taken = taken; room = room; faults = faults }
 
 -- the sink in memory after a write of these bytes: it keeps them all, or counts the fault
-abbrev pub written : Store → List ℕ → Result ℕ Failed → Store
-written old bytes (Ok n) = store (old.taken ++ bytes) (old.room - length bytes) old.faults
-written old bytes (Err failed) = store old.taken old.room (one_more old.faults)
+abbrev pub after_write : Store → List ℕ → Result ℕ Failed → Store
+after_write old bytes (Ok n) = store (old.taken ++ bytes) (old.room - length bytes) old.faults
+after_write old bytes (Err failed) = store old.taken old.room (one_more old.faults)

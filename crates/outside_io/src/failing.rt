@@ -53,13 +53,10 @@ impl Source for FailingSource {
 
     fn read(&mut self, buf: &mut [u8]) -> Result<usize, Failed>
         ensures planned { IsErr result ↔ Contains self.old.fails (one_more self.old.reads) }
-        ensures most { IfOk result (λ n. n ≡ min (min (length self.old.rest) (length buf.old)) self.old.step) }
+        ensures count { IfOk result (λ n. n ≡ min (min (length self.old.rest) (length buf.old)) self.old.step) }
+        ensures given { IfOk result (λ n. take n buf.new ≡ take n self.old.rest) }
         ensures next { self.new ≡ after_read self.old result }
-        ensures room { IfOk result (λ n. n ≤ length buf.new) }
-        ensures given { IfOk result (λ n. IsRead (Some self.old.rest) (Some self.new.rest) (take n buf.new)) }
         ensures end { IfOk result (EndsExactly (Some self.old.rest) (length buf.new)) }
-        ensures failed { OnErr result (Rose self.old.faults self.new.faults) }
-        ensures unchanged { OnErr result (Some self.new.rest ≡ Some self.old.rest) }
         ensures counted { self.old.faults ≤ self.new.faults }
     {
         self.reads = self.reads.saturating_add(1);

@@ -2,7 +2,7 @@
 ghost use Rattle.std.specs.Prelude.{◌≡◌, ◌<◌, ◌≤◌, ◌↔◌, Some, Ok, [], ◌++◌, length, take, drop, min, IfOk, IsOk, OnErr};
 ghost use Rattle.outside_io.specs.Faults.{Rose, one_more};
 ghost use Rattle.outside_io.specs.Source.{IsRead, EndsExactly};
-ghost use Rattle.outside_io.specs.Sink.{IsTaken, Store, store, written};
+ghost use Rattle.outside_io.specs.Sink.{IsTaken, Store, store, after_write};
 
 use crate::{Failed, Sink, Source};
 use key_names::NoMemory;
@@ -41,13 +41,10 @@ impl Source for MemSource {
     ghost faults = { λ _. 0 };
 
     fn read(&mut self, buf: &mut [u8]) -> Result<usize, Failed>
-        ensures most { result ≡ Ok (min (length self.old) (length buf.old)) }
+        ensures count { result ≡ Ok (min (length self.old) (length buf.old)) }
         ensures room { IfOk result (λ n. n ≤ length buf.new) }
-        ensures given { IfOk result (λ n. IsRead (Some self.old) (Some self.new) (take n buf.new)) }
+        ensures given { IfOk result (λ n. self.old ≡ take n buf.new ++ self.new) }
         ensures end { IfOk result (EndsExactly (Some self.old) (length buf.new)) }
-        ensures failed { OnErr result (Rose 0 0) }
-        ensures unchanged { OnErr result (Some self.new ≡ Some self.old) }
-        ensures counted { 0 ≤ 0 }
     {
         let n = copy_start(&self.bytes[self.given..], buf, usize::MAX);
         self.given += n;
@@ -111,12 +108,8 @@ impl Sink for MemSink {
 
     fn write(&mut self, bytes: &[u8]) -> Result<usize, Failed>
         ensures fits { IsOk result ↔ (length bytes.now ≤ self.old.room) }
-        ensures whole { self.new ≡ written self.old bytes.now result }
-        ensures most { IfOk result (λ n. n ≤ length bytes.now) }
-        ensures some { IfOk result (λ n. 0 < length bytes.now → 0 < n) }
-        ensures took { IfOk result (λ n. IsTaken (Some self.old.taken) (Some self.new.taken) (take n bytes.now)) }
-        ensures failed { OnErr result (Rose self.old.faults self.new.faults) }
-        ensures unchanged { OnErr result (Some self.new.taken ≡ Some self.old.taken) }
+        ensures whole { IfOk result (λ n. n ≡ length bytes.now) }
+        ensures kept { self.new ≡ after_write self.old bytes.now result }
         ensures counted { self.old.faults ≤ self.new.faults }
     {
         if bytes.len() > self.room {

@@ -40,9 +40,8 @@ impl Source for StdSource {
 
     fn read(&mut self, buf: &mut [u8]) -> Result<usize, Failed>
         ensures count { self.new ≡ count_after self.old result }
-        ensures room { IfOk result (λ n. n ≤ length buf.new) }
-        ensures failed { OnErr result (Rose self.old self.new) }
         ensures counted { self.old ≤ self.new }
+        ensures room { IfOk result (λ n. n ≤ length buf.new) }
     {
         match self.input.read(buf) {
             Ok(n) => Ok(n),
@@ -89,10 +88,9 @@ impl Sink for StdSink {
 
     fn write(&mut self, bytes: &[u8]) -> Result<usize, Failed>
         ensures count { self.new ≡ count_after self.old result }
+        ensures counted { self.old ≤ self.new }
         ensures most { IfOk result (λ n. n ≤ length bytes.now) }
         ensures some { IfOk result (λ n. 0 < length bytes.now → 0 < n) }
-        ensures failed { OnErr result (Rose self.old self.new) }
-        ensures counted { self.old ≤ self.new }
     {
         if let Ok(n) = self.output.write(bytes)
             && (n > 0 || bytes.is_empty())
