@@ -1,5 +1,5 @@
 -- Why reading all input ends without its bytes, and what the source has given by then.
-use Rattle.std.specs.Prelude.{◌≡◌, ℕ, ◌<◌, ◌≤◌, List, Option, length}
+use Rattle.std.specs.Prelude.{ℕ, ◌<◌, ◌≤◌, List, Option, length}
 use Rattle.outside_io.specs.declared.reading.ReadError.{ReadError}
 use Rattle.outside_io.specs.declared.reading.ReadError.TheVariants.{Fault, TooLong, NoMemory}
 use Rattle.outside_io.specs.Source.{IsRead}

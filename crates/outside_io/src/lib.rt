@@ -21,3 +21,6 @@ pub use sink::Sink;
 pub use source::Source;
 pub use standard::{StdSink, StdSource};
 pub use writing::{WriteFault, write_all};
+
+#[cfg(test)]
+mod tests;

@@ -1,7 +1,6 @@
 use Rattle.std.proofs.Common.{arith}
 use Rattle.std.proofs.lemmas.Result.{err_from_is_err_and}
 use Rattle.outside_io.proofs.Pieces.{read_both, length-piece}
-use Rattle.outside_io.specs.Reading.{Gave}
 use Rattle.outside_io.proofs.reading.read_all.Goals as goal
 
 pub returns-then-n-limit-clause-refused : goal.returns-then-n-limit-clause-refused

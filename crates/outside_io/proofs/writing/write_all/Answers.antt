@@ -1,4 +1,4 @@
-use Rattle.std.proofs.Common.{arith, length-drop, length-take-le}
+use Rattle.std.proofs.Common.{arith}
 use Rattle.std.proofs.lemmas.Grind.{common_steps}
 use Rattle.outside_io.proofs.Pieces.{taken_more}
 use Rattle.outside_io.proofs.writing.write_all.Goals as goal
