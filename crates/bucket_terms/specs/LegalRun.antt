@@ -78,12 +78,9 @@ last_listing (a ∷ earlier) = last_or (last_listing earlier) (is_listing a.aske
     last_or None false reply = None
 
 -- what NEXT goes on from: the page of the client's last LIST or NEXT, where there is one and it was truncated
-abbrev pub next_of : List (List ℕ) → List Answered → Option Resumed
-next_of dir earlier = resumed_by (last_listing earlier)
-  where
-    resumed_by : Option Reply → Option Resumed
-    resumed_by None = None
-    resumed_by (Some reply) = resumed_from dir reply
+abbrev pub next_of : List (List ℕ) → Option Reply → Option Resumed
+next_of dir None = None
+next_of dir (Some reply) = resumed_from dir reply
 
 -- ---- one answer
 
@@ -132,9 +129,9 @@ pub record AnswersList (s : Setting) (asked : ListQuery) (at : ℕ) (query : Lis
   pub same_page : page ≡ page_of s.dir asked point (after s.updates at)
 
 -- the next page is the map's at its place, for the query and from the point of the page before it
-pub record AnswersNext (s : Setting) (earlier : List Answered) (at : ℕ) (query : ListQuery) (page : Page) : Type 0 where
+pub record AnswersNext (s : Setting) (last : Option Reply) (at : ℕ) (query : ListQuery) (page : Page) : Type 0 where
   pub next : Resumed
-  pub follows : next_of s.dir earlier ≡ Some next
+  pub follows : next_of s.dir last ≡ Some next
   pub same_query : query ≡ next.query
   pub same_page : page ≡ page_of s.dir next.query (Some next.point) (after s.updates at)
 
@@ -146,10 +143,10 @@ is_earlier_of s line u = (u.client == s.client) && nat_lt u.line line
 pub record IsOutOfSlots (s : Setting) (line : ℕ) : Type 0 where
   pub made : s.slots ≤ count_by (is_earlier_of s line) s.updates
 
--- the reply is right at its place. A request is refused, and so has no place, only for a bad token or for
+-- the reply is right at its place, where `last` is the reply of the client's last listing. A request is refused, and so has no place, only for a bad token or for
 -- want of slots.
-abbrev pub IsRight : Setting → List Answered → RequestLine → Option ℕ → Reply → Type 0
-IsRight s earlier asked at reply = IsRightFor asked.request at reply
+abbrev pub IsRight : Setting → Option Reply → RequestLine → Option ℕ → Reply → Type 0
+IsRight s last asked at reply = IsRightFor asked.request at reply
   where
     IsRightFor : Request → Option ℕ → Reply → Type 0
     IsRightFor (Put name val) (Some at) (PutReply was) = MadePut s asked.line name val was at
@@ -160,8 +157,8 @@ IsRight s earlier asked at reply = IsRightFor asked.request at reply
     IsRightFor (Head name) (Some at) Missing = AnswersHead s name at Missing
     IsRightFor (ListRequest query) (Some at) (Listed query' page) = AnswersList s query at query' page
     IsRightFor (ListRequest query) None BadToken = IsBadToken query
-    IsRightFor Next (Some at) (Listed query page) = AnswersNext s earlier at query page
-    IsRightFor Next None BadToken = next_of s.dir earlier ≡ None
+    IsRightFor Next (Some at) (Listed query page) = AnswersNext s last at query page
+    IsRightFor Next None BadToken = next_of s.dir last ≡ None
     IsRightFor request at reply = ⊥
 
 -- a place is at most, or below, this one; a refused request has none
@@ -182,7 +179,7 @@ pub record IsAnswered (s : Setting) (earlier : List Answered) (asked : RequestLi
   pub client : placed.client ≡ s.client
   pub line : placed.line ≡ asked.line
   pub order : MatchOption placed.at ⊤ (KeepsOrder s earlier asked.line)
-  pub right : IsRight s earlier asked placed.at placed.reply
+  pub right : IsRight s (last_listing earlier) asked placed.at placed.reply
 
 -- each request has one reply, in order
 abbrev pub AreAnswered : Setting → List Answered → List RequestLine → List Placed → Type 0
