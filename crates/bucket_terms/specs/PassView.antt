@@ -48,10 +48,12 @@ places_from number at (u ∷ us) =
 abbrev pub own_places : ℕ → List Update → List ℕ
 own_places number updates = places_from number 1 updates
 
--- what no call of a pass changes, and what only grows
+-- what no call of a pass changes, and what only grows. The places of its own updates are just those at which
+-- updates of its number stand.
 pub record Continues (old new : PassView) : Type 0 where
   pub number : new.number ≡ old.number
   pub seen : Extends old.seen new.seen
+  pub mine_before : old.mine ≡ own_places old.number old.seen
   pub mine : new.mine ≡ own_places new.number new.seen
   pub looks : old.looks ≤ new.looks
 

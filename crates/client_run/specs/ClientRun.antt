@@ -1,0 +1,82 @@
+-- What running one client over a pass has done, by what the pass knows before and after.
+use Rattle.std.specs.Prelude.{◌≡◌, ℕ, ◌+◌, ◌*◌, ◌<◌, ◌≤◌, ◌⊎◌, ⊤, ◌==◌, ◌&&◌, Bool, true, false, not, if◌then◌else◌, List, [], ◌∷◌, ◌++◌, length, count_by, sum_by, All, Any, Option, Some, None, MatchOption, slice_get}
+use Rattle.key_names.specs.Names.{IsRank}
+use Rattle.index_words.specs.declared.update.Update.{Update}
+use Rattle.bucket_terms.specs.declared.request.Request.{Request}
+use Rattle.bucket_terms.specs.declared.reply.Reply.{Reply}
+use Rattle.bucket_terms.specs.declared.reply.Reply.TheVariants.{Put, Deleted, Found, Missing, Listed, BadToken, NoSlot}
+use Rattle.bucket_terms.specs.declared.reply.Placed.{Placed}
+use Rattle.bucket_terms.specs.PassView.{PassView, Continues, RoseBy}
+use Rattle.bucket_terms.specs.LegalRun.{RequestLine, Setting, Answered, AreAnswered, IsRight, IsMadeBy, answered_lines, update_at, is_earlier_of, is_update}
+
+-- the pass lacks the slots that an update may take
+abbrev pub IsShort : PassView → Type 0
+IsShort pass = (pass.nodes < 1) ⊎ (pass.entries < 4)
+
+-- what the pass's client is answered in
+abbrev pub setting : List (List ℕ) → PassView → ℕ → Setting
+setting dir pass slots = record { dir = dir; updates = pass.seen; client = pass.number; slots = slots }
+
+-- whether the update is of this client and line
+abbrev pub is_of : Setting → ℕ → Option Update → Bool
+is_of s line None = false
+is_of s line (Some u) = (u.client == s.client) && (u.line == line)
+
+-- whether the answered line has its own update at its place
+abbrev pub has_own : Setting → ℕ → Option ℕ → Bool
+has_own s line None = false
+has_own s line (Some at) = is_of s line (update_at s at)
+
+-- whether the answer is that of a snapshot: a head, a listing, or a delete that found no key
+abbrev pub is_looked_up : Setting → Answered → Bool
+is_looked_up s a = by_reply a.placed.reply
+  where
+    by_reply : Reply → Bool
+    by_reply (Found val) = true
+    by_reply Missing = true
+    by_reply (Listed query page) = true
+    by_reply Deleted = not (has_own s a.asked.line a.placed.at)
+    by_reply reply = false
+
+-- after the last answer: a refusal for want of slots leaves the pass without them, and the place of an answer
+-- of a snapshot is the number that was found last
+pub record Ended (s : Setting) (pass : PassView) (a : Answered) : Type 0 where
+  pub refused : a.placed.reply ≡ NoSlot → IsShort pass
+  pub looked_up : is_looked_up s a ≡ true → a.placed.at ≡ Some pass.found
+
+-- one request was answered over a pass that knew `old` before and knows `new` now; `last` is the reply of the
+-- client's last listing
+pub record Answers (dir : List (List ℕ)) (old new : PassView) (last : Option Reply) (a : Answered) : Type 0 where
+  pub continues : Continues old new
+  pub closed : new.opened ≡ None
+  pub client : a.placed.client ≡ old.number
+  pub line : a.placed.line ≡ a.asked.line
+  -- its place is one that the pass came to know in this call, or the last one before it
+  pub from : MatchOption a.placed.at ⊤ (λ at. length old.seen ≤ at)
+  pub upto : MatchOption a.placed.at ⊤ (λ at. at ≤ length new.seen)
+  -- it is right for a client whose slots are used up where the pass lacks some
+  pub right : (slots : ℕ) → (IsShort old → slots ≤ count_by (is_earlier_of (setting dir old slots) a.asked.line) old.seen)
+      → IsRight (setting dir new slots) last a.asked a.placed.at a.placed.reply
+  -- an own update that is new is the one of this line
+  pub made : (i : ℕ) (u : Update) → length old.seen ≤ i → slice_get new.seen i ≡ Some u → u.client ≡ old.number → IsMadeBy dir u (i + 1) a
+  -- each own update takes a node slot, four entry slots and a call at most
+  pub nodes : old.nodes + length old.mine ≤ new.nodes + length new.mine
+  pub entries : old.entries + 4 * length old.mine ≤ new.entries + 4 * length new.mine
+  pub left : new.left + length new.mine ≡ old.left + length old.mine
+  pub updates : length new.mine ≤ length old.mine + (if is_update a.asked.request then 1 else 0)
+  pub looks : RoseBy (if is_looked_up (setting dir new 0) a then 1 else 0) old.looks new.looks
+  pub ended : Ended (setting dir new 0) new a
+
+-- the client's requests were answered, in order, over a pass that knew `old` before and knows `new` now
+pub record RanClient (dir : List (List ℕ)) (lines : List RequestLine) (old new : PassView) (replies : List Placed) : Type 0 where
+  pub continues : Continues old new
+  pub closed : new.opened ≡ None
+  -- a refusal for want of slots comes only after as many updates of this call as there were slots for
+  pub answered : (n : ℕ) → n ≤ old.nodes → 4 * n ≤ old.entries → AreAnswered (setting dir new (length old.mine + n)) [] lines replies
+  -- an own update that is new is that of one of these lines
+  pub made : (i : ℕ) (u : Update) → length old.seen ≤ i → slice_get new.seen i ≡ Some u → u.client ≡ old.number
+      → Any (IsMadeBy dir u (i + 1)) (answered_lines lines replies)
+  -- no place is below what the pass knew
+  pub places : All (λ (p : Placed). MatchOption p.at ⊤ (λ at. length old.seen ≤ at)) replies
+  pub looks : RoseBy (count_by (is_looked_up (setting dir new 0)) (answered_lines lines replies)) old.looks new.looks
+  pub ended : (front : List Answered) (a : Answered) → answered_lines lines replies ≡ front ++ a ∷ [] → Ended (setting dir new 0) new a

@@ -1,0 +1,2 @@
+//! One client's requests over a pass.
+#![tactic(auto)]
