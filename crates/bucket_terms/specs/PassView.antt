@@ -48,13 +48,15 @@ places_from number at (u ∷ us) =
 abbrev pub own_places : ℕ → List Update → List ℕ
 own_places number updates = places_from number 1 updates
 
--- what no call of a pass changes, and what only grows. The places of its own updates are just those at which
--- updates of its number stand.
+-- the places of the pass's own updates are just those at which updates of its number stand
+abbrev pub KnowsOwn : PassView → Type 0
+KnowsOwn pass = pass.mine ≡ own_places pass.number pass.seen
+
+-- what no call of a pass changes, and what only grows
 pub record Continues (old new : PassView) : Type 0 where
   pub number : new.number ≡ old.number
   pub seen : Extends old.seen new.seen
-  pub mine_before : old.mine ≡ own_places old.number old.seen
-  pub mine : new.mine ≡ own_places new.number new.seen
+  pub mine : KnowsOwn new
   pub looks : old.looks ≤ new.looks
 
 -- an update was made at place `at`, above all that the pass had seen: it stands at the end of the new history

@@ -3,7 +3,7 @@
 ghost use Rattle.std.specs.Prelude.{◌≡◌, ◌<◌, ◌↔◌, ℕ, List, None, Some, IsSome, IfOk, OnErr, IsErrOf};
 ghost use Rattle.index_words.specs.Map.{first_from};
 ghost use Rattle.index_words.specs.History.{after};
-ghost use Rattle.bucket_terms.specs.PassView.{PassView, MadePut, AnsweredRemoval, Began, IsOutOfSlots};
+ghost use Rattle.bucket_terms.specs.PassView.{PassView, MadePut, AnsweredRemoval, Began, KnowsOwn, IsOutOfSlots};
 
 use index_words::{Done, Pair, PassError};
 use std::sync::Wait;
@@ -57,5 +57,6 @@ pub trait KeyPass {
 
     /// The number of the pass.
     fn client(&self) -> u32
-        ensures { result ≡ (view self.now).number };
+        ensures number { result ≡ (view self.now).number }
+        ensures mine { KnowsOwn (view self.now) };
 }

@@ -17,6 +17,10 @@ IsShort pass = (pass.nodes < 1) ⊎ (pass.entries < 4)
 abbrev pub setting : List (List ℕ) → PassView → ℕ → Setting
 setting dir pass slots = record { dir = dir; updates = pass.seen; client = pass.number; slots = slots }
 
+-- a request line with its reply
+abbrev pub answered : ℕ → Request → Placed → Answered
+answered line request placed = record { asked = record { line = line; request = request }; placed = placed }
+
 -- whether the update is of this client and line
 abbrev pub is_of : Setting → ℕ → Option Update → Bool
 is_of s line None = false

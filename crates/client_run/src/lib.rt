@@ -1,2 +1,9 @@
-//! One client's requests over a pass.
+//! The run of one client: its requests, in order, over any pass that keeps the clauses of `KeyPass`.
+//! It stands on `bucket_terms`. The layer above uses `run_client`, whose clause says that the replies are
+//! those of a legal run over the history that the pass knows in the end.
 #![tactic(auto)]
+
+mod gate;
+mod updates;
+
+pub use gate::{Gate, OpenGate};

@@ -42,7 +42,7 @@ returns-clause-made g c =
     let closed : p.opened ≡ None = rw (← c.self.view_is) at c.requires in
     rw (← c.self.view_is) (record {
       update = record {
-        continues = record { number = refl; seen = (u ∷ [], items); mine_before = refl; mine = refl; looks = omega arith };
+        continues = record { number = refl; seen = (u ∷ [], items); mine = refl; looks = omega arith };
         above = omega arith;
         others = [];
         seen = rw append-nil items;

@@ -60,7 +60,7 @@ returns-clause-made g c =
     let there : map_has c.args.key p.map.pairs ≡ true = sym c.if-not-remove.ensures.was in
     rw (← c.self.view_is) (record {
       update = record {
-        continues = record { number = refl; seen = (u ∷ [], items); mine_before = refl; mine = refl; looks = omega arith };
+        continues = record { number = refl; seen = (u ∷ [], items); mine = refl; looks = omega arith };
         above = omega arith;
         others = [];
         seen = rw append-nil items;
