@@ -13,6 +13,10 @@ use Rattle.bucket_terms.specs.LegalRun.{RequestLine, Setting, Answered, AreAnswe
 abbrev pub IsShort : PassView → Type 0
 IsShort pass = (pass.nodes < 1) ⊎ (pass.entries < 4)
 
+-- the line is later than those of the pass's updates so far
+abbrev pub IsLaterLine : PassView → ℕ → Type 0
+IsLaterLine pass line = All (λ (u : Update). u.client ≡ pass.number → u.line < line) pass.seen
+
 -- what the pass's client is answered in
 abbrev pub setting : List (List ℕ) → PassView → ℕ → Setting
 setting dir pass slots = record { dir = dir; updates = pass.seen; client = pass.number; slots = slots }

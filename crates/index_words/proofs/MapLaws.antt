@@ -1,9 +1,9 @@
 -- The map's updates at the place of a key in the sorted list.
-use Rattle.std.proofs.Common.{◌≡◌, ℕ, zero, suc, ◌+◌, ◌<◌, ◌≤◌, Bool, true, false, List, [], ◌∷◌, length, get_or, set, insert, remove, nat_lt, ◌==◌, refl, arith}
+use Rattle.std.proofs.Common.{◌≡◌, ℕ, zero, suc, ◌+◌, ◌<◌, ◌≤◌, Bool, true, false, cond, find, Option, Some, None, List, [], ◌∷◌, length, get_or, set, insert, remove, nat_lt, ◌==◌, refl, arith}
 use Rattle.std.specs.List.{prefix_len, slice_get}
 use Rattle.std.proofs.lemmas.Bool.Decides.{nat_tests}
 use Rattle.index_words.specs.declared.pair.Pair.{Pair}
-use Rattle.index_words.specs.Map.{pair, RisesFrom, map_has, map_put, map_remove, first_from}
+use Rattle.index_words.specs.Map.{pair, RisesFrom, map_has, map_put, map_get, map_remove, first_from, value_at}
 
 -- whether a pair's key is below `key`
 abbrev pub is_below : ℕ → Pair → Bool
@@ -93,3 +93,12 @@ keys_rise low (p ∷ ps) r zero zero d le l = omega arith
 keys_rise low (p ∷ ps) r zero (suc j) d le l = let h : p.key + 1 ≤ (get_or ps j d).key = key-from_low (p.key + 1) ps j d r.1 (omega arith) in omega arith
 keys_rise low (p ∷ ps) r (suc i) zero d le l = absurd (omega arith)
 keys_rise low (p ∷ ps) r (suc i) (suc j) d le l = keys_rise (p.key + 1) ps r.1 i j d (omega arith) (omega arith)
+
+find-absent : (key low : ℕ) (m : List Pair) → key < low → RisesFrom low m → find (λ (p : Pair). p.key == key) m ≡ None
+find-absent key low [] le r = refl
+find-absent key low (p ∷ ps) le r = grind (arith, nat_tests, find-absent key (p.key + 1) ps)
+
+-- a key's value is that of the first pair from it on, where that is the key's
+pub map_get-first_from : (key low : ℕ) (m : List Pair) → RisesFrom low m → map_get key m ≡ value_at key (first_from key m)
+map_get-first_from key low [] r = refl
+map_get-first_from key low (p ∷ ps) r = grind (arith, nat_tests, map_get-first_from key (p.key + 1) ps, find-absent key (p.key + 1) ps)

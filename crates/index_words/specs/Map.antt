@@ -1,6 +1,6 @@
 -- The map from keys to values: a list of pairs whose keys rise strictly. A key is a number; where it is
 -- a rank in the directory it stands for the name there, so the pairs stand in the byte order of names.
-use Rattle.std.specs.Prelude.{ℕ, ◌+◌, ◌≤◌, Bool, List, [], ◌∷◌, nat_lt, nat_le, ◌==◌, if◌then◌else◌, Option, find}
+use Rattle.std.specs.Prelude.{ℕ, ◌+◌, ◌≤◌, Bool, List, [], ◌∷◌, nat_lt, nat_le, ◌==◌, if◌then◌else◌, Option, Some, None, find}
 use Rattle.std.specs.List.{list_any}
 use Rattle.std.specs.Option.{option_map}
 use Rattle.index_words.specs.declared.pair.Pair.{Pair}
@@ -40,3 +40,8 @@ map_remove key (p ∷ ps) = if p.key == key then ps else p ∷ map_remove key ps
 -- the first pair whose key is at least `key`
 abbrev pub first_from : ℕ → List Pair → Option Pair
 first_from key m = find (λ (p : Pair). nat_le key p.key) m
+
+-- the value of a pair, where the pair is the key's
+abbrev pub value_at : ℕ → Option Pair → Option ℕ
+value_at key None = None
+value_at key (Some p) = if p.key == key then Some p.val else None

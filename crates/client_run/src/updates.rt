@@ -1,0 +1,130 @@
+// PUT, DELETE and HEAD, each answered by calls of the pass.
+ghost use Rattle.std.specs.Prelude.{◌≡◌, ◌<◌, None, Option, Contains};
+ghost use Rattle.key_names.specs.Names.{IsRank};
+ghost use Rattle.index_words.specs.Map.{value_at};
+ghost use Rattle.bucket_terms.specs.declared.request.Request.TheVariants.{Put, Delete, Head};
+ghost use Rattle.bucket_terms.specs.declared.reply.Reply.{Reply};
+ghost use Rattle.bucket_terms.specs.Answer.{head_by};
+ghost use Rattle.client_run.specs.ClientRun.{answered, Answers, IsLaterLine};
+
+use bucket_terms::{KeyPass, Placed, Reply};
+use index_words::{Pair, PassError};
+use key_names::{Directory, Text};
+use std::sync::Wait;
+
+// Answers a PUT of the record at place `val`.
+pub(crate) fn put<P: KeyPass, Rt: Wait>(
+    rt: &Rt,
+    pass: &mut P,
+    dir: &Directory,
+    line: u32,
+    name: &Text,
+    val: u64,
+) -> Placed
+    requires closed { (P.view pass.old).opened ≡ None }
+    requires left { 0 < (P.view pass.old).left }
+    requires known { Contains dir.now name.now }
+    ensures answers { (last : Option Reply) → Answers dir.now (P.view pass.old) (P.view pass.new) last (answered line (Put name.now val) result) }
+    ensures home { P.home pass.new ≡ P.home pass.old }
+{
+    let client = pass.client();
+    let key = rank_of(dir, name);
+    match pass.put(rt, line, key, val) {
+        Ok(done) => Placed {
+            client,
+            line,
+            at: Some(done.at),
+            reply: Reply::Put { was: done.was },
+        },
+        Err(PassError::NoSlot) => refused(client, line, Reply::NoSlot),
+        Err(PassError::Spent) => unreachable!(),
+    }
+}
+
+// Answers a DELETE.
+pub(crate) fn delete<P: KeyPass, Rt: Wait>(
+    rt: &Rt,
+    pass: &mut P,
+    dir: &Directory,
+    line: u32,
+    name: &Text,
+) -> Placed
+    requires closed { (P.view pass.old).opened ≡ None }
+    requires left { 0 < (P.view pass.old).left }
+    requires later { IsLaterLine (P.view pass.old) line }
+    requires known { Contains dir.now name.now }
+    ensures answers { (last : Option Reply) → Answers dir.now (P.view pass.old) (P.view pass.new) last (answered line (Delete name.now) result) }
+    ensures home { P.home pass.new ≡ P.home pass.old }
+{
+    let client = pass.client();
+    let key = rank_of(dir, name);
+    match pass.remove(rt, line, key) {
+        Ok(done) => Placed {
+            client,
+            line,
+            at: Some(done.at),
+            reply: Reply::Deleted,
+        },
+        Err(PassError::NoSlot) => refused(client, line, Reply::NoSlot),
+        Err(PassError::Spent) => unreachable!(),
+    }
+}
+
+// Answers a HEAD by one look-up in one snapshot.
+pub(crate) fn head<P: KeyPass, Rt: Wait>(
+    rt: &Rt,
+    pass: &mut P,
+    dir: &Directory,
+    line: u32,
+    name: &Text,
+) -> Placed
+    requires closed { (P.view pass.old).opened ≡ None }
+    requires known { Contains dir.now name.now }
+    ensures answers { (last : Option Reply) → Answers dir.now (P.view pass.old) (P.view pass.new) last (answered line (Head name.now) result) }
+    ensures home { P.home pass.new ≡ P.home pass.old }
+{
+    let client = pass.client();
+    let key = rank_of(dir, name);
+    let at = pass.begin();
+    let first = pass.next_from(rt, key);
+    pass.end();
+    Placed {
+        client,
+        line,
+        at: Some(at),
+        reply: head_reply(key, first),
+    }
+}
+
+// The answer of a HEAD of this key, where `first` is the first pair from the key on.
+fn head_reply(key: u64, first: Option<Pair>) -> Reply
+    ensures { result ≡ head_by (value_at key first) }
+{
+    match first {
+        Some(pair) if pair.key == key => Reply::Found { val: pair.val },
+        _ => Reply::Missing,
+    }
+}
+
+// The rank of a name that the directory has.
+fn rank_of(dir: &Directory, name: &Text) -> u64
+    requires { Contains dir.now name.now }
+    ensures { IsRank dir.now name.now result }
+{
+    match dir.rank(name.bytes()) {
+        Some(rank) => rank,
+        None => unreachable!(),
+    }
+}
+
+// A refused request has no place.
+fn refused(client: u32, line: u32, reply: Reply) -> Placed
+    ensures { result ≡ record { client = client; line = line; at = None; reply = reply } }
+{
+    Placed {
+        client,
+        line,
+        at: None,
+        reply,
+    }
+}
