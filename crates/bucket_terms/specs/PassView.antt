@@ -31,13 +31,13 @@ pub record PassView : Type 0 where
 abbrev pub Extends : {X : Type 0} → List X → List X → Type 0
 Extends {X} old new = (more : List X) × (new ≡ old ++ more)
 
--- a count of 64 bits has risen by at least `n`, or stands at its last value
+-- a count of 64 bits has risen by at least `n`, or has come to its last value
 abbrev pub RoseBy : ℕ → ℕ → ℕ → Type 0
-RoseBy n old new = (old + n ≤ new) ⊎ (new ≡ 2 ^ 64 - 1)
+RoseBy n old new = (old + n ≤ new) ⊎ (2 ^ 64 - 1 ≤ new)
 
--- a count of 64 bits has risen by one, or stands at its last value
+-- a count of 64 bits has risen by one, or has come to its last value
 abbrev pub RoseByOne : ℕ → ℕ → Type 0
-RoseByOne old new = (new ≡ old + 1) ⊎ (new ≡ 2 ^ 64 - 1)
+RoseByOne old new = (new ≡ old + 1) ⊎ (2 ^ 64 - 1 ≤ new)
 
 -- the places, counted from `at`, of the updates of the pass with this number
 abbrev pub places_from : ℕ → ℕ → List Update → List ℕ

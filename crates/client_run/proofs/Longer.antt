@@ -1,0 +1,149 @@
+-- What is right over a history is right over a longer one.
+use Rattle.std.proofs.Common.{◌≡◌, ◌≢◌, ℕ, zero, suc, ◌+◌, ◌-◌, ◌<◌, ◌≤◌, ◌⊎◌, ◌==◌, ◌&&◌, Bool, true, false, cond, All, MatchOption, IfSome, List, [], ◌∷◌, ◌++◌, Option, Some, None, inl, inr, length, get_or, refl, sym, ap, ◌∙◌, subst, arith}
+use Rattle.std.specs.List.{slice_get, count_by}
+use Rattle.std.proofs.lemmas.Bool.{cases_lt}
+use Rattle.std.proofs.lemmas.List.{length-append, get_or_append_left, get_or-append_right}
+use Rattle.std.proofs.lemmas.Option.{IfSome_then}
+use Rattle.std.proofs.lemmas.List.Elements.{All-append}
+use Rattle.std.proofs.lemmas.List.Sums.{sum_by-append}
+use Rattle.index_words.specs.declared.update.Update.{Update}
+use Rattle.index_words.specs.declared.pair.Pair.{Pair}
+use Rattle.std.specs.Bool.{⊤}
+use Rattle.index_words.specs.Map.{map_has}
+use Rattle.bucket_terms.specs.Answer.{head_answer}
+use Rattle.bucket_terms.specs.Page.{page_of}
+use Rattle.index_words.specs.History.{after}
+use Rattle.index_words.proofs.HistoryLaws.{after-append}
+use Rattle.bucket_terms.specs.declared.list_query.ListQuery.{ListQuery}
+use Rattle.bucket_terms.specs.declared.page.Page.{Page}
+use Rattle.bucket_terms.specs.declared.request.Request.{Request}
+use Rattle.bucket_terms.specs.declared.request.Request.TheVariants.{Put, Delete, Head, List as ListRequest, Next}
+use Rattle.bucket_terms.specs.declared.reply.Reply.{Reply}
+use Rattle.bucket_terms.specs.declared.reply.Reply.TheVariants.{Put as PutReply, Deleted, Found, Missing, Listed, BadToken, NoSlot}
+use Rattle.bucket_terms.specs.declared.reply.Placed.{Placed}
+use Rattle.bucket_terms.specs.LegalRun.{Setting, RequestLine, Answered, IsOf, IsRight, IsAnswered, AreAnswered, KeepsOrder, MadePut, MadeRemoval, FoundNone, AnswersHead, AnswersList, AnswersNext, IsOutOfSlots, is_earlier_of, update_at, last_listing}
+use Rattle.client_run.proofs.Places.{slice_get-append_front}
+
+-- the same client in a history
+abbrev pub over : Setting → List Update → Setting
+over s us = record s { updates = us }
+
+-- no added update is of this client's line
+abbrev pub OtherLines : Setting → ℕ → List Update → Type 0
+OtherLines s line more = All (λ (u : Update). ¬ (IsOf s line u)) more
+
+pub update_at-longer : (s : Setting) (more : List Update) (at : ℕ) → at ≤ length s.updates → update_at (over s (s.updates ++ more)) at ≡ update_at s at
+update_at-longer s more zero le = refl
+update_at-longer s more (suc k) le = slice_get-append_front s.updates more k (omega arith)
+
+after-longer : (s : Setting) (more : List Update) (at : ℕ) → at ≤ length s.updates → after s.updates at ≡ after (s.updates ++ more) at
+after-longer s more at le = sym (after-append s.updates more at le)
+
+before-longer : (s : Setting) (more : List Update) (at : ℕ) → at ≤ length s.updates → after s.updates (at - 1) ≡ after (s.updates ++ more) (at - 1)
+before-longer s more at le = sym (after-append s.updates more (at - 1) (omega arith))
+
+module _ (s : Setting) (more : List Update) where
+  put-longer : (line : ℕ) (name : List ℕ) (val : ℕ) (was : Bool) (n : ℕ) → n ≤ length s.updates → MadePut s line name val was n → MadePut (over s (s.updates ++ more)) line name val was n
+  put-longer line name val was n le made = record {
+    key = made.key;
+    rank = made.rank;
+    update = update_at-longer s more n le ∙ made.update;
+    before = made.before ∙ ap (λ (m : List Pair). map_has made.key m) (before-longer s more n le);
+  }
+
+  removal-longer : (line : ℕ) (name : List ℕ) (n : ℕ) → n ≤ length s.updates → MadeRemoval s line name n → MadeRemoval (over s (s.updates ++ more)) line name n
+  removal-longer line name n le made = record {
+    key = made.key;
+    rank = made.rank;
+    update = update_at-longer s more n le ∙ made.update;
+    before = sym (ap (λ (m : List Pair). map_has made.key m) (before-longer s more n le)) ∙ made.before;
+  }
+
+  none-longer : (line : ℕ) (name : List ℕ) (n : ℕ) → n ≤ length s.updates → OtherLines s line more → FoundNone s line name n → FoundNone (over s (s.updates ++ more)) line name n
+  none-longer line name n le others found = record {
+    key = found.key;
+    rank = found.rank;
+    none = λ k d below is.
+        All-append (λ (u : Update). ¬ (IsOf s line u)) s.updates more found.none others k d below (record { by = is.by; for_line = is.for_line });
+    absent = sym (ap (λ (m : List Pair). map_has found.key m) (after-longer s more n le)) ∙ found.absent;
+  }
+
+  head-longer : (name : List ℕ) (n : ℕ) (reply : Reply) → n ≤ length s.updates → AnswersHead s name n reply → AnswersHead (over s (s.updates ++ more)) name n reply
+  head-longer name n reply le head = record {
+    key = head.key;
+    rank = head.rank;
+    answer = head.answer ∙ ap (λ (m : List Pair). head_answer head.key m) (after-longer s more n le);
+  }
+
+  list-longer : (asked : ListQuery) (n : ℕ) (query : ListQuery) (page : Page) → n ≤ length s.updates → AnswersList s asked n query page → AnswersList (over s (s.updates ++ more)) asked n query page
+  list-longer asked n query page le list = record {
+    same_query = list.same_query;
+    point = list.point;
+    from_token = list.from_token;
+    same_page = list.same_page ∙ ap (λ (m : List Pair). page_of s.dir asked list.point m) (after-longer s more n le);
+  }
+
+  next-longer : (last : Option Reply) (n : ℕ) (query : ListQuery) (page : Page) → n ≤ length s.updates → AnswersNext s last n query page → AnswersNext (over s (s.updates ++ more)) last n query page
+  next-longer last n query page le next = record {
+    next = next.next;
+    follows = next.follows;
+    same_query = next.same_query;
+    same_page = next.same_page ∙ ap (λ (m : List Pair). page_of s.dir next.next.query (Some next.next.point) m) (after-longer s more n le);
+  }
+
+  slots-longer : (line : ℕ) → IsOutOfSlots s line → IsOutOfSlots (over s (s.updates ++ more)) line
+  slots-longer line out = record {
+    made = omega (arith, out.made, sum_by-append (λ (u : Update). cond (is_earlier_of s line u) 1 0) s.updates more);
+  }
+
+  pub IsRight-longer : (last : Option Reply) (line : ℕ) (request : Request) (at : Option ℕ) (reply : Reply)
+      → MatchOption at ⊤ (λ n. n ≤ length s.updates) → OtherLines s line more
+      → IsRight s last (record { line = line; request = request }) at reply
+      → IsRight (over s (s.updates ++ more)) last (record { line = line; request = request }) at reply
+  IsRight-longer last line (Put name val) (Some n) (PutReply was) within others right = put-longer line name val was n within right
+  IsRight-longer last line (Put name val) None NoSlot within others right = slots-longer line right
+  IsRight-longer last line (Delete name) (Some n) Deleted within others (inl made) = inl (removal-longer line name n within made)
+  IsRight-longer last line (Delete name) (Some n) Deleted within others (inr found) = inr (none-longer line name n within others found)
+  IsRight-longer last line (Delete name) None NoSlot within others right = slots-longer line right
+  IsRight-longer last line (Head name) (Some n) (Found val) within others right = head-longer name n (Found val) within right
+  IsRight-longer last line (Head name) (Some n) Missing within others right = head-longer name n Missing within right
+  IsRight-longer last line (ListRequest query) (Some n) (Listed query' page) within others right = list-longer query n query' page within right
+  IsRight-longer last line (ListRequest query) None BadToken within others right = right
+  IsRight-longer last line Next (Some n) (Listed query page) within others right = next-longer last n query page within right
+  IsRight-longer last line Next None BadToken within others right = right
+  IsRight-longer last line request at reply within others right = absurd right
+
+  order-longer : (earlier : List Answered) (line n : ℕ) → KeepsOrder s earlier line n → KeepsOrder (over s (s.updates ++ more)) earlier line n
+  order-longer earlier line n order = record {
+    within = omega (arith, order.within, length-append s.updates more);
+    not_below = order.not_below;
+    above = rw (update_at-longer s more n order.within) (IfSome_then (update_at s n) order.above (λ u h is. h (record { by = is.by; for_line = is.for_line })));
+  }
+
+  within_of : (at : Option ℕ) (earlier : List Answered) (line : ℕ) → MatchOption at ⊤ (KeepsOrder s earlier line) → MatchOption at ⊤ (λ n. n ≤ length s.updates)
+  within_of None earlier line order = tt
+  within_of (Some n) earlier line order = order.within
+
+  orders-longer : (at : Option ℕ) (earlier : List Answered) (line : ℕ) → MatchOption at ⊤ (KeepsOrder s earlier line) → MatchOption at ⊤ (KeepsOrder (over s (s.updates ++ more)) earlier line)
+  orders-longer None earlier line order = tt
+  orders-longer (Some n) earlier line order = order-longer earlier line n order
+
+  pub IsAnswered-longer : (earlier : List Answered) (asked : RequestLine) (p : Placed) → OtherLines s asked.line more
+      → IsAnswered s earlier asked p → IsAnswered (over s (s.updates ++ more)) earlier asked p
+  IsAnswered-longer earlier asked p others answer = record {
+    client = answer.client;
+    line = answer.line;
+    order = orders-longer p.at earlier asked.line answer.order;
+    right = IsRight-longer (last_listing earlier) asked.line asked.request p.at p.reply (within_of p.at earlier asked.line answer.order) others answer.right;
+  }
+
+  pub AreAnswered-longer : (earlier : List Answered) (lines : List RequestLine) (replies : List Placed)
+      → All (λ (l : RequestLine). OtherLines s l.line more) lines
+      → AreAnswered s earlier lines replies → AreAnswered (over s (s.updates ++ more)) earlier lines replies
+  AreAnswered-longer earlier [] [] others answers = tt
+  AreAnswered-longer earlier [] (p ∷ replies) others answers = absurd answers
+  AreAnswered-longer earlier (l ∷ lines) [] others answers = absurd answers
+  AreAnswered-longer earlier (l ∷ lines) (p ∷ replies) others answers = (
+    IsAnswered-longer earlier l p (others 0 l (omega arith)) answers.0,
+    AreAnswered-longer (earlier ++ record { asked = l; placed = p } ∷ []) lines replies (λ k d below. others (suc k) d (omega arith)) answers.1,
+  )
