@@ -2,3 +2,4 @@ pub mod Places
 pub mod Steps
 pub mod Replies
 pub mod Longer
+pub mod Growing

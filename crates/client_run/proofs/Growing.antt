@@ -1,0 +1,117 @@
+-- One answer more of a client's run.
+use Rattle.std.proofs.Common.{◌≡◌, ◌≢◌, ℕ, zero, suc, ◌+◌, ◌*◌, ◌-◌, ◌<◌, ◌≤◌, ◌⊎◌, ◌==◌, ◌&&◌, Bool, true, false, not, cond, nat_lt, if◌then◌else◌, All, Any, MatchOption, IfSome, List, [], ◌∷◌, ◌++◌, Option, Some, None, inl, inr, length, get_or, refl, sym, ap, ◌∙◌, subst, arith, append-nil, append_assoc}
+use Rattle.std.specs.Bool.{⊤}
+use Rattle.std.specs.List.{slice_get, count_by, sum_by}
+use Rattle.std.proofs.lemmas.Bool.{cases_lt, cases_Bool}
+use Rattle.std.proofs.lemmas.Bool.Decides.{nat_tests}
+use Rattle.std.proofs.lemmas.List.{length-append, length_push, get_or_append_left, get_or_push, same_from_push}
+use Rattle.std.proofs.lemmas.List.Elements.{All-append, All-push, All-cons}
+use Rattle.std.proofs.lemmas.List.Sums.{sum_by-append, sum_by-cons, sum_by_push}
+use Rattle.std.proofs.lemmas.Option.{slice_get-get_or, get_or_from_slice_get, slice_get_within}
+use Rattle.index_words.specs.declared.update.Update.{Update}
+use Rattle.bucket_terms.specs.declared.reply.Reply.{Reply}
+use Rattle.bucket_terms.specs.declared.reply.Placed.{Placed}
+use Rattle.bucket_terms.specs.PassView.{PassView, KnowsOwn, Continues, Extends, RoseBy, own_places, places_from}
+use Rattle.bucket_terms.specs.LegalRun.{Setting, RequestLine, Answered, IsOf, IsRight, IsAnswered, AreAnswered, KeepsOrder, IsMadeBy, IsPlacedUpTo, IsPlacedBelow, answered_lines, is_earlier_of, is_update, update_at, last_listing}
+use Rattle.client_run.specs.ClientRun.{setting, IsShort, IsLaterLine, Answers, RanClient, Ended, is_looked_up, has_own, is_of}
+use Rattle.client_run.proofs.Places.{slice_get-append_front, slice_get-append_back}
+use Rattle.client_run.proofs.Longer.{over, OtherLines, update_at-longer, AreAnswered-longer}
+
+-- ---- counts of own updates
+
+count_step : (by client number line limit rest at : ℕ) (places : List ℕ) → client ≡ number → (by ≡ number → line < limit) → rest ≡ length places
+    → cond ((by == client) && nat_lt line limit) 1 0 + rest ≡ length (if by == number then at ∷ places else places)
+count_step by client number line limit rest at places e later same = grind (arith, nat_tests)
+
+-- where each own update is of an earlier line, the earlier ones are the own ones
+count_earlier : (number line at : ℕ) (s : Setting) (us : List Update) → s.client ≡ number → All (λ (u : Update). u.client ≡ number → u.line < line) us
+    → count_by (is_earlier_of s line) us ≡ length (places_from number at us)
+count_earlier number line at s [] e later = refl
+count_earlier number line at s (u ∷ us) e later =
+    let rest = count_earlier number line (at + 1) s us e (λ k d below. later (suc k) d (omega arith)) in
+    sum_by-cons (λ (v : Update). cond (is_earlier_of s line v) 1 0) u us
+    ∙ count_step u.client s.client number u.line line (count_by (is_earlier_of s line) us) at (places_from number (at + 1) us) e (later 0 u (omega arith)) rest
+
+-- ---- one more element
+
+pub answered_lines-push : (lines : List RequestLine) (replies : List Placed) (l : RequestLine) (p : Placed) → length lines ≡ length replies
+    → answered_lines (lines ++ l ∷ []) (replies ++ p ∷ []) ≡ answered_lines lines replies ++ record { asked = l; placed = p } ∷ []
+answered_lines-push [] [] l p e = refl
+answered_lines-push [] (q ∷ replies) l p e = absurd (omega arith)
+answered_lines-push (m ∷ lines) [] l p e = absurd (omega arith)
+answered_lines-push (m ∷ lines) (q ∷ replies) l p e = ap (λ done. record { asked = m; placed = q } ∷ done) (answered_lines-push lines replies l p (omega arith))
+
+AreAnswered-push : (s : Setting) (earlier : List Answered) (lines : List RequestLine) (replies : List Placed) (l : RequestLine) (p : Placed)
+    → AreAnswered s earlier lines replies → IsAnswered s (earlier ++ answered_lines lines replies) l p
+    → AreAnswered s earlier (lines ++ l ∷ []) (replies ++ p ∷ [])
+AreAnswered-push s earlier [] [] l p answers one = (subst (λ done. IsAnswered s done l p) (append-nil earlier) one, tt)
+AreAnswered-push s earlier [] (q ∷ replies) l p answers one = absurd answers
+AreAnswered-push s earlier (m ∷ lines) [] l p answers one = absurd answers
+AreAnswered-push s earlier (m ∷ lines) (q ∷ replies) l p answers one =
+    (answers.0, AreAnswered-push s (earlier ++ record { asked = m; placed = q } ∷ []) lines replies l p answers.1 (subst (λ done. IsAnswered s done l p) (sym (append_assoc earlier (record { asked = m; placed = q } ∷ []) (answered_lines lines replies))) one))
+
+Any-front : {X : Type 0} (P : X → Type 0) (xs ys : List X) → Any P xs → Any P (xs ++ ys)
+Any-front P xs ys any = (any.0, any.1, omega (arith, any.2, length-append xs ys), get_or_append_left xs ys any.1 any.0 any.2 ∙ any.3, any.4)
+
+Any-last : {X : Type 0} (P : X → Type 0) (xs : List X) (x : X) → P x → Any P (xs ++ x ∷ [])
+Any-last P xs x here = (length xs, x, omega (arith, length_push xs x), get_or_push xs x x (length xs) refl, here)
+
+-- what is true of each line is true of each answered line
+All-answered : (P : RequestLine → Type 0) (lines : List RequestLine) (replies : List Placed) → All P lines → All (λ (a : Answered). P a.asked) (answered_lines lines replies)
+All-answered P [] replies all = λ k d below. absurd (omega arith)
+All-answered P (l ∷ lines) [] all = λ k d below. absurd (omega arith)
+All-answered P (l ∷ lines) (p ∷ replies) all =
+    All-cons (λ (a : Answered). P a.asked) (record { asked = l; placed = p }) (answered_lines lines replies) (all 0 l (omega arith))
+    (All-answered P lines replies (λ j e within. all (suc j) e (omega arith)))
+
+-- ---- the run so far
+
+-- a run of these lines, over a pass that knew `old` before and knows `now`, with what the next answer needs
+pub record Running (dir : List (List ℕ)) (lines : List RequestLine) (old now : PassView) (replies : List Placed) : Type 0 where
+  pub ran : RanClient dir lines old now replies
+  pub knows : KnowsOwn now
+  pub same_length : length lines ≡ length replies
+  pub nodes : old.nodes + length old.mine ≤ now.nodes + length now.mine
+  pub entries : old.entries + 4 * length old.mine ≤ now.entries + 4 * length now.mine
+  pub left : now.left + length now.mine ≡ old.left + length old.mine
+  pub updates : length now.mine ≤ length old.mine + count_by (λ (l : RequestLine). is_update l.request) lines
+  pub upto : All (IsPlacedUpTo (length now.seen)) (answered_lines lines replies)
+
+pub start : (dir : List (List ℕ)) (old : PassView) → KnowsOwn old → old.opened ≡ None → Running dir [] old old []
+start dir old knows closed = record {
+  ran = record {
+    continues = record { number = refl; seen = ([], sym (append-nil old.seen)); mine = knows; looks = omega arith };
+    closed = closed;
+    answered = λ n few enough. tt;
+    made = λ i u from here own. let within = slice_get_within old.seen i u here in absurd (omega arith);
+    places = λ k d below. absurd (omega arith);
+    looks = inl (omega arith);
+    ended = λ front a e. let none = ap length e in absurd (omega (arith, length_push front a));
+  };
+  knows = knows;
+  same_length = refl;
+  nodes = omega arith;
+  entries = omega arith;
+  left = refl;
+  updates = omega arith;
+  upto = λ k d below. absurd (omega arith);
+}
+
+-- the next line is later than the own updates so far
+later_now : (dir : List (List ℕ)) (lines : List RequestLine) (old now : PassView) (replies : List Placed) (line : ℕ)
+    → Running dir lines old now replies → IsLaterLine old line → All (λ (l : RequestLine). l.line < line) lines → IsLaterLine now line
+later_now dir lines old now replies line run later rising = λ k d below own.
+    let u = get_or now.seen k d in
+    let mine : u.client ≡ old.number = own ∙ run.ran.continues.number in
+    elim (cases_lt k (length old.seen)) [
+      | inl front ↦
+          let same : get_or now.seen k d ≡ get_or old.seen k d = ap (λ (us : List Update). get_or us k d) run.ran.continues.seen.1 ∙ get_or_append_left old.seen run.ran.continues.seen.0 d k front in
+          let h : (get_or old.seen k d).line < line = later k d front (sym (ap (λ (w : Update). w.client) same) ∙ mine) in
+          let e : (get_or now.seen k d).line ≡ (get_or old.seen k d).line = ap (λ (w : Update). w.line) same in
+          omega arith
+      | inr back ↦
+          let by_line = run.ran.made k u back (slice_get-get_or now.seen k d below) mine in
+          let h : by_line.1.asked.line < line = subst (λ (a : Answered). a.asked.line < line) by_line.3 (All-answered (λ (l : RequestLine). l.line < line) lines replies rising by_line.0 by_line.1 by_line.2) in
+          let e : by_line.1.asked.line ≡ u.line = by_line.4.line in
+          omega arith
+    ]
