@@ -1,21 +1,17 @@
 -- One answer more of a client's run.
-use Rattle.std.proofs.Common.{◌≡◌, ◌≢◌, ℕ, zero, suc, ◌+◌, ◌*◌, ◌-◌, ◌<◌, ◌≤◌, ◌⊎◌, ◌==◌, ◌&&◌, Bool, true, false, not, cond, nat_lt, if◌then◌else◌, All, Any, MatchOption, IfSome, List, [], ◌∷◌, ◌++◌, Option, Some, None, inl, inr, length, get_or, refl, sym, ap, ◌∙◌, subst, arith, append-nil, append_assoc}
-use Rattle.std.specs.Bool.{⊤}
-use Rattle.std.specs.List.{slice_get, count_by, sum_by}
-use Rattle.std.proofs.lemmas.Bool.{cases_lt, cases_Bool}
+use Rattle.std.proofs.Common.{◌≡◌, ℕ, suc, ◌+◌, ◌*◌, ◌<◌, ◌≤◌, ◌==◌, ◌&&◌, cond, nat_lt, if◌then◌else◌, All, Any, List, [], ◌∷◌, ◌++◌, None, inl, inr, length, get_or, refl, sym, ap, ◌∙◌, subst, arith, append-nil, append_assoc}
+use Rattle.std.specs.List.{count_by}
+use Rattle.std.proofs.lemmas.Bool.{cases_lt}
 use Rattle.std.proofs.lemmas.Bool.Decides.{nat_tests}
-use Rattle.std.proofs.lemmas.List.{length-append, length_push, get_or_append_left, get_or_push, same_from_push}
-use Rattle.std.proofs.lemmas.List.Elements.{All-append, All-push, All-cons}
-use Rattle.std.proofs.lemmas.List.Sums.{sum_by-append, sum_by-cons, sum_by_push}
-use Rattle.std.proofs.lemmas.Option.{slice_get-get_or, get_or_from_slice_get, slice_get_within}
+use Rattle.std.proofs.lemmas.List.{length-append, length_push, get_or_append_left, get_or_push}
+use Rattle.std.proofs.lemmas.List.Elements.{All-cons}
+use Rattle.std.proofs.lemmas.List.Sums.{sum_by-cons}
+use Rattle.std.proofs.lemmas.Option.{slice_get-get_or, slice_get_within}
 use Rattle.index_words.specs.declared.update.Update.{Update}
-use Rattle.bucket_terms.specs.declared.reply.Reply.{Reply}
 use Rattle.bucket_terms.specs.declared.reply.Placed.{Placed}
-use Rattle.bucket_terms.specs.PassView.{PassView, KnowsOwn, Continues, Extends, RoseBy, own_places, places_from}
-use Rattle.bucket_terms.specs.LegalRun.{Setting, RequestLine, Answered, IsOf, IsRight, IsAnswered, AreAnswered, KeepsOrder, IsMadeBy, IsPlacedUpTo, IsPlacedBelow, answered_lines, is_earlier_of, is_update, update_at, last_listing}
-use Rattle.client_run.specs.ClientRun.{setting, IsShort, IsLaterLine, Answers, RanClient, Ended, is_looked_up, has_own, is_of}
-use Rattle.client_run.proofs.Places.{slice_get-append_front, slice_get-append_back}
-use Rattle.client_run.proofs.Longer.{over, OtherLines, update_at-longer, AreAnswered-longer}
+use Rattle.bucket_terms.specs.PassView.{PassView, KnowsOwn, places_from}
+use Rattle.bucket_terms.specs.LegalRun.{Setting, RequestLine, Answered, IsAnswered, AreAnswered, IsPlacedUpTo, answered_lines, is_earlier_of, is_update}
+use Rattle.client_run.specs.ClientRun.{IsLaterLine, RanClient}
 
 -- ---- counts of own updates
 
@@ -24,7 +20,7 @@ count_step : (by client number line limit rest at : ℕ) (places : List ℕ) →
 count_step by client number line limit rest at places e later same = grind (arith, nat_tests)
 
 -- where each own update is of an earlier line, the earlier ones are the own ones
-count_earlier : (number line at : ℕ) (s : Setting) (us : List Update) → s.client ≡ number → All (λ (u : Update). u.client ≡ number → u.line < line) us
+pub count_earlier : (number line at : ℕ) (s : Setting) (us : List Update) → s.client ≡ number → All (λ (u : Update). u.client ≡ number → u.line < line) us
     → count_by (is_earlier_of s line) us ≡ length (places_from number at us)
 count_earlier number line at s [] e later = refl
 count_earlier number line at s (u ∷ us) e later =
@@ -41,7 +37,7 @@ answered_lines-push [] (q ∷ replies) l p e = absurd (omega arith)
 answered_lines-push (m ∷ lines) [] l p e = absurd (omega arith)
 answered_lines-push (m ∷ lines) (q ∷ replies) l p e = ap (λ done. record { asked = m; placed = q } ∷ done) (answered_lines-push lines replies l p (omega arith))
 
-AreAnswered-push : (s : Setting) (earlier : List Answered) (lines : List RequestLine) (replies : List Placed) (l : RequestLine) (p : Placed)
+pub AreAnswered-push : (s : Setting) (earlier : List Answered) (lines : List RequestLine) (replies : List Placed) (l : RequestLine) (p : Placed)
     → AreAnswered s earlier lines replies → IsAnswered s (earlier ++ answered_lines lines replies) l p
     → AreAnswered s earlier (lines ++ l ∷ []) (replies ++ p ∷ [])
 AreAnswered-push s earlier [] [] l p answers one = (subst (λ done. IsAnswered s done l p) (append-nil earlier) one, tt)
@@ -50,10 +46,10 @@ AreAnswered-push s earlier (m ∷ lines) [] l p answers one = absurd answers
 AreAnswered-push s earlier (m ∷ lines) (q ∷ replies) l p answers one =
     (answers.0, AreAnswered-push s (earlier ++ record { asked = m; placed = q } ∷ []) lines replies l p answers.1 (subst (λ done. IsAnswered s done l p) (sym (append_assoc earlier (record { asked = m; placed = q } ∷ []) (answered_lines lines replies))) one))
 
-Any-front : {X : Type 0} (P : X → Type 0) (xs ys : List X) → Any P xs → Any P (xs ++ ys)
+pub Any-front : {X : Type 0} (P : X → Type 0) (xs ys : List X) → Any P xs → Any P (xs ++ ys)
 Any-front P xs ys any = (any.0, any.1, omega (arith, any.2, length-append xs ys), get_or_append_left xs ys any.1 any.0 any.2 ∙ any.3, any.4)
 
-Any-last : {X : Type 0} (P : X → Type 0) (xs : List X) (x : X) → P x → Any P (xs ++ x ∷ [])
+pub Any-last : {X : Type 0} (P : X → Type 0) (xs : List X) (x : X) → P x → Any P (xs ++ x ∷ [])
 Any-last P xs x here = (length xs, x, omega (arith, length_push xs x), get_or_push xs x x (length xs) refl, here)
 
 -- what is true of each line is true of each answered line
@@ -98,7 +94,7 @@ start dir old knows closed = record {
 }
 
 -- the next line is later than the own updates so far
-later_now : (dir : List (List ℕ)) (lines : List RequestLine) (old now : PassView) (replies : List Placed) (line : ℕ)
+pub later_now : (dir : List (List ℕ)) (lines : List RequestLine) (old now : PassView) (replies : List Placed) (line : ℕ)
     → Running dir lines old now replies → IsLaterLine old line → All (λ (l : RequestLine). l.line < line) lines → IsLaterLine now line
 later_now dir lines old now replies line run later rising = λ k d below own.
     let u = get_or now.seen k d in

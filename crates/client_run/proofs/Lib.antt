@@ -3,3 +3,4 @@ pub mod Steps
 pub mod Replies
 pub mod Longer
 pub mod Growing
+pub mod OneMore

@@ -1,11 +1,11 @@
 -- The answers of PUT, DELETE and HEAD, by what the calls of the pass ensure.
-use Rattle.std.proofs.Common.{◌≡◌, ℕ, zero, suc, All, MatchBool, length, get_or, ◌++◌, ◌+◌, ◌-◌, ◌<◌, ◌≤◌, ◌⊎◌, Bool, true, false, not, if◌then◌else◌, List, Option, Some, None, inl, inr, refl, sym, ap, ◌∙◌, subst, arith, ◌==◌, ◌&&◌}
+use Rattle.std.proofs.Common.{◌≡◌, ℕ, zero, suc, All, MatchBool, length, get_or, ◌++◌, ◌+◌, ◌<◌, ◌≤◌, Bool, true, false, not, List, Option, Some, None, inl, inr, refl, sym, ap, ◌∙◌, subst, arith, ◌==◌, ◌&&◌}
 use Rattle.std.proofs.lemmas.Bool.Decides.{nat_tests}
 use Rattle.key_names.specs.Names.{IsRank}
 use Rattle.index_words.specs.declared.pair.Pair.{Pair}
 use Rattle.index_words.specs.declared.pass.Done.{Done}
 use Rattle.index_words.specs.declared.update.Change.TheVariants.{Put as PutVal, Remove}
-use Rattle.index_words.specs.Map.{map_has, map_get, first_from, value_at}
+use Rattle.index_words.specs.Map.{map_get, first_from, value_at}
 use Rattle.index_words.specs.History.{after}
 use Rattle.index_words.proofs.MapLaws.{map_get-first_from}
 use Rattle.index_words.proofs.HistoryLaws.{IsMap-after}
@@ -13,8 +13,7 @@ use Rattle.bucket_terms.specs.declared.request.Request.{Request}
 use Rattle.bucket_terms.specs.declared.request.Request.TheVariants.{Put as PutRequest, Delete, Head}
 use Rattle.bucket_terms.specs.declared.reply.Reply.{Reply}
 use Rattle.bucket_terms.specs.declared.reply.Reply.TheVariants.{Put as PutReply, Deleted, Found, Missing, NoSlot}
-use Rattle.bucket_terms.specs.declared.reply.Placed.{Placed}
-use Rattle.bucket_terms.specs.Answer.{head_by, head_answer}
+use Rattle.bucket_terms.specs.Answer.{head_by}
 use Rattle.bucket_terms.specs.PassView.{PassView, KnowsOwn, MadePut, AnsweredRemoval, Removed, FoundAbsent, Looked, Began, RoseBy, RoseByOne, IsOutOfSlots, own_places}
 use Rattle.std.specs.List.{count_by, slice_get}
 use Rattle.std.proofs.lemmas.Bool.{cases_lt, cases_Bool}
@@ -22,7 +21,7 @@ use Rattle.std.proofs.lemmas.List.{get_or_append_left}
 use Rattle.std.proofs.lemmas.Option.{slice_get_within, slice_get-get_or, get_or_from_slice_get}
 use Rattle.index_words.specs.declared.update.Update.{Update}
 use Rattle.bucket_terms.specs.LegalRun.{Setting, IsRight, IsOf, is_earlier_of, update_at}
-use Rattle.client_run.specs.ClientRun.{setting, answered, Answers, IsShort, IsLaterLine, is_looked_up, is_of}
+use Rattle.client_run.specs.ClientRun.{setting, answered, Answers, IsShort, IsLaterLine, is_of}
 use Rattle.client_run.proofs.Places.{no_own_added}
 use Rattle.client_run.proofs.Steps.{update_here, step_made, step_refused, step_looked}
 

@@ -1,11 +1,9 @@
 -- What a call of the pass makes of an answer.
-use Rattle.std.proofs.Common.{◌≡◌, ℕ, zero, suc, ◌+◌, ◌*◌, ◌-◌, ◌<◌, ◌≤◌, ◌⊎◌, Bool, true, false, not, if◌then◌else◌, List, [], ◌∷◌, ◌++◌, Option, Some, None, inl, inr, length, refl, sym, ap, ◌∙◌, subst, arith, append-nil}
+use Rattle.std.proofs.Common.{◌≡◌, ℕ, suc, ◌+◌, ◌-◌, ◌≤◌, true, false, List, [], ◌∷◌, ◌++◌, Option, Some, None, inl, length, refl, sym, ap, ◌∙◌, subst, arith, append-nil}
 use Rattle.std.specs.List.{slice_get, count_by}
 use Rattle.std.proofs.lemmas.Option.{slice_get_within}
 use Rattle.std.proofs.lemmas.Bool.{false≢true}
-use Rattle.std.proofs.lemmas.Bool.Decides.{nat_tests}
 use Rattle.std.proofs.lemmas.List.{length-append, length_push}
-use Rattle.key_names.specs.Names.{IsRank}
 use Rattle.index_words.specs.declared.update.Update.{Update}
 use Rattle.index_words.specs.declared.update.Change.{Change}
 use Rattle.bucket_terms.specs.declared.request.Request.{Request}
@@ -13,7 +11,7 @@ use Rattle.bucket_terms.specs.declared.reply.Reply.{Reply}
 use Rattle.bucket_terms.specs.declared.reply.Reply.TheVariants.{NoSlot}
 use Rattle.bucket_terms.specs.declared.reply.Placed.{Placed}
 use Rattle.bucket_terms.specs.PassView.{PassView, KnowsOwn, MadeUpdate, Looked, RoseBy, own_places}
-use Rattle.bucket_terms.specs.LegalRun.{Setting, Answered, RequestLine, IsRight, is_earlier_of, IsMadeBy, IsChangeOf, update_at, is_update}
+use Rattle.bucket_terms.specs.LegalRun.{IsRight, is_earlier_of, IsChangeOf, update_at, is_update}
 use Rattle.client_run.specs.ClientRun.{setting, answered, Answers, IsShort, is_looked_up}
 use Rattle.client_run.proofs.Places.{slice_get-append_back, own_added_last, no_own_added}
 
