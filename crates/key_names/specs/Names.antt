@@ -1,9 +1,9 @@
 -- Names and the directory of names. A name is seen as the list of its UTF-8 bytes.
-use Rattle.std.specs.Prelude.{◌≡◌, ℕ, ◌<◌, ◌≤◌, List, [], length, All, Contains}
-use Rattle.std.specs.List.{slice_index_or}
+use Rattle.std.specs.Prelude.{◌≡◌, ℕ, ◌<◌, ◌≤◌, ◌↔◌, Bool, ◌||◌, IsTrue, nat_eq, nat_lt, List, [], length, All, Contains}
+use Rattle.std.specs.List.{slice_index_or, starts_with}
 use Rattle.std.specs.List.Sorted.{IsStrictlySortedBy}
 use Rattle.std.specs.declared.cmp.Ordering.{Ordering}
-use Rattle.std.specs.Ordering.{nat_cmp}
+use Rattle.std.specs.Ordering.{nat_cmp, is_lt, is_le}
 use Rattle.std.specs.Cmp.Lexicographic.{slice_cmp}
 use Rattle.std.specs.Str.{IsUtf8}
 
@@ -41,3 +41,26 @@ name_at names rank = slice_index_or names rank []
 pub record IsRank (names : List (List ℕ)) (name : List ℕ) (rank : ℕ) : Type 0 where
   pub below : rank < length names
   pub is : name_at names rank ≡ name
+
+-- whether the name is below the bytes, is at most the bytes, begins with the bytes
+abbrev pub is_before : List ℕ → List ℕ → Bool
+is_before name bytes = is_lt (byte_order name bytes)
+
+abbrev pub is_upto : List ℕ → List ℕ → Bool
+is_upto name bytes = is_le (byte_order name bytes)
+
+abbrev pub begins_with : List ℕ → List ℕ → Bool
+begins_with name prefix = starts_with nat_eq name prefix
+
+-- whether the name is below the prefix or begins with it
+abbrev pub is_upto_prefix : List ℕ → List ℕ → Bool
+is_upto_prefix name prefix = is_before name prefix || begins_with name prefix
+
+-- the names that pass the test are those at the ranks below `end`
+abbrev pub StandFirst : (List ℕ → Bool) → List (List ℕ) → ℕ → Type 0
+StandFirst test names end = (rank : ℕ) → rank < length names → nat_lt rank end ≡ test (name_at names rank)
+
+-- the names that begin with the prefix are those from the rank `start` up to the rank `end`
+abbrev pub StandTogether : List (List ℕ) → List ℕ → ℕ → ℕ → Type 0
+StandTogether names prefix start end =
+    (rank : ℕ) → rank < length names → IsTrue (begins_with (name_at names rank) prefix) ↔ ((start ≤ rank) × (rank < end))

@@ -1,6 +1,6 @@
 // The sorted list of a session's names. A name's rank stands for it everywhere above.
-ghost use Rattle.std.specs.Prelude.{◌≡◌, ◌<◌, length, All, Contains, IfOk, IfErr, OnErr, MatchOption};
-ghost use Rattle.key_names.specs.Names.{byte_order, IsFine, Rises, HoldsEachOnce, IsRank, name_at};
+ghost use Rattle.std.specs.Prelude.{◌≡◌, ◌<◌, length, All, Contains, count_by, IfOk, IfErr, OnErr, MatchOption};
+ghost use Rattle.key_names.specs.Names.{byte_order, IsFine, Rises, HoldsEachOnce, IsRank, name_at, is_before, is_upto, is_upto_prefix, StandFirst, StandTogether};
 ghost use Rattle.key_names.specs.Refusal.{IsRefusal};
 
 use crate::{NamesError, Text};
@@ -60,6 +60,33 @@ impl Directory {
         }
     }
 
+    /// The number of names below `name`, which is the rank of the first that is not.
+    pub fn at_or_after(&self, name: &[u8]) -> u64
+        ensures count { result ≡ count_by (λ here. is_before here name.now) self.now }
+        ensures first { StandFirst (λ here. is_before here name.now) self.now result }
+    {
+        self.names.partition_point(|here| stands_before(here, name)) as u64
+    }
+
+    /// The number of names that are at most `name`, which is the rank of the first above it.
+    pub fn after(&self, name: &[u8]) -> u64
+        ensures count { result ≡ count_by (λ here. is_upto here name.now) self.now }
+        ensures first { StandFirst (λ here. is_upto here name.now) self.now result }
+    {
+        self.names.partition_point(|here| stands_up_to(here, name)) as u64
+    }
+
+    /// The number of names that are below `prefix` or begin with it. The names that begin with it stand
+    /// together, from `at_or_after` up to this rank.
+    pub fn past_prefix(&self, prefix: &[u8]) -> u64
+        ensures count { result ≡ count_by (λ here. is_upto_prefix here prefix.now) self.now }
+        ensures first { StandFirst (λ here. is_upto_prefix here prefix.now) self.now result }
+        ensures together { StandTogether self.now prefix.now (count_by (λ here. is_before here prefix.now) self.now) result }
+    {
+        self.names
+            .partition_point(|here| stands_up_to_prefix(here, prefix)) as u64
+    }
+
     /// The name at a rank.
     pub fn name(&self, rank: u64) -> &Text
         requires { rank < length self.now }
@@ -82,6 +109,24 @@ fn order(name: &Text, bytes: &[u8]) -> Ordering
     ensures { result ≡ byte_order name.now bytes.now }
 {
     name.bytes().cmp(bytes)
+}
+
+fn stands_before(name: &Text, bytes: &[u8]) -> bool
+    ensures { result ≡ is_before name.now bytes.now }
+{
+    order(name, bytes).is_lt()
+}
+
+fn stands_up_to(name: &Text, bytes: &[u8]) -> bool
+    ensures { result ≡ is_upto name.now bytes.now }
+{
+    order(name, bytes).is_le()
+}
+
+fn stands_up_to_prefix(name: &Text, prefix: &[u8]) -> bool
+    ensures { result ≡ is_upto_prefix name.now prefix.now }
+{
+    stands_before(name, prefix) || name.bytes().starts_with(prefix)
 }
 
 /// The names in byte order, each once.

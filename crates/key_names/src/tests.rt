@@ -75,3 +75,13 @@ fn gives_a_list_of_names_back(rt: HostRuntime) -> Result<(), Fail> {
     assert_eq!(rt; given.len(), 2);
     Ok(())
 }
+
+#[test]
+fn counts_names_by_their_places(rt: HostRuntime) -> Result<(), Fail> {
+    let dir = directory_of(rt.alloc(), &["b", "a/1", "a/2", "a0"])?;
+    assert_eq!(rt; (dir.at_or_after(b"a/2"), dir.after(b"a/2")), (1, 2));
+    assert_eq!(rt; (dir.at_or_after(b"a/"), dir.past_prefix(b"a/")), (0, 2));
+    assert_eq!(rt; (dir.after(b""), dir.past_prefix(b"")), (0, 4));
+    assert_eq!(rt; (dir.at_or_after(b"c"), dir.past_prefix(b"c")), (4, 4));
+    Ok(())
+}
