@@ -6,9 +6,11 @@
 mod pair;
 mod pass;
 mod plain_map;
+mod side;
 mod update;
 
 pub use pair::Pair;
 pub use pass::{Done, PassError, PassSize};
 pub use plain_map::PlainMap;
+pub use side::Side;
 pub use update::{Change, Update};

@@ -1,0 +1,3 @@
+pub mod NamedTree
+pub mod TreeStep
+pub mod Shape

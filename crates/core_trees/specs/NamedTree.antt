@@ -1,0 +1,29 @@
+-- The named tree: a binary search tree whose nodes are named by the slots that they stand in.
+use Rattle.std.specs.Prelude.{ℕ, ◌+◌, ◌^◌, ◌<◌, ◌≤◌, List, [], ◌∷◌, ◌++◌, ◌==◌, if◌then◌else◌}
+use Rattle.index_words.specs.declared.pair.Pair.{Pair}
+use Rattle.index_words.specs.Map.{pair}
+
+-- a tree is null, or a node with its slot, its key, its value, and the trees at its left and right link
+pub data NamedTree : Type 0 where
+  Null : NamedTree
+  Branch : ℕ → ℕ → ℕ → NamedTree → NamedTree → NamedTree
+
+-- the pairs of the tree, from left to right
+abbrev pub contents : NamedTree → List Pair
+contents Null = []
+contents (Branch slot key val left right) = contents left ++ pair key val ∷ contents right
+
+-- the keys rise strictly from left to right, each is at least `low`, and each is below `high`
+abbrev pub IsWithin : ℕ → ℕ → NamedTree → Type 0
+IsWithin low high Null = Unit {0}
+IsWithin low high (Branch slot key val left right) =
+    (low ≤ key) × (key < high) × IsWithin low key left × IsWithin (key + 1) high right
+
+-- the keys rise strictly from left to right, and each has 64 bits
+abbrev pub IsLawful : NamedTree → Type 0
+IsLawful tree = IsWithin 0 (2 ^ 64) tree
+
+-- how often the slot stands in the tree
+abbrev pub occurs : ℕ → NamedTree → ℕ
+occurs slot Null = 0
+occurs slot (Branch s key val left right) = (if slot == s then 1 else 0) + (occurs slot left + occurs slot right)

@@ -1,0 +1,74 @@
+ghost use Rattle.std.specs.Prelude.{◌≡◌, IfOk, IfErr};
+ghost use Rattle.core_trees.specs.NamedTree.{Branch, Null};
+ghost use Rattle.core_trees.specs.Shape.{shape};
+ghost use Rattle.core_trees.specs.TreeStep.{tree_put};
+
+use crate::tree::{Tree, TreeError, TreeNode};
+use std::alloc::Global;
+use std::mem;
+
+impl Tree {
+    /// The tree with the key at this value, in a node with this slot: a new leaf, or a node in the place of
+    /// the key's.
+    pub fn put(self, alloc: Global, slot: u32, key: u64, val: u64) -> Result<Tree, TreeError>
+        ensures step { IfOk result (λ tree. shape tree ≡ tree_put slot key val (shape self)) }
+        ensures refused { IfErr result (λ error. error.tree ≡ self) }
+    {
+        match self {
+            Tree::Empty => leaf(alloc, slot, key, val),
+            Tree::Node(mut node) => {
+                if key < node.key {
+                    let left = mem::replace(&mut node.left, Tree::Empty);
+                    match left.put(alloc, slot, key, val) {
+                        Ok(tree) => {
+                            node.left = tree;
+                            Ok(Tree::Node(node))
+                        }
+                        Err(error) => {
+                            node.left = error.tree;
+                            Err(TreeError {
+                                tree: Tree::Node(node),
+                            })
+                        }
+                    }
+                } else if node.key < key {
+                    let right = mem::replace(&mut node.right, Tree::Empty);
+                    match right.put(alloc, slot, key, val) {
+                        Ok(tree) => {
+                            node.right = tree;
+                            Ok(Tree::Node(node))
+                        }
+                        Err(error) => {
+                            node.right = error.tree;
+                            Err(TreeError {
+                                tree: Tree::Node(node),
+                            })
+                        }
+                    }
+                } else {
+                    node.slot = slot;
+                    node.val = val;
+                    Ok(Tree::Node(node))
+                }
+            }
+        }
+    }
+}
+
+// A node without children.
+fn leaf(alloc: Global, slot: u32, key: u64, val: u64) -> Result<Tree, TreeError>
+    ensures made { IfOk result (λ tree. shape tree ≡ Branch slot key val Null Null) }
+    ensures refused { IfErr result (λ error. error.tree ≡ Tree.Empty) }
+{
+    let node = TreeNode {
+        slot,
+        key,
+        val,
+        left: Tree::Empty,
+        right: Tree::Empty,
+    };
+    match Box::new(alloc, node) {
+        Ok(node) => Ok(Tree::Node(node)),
+        Err(_) => Err(TreeError { tree: Tree::Empty }),
+    }
+}

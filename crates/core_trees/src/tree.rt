@@ -1,0 +1,25 @@
+/// A binary search tree whose nodes are named by slots.
+#[derive(Debug, PartialEq, Eq, Drop)]
+#[cycle(tree)]
+pub enum Tree {
+    Empty,
+    Node(Box<TreeNode>),
+}
+
+/// A node of a tree. The keys below `left` are smaller than `key`, those below `right` are greater.
+#[derive(Debug, PartialEq, Eq, Drop)]
+#[cycle(tree)]
+pub struct TreeNode {
+    /// The slot that the node stands in.
+    pub slot: u32,
+    pub key: u64,
+    pub val: u64,
+    pub left: Tree,
+    pub right: Tree,
+}
+
+/// Memory was refused. The tree is handed back as it was.
+#[derive(Debug, Drop)]
+pub struct TreeError {
+    pub tree: Tree,
+}
