@@ -1,3 +1,4 @@
 pub mod NamedTree
 pub mod TreeStep
 pub mod Shape
+pub mod Search

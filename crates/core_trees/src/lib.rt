@@ -5,6 +5,7 @@
 
 mod put;
 mod remove;
+mod search;
 mod tree;
 
 pub use tree::{Tree, TreeError, TreeNode};

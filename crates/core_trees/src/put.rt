@@ -1,5 +1,6 @@
 ghost use Rattle.std.specs.Prelude.{◌≡◌, IfOk, IfErr};
-ghost use Rattle.core_trees.specs.NamedTree.{Branch, Null};
+ghost use Rattle.index_words.specs.Map.{map_put};
+ghost use Rattle.core_trees.specs.NamedTree.{Branch, Null, contents, IsLawful};
 ghost use Rattle.core_trees.specs.Shape.{shape};
 ghost use Rattle.core_trees.specs.TreeStep.{tree_put};
 
@@ -9,8 +10,19 @@ use std::mem;
 
 impl Tree {
     /// The tree with the key at this value, in a node with this slot: a new leaf, or a node in the place of
-    /// the key's.
+    /// the key's. Memory is wanted for a new leaf alone.
     pub fn put(self, alloc: Global, slot: u32, key: u64, val: u64) -> Result<Tree, TreeError>
+        requires lawful { IsLawful (shape self) }
+        ensures step { IfOk result (λ tree. shape tree ≡ tree_put slot key val (shape self)) }
+        ensures contents { IfOk result (λ tree. contents (shape tree) ≡ map_put key val (contents (shape self))) }
+        ensures lawful { IfOk result (λ tree. IsLawful (shape tree)) }
+        ensures refused { IfErr result (λ error. error.tree ≡ self) }
+    {
+        self.put_node(alloc, slot, key, val)
+    }
+
+    // The tree step of the put.
+    fn put_node(self, alloc: Global, slot: u32, key: u64, val: u64) -> Result<Tree, TreeError>
         ensures step { IfOk result (λ tree. shape tree ≡ tree_put slot key val (shape self)) }
         ensures refused { IfErr result (λ error. error.tree ≡ self) }
     {
@@ -19,7 +31,7 @@ impl Tree {
             Tree::Node(mut node) => {
                 if key < node.key {
                     let left = mem::replace(&mut node.left, Tree::Empty);
-                    match left.put(alloc, slot, key, val) {
+                    match left.put_node(alloc, slot, key, val) {
                         Ok(tree) => {
                             node.left = tree;
                             Ok(Tree::Node(node))
@@ -33,7 +45,7 @@ impl Tree {
                     }
                 } else if node.key < key {
                     let right = mem::replace(&mut node.right, Tree::Empty);
-                    match right.put(alloc, slot, key, val) {
+                    match right.put_node(alloc, slot, key, val) {
                         Ok(tree) => {
                             node.right = tree;
                             Ok(Tree::Node(node))

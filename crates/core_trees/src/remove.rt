@@ -1,5 +1,6 @@
 ghost use Rattle.std.specs.Prelude.{◌≡◌};
-ghost use Rattle.core_trees.specs.NamedTree.{Branch, Null};
+ghost use Rattle.index_words.specs.Map.{map_remove};
+ghost use Rattle.core_trees.specs.NamedTree.{contents, IsLawful};
 ghost use Rattle.core_trees.specs.Shape.{shape};
 ghost use Rattle.core_trees.specs.TreeStep.{tree_remove, joined, first_pair, without_first};
 
@@ -12,18 +13,28 @@ impl Tree {
     /// successor's pair, in the same box, so no memory is wanted. Where the key is not in the tree, the tree
     /// stays as it is.
     pub fn remove(self, key: u64, slot: u32) -> Tree
+        requires lawful { IsLawful (shape self) }
         ensures step { shape result ≡ tree_remove slot key (shape self) }
+        ensures contents { contents (shape result) ≡ map_remove key (contents (shape self)) }
+        ensures lawful { IsLawful (shape result) }
+    {
+        self.remove_node(key, slot)
+    }
+
+    // The tree step of the removal.
+    fn remove_node(self, key: u64, slot: u32) -> Tree
+        ensures { shape result ≡ tree_remove slot key (shape self) }
     {
         match self {
             Tree::Empty => Tree::Empty,
             Tree::Node(mut node) => {
                 if key < node.key {
                     let left = mem::replace(&mut node.left, Tree::Empty);
-                    node.left = left.remove(key, slot);
+                    node.left = left.remove_node(key, slot);
                     Tree::Node(node)
                 } else if node.key < key {
                     let right = mem::replace(&mut node.right, Tree::Empty);
-                    node.right = right.remove(key, slot);
+                    node.right = right.remove_node(key, slot);
                     Tree::Node(node)
                 } else {
                     without_top(node, slot)

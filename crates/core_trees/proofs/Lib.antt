@@ -1,0 +1,6 @@
+pub mod Compare
+pub mod MapSteps
+pub mod Updates
+pub mod Lawful
+pub mod Contents
+pub mod Laws

@@ -1,0 +1,11 @@
+use Rattle.core_trees.specs.Shape.{shape}
+use Rattle.core_trees.proofs.Laws.{put_contents, put_lawful}
+use Rattle.std.proofs.Common.{arith}
+use Rattle.std.proofs.lemmas.Result.{IfOk-weaker}
+use Rattle.core_trees.proofs.tree.Tree.put.Goals as goal
+
+pub returns-clause-contents : goal.returns-clause-contents
+returns-clause-contents c = IfOk-weaker c.put_node.result _ _ (λ tree step. put_contents c.args.slot c.args.key c.args.val (shape c.args.self) (shape tree) step c.requires.lawful) c.put_node.ensures.step
+
+pub returns-clause-lawful : goal.returns-clause-lawful
+returns-clause-lawful c = IfOk-weaker c.put_node.result _ _ (λ tree step. put_lawful c.args.slot c.args.key c.args.val (shape c.args.self) (shape tree) step (omega arith) c.requires.lawful) c.put_node.ensures.step
