@@ -3,7 +3,9 @@ use Rattle.std.proofs.Common.{◌≡◌, ℕ, ◌<◌, ◌≤◌, arith}
 use Rattle.std.specs.Prelude.{Some}
 use Rattle.std.specs.Option.{option_or}
 use Rattle.index_words.specs.Map.{pair}
-use Rattle.core_trees.specs.Search.{search_from}
+use Rattle.core_trees.specs.Search.{search_from, end_node, end_side}
+use Rattle.index_words.specs.declared.side.Side.{Side}
+use Rattle.index_words.specs.declared.side.Side.TheVariants.{Left, Right}
 use Rattle.std.proofs.lemmas.Bool.{lt-ltb, le-ltb}
 use Rattle.core_trees.specs.NamedTree.{NamedTree, Branch}
 use Rattle.core_trees.specs.TreeStep.{update, subtree_at}
@@ -33,3 +35,21 @@ module _ (key slot k val : ℕ) (l r : NamedTree) where
 
   pub search_from-left : key ≤ k → search_from key (Branch slot k val l r) ≡ option_or (search_from key l) (Some (pair k val))
   search_from-left h = rw (le-ltb k key h)
+
+  pub end_node-left : (node : ℕ) → key < k → end_node key node (Branch slot k val l r) ≡ end_node key slot l
+  end_node-left node h = rw (lt-ltb key k h)
+
+  pub end_node-right : (node : ℕ) → k < key → end_node key node (Branch slot k val l r) ≡ end_node key slot r
+  end_node-right node h = rw (le-ltb key k (omega arith), lt-ltb k key h)
+
+  pub end_node-here : (node : ℕ) → key ≡ k → end_node key node (Branch slot k val l r) ≡ node
+  end_node-here node h = rw (le-ltb key k (omega arith), le-ltb k key (omega arith))
+
+  pub end_side-left : (side : Side) → key < k → end_side key side (Branch slot k val l r) ≡ end_side key Left l
+  end_side-left side h = rw (lt-ltb key k h)
+
+  pub end_side-right : (side : Side) → k < key → end_side key side (Branch slot k val l r) ≡ end_side key Right r
+  end_side-right side h = rw (le-ltb key k (omega arith), lt-ltb k key h)
+
+  pub end_side-here : (side : Side) → key ≡ k → end_side key side (Branch slot k val l r) ≡ side
+  end_side-here side h = rw (le-ltb key k (omega arith), le-ltb k key (omega arith))

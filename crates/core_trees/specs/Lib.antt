@@ -2,3 +2,4 @@ pub mod NamedTree
 pub mod TreeStep
 pub mod Shape
 pub mod Search
+pub mod Gaps
