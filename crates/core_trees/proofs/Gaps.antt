@@ -1,15 +1,21 @@
 -- Gaps: the search for a key in a gap ends at the gap's link, each absent key is in the gap of the link at
 -- which its search ends, and the tree step only widens the other gaps.
 use Rattle.std.proofs.Common.{◌≡◌, ℕ, ◌+◌, ◌^◌, ◌<◌, ◌≤◌, ◌⊎◌, inl, inr, refl, ap, sym, ◌∙◌, subst, arith}
-use Rattle.std.proofs.lemmas.Bool.{lt-ltb, le-ltb}
+use Rattle.std.proofs.Common.{Bool, true, false, ◌∷◌}
+use Rattle.std.proofs.Math.Bool.{or-true}
+use Rattle.std.specs.Prelude.{◌==◌}
+use Rattle.std.proofs.lemmas.Bool.{eq-eqb, ne_eqb}
+use Rattle.std.proofs.lemmas.List.Folds.{list_any-append}
+use Rattle.index_words.specs.declared.pair.Pair.{Pair}
+use Rattle.index_words.specs.Map.{pair, map_has}
 use Rattle.index_words.specs.declared.side.Side.{Side}
 use Rattle.index_words.specs.declared.side.Side.TheVariants.{Left, Right}
-use Rattle.core_trees.specs.NamedTree.{NamedTree, Null, Branch, IsWithin, IsLawful}
+use Rattle.core_trees.specs.NamedTree.{NamedTree, Null, Branch, contents, IsWithin, IsLawful}
 use Rattle.core_trees.specs.TreeStep.{update, put_here, remove_here, tree_put, tree_remove, joined, first_pair, without_first, subtree_at}
 use Rattle.core_trees.specs.Search.{end_node, end_side, EndsAt}
 use Rattle.core_trees.specs.Gaps.{child_of, IsNull, HasNullLink, IsBeside, IsBetween, IsClear, IsInGap, Lacks, IsGapLink, WidensOtherGaps, WidensGaps}
 use Rattle.core_trees.proofs.Compare.{compared, less, more, same}
-use Rattle.core_trees.proofs.Updates.{update-left, update-right, update-here, end_node-left, end_node-right, end_side-left, end_side-right}
+use Rattle.core_trees.proofs.Updates.{update-left, update-right, update-here, subtree_at-left, subtree_at-right, subtree_at-here, end_node-left, end_node-right, end_side-left, end_side-right}
 
 -- the key of a null link's node is within the bounds
 pub link-within : (low high node key : ℕ) (side : Side) (tree : NamedTree) → IsWithin low high tree → HasNullLink node key side tree → (low ≤ key) × (key < high)
@@ -147,3 +153,34 @@ remove-clear slot y key z side (Branch s k u l r) clear =
 
 pub remove-widens : (slot y : ℕ) (tree : NamedTree) → WidensGaps tree (tree_remove slot y tree)
 remove-widens slot y tree key z side gap = (gap.0, remove-clear slot y key z side tree gap.1)
+
+-- a key at whose search's end nothing hangs is not in the tree
+lacks-outside : (low high key : ℕ) (tree : NamedTree) → IsWithin low high tree → (key < low) ⊎ (high ≤ key) → Lacks key tree
+lacks-outside low high key Null _ _ = tt
+lacks-outside low high key (Branch s k v l r) h (inl b) =
+    ((λ e. omega (arith, h.0)), lacks-outside low k key l h.2 (inl b), lacks-outside (k + 1) high key r h.3 (inl (omega (arith, h.0))))
+lacks-outside low high key (Branch s k v l r) h (inr b) =
+    ((λ e. omega (arith, h.1)), lacks-outside low k key l h.2 (inr (omega (arith, h.1))), lacks-outside (k + 1) high key r h.3 (inr b))
+
+pub null-lacks : (key low high : ℕ) (tree : NamedTree) → IsWithin low high tree → IsNull (subtree_at key tree) → Lacks key tree
+null-lacks key low high Null _ _ = tt
+null-lacks key low high (Branch s k v l r) h null =
+    elim (compared key k) [
+      less b ↦ ((λ e. omega arith), null-lacks key low k l h.2 (subst IsNull (subtree_at-left key s k v l r b) null), lacks-outside (k + 1) high key r h.3 (inl (omega arith)))
+    | more b ↦ ((λ e. omega arith), lacks-outside low k key l h.2 (inr (omega arith)), null-lacks key (k + 1) high r h.3 (subst IsNull (subtree_at-right key s k v l r b) null))
+    | same e ↦ absurd (subst IsNull (subtree_at-here key s k v l r e) null) ]
+
+pub lacks-has : (key : ℕ) (tree : NamedTree) → Lacks key tree → map_has key (contents tree) ≡ false
+lacks-has key Null _ = refl
+lacks-has key (Branch s k v l r) lacks =
+    list_any-append (λ (p : Pair). p.key == key) (contents l) (pair k v ∷ contents r)
+    ∙ simp (lacks-has key l lacks.1, lacks-has key r lacks.2, ne_eqb k key lacks.0)
+
+pub found-has : (key : ℕ) (tree : NamedTree) → ¬ IsNull (subtree_at key tree) → map_has key (contents tree) ≡ true
+found-has key Null found = absurd (found tt)
+found-has key (Branch s k v l r) found =
+    list_any-append (λ (p : Pair). p.key == key) (contents l) (pair k v ∷ contents r)
+    ∙ (elim (compared key k) [
+      less b ↦ simp (found-has key l (subst (λ t. ¬ IsNull t) (subtree_at-left key s k v l r b) found))
+    | more b ↦ simp (found-has key r (subst (λ t. ¬ IsNull t) (subtree_at-right key s k v l r b) found), or-true)
+    | same e ↦ simp (eq-eqb k key (sym e), or-true) ])

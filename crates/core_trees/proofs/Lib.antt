@@ -4,4 +4,6 @@ pub mod Updates
 pub mod Lawful
 pub mod Contents
 pub mod Gaps
+pub mod GapLinks
 pub mod Laws
+pub mod Slots

@@ -56,6 +56,11 @@ IsGapLink z node side root top Null = (node ≡ root) × (side ≡ top)
 IsGapLink z node side root top (Branch slot k val left right) =
     (key : ℕ) × HasNullLink node key side (Branch slot k val left right) × IsInGap side key z (Branch slot k val left right)
 
+-- every null link that has the key `z` in its gap is the link of `node` on `side`
+abbrev pub IsOnlyGapLink : ℕ → ℕ → Side → NamedTree → Type 0
+IsOnlyGapLink z node side tree =
+    (n key : ℕ) (w : Side) → HasNullLink n key w tree → IsInGap w key z tree → (node ≡ n) × (side ≡ w)
+
 -- each other null link's gap is as wide or wider in the new tree: where the search for `key` does not end
 -- at it, it keeps every key that it has
 abbrev pub WidensOtherGaps : ℕ → ℕ → Side → NamedTree → NamedTree → Type 0

@@ -3,3 +3,4 @@ pub mod TreeStep
 pub mod Shape
 pub mod Search
 pub mod Gaps
+pub mod Slots

@@ -1,5 +1,5 @@
 -- The named tree: a binary search tree whose nodes are named by the slots that they stand in.
-use Rattle.std.specs.Prelude.{ℕ, ◌+◌, ◌^◌, ◌<◌, ◌≤◌, List, [], ◌∷◌, ◌++◌, ◌==◌, if◌then◌else◌}
+use Rattle.std.specs.Prelude.{ℕ, ◌+◌, ◌^◌, ◌<◌, ◌≤◌, List, [], ◌∷◌, ◌++◌}
 use Rattle.index_words.specs.declared.pair.Pair.{Pair}
 use Rattle.index_words.specs.Map.{pair}
 
@@ -22,8 +22,3 @@ IsWithin low high (Branch slot key val left right) =
 -- the keys rise strictly from left to right, and each has 64 bits
 abbrev pub IsLawful : NamedTree → Type 0
 IsLawful tree = IsWithin 0 (2 ^ 64) tree
-
--- how often the slot stands in the tree
-abbrev pub occurs : ℕ → NamedTree → ℕ
-occurs slot Null = 0
-occurs slot (Branch s key val left right) = (if slot == s then 1 else 0) + (occurs slot left + occurs slot right)

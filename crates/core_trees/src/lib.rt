@@ -3,9 +3,11 @@
 // layers above prove their updates against the definitions and laws that stand here.
 #![tactic(auto)]
 
+mod link;
 mod put;
 mod remove;
 mod search;
 mod tree;
 
+pub use link::{Link, ROOT};
 pub use tree::{Tree, TreeError, TreeNode};
