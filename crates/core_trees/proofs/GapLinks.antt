@@ -27,8 +27,8 @@ module _ (key root : ℕ) (top : Side) (tree : NamedTree) (lawful : IsLawful tre
   end-gap None h = tt
   end-gap (Some link) h =
       subst (λ n. IsGapLink key n link.side root top tree) h.1.0
-          (subst (λ w. IsGapLink key (end_node key root tree) w root top tree) h.1.1
-              (absent-gap key 0 (2 ^ 64) root top tree lawful (null-lacks key 0 (2 ^ 64) tree lawful h.0)))
+      (subst (λ w. IsGapLink key (end_node key root tree) w root top tree) h.1.1
+      (absent-gap key 0 (2 ^ 64) root top tree lawful (null-lacks key 0 (2 ^ 64) tree lawful h.0)))
 
   pub end-only : (r : Option Link) → EndLink key root top tree r → IfSome r (λ link. IsOnlyGapLink key link.node link.side tree)
   end-only None h = tt

@@ -13,7 +13,7 @@ use Rattle.index_words.specs.declared.side.Side.TheVariants.{Left, Right}
 use Rattle.core_trees.specs.NamedTree.{NamedTree, Null, Branch, contents, IsWithin, IsLawful}
 use Rattle.core_trees.specs.TreeStep.{update, put_here, remove_here, tree_put, tree_remove, joined, first_pair, without_first, subtree_at}
 use Rattle.core_trees.specs.Search.{end_node, end_side, EndsAt}
-use Rattle.core_trees.specs.Gaps.{child_of, IsNull, HasNullLink, IsBeside, IsBetween, IsClear, IsInGap, Lacks, IsGapLink, WidensOtherGaps, WidensGaps}
+use Rattle.core_trees.specs.Gaps.{child_of, IsNull, HasNullLink, IsBeside, IsBetween, IsClear, IsInGap, Lacks, IsGapLink, WidensOtherGaps, WidensGaps, GapEndLaw, AbsentGapLaw, OtherLinkLaw}
 use Rattle.core_trees.proofs.Compare.{compared, less, more, same}
 use Rattle.core_trees.proofs.Updates.{update-left, update-right, update-here, subtree_at-left, subtree_at-right, subtree_at-here, end_node-left, end_node-right, end_side-left, end_side-right}
 
@@ -72,9 +72,12 @@ right-apart Right key z k x a b c h = omega (arith, h.0)
 -- in a gap link of a child the key is in the gap of the whole tree
 from-left : (z node s k v low high : ℕ) (side : Side) (l r : NamedTree) → IsWithin low high (Branch s k v l r) → z < k → IsGapLink z node side s Left l
     → IsGapLink z node side 0 Right (Branch s k v l r)
-from-left z node s k v low high side Null r h b link =
-    (k, inl (link.0, refl, subst (λ x. IsNull (child_of x Null r)) (sym link.1) tt), subst (λ x. IsInGap x k z (Branch s k v Null r)) (sym link.1)
-        (b, ((λ h. omega (arith, h.1)), tt, clear-below (k + 1) high k z Left r h.3 (λ x le lt between. omega (arith, between.1)))))
+from-left z node s k v low high side Null r h b link = (
+  k,
+  inl (link.0, refl, subst (λ x. IsNull (child_of x Null r)) (sym link.1) tt),
+  subst (λ x. IsInGap x k z (Branch s k v Null r)) (sym link.1)
+      (b, ((λ h. omega (arith, h.1)), tt, clear-below (k + 1) high k z Left r h.3 (λ x le lt between. omega (arith, between.1)))),
+)
 from-left z node s k v low high side (Branch t c d l' r') r h b link =
     let key : ℕ = link.0 in
     let below : key < k = (link-within low k node key side (Branch t c d l' r') h.2 link.1).1 in
@@ -82,9 +85,12 @@ from-left z node s k v low high side (Branch t c d l' r') r h b link =
 
 from-right : (z node s k v low high : ℕ) (side : Side) (l r : NamedTree) → IsWithin low high (Branch s k v l r) → k < z → IsGapLink z node side s Right r
     → IsGapLink z node side 0 Right (Branch s k v l r)
-from-right z node s k v low high side l Null h b link =
-    (k, inl (link.0, refl, subst (λ x. IsNull (child_of x l Null)) (sym link.1) tt), subst (λ x. IsInGap x k z (Branch s k v l Null)) (sym link.1)
-        (b, ((λ h. omega (arith, h.0)), clear-below low k k z Right l h.2 (λ x le lt between. omega (arith, between.0)), tt)))
+from-right z node s k v low high side l Null h b link = (
+  k,
+  inl (link.0, refl, subst (λ x. IsNull (child_of x l Null)) (sym link.1) tt),
+  subst (λ x. IsInGap x k z (Branch s k v l Null)) (sym link.1)
+      (b, ((λ h. omega (arith, h.0)), clear-below low k k z Right l h.2 (λ x le lt between. omega (arith, between.0)), tt)),
+)
 from-right z node s k v low high side l (Branch t c d l' r') h b link =
     let key : ℕ = link.0 in
     let above : k < key = omega (arith, (link-within (k + 1) high node key side (Branch t c d l' r') h.3 link.1).0) in
@@ -95,22 +101,24 @@ pub absent-gap : (z low high root : ℕ) (top : Side) (tree : NamedTree) → IsW
 absent-gap z low high root top Null h lacks = (refl, refl)
 absent-gap z low high root top (Branch s k v l r) h lacks =
     elim (compared z k) [
-      less b ↦ subst (λ n. IsGapLink z n (end_side z top (Branch s k v l r)) root top (Branch s k v l r)) (sym (end_node-left z s k v l r root b))
-        (subst (λ w. IsGapLink z (end_node z s l) w root top (Branch s k v l r)) (sym (end_side-left z s k v l r top b))
-            (from-left z (end_node z s l) s k v low high (end_side z Left l) l r h b (absent-gap z low k s Left l h.2 lacks.1)))
-    | more b ↦ subst (λ n. IsGapLink z n (end_side z top (Branch s k v l r)) root top (Branch s k v l r)) (sym (end_node-right z s k v l r root b))
-        (subst (λ w. IsGapLink z (end_node z s r) w root top (Branch s k v l r)) (sym (end_side-right z s k v l r top b))
-            (from-right z (end_node z s r) s k v low high (end_side z Right r) l r h b (absent-gap z (k + 1) high s Right r h.3 lacks.2)))
-    | same e ↦ absurd (lacks.0 (sym e)) ]
+      | less b ↦ subst (λ n. IsGapLink z n (end_side z top (Branch s k v l r)) root top (Branch s k v l r)) (sym (end_node-left z s k v l r root b))
+          (subst (λ w. IsGapLink z (end_node z s l) w root top (Branch s k v l r)) (sym (end_side-left z s k v l r top b))
+          (from-left z (end_node z s l) s k v low high (end_side z Left l) l r h b (absent-gap z low k s Left l h.2 lacks.1)))
+      | more b ↦ subst (λ n. IsGapLink z n (end_side z top (Branch s k v l r)) root top (Branch s k v l r)) (sym (end_node-right z s k v l r root b))
+          (subst (λ w. IsGapLink z (end_node z s r) w root top (Branch s k v l r)) (sym (end_side-right z s k v l r top b))
+          (from-right z (end_node z s r) s k v low high (end_side z Right r) l r h b (absent-gap z (k + 1) high s Right r h.3 lacks.2)))
+      | same e ↦ absurd (lacks.0 (sym e))
+    ]
 
 -- a put of a key that is not in between leaves all clear
 put-clear : (slot y v key z : ℕ) (side : Side) (tree : NamedTree) → ¬ IsBetween side key z y → IsClear side key z tree → IsClear side key z (tree_put slot y v tree)
 put-clear slot y v key z side Null apart _ = (apart, tt, tt)
 put-clear slot y v key z side (Branch s k u l r) apart clear =
     elim (compared y k) [
-      less b ↦ subst (IsClear side key z) (sym (update-left y (put_here slot y v) s k u l r b)) (clear.0, put-clear slot y v key z side l apart clear.1, clear.2)
-    | more b ↦ subst (IsClear side key z) (sym (update-right y (put_here slot y v) s k u l r b)) (clear.0, clear.1, put-clear slot y v key z side r apart clear.2)
-    | same e ↦ subst (IsClear side key z) (sym (update-here y (put_here slot y v) s k u l r e)) (apart, clear.1, clear.2) ]
+      | less b ↦ subst (IsClear side key z) (sym (update-left y (put_here slot y v) s k u l r b)) (clear.0, put-clear slot y v key z side l apart clear.1, clear.2)
+      | more b ↦ subst (IsClear side key z) (sym (update-right y (put_here slot y v) s k u l r b)) (clear.0, clear.1, put-clear slot y v key z side r apart clear.2)
+      | same e ↦ subst (IsClear side key z) (sym (update-here y (put_here slot y v) s k u l r e)) (apart, clear.1, clear.2)
+    ]
 
 nearer-clear : (key z y : ℕ) (side : Side) (tree : NamedTree) → IsBetween side key z y → IsClear side key z tree → IsClear side key y tree
 nearer-clear key z y side Null b clear = tt
@@ -123,10 +131,9 @@ between-beside : (side : Side) (key z y : ℕ) → IsBetween side key z y → Is
 between-beside Left key z y b = b.1
 between-beside Right key z y b = b.0
 
-pub put-widens : (slot y v root : ℕ) (top : Side) (tree : NamedTree) → IsLawful tree → WidensOtherGaps y root top tree (tree_put slot y v tree)
-put-widens slot y v root top tree lawful node key z side link gap other =
-    (gap.0, put-clear slot y v key z side tree
-        (λ b. other (gap-ends node key y 0 (2 ^ 64) root side top tree lawful link (between-beside side key z y b, nearer-clear key z y side tree b gap.1))) gap.1)
+pub put-widens : (slot y v : ℕ) (tree : NamedTree) → WidensOtherGaps y tree (tree_put slot y v tree)
+put-widens slot y v tree key z side gap other =
+    (gap.0, put-clear slot y v key z side tree (λ b. other (between-beside side key z y b, nearer-clear key z y side tree b gap.1)) gap.1)
 
 -- the first node's key is clear, and what is left
 first-clear : (key z s k v : ℕ) (side : Side) (l r : NamedTree) → IsClear side key z (Branch s k v l r)
@@ -147,9 +154,10 @@ remove-clear : (slot y key z : ℕ) (side : Side) (tree : NamedTree) → IsClear
 remove-clear slot y key z side Null _ = tt
 remove-clear slot y key z side (Branch s k u l r) clear =
     elim (compared y k) [
-      less b ↦ subst (IsClear side key z) (sym (update-left y (remove_here slot) s k u l r b)) (clear.0, remove-clear slot y key z side l clear.1, clear.2)
-    | more b ↦ subst (IsClear side key z) (sym (update-right y (remove_here slot) s k u l r b)) (clear.0, clear.1, remove-clear slot y key z side r clear.2)
-    | same e ↦ subst (IsClear side key z) (sym (update-here y (remove_here slot) s k u l r e)) (joined-clear slot key z side l r clear.1 clear.2) ]
+      | less b ↦ subst (IsClear side key z) (sym (update-left y (remove_here slot) s k u l r b)) (clear.0, remove-clear slot y key z side l clear.1, clear.2)
+      | more b ↦ subst (IsClear side key z) (sym (update-right y (remove_here slot) s k u l r b)) (clear.0, clear.1, remove-clear slot y key z side r clear.2)
+      | same e ↦ subst (IsClear side key z) (sym (update-here y (remove_here slot) s k u l r e)) (joined-clear slot key z side l r clear.1 clear.2)
+    ]
 
 pub remove-widens : (slot y : ℕ) (tree : NamedTree) → WidensGaps tree (tree_remove slot y tree)
 remove-widens slot y tree key z side gap = (gap.0, remove-clear slot y key z side tree gap.1)
@@ -166,9 +174,10 @@ pub null-lacks : (key low high : ℕ) (tree : NamedTree) → IsWithin low high t
 null-lacks key low high Null _ _ = tt
 null-lacks key low high (Branch s k v l r) h null =
     elim (compared key k) [
-      less b ↦ ((λ e. omega arith), null-lacks key low k l h.2 (subst IsNull (subtree_at-left key s k v l r b) null), lacks-outside (k + 1) high key r h.3 (inl (omega arith)))
-    | more b ↦ ((λ e. omega arith), lacks-outside low k key l h.2 (inr (omega arith)), null-lacks key (k + 1) high r h.3 (subst IsNull (subtree_at-right key s k v l r b) null))
-    | same e ↦ absurd (subst IsNull (subtree_at-here key s k v l r e) null) ]
+      | less b ↦ ((λ e. omega arith), null-lacks key low k l h.2 (subst IsNull (subtree_at-left key s k v l r b) null), lacks-outside (k + 1) high key r h.3 (inl (omega arith)))
+      | more b ↦ ((λ e. omega arith), lacks-outside low k key l h.2 (inr (omega arith)), null-lacks key (k + 1) high r h.3 (subst IsNull (subtree_at-right key s k v l r b) null))
+      | same e ↦ absurd (subst IsNull (subtree_at-here key s k v l r e) null)
+    ]
 
 pub lacks-has : (key : ℕ) (tree : NamedTree) → Lacks key tree → map_has key (contents tree) ≡ false
 lacks-has key Null _ = refl
@@ -181,6 +190,18 @@ found-has key Null found = absurd (found tt)
 found-has key (Branch s k v l r) found =
     list_any-append (λ (p : Pair). p.key == key) (contents l) (pair k v ∷ contents r)
     ∙ (elim (compared key k) [
-      less b ↦ simp (found-has key l (subst (λ t. ¬ IsNull t) (subtree_at-left key s k v l r b) found))
-    | more b ↦ simp (found-has key r (subst (λ t. ¬ IsNull t) (subtree_at-right key s k v l r b) found), or-true)
-    | same e ↦ simp (eq-eqb k key (sym e), or-true) ])
+      | less b ↦ simp (found-has key l (subst (λ t. ¬ IsNull t) (subtree_at-left key s k v l r b) found))
+      | more b ↦ simp (found-has key r (subst (λ t. ¬ IsNull t) (subtree_at-right key s k v l r b) found), or-true)
+      | same e ↦ simp (eq-eqb k key (sym e), or-true)
+    ])
+
+-- the laws, at lawful trees
+pub gap_end : GapEndLaw
+gap_end node k z root side top tree lawful link gap = gap-ends node k z 0 (2 ^ 64) root side top tree lawful link gap
+
+pub absent_gap : AbsentGapLaw
+absent_gap z root top tree lawful lacks = absent-gap z 0 (2 ^ 64) root top tree lawful lacks
+
+pub other_link : OtherLinkLaw
+other_link slot put val node k z root side top tree lawful link gap other =
+    put-widens slot put val tree k z side gap (λ here. other (gap_end node k put root side top tree lawful link here))

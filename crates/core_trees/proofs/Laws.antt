@@ -10,6 +10,11 @@ use Rattle.core_trees.proofs.Updates.{search_from-left, search_from-right}
 use Rattle.core_trees.proofs.Compare.{compared, less, more, same}
 use Rattle.core_trees.specs.Search.{search_from}
 use Rattle.std.specs.Option.{option_or}
+use Rattle.core_trees.specs.Gaps.{WidensOtherGaps, WidensGaps}
+use Rattle.core_trees.specs.Slots.{MovesSlots, put_takes, remove_takes, remove_brings}
+use Rattle.core_trees.proofs.Gaps.{put-widens, remove-widens}
+use Rattle.core_trees.proofs.Slots.{put_slots, remove_slots}
+use Rattle.std.proofs.Common.{List, [], ◌∷◌}
 use Rattle.core_trees.proofs.Contents.{contents-put, contents-remove}
 
 pub put_contents : (slot key val : ℕ) (tree new : NamedTree) → new ≡ tree_put slot key val tree → IsLawful tree → contents new ≡ map_put key val (contents tree)
@@ -39,3 +44,15 @@ search-contents key low high (Branch s k v l r) h =
 
 pub search_contents : (key : ℕ) (tree : NamedTree) → IsLawful tree → search_from key tree ≡ first_from key (contents tree)
 search_contents key tree h = search-contents key 0 (2 ^ 64) tree h
+
+pub put_gaps : (slot key val : ℕ) (tree new : NamedTree) → new ≡ tree_put slot key val tree → WidensOtherGaps key tree new
+put_gaps slot key val tree new e = subst (WidensOtherGaps key tree) (sym e) (put-widens slot key val tree)
+
+pub remove_gaps : (slot key : ℕ) (tree new : NamedTree) → new ≡ tree_remove slot key tree → WidensGaps tree new
+remove_gaps slot key tree new e = subst (WidensGaps tree) (sym e) (remove-widens slot key tree)
+
+pub put_moves : (slot key val : ℕ) (tree new : NamedTree) → new ≡ tree_put slot key val tree → MovesSlots (put_takes key tree) (slot ∷ []) tree new
+put_moves slot key val tree new e = subst (MovesSlots (put_takes key tree) (slot ∷ []) tree) (sym e) (put_slots slot key val tree)
+
+pub remove_moves : (slot key : ℕ) (tree new : NamedTree) → new ≡ tree_remove slot key tree → MovesSlots (remove_takes key tree) (remove_brings slot key tree) tree new
+remove_moves slot key tree new e = subst (MovesSlots (remove_takes key tree) (remove_brings slot key tree) tree) (sym e) (remove_slots slot key tree)

@@ -12,30 +12,32 @@ pub update_tally : UpdateTallyLaw
 update_tally h key f Null = omega arith
 update_tally h key f (Branch s k v l r) =
     elim (compared key k) [
-      less b ↦
-        let step : tally h (update key f (Branch s k v l r)) ≡ h s + (tally h (update key f l) + tally h r) = ap (tally h) (update-left key f s k v l r b) in
-        let here : subtree_at key (Branch s k v l r) ≡ subtree_at key l = subtree_at-left key s k v l r b in
-        subst (λ t. tally h (update key f (Branch s k v l r)) + tally h t ≡ tally h (Branch s k v l r) + tally h (f t)) (sym here)
-            (omega (arith, step, update_tally h key f l))
-    | more b ↦
-        let step : tally h (update key f (Branch s k v l r)) ≡ h s + (tally h l + tally h (update key f r)) = ap (tally h) (update-right key f s k v l r b) in
-        let here : subtree_at key (Branch s k v l r) ≡ subtree_at key r = subtree_at-right key s k v l r b in
-        subst (λ t. tally h (update key f (Branch s k v l r)) + tally h t ≡ tally h (Branch s k v l r) + tally h (f t)) (sym here)
-            (omega (arith, step, update_tally h key f r))
-    | same e ↦
-        let step : tally h (update key f (Branch s k v l r)) ≡ tally h (f (Branch s k v l r)) = ap (tally h) (update-here key f s k v l r e) in
-        let here : subtree_at key (Branch s k v l r) ≡ Branch s k v l r = subtree_at-here key s k v l r e in
-        subst (λ t. tally h (update key f (Branch s k v l r)) + tally h t ≡ tally h (Branch s k v l r) + tally h (f t)) (sym here)
-            (omega (arith, step)) ]
+      | less b ↦
+          let step : tally h (update key f (Branch s k v l r)) ≡ h s + (tally h (update key f l) + tally h r) = ap (tally h) (update-left key f s k v l r b) in
+          let here : subtree_at key (Branch s k v l r) ≡ subtree_at key l = subtree_at-left key s k v l r b in
+          subst (λ t. tally h (update key f (Branch s k v l r)) + tally h t ≡ tally h (Branch s k v l r) + tally h (f t)) (sym here)
+          (omega (arith, step, update_tally h key f l))
+      | more b ↦
+          let step : tally h (update key f (Branch s k v l r)) ≡ h s + (tally h l + tally h (update key f r)) = ap (tally h) (update-right key f s k v l r b) in
+          let here : subtree_at key (Branch s k v l r) ≡ subtree_at key r = subtree_at-right key s k v l r b in
+          subst (λ t. tally h (update key f (Branch s k v l r)) + tally h t ≡ tally h (Branch s k v l r) + tally h (f t)) (sym here)
+          (omega (arith, step, update_tally h key f r))
+      | same e ↦
+          let step : tally h (update key f (Branch s k v l r)) ≡ tally h (f (Branch s k v l r)) = ap (tally h) (update-here key f s k v l r e) in
+          let here : subtree_at key (Branch s k v l r) ≡ Branch s k v l r = subtree_at-here key s k v l r e in
+          subst (λ t. tally h (update key f (Branch s k v l r)) + tally h t ≡ tally h (Branch s k v l r) + tally h (f t)) (sym here)
+          (omega (arith, step))
+    ]
 
 -- the subtree is part of the tree
 pub subtree_tally : (h : ℕ → ℕ) (key : ℕ) (tree : NamedTree) → tally h (subtree_at key tree) ≤ tally h tree
 subtree_tally h key Null = omega arith
 subtree_tally h key (Branch s k v l r) =
     elim (compared key k) [
-      less b ↦ subst (λ t. tally h t ≤ tally h (Branch s k v l r)) (sym (subtree_at-left key s k v l r b)) (omega (arith, subtree_tally h key l))
-    | more b ↦ subst (λ t. tally h t ≤ tally h (Branch s k v l r)) (sym (subtree_at-right key s k v l r b)) (omega (arith, subtree_tally h key r))
-    | same e ↦ subst (λ t. tally h t ≤ tally h (Branch s k v l r)) (sym (subtree_at-here key s k v l r e)) (omega arith) ]
+      | less b ↦ subst (λ t. tally h t ≤ tally h (Branch s k v l r)) (sym (subtree_at-left key s k v l r b)) (omega (arith, subtree_tally h key l))
+      | more b ↦ subst (λ t. tally h t ≤ tally h (Branch s k v l r)) (sym (subtree_at-right key s k v l r b)) (omega (arith, subtree_tally h key r))
+      | same e ↦ subst (λ t. tally h t ≤ tally h (Branch s k v l r)) (sym (subtree_at-here key s k v l r e)) (omega arith)
+    ]
 
 put_here-tally : (h : ℕ → ℕ) (slot key val : ℕ) (tree : NamedTree)
     → (tally h (put_here slot key val tree) + sum_by h (top_slots tree) ≡ tally h tree + (h slot + 0)) × (sum_by h (top_slots tree) ≤ tally h tree)
@@ -62,11 +64,11 @@ remove_here-tally h slot (Branch s k v (Branch t c d l l') (Branch u e x r r')) 
 pub put_slots : (slot key val : ℕ) (tree : NamedTree) → MovesSlots (put_takes key tree) (slot ∷ []) tree (tree_put slot key val tree)
 put_slots slot key val tree h =
     let here : (tally h (put_here slot key val (subtree_at key tree)) + sum_by h (put_takes key tree) ≡ tally h (subtree_at key tree) + (h slot + 0)) × (sum_by h (put_takes key tree) ≤ tally h (subtree_at key tree))
-        = put_here-tally h slot key val (subtree_at key tree) in
+    = put_here-tally h slot key val (subtree_at key tree) in
     (omega (arith, here.0, update_tally h key (put_here slot key val) tree), omega (arith, here.1, subtree_tally h key tree))
 
 pub remove_slots : (slot key : ℕ) (tree : NamedTree) → MovesSlots (remove_takes key tree) (remove_brings slot key tree) tree (tree_remove slot key tree)
 remove_slots slot key tree h =
     let here : (tally h (remove_here slot (subtree_at key tree)) + sum_by h (remove_takes key tree) ≡ tally h (subtree_at key tree) + sum_by h (remove_brings slot key tree)) × (sum_by h (remove_takes key tree) ≤ tally h (subtree_at key tree))
-        = remove_here-tally h slot (subtree_at key tree) in
+    = remove_here-tally h slot (subtree_at key tree) in
     (omega (arith, here.0, update_tally h key (remove_here slot) tree), omega (arith, here.1, subtree_tally h key tree))

@@ -5,8 +5,9 @@
 use Rattle.std.specs.Prelude.{◌≡◌, ℕ, ◌<◌, ◌≤◌, ◌⊎◌}
 use Rattle.index_words.specs.declared.side.Side.{Side}
 use Rattle.index_words.specs.declared.side.Side.TheVariants.{Left, Right}
-use Rattle.core_trees.specs.NamedTree.{NamedTree, Null, Branch}
-use Rattle.core_trees.specs.Search.{EndsAt}
+use Rattle.core_trees.specs.NamedTree.{NamedTree, Null, Branch, IsLawful}
+use Rattle.core_trees.specs.Search.{EndsAt, end_node, end_side}
+use Rattle.core_trees.specs.TreeStep.{tree_put}
 
 -- the tree on one side of a node with these two children
 abbrev pub child_of : Side → NamedTree → NamedTree → NamedTree
@@ -61,13 +62,29 @@ abbrev pub IsOnlyGapLink : ℕ → ℕ → Side → NamedTree → Type 0
 IsOnlyGapLink z node side tree =
     (n key : ℕ) (w : Side) → HasNullLink n key w tree → IsInGap w key z tree → (node ≡ n) × (side ≡ w)
 
--- each other null link's gap is as wide or wider in the new tree: where the search for `key` does not end
--- at it, it keeps every key that it has
-abbrev pub WidensOtherGaps : ℕ → ℕ → Side → NamedTree → NamedTree → Type 0
-WidensOtherGaps key root top old new =
-    (node k z : ℕ) (side : Side) → HasNullLink node k side old → IsInGap side k z old → ¬ EndsAt key node side root top old
-    → IsInGap side k z new
+-- every gap that does not have `put` is as wide or wider in the new tree
+abbrev pub WidensOtherGaps : ℕ → NamedTree → NamedTree → Type 0
+WidensOtherGaps put old new =
+    (k z : ℕ) (side : Side) → IsInGap side k z old → ¬ IsInGap side k put old → IsInGap side k z new
 
 -- every gap is as wide or wider in the new tree
 abbrev pub WidensGaps : NamedTree → NamedTree → Type 0
 WidensGaps old new = (k z : ℕ) (side : Side) → IsInGap side k z old → IsInGap side k z new
+
+-- the search for a key in the gap of a null link ends at that link
+abbrev pub GapEndLaw : Type 0
+GapEndLaw =
+    (node k z root : ℕ) (side top : Side) (tree : NamedTree) → IsLawful tree → HasNullLink node k side tree → IsInGap side k z tree
+    → EndsAt z node side root top tree
+
+-- a key that is not in the tree is in the gap of the null link at which its search ends
+abbrev pub AbsentGapLaw : Type 0
+AbsentGapLaw =
+    (z root : ℕ) (top : Side) (tree : NamedTree) → IsLawful tree → Lacks z tree
+    → IsGapLink z (end_node z root tree) (end_side z top tree) root top tree
+
+-- a null link at which the search for the put key does not end has as wide a gap, or a wider one, after it
+abbrev pub OtherLinkLaw : Type 0
+OtherLinkLaw =
+    (slot put val node k z root : ℕ) (side top : Side) (tree : NamedTree) → IsLawful tree → HasNullLink node k side tree
+    → IsInGap side k z tree → ¬ EndsAt put node side root top tree → IsInGap side k z (tree_put slot put val tree)

@@ -1,5 +1,7 @@
-ghost use Rattle.std.specs.Prelude.{◌≡◌, IfOk, IfErr};
+ghost use Rattle.std.specs.Prelude.{◌≡◌, [], ◌∷◌, IfOk, IfErr};
 ghost use Rattle.index_words.specs.Map.{map_put};
+ghost use Rattle.core_trees.specs.Gaps.{WidensOtherGaps};
+ghost use Rattle.core_trees.specs.Slots.{MovesSlots, put_takes};
 ghost use Rattle.core_trees.specs.NamedTree.{Branch, Null, contents, IsLawful};
 ghost use Rattle.core_trees.specs.Shape.{shape};
 ghost use Rattle.core_trees.specs.TreeStep.{tree_put};
@@ -16,6 +18,8 @@ impl Tree {
         ensures step { IfOk result (λ tree. shape tree ≡ tree_put slot key val (shape self)) }
         ensures contents { IfOk result (λ tree. contents (shape tree) ≡ map_put key val (contents (shape self))) }
         ensures lawful { IfOk result (λ tree. IsLawful (shape tree)) }
+        ensures slots { IfOk result (λ tree. MovesSlots (put_takes key (shape self)) (slot ∷ []) (shape self) (shape tree)) }
+        ensures gaps { IfOk result (λ tree. WidensOtherGaps key (shape self) (shape tree)) }
         ensures refused { IfErr result (λ error. error.tree ≡ self) }
     {
         self.put_node(alloc, slot, key, val)

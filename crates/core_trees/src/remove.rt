@@ -1,5 +1,7 @@
 ghost use Rattle.std.specs.Prelude.{◌≡◌};
 ghost use Rattle.index_words.specs.Map.{map_remove};
+ghost use Rattle.core_trees.specs.Gaps.{WidensGaps};
+ghost use Rattle.core_trees.specs.Slots.{MovesSlots, remove_takes, remove_brings};
 ghost use Rattle.core_trees.specs.NamedTree.{contents, IsLawful};
 ghost use Rattle.core_trees.specs.Shape.{shape};
 ghost use Rattle.core_trees.specs.TreeStep.{tree_remove, joined, first_pair, without_first};
@@ -17,6 +19,8 @@ impl Tree {
         ensures step { shape result ≡ tree_remove slot key (shape self) }
         ensures contents { contents (shape result) ≡ map_remove key (contents (shape self)) }
         ensures lawful { IsLawful (shape result) }
+        ensures slots { MovesSlots (remove_takes key (shape self)) (remove_brings slot key (shape self)) (shape self) (shape result) }
+        ensures gaps { WidensGaps (shape self) (shape result) }
     {
         self.remove_node(key, slot)
     }
