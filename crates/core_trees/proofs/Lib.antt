@@ -7,3 +7,5 @@ pub mod Gaps
 pub mod GapLinks
 pub mod Laws
 pub mod Slots
+pub mod Bundle
+pub mod SpelledTree

@@ -4,3 +4,5 @@ pub mod Shape
 pub mod Search
 pub mod Gaps
 pub mod Slots
+pub mod Bundle
+pub mod SpelledTree

@@ -1,0 +1,65 @@
+-- Bundles: a link's entries, newest first, their numbers, and which of them a number selects. An entry is
+-- named by its number in the table of entries, and 0 is none.
+use Rattle.std.specs.Prelude.{◌≡◌, ℕ, ◌^◌, ◌<◌, ◌≤◌, ◌⊎◌, List, [], ◌∷◌, ◌++◌, nat_le, ◌==◌, if◌then◌else◌}
+use Rattle.std.specs.List.{AllByRecursion}
+
+-- the entries are those from the head on, each of the others the next of the one before
+abbrev pub IsChain : (ℕ → ℕ) → ℕ → List ℕ → Type 0
+IsChain next head [] = head ≡ 0
+IsChain next head (e ∷ es) = (head ≡ e) × (0 < e) × IsChain next (next e) es
+
+-- stands for no number yet: it is above every number
+abbrev pub no_number : ℕ
+no_number = 2 ^ 64
+
+-- the number of an entry: the written one where it is not 0, or else the one that the raise gave, or none
+abbrev pub number_of : (ℕ → ℕ) → (ℕ → ℕ) → ℕ → ℕ
+number_of written raised e = if written e == 0 then raised e else written e
+
+-- selection at `t`: the first entry that has a number of at most `t`, or 0 where there is none
+abbrev pub select : (ℕ → ℕ) → ℕ → List ℕ → ℕ
+select number t [] = 0
+select number t (e ∷ es) = if nat_le (number e) t then e else select number t es
+
+-- the numbers fall strictly from the front on, and are below `top`
+abbrev pub Falls : (ℕ → ℕ) → ℕ → List ℕ → Type 0
+Falls number top [] = Unit {0}
+Falls number top (e ∷ es) = (number e < top) × Falls number (number e) es
+
+-- two numberings tell the same of an entry at `t`: its number is the same, or above `t` in both
+abbrev pub AgreeAt : ℕ → (ℕ → ℕ) → (ℕ → ℕ) → ℕ → Type 0
+AgreeAt t number number' e = (number e ≡ number' e) ⊎ ((t < number e) × (t < number' e))
+
+-- the entries are determined by the head and the next entries
+abbrev pub OneChainLaw : Type 0
+OneChainLaw = (next : ℕ → ℕ) (head : ℕ) (xs ys : List ℕ) → IsChain next head xs → IsChain next head ys → xs ≡ ys
+
+-- a chain stays one where the next of each of its entries stays
+abbrev pub ChainFrameLaw : Type 0
+ChainFrameLaw =
+    (next next' : ℕ → ℕ) (head : ℕ) (es : List ℕ) → AllByRecursion (λ e. next e ≡ next' e) es → IsChain next head es
+    → IsChain next' head es
+
+-- selection stays where the numberings agree at each entry
+abbrev pub SelectLaw : Type 0
+SelectLaw =
+    (t : ℕ) (number number' : ℕ → ℕ) (es : List ℕ) → AllByRecursion (AgreeAt t number number') es
+    → select number t es ≡ select number' t es
+
+-- selection stays where an entry with a greater number is put in front
+abbrev pub FrontLaw : Type 0
+FrontLaw =
+    (t e : ℕ) (number number' : ℕ → ℕ) (es : List ℕ) → t < number' e → AllByRecursion (AgreeAt t number number') es
+    → select number' t (e ∷ es) ≡ select number t es
+
+-- a reader that has passed only entries with greater numbers selects, from where it stands, what is selected
+abbrev pub WalkLaw : Type 0
+WalkLaw =
+    (t : ℕ) (number : ℕ → ℕ) (front es : List ℕ) → AllByRecursion (λ e. t < number e) front
+    → select number t (front ++ es) ≡ select number t es
+
+-- selection stays where entries are cut off behind one with a number of at most `t`
+abbrev pub CutLaw : Type 0
+CutLaw =
+    (t e : ℕ) (number : ℕ → ℕ) (front back : List ℕ) → number e ≤ t
+    → select number t (front ++ e ∷ back) ≡ select number t (front ++ e ∷ [])
