@@ -9,3 +9,4 @@ pub mod Laws
 pub mod Slots
 pub mod Bundle
 pub mod SpelledTree
+pub mod SpelledStep

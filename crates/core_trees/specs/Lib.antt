@@ -6,3 +6,4 @@ pub mod Gaps
 pub mod Slots
 pub mod Bundle
 pub mod SpelledTree
+pub mod SpelledStep
