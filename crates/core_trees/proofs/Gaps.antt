@@ -1,7 +1,7 @@
 -- Gaps: the search for a key in a gap ends at the gap's link, each absent key is in the gap of the link at
 -- which its search ends, and the tree step only widens the other gaps.
-use Rattle.std.proofs.Common.{◌≡◌, ℕ, ◌+◌, ◌^◌, ◌<◌, ◌≤◌, ◌⊎◌, inl, inr, refl, ap, sym, ◌∙◌, subst, arith}
-use Rattle.std.proofs.Common.{Bool, true, false, ◌∷◌}
+use Rattle.std.proofs.Common.{◌≡◌, ℕ, ◌+◌, ◌^◌, ◌<◌, ◌≤◌, ◌⊎◌, inl, inr, refl, sym, ◌∙◌, subst, arith}
+use Rattle.std.proofs.Common.{true, false, ◌∷◌}
 use Rattle.std.proofs.Math.Bool.{or-true}
 use Rattle.std.specs.Prelude.{◌==◌}
 use Rattle.std.proofs.lemmas.Bool.{eq-eqb, ne_eqb}
@@ -10,8 +10,8 @@ use Rattle.index_words.specs.declared.pair.Pair.{Pair}
 use Rattle.index_words.specs.Map.{pair, map_has}
 use Rattle.index_words.specs.declared.side.Side.{Side}
 use Rattle.index_words.specs.declared.side.Side.TheVariants.{Left, Right}
-use Rattle.core_trees.specs.NamedTree.{NamedTree, Null, Branch, contents, IsWithin, IsLawful}
-use Rattle.core_trees.specs.TreeStep.{update, put_here, remove_here, tree_put, tree_remove, joined, first_pair, without_first, subtree_at}
+use Rattle.core_trees.specs.NamedTree.{NamedTree, Null, Branch, contents, IsWithin}
+use Rattle.core_trees.specs.TreeStep.{put_here, remove_here, tree_put, tree_remove, joined, first_pair, without_first, subtree_at}
 use Rattle.core_trees.specs.Search.{end_node, end_side, EndsAt}
 use Rattle.core_trees.specs.Gaps.{child_of, IsNull, HasNullLink, IsBeside, IsBetween, IsClear, IsInGap, Lacks, IsGapLink, WidensOtherGaps, WidensGaps, GapEndLaw, AbsentGapLaw, OtherLinkLaw}
 use Rattle.core_trees.proofs.Compare.{compared, less, more, same}

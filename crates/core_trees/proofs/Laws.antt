@@ -14,7 +14,7 @@ use Rattle.core_trees.specs.Gaps.{WidensOtherGaps, WidensGaps}
 use Rattle.core_trees.specs.Slots.{MovesSlots, put_takes, remove_takes, remove_brings}
 use Rattle.core_trees.proofs.Gaps.{put-widens, remove-widens}
 use Rattle.core_trees.proofs.Slots.{put_slots, remove_slots}
-use Rattle.std.proofs.Common.{List, [], ◌∷◌}
+use Rattle.std.proofs.Common.{[], ◌∷◌}
 use Rattle.core_trees.proofs.Contents.{contents-put, contents-remove}
 
 pub put_contents : (slot key val : ℕ) (tree new : NamedTree) → new ≡ tree_put slot key val tree → IsLawful tree → contents new ≡ map_put key val (contents tree)

@@ -7,6 +7,6 @@ pub mod Gaps
 pub mod GapLinks
 pub mod Laws
 pub mod Slots
-pub mod Bundle
+pub mod Chains
 pub mod SpelledTree
 pub mod SpelledStep

@@ -1,10 +1,10 @@
 -- Sums over the slots of a tree, at the tree step.
-use Rattle.std.proofs.Common.{◌≡◌, ℕ, ◌+◌, ◌<◌, ◌≤◌, List, [], ◌∷◌, refl, ap, sym, ◌∙◌, subst, arith}
+use Rattle.std.proofs.Common.{◌≡◌, ℕ, ◌+◌, ◌≤◌, [], ◌∷◌, refl, ap, sym, subst, arith}
 use Rattle.std.specs.Prelude.{sum_by}
 use Rattle.std.proofs.lemmas.List.Sums.{sum_by-cons}
 use Rattle.core_trees.specs.NamedTree.{NamedTree, Null, Branch}
-use Rattle.core_trees.specs.TreeStep.{subtree_at, update, put_here, remove_here, joined, first_pair, without_first, tree_put, tree_remove}
-use Rattle.core_trees.specs.Slots.{tally, top_slots, first_slots, successor_slots, joint_slots, removed_slots, added_slots, put_takes, remove_takes, remove_brings, MovesSlots, UpdateTallyLaw}
+use Rattle.core_trees.specs.TreeStep.{subtree_at, update, put_here, remove_here, without_first, tree_put, tree_remove}
+use Rattle.core_trees.specs.Slots.{tally, top_slots, first_slots, removed_slots, added_slots, put_takes, remove_takes, remove_brings, MovesSlots, UpdateTallyLaw}
 use Rattle.core_trees.proofs.Compare.{compared, less, more, same}
 use Rattle.core_trees.proofs.Updates.{update-left, update-right, update-here, subtree_at-left, subtree_at-right, subtree_at-here}
 

@@ -30,9 +30,28 @@ Falls number top (e ∷ es) = (number e < top) × Falls number (number e) es
 abbrev pub AgreeAt : ℕ → (ℕ → ℕ) → (ℕ → ℕ) → ℕ → Type 0
 AgreeAt t number number' e = (number e ≡ number' e) ⊎ ((t < number e) × (t < number' e))
 
--- the entries are determined by the head and the next entries
+-- no other list of entries is the chain from the head on
+abbrev pub IsOnlyChain : (ℕ → ℕ) → ℕ → List ℕ → Type 0
+IsOnlyChain next head es = (others : List ℕ) → IsChain next head others → others ≡ es
+
+-- the entry stays selected where another numbering tells the same of each entry
+abbrev pub StaysSelected : (ℕ → ℕ) → ℕ → List ℕ → ℕ → Type 0
+StaysSelected number t es selected =
+    (number' : ℕ → ℕ) → AllByRecursion (AgreeAt t number number') es → select number' t es ≡ selected
+
+-- the entry stays selected where also an entry with a greater number is put in front
+abbrev pub StaysBehind : (ℕ → ℕ) → ℕ → List ℕ → ℕ → Type 0
+StaysBehind number t es selected =
+    (number' : ℕ → ℕ) (e : ℕ) → t < number' e → AllByRecursion (AgreeAt t number number') es
+    → select number' t (e ∷ es) ≡ selected
+
+-- the entry is what a reader selects that has passed only entries with greater numbers
+abbrev pub IsWalkedTo : (ℕ → ℕ) → ℕ → List ℕ → ℕ → Type 0
+IsWalkedTo number t es selected =
+    (front : List ℕ) → AllByRecursion (λ e. t < number e) front → select number t (front ++ es) ≡ selected
+
 abbrev pub OneChainLaw : Type 0
-OneChainLaw = (next : ℕ → ℕ) (head : ℕ) (xs ys : List ℕ) → IsChain next head xs → IsChain next head ys → xs ≡ ys
+OneChainLaw = (next : ℕ → ℕ) (head : ℕ) (es : List ℕ) → IsChain next head es → IsOnlyChain next head es
 
 -- a chain stays one where the next of each of its entries stays
 abbrev pub ChainFrameLaw : Type 0
@@ -40,26 +59,17 @@ ChainFrameLaw =
     (next next' : ℕ → ℕ) (head : ℕ) (es : List ℕ) → AllByRecursion (λ e. next e ≡ next' e) es → IsChain next head es
     → IsChain next' head es
 
--- selection stays where the numberings agree at each entry
 abbrev pub SelectLaw : Type 0
-SelectLaw =
-    (t : ℕ) (number number' : ℕ → ℕ) (es : List ℕ) → AllByRecursion (AgreeAt t number number') es
-    → select number t es ≡ select number' t es
+SelectLaw = (number : ℕ → ℕ) (t : ℕ) (es : List ℕ) → StaysSelected number t es (select number t es)
 
--- selection stays where an entry with a greater number is put in front
 abbrev pub FrontLaw : Type 0
-FrontLaw =
-    (t e : ℕ) (number number' : ℕ → ℕ) (es : List ℕ) → t < number' e → AllByRecursion (AgreeAt t number number') es
-    → select number' t (e ∷ es) ≡ select number t es
+FrontLaw = (number : ℕ → ℕ) (t : ℕ) (es : List ℕ) → StaysBehind number t es (select number t es)
 
--- a reader that has passed only entries with greater numbers selects, from where it stands, what is selected
 abbrev pub WalkLaw : Type 0
-WalkLaw =
-    (t : ℕ) (number : ℕ → ℕ) (front es : List ℕ) → AllByRecursion (λ e. t < number e) front
-    → select number t (front ++ es) ≡ select number t es
+WalkLaw = (number : ℕ → ℕ) (t : ℕ) (es : List ℕ) → IsWalkedTo number t es (select number t es)
 
 -- selection stays where entries are cut off behind one with a number of at most `t`
 abbrev pub CutLaw : Type 0
 CutLaw =
-    (t e : ℕ) (number : ℕ → ℕ) (front back : List ℕ) → number e ≤ t
+    (number : ℕ → ℕ) (t e : ℕ) (front back : List ℕ) → number e ≤ t
     → select number t (front ++ e ∷ back) ≡ select number t (front ++ e ∷ [])

@@ -7,3 +7,4 @@ pub mod Slots
 pub mod Bundle
 pub mod SpelledTree
 pub mod SpelledStep
+pub mod NodeLists

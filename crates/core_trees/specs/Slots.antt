@@ -2,7 +2,7 @@
 -- brings in.
 use Rattle.std.specs.Prelude.{◌≡◌, ℕ, ◌+◌, ◌≤◌, List, [], ◌∷◌, ◌==◌, if◌then◌else◌, sum_by}
 use Rattle.core_trees.specs.NamedTree.{NamedTree, Null, Branch}
-use Rattle.core_trees.specs.TreeStep.{subtree_at, update, tree_put, tree_remove}
+use Rattle.core_trees.specs.TreeStep.{subtree_at, update}
 
 -- the sum of `h` over the slots of the tree
 abbrev pub tally : (ℕ → ℕ) → NamedTree → ℕ

@@ -1,6 +1,6 @@
 -- The tree step on a spelled tree: what has to be read at the link at which the search ends, so that the tree
 -- after the step is spelled. In each law the nodes outside of the subtree at that link stay as they are.
-use Rattle.std.specs.Prelude.{◌≡◌, ℕ, ◌+◌, ◌<◌, ◌≤◌}
+use Rattle.std.specs.Prelude.{◌≡◌, ℕ, ◌<◌}
 use Rattle.index_words.specs.declared.side.Side.{Side}
 use Rattle.index_words.specs.declared.side.Side.TheVariants.{Left, Right}
 use Rattle.core_trees.specs.NamedTree.{NamedTree, Null, Branch, IsWithin}

@@ -3,7 +3,7 @@ use Rattle.std.specs.Prelude.{◌≡◌, ℕ, ◌+◌, ◌<◌, ◌≤◌, ◌�
 use Rattle.index_words.specs.declared.side.Side.{Side}
 use Rattle.index_words.specs.declared.side.Side.TheVariants.{Left, Right}
 use Rattle.core_trees.specs.NamedTree.{NamedTree, Null, Branch}
-use Rattle.core_trees.specs.TreeStep.{update, subtree_at, tree_put, tree_remove}
+use Rattle.core_trees.specs.TreeStep.{update, subtree_at}
 use Rattle.core_trees.specs.Search.{end_node, end_side}
 use Rattle.core_trees.specs.Slots.{occurs, one_at}
 
@@ -43,21 +43,28 @@ pub record KeepsOutside (g g' : Graph) (key root : ℕ) (top : Side) (tree : Nam
   pub others : (z : ℕ) → IsOutside key root tree z → ¬ (z ≡ end_node key root tree) → (w : Side) → g.child w z ≡ g'.child w z
   pub other : (w : Side) → ¬ (w ≡ end_side key top tree) → g.child w (end_node key root tree) ≡ g'.child w (end_node key root tree)
 
--- a graph spells one tree at most
-abbrev pub OneTreeLaw : Type 0
-OneTreeLaw = (g : Graph) (c : ℕ) (x y : NamedTree) → IsSpelled g c x → IsSpelled g c y → x ≡ y
+-- no other tree is spelled from the child on
+abbrev pub IsOnlySpelled : Graph → ℕ → NamedTree → Type 0
+IsOnlySpelled g c tree = (other : NamedTree) → IsSpelled g c other → other ≡ tree
 
--- a tree stays spelled where the graphs agree at its nodes
-abbrev pub FrameLaw : Type 0
-FrameLaw =
-    (g g' : Graph) (c : ℕ) (tree : NamedTree) → ((x : ℕ) → 0 < occurs x tree → SameAt g g' x) → IsSpelled g c tree
-    → IsSpelled g' c tree
+-- the tree is spelled in every graph that agrees at its nodes
+abbrev pub StaysSpelled : Graph → ℕ → NamedTree → Type 0
+StaysSpelled g c tree = (g' : Graph) → ((x : ℕ) → 0 < occurs x tree → SameAt g g' x) → IsSpelled g' c tree
 
 -- where a changed subtree is spelled at the link at which the search ends, the update of the whole tree is
 -- spelled
-abbrev pub SwapLaw : Type 0
-SwapLaw =
-    (g g' : Graph) (root key : ℕ) (top : Side) (f : NamedTree → NamedTree) (tree : NamedTree) → NamesOnce root tree
+abbrev pub SwapsSpelled : Graph → NamedTree → Type 0
+SwapsSpelled g tree =
+    (g' : Graph) (root key : ℕ) (top : Side) (f : NamedTree → NamedTree) → NamesOnce root tree
     → IsSpelled g (g.child top root) tree → KeepsOutside g g' key root top tree
     → IsSpelled g' (g'.child (end_side key top tree) (end_node key root tree)) (f (subtree_at key tree))
     → IsSpelled g' (g'.child top root) (update key f tree)
+
+abbrev pub OneTreeLaw : Type 0
+OneTreeLaw = (g : Graph) (c : ℕ) (tree : NamedTree) → IsSpelled g c tree → IsOnlySpelled g c tree
+
+abbrev pub FrameLaw : Type 0
+FrameLaw = (g : Graph) (c : ℕ) (tree : NamedTree) → IsSpelled g c tree → StaysSpelled g c tree
+
+abbrev pub SwapLaw : Type 0
+SwapLaw = (g : Graph) (tree : NamedTree) → SwapsSpelled g tree

@@ -3,11 +3,15 @@
 // layers above prove their updates against the definitions and laws that stand here.
 #![tactic(auto)]
 
+mod bundle;
 mod link;
+mod nodes;
 mod put;
 mod remove;
 mod search;
 mod tree;
 
+pub use bundle::{is_chain, selected};
 pub use link::{Link, ROOT};
+pub use nodes::{NodeLists, spells};
 pub use tree::{Tree, TreeError, TreeNode};
