@@ -6,7 +6,7 @@ use Rattle.core_trees.specs.TreeStep.{put_here, remove_here, tree_put, tree_remo
 use Rattle.core_trees.proofs.Compare.{compared, less, more, same}
 use Rattle.core_trees.proofs.MapSteps.{AllBelow-more, AllFrom-less, map_put-left, map_put-found, map_put-past, map_remove-left, map_remove-found, map_remove-past}
 use Rattle.core_trees.proofs.Updates.{update-left, update-right, update-here}
-use Rattle.core_trees.proofs.Lawful.{contents-below, contents-from}
+use Rattle.core_trees.proofs.Bounds.{contents-below, contents-from}
 
 pub contents-first : (s k v : ℕ) (l r : NamedTree) → first_pair k v l ∷ contents (without_first (Branch s k v l r)) ≡ contents (Branch s k v l r)
 contents-first s k v Null r = refl

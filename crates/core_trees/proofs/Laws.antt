@@ -5,7 +5,7 @@ use Rattle.index_words.specs.Map.{pair, map_put, map_remove, first_from}
 use Rattle.core_trees.specs.NamedTree.{NamedTree, Null, Branch, contents, IsWithin, IsLawful}
 use Rattle.core_trees.specs.TreeStep.{tree_put, tree_remove}
 use Rattle.core_trees.proofs.MapSteps.{AllBelow-more, first_from-right, first_from-left}
-use Rattle.core_trees.proofs.Lawful.{contents-below, put-within, remove-within}
+use Rattle.core_trees.proofs.Bounds.{contents-below, put-within, remove-within}
 use Rattle.core_trees.proofs.Updates.{search_from-left, search_from-right}
 use Rattle.core_trees.proofs.Compare.{compared, less, more, same}
 use Rattle.core_trees.specs.Search.{search_from}

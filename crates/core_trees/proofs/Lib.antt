@@ -1,7 +1,7 @@
 pub mod Compare
 pub mod MapSteps
 pub mod Updates
-pub mod Lawful
+pub mod Bounds
 pub mod Contents
 pub mod Gaps
 pub mod GapLinks
@@ -10,3 +10,4 @@ pub mod Slots
 pub mod Chains
 pub mod SpelledTree
 pub mod SpelledStep
+pub mod LawfulContents

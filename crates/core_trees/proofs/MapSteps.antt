@@ -4,19 +4,18 @@ use Rattle.std.specs.Prelude.{Some, nat_le, ◌≢◌}
 use Rattle.std.proofs.lemmas.Bool.{lt-ltb, le-ltb, eq-eqb, ne_eqb, lt-leb, le-leb}
 use Rattle.std.proofs.lemmas.List.Folds.{find-append}
 use Rattle.std.specs.Option.{option_or}
+use Rattle.std.specs.List.{AllByRecursion}
 use Rattle.index_words.specs.declared.pair.Pair.{Pair}
 use Rattle.index_words.specs.Map.{pair, map_put, map_remove, first_from}
 use Rattle.core_trees.proofs.Compare.{less, more, same, compared}
 
 -- each key is below `high`
 abbrev pub AllBelow : ℕ → List Pair → Type 0
-AllBelow high [] = Unit {0}
-AllBelow high (p ∷ ps) = (p.key < high) × AllBelow high ps
+AllBelow high ps = AllByRecursion (λ (p : Pair). p.key < high) ps
 
 -- each key is at least `low`
 abbrev pub AllFrom : ℕ → List Pair → Type 0
-AllFrom low [] = Unit {0}
-AllFrom low (p ∷ ps) = (low ≤ p.key) × AllFrom low ps
+AllFrom low ps = AllByRecursion (λ (p : Pair). low ≤ p.key) ps
 
 pub AllBelow-append : (high : ℕ) (xs ys : List Pair) → AllBelow high xs → AllBelow high ys → AllBelow high (xs ++ ys)
 AllBelow-append high [] ys _ below = below

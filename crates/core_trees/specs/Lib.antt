@@ -8,3 +8,4 @@ pub mod Bundle
 pub mod SpelledTree
 pub mod SpelledStep
 pub mod NodeLists
+pub mod Bounds

@@ -1,7 +1,8 @@
 -- The named tree: a binary search tree whose nodes are named by the slots that they stand in.
-use Rattle.std.specs.Prelude.{ℕ, ◌+◌, ◌^◌, ◌<◌, ◌≤◌, List, [], ◌∷◌, ◌++◌}
+use Rattle.std.specs.Prelude.{ℕ, ◌+◌, ◌^◌, ◌<◌, ◌≤◌, List, [], ◌∷◌, ◌++◌, ◌↔◌}
+use Rattle.std.specs.List.{AllByRecursion}
 use Rattle.index_words.specs.declared.pair.Pair.{Pair}
-use Rattle.index_words.specs.Map.{pair}
+use Rattle.index_words.specs.Map.{pair, IsMap}
 
 -- a tree is null, or a node with its slot, its key, its value, and the trees at its left and right link
 pub data NamedTree : Type 0 where
@@ -22,3 +23,11 @@ IsWithin low high (Branch slot key val left right) =
 -- the keys rise strictly from left to right, and each has 64 bits
 abbrev pub IsLawful : NamedTree → Type 0
 IsLawful tree = IsWithin 0 (2 ^ 64) tree
+
+-- the contents are a map, whose keys have 64 bits
+abbrev pub HasMapContents : NamedTree → Type 0
+HasMapContents tree = IsMap (contents tree) × AllByRecursion (λ (p : Pair). p.key < 2 ^ 64) (contents tree)
+
+-- a tree is lawful just where its contents are a map
+abbrev pub LawfulLaw : Type 0
+LawfulLaw = (tree : NamedTree) → IsLawful tree ↔ HasMapContents tree

@@ -4,6 +4,7 @@
 #![tactic(auto)]
 
 mod bundle;
+mod lawful;
 mod link;
 mod nodes;
 mod put;
@@ -15,3 +16,6 @@ pub use bundle::{is_chain, selected};
 pub use link::{Link, ROOT};
 pub use nodes::{NodeLists, spells};
 pub use tree::{Tree, TreeError, TreeNode};
+
+#[cfg(test)]
+mod tests;
