@@ -5,7 +5,7 @@ pub mod Bounds
 pub mod Contents
 pub mod Gaps
 pub mod GapLinks
-pub mod Laws
+pub mod StepLaws
 pub mod Slots
 pub mod Chains
 pub mod SpelledTree

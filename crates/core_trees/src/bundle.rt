@@ -40,7 +40,7 @@ fn follows_nexts(nexts: &[u32], head: u32, entries: &[u32]) -> bool
 {
     let mut at = head;
     for entry in entries {
-        if at != *entry || at == 0 {
+        if at != *entry || *entry == 0 {
             return false;
         }
         at = nexts[*entry as usize];

@@ -7,6 +7,7 @@ mod bundle;
 mod lawful;
 mod link;
 mod nodes;
+mod null_link;
 mod put;
 mod remove;
 mod search;

@@ -76,17 +76,14 @@ fn take_first(mut node: Box<TreeNode>) -> (Pair, Tree)
     ensures pair { result.0 ≡ first_pair node.value.key node.value.val (shape node.value.left) }
     ensures rest { shape result.1 ≡ without_first (shape (Tree.Node node)) }
 {
-    let left = mem::replace(&mut node.left, Tree::Empty);
-    match left {
+    match mem::replace(&mut node.left, Tree::Empty) {
         Tree::Empty => {
-            let TreeNode {
-                slot: _,
-                key,
-                val,
-                left: _,
-                right,
-            } = Box::into_inner(node);
-            (Pair { key, val }, right)
+            let first = Pair {
+                key: node.key,
+                val: node.val,
+            };
+            let rest = mem::replace(&mut node.right, Tree::Empty);
+            (first, rest)
         }
         Tree::Node(below) => {
             let (first, rest) = take_first(below);

@@ -1,6 +1,6 @@
 use Rattle.std.proofs.Common.{◌∙◌}
 use Rattle.core_trees.specs.Shape.{shape}
-use Rattle.core_trees.proofs.Laws.{search_contents}
+use Rattle.core_trees.proofs.StepLaws.{search_contents}
 use Rattle.core_trees.proofs.tree.Tree.first_from.Goals as goal
 
 pub returns : goal.returns

@@ -1,5 +1,5 @@
 use Rattle.core_trees.specs.Shape.{shape}
-use Rattle.core_trees.proofs.Laws.{put_contents, put_lawful, put_gaps, put_moves}
+use Rattle.core_trees.proofs.StepLaws.{put_contents, put_lawful, put_gaps, put_moves}
 use Rattle.std.proofs.Common.{arith}
 use Rattle.std.proofs.lemmas.Result.{IfOk-weaker}
 use Rattle.core_trees.proofs.tree.Tree.put.Goals as goal

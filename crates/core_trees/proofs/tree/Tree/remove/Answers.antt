@@ -1,5 +1,5 @@
 use Rattle.core_trees.specs.Shape.{shape}
-use Rattle.core_trees.proofs.Laws.{remove_contents, remove_lawful, remove_gaps, remove_moves}
+use Rattle.core_trees.proofs.StepLaws.{remove_contents, remove_lawful, remove_gaps, remove_moves}
 use Rattle.core_trees.proofs.tree.Tree.remove.Goals as goal
 
 pub returns-clause-contents : goal.returns-clause-contents
