@@ -1,9 +1,8 @@
 -- A tree is lawful just where its contents are a map.
-use Rattle.std.proofs.Common.{◌≡◌, ℕ, ◌+◌, ◌^◌, ◌<◌, ◌≤◌, ◌↔◌, List, [], ◌∷◌, ◌++◌, refl, arith}
-use Rattle.std.specs.List.{AllByRecursion}
+use Rattle.std.proofs.Common.{ℕ, ◌+◌, ◌^◌, ◌<◌, ◌≤◌, List, [], ◌∷◌, ◌++◌, arith}
 use Rattle.index_words.specs.declared.pair.Pair.{Pair}
-use Rattle.index_words.specs.Map.{pair, IsMap, RisesFrom}
-use Rattle.core_trees.specs.NamedTree.{NamedTree, Null, Branch, contents, IsWithin, IsLawful, HasMapContents, LawfulLaw}
+use Rattle.index_words.specs.Map.{pair, RisesFrom}
+use Rattle.core_trees.specs.NamedTree.{NamedTree, Null, Branch, contents, IsWithin, LawfulLaw}
 use Rattle.core_trees.proofs.Bounds.{contents-below}
 use Rattle.core_trees.proofs.MapSteps.{AllBelow}
 

@@ -5,7 +5,8 @@ use Rattle.index_words.specs.declared.side.Side.TheVariants.{Left, Right}
 use Rattle.core_trees.specs.NamedTree.{NamedTree, Null, Branch, IsWithin}
 use Rattle.core_trees.specs.TreeStep.{update, subtree_at, put_here, remove_here, joined, first_pair, without_first}
 use Rattle.core_trees.specs.Search.{end_node, end_side}
-use Rattle.core_trees.specs.SpelledTree.{Graph, IsSpelled, NamesOnce, KeepsOutside}
+use Rattle.core_trees.specs.Slots.{NamesOnce}
+use Rattle.core_trees.specs.SpelledTree.{Graph, IsSpelled, KeepsOutside}
 use Rattle.core_trees.specs.SpelledStep.{end_child, IsNodeOf, behind_first, SubtreeLaw, GrowLaw, ReplaceLaw, LiftRightLaw, LiftLeftLaw, JoinLaw, UnlinkLaw}
 use Rattle.core_trees.proofs.Compare.{compared, less, more, same}
 use Rattle.core_trees.proofs.Bounds.{first-within}

@@ -1,17 +1,16 @@
 -- The spelled tree: it is the only one, it stays where its nodes stay, and a changed subtree at one link is
 -- an update of the whole.
 use Rattle.std.proofs.Common.{◌≡◌, ℕ, ◌+◌, ◌<◌, ◌≤◌, ◌⊎◌, inl, inr, refl, ap, sym, ◌∙◌, subst, arith}
-use Rattle.std.proofs.lemmas.Bool.{eq-eqb, ne_eqb}
 use Rattle.index_words.specs.declared.side.Side.{Side}
 use Rattle.index_words.specs.declared.side.Side.TheVariants.{Left, Right}
 use Rattle.core_trees.specs.NamedTree.{NamedTree, Null, Branch}
 use Rattle.core_trees.specs.TreeStep.{update, subtree_at}
 use Rattle.core_trees.specs.Search.{end_node, end_side, EndsAt}
-use Rattle.core_trees.specs.Slots.{occurs, one_at}
-use Rattle.core_trees.specs.SpelledTree.{Graph, IsSpelled, SameAt, NamesOnce, IsOutside, KeepsOutside, OneTreeLaw, FrameLaw, SwapLaw}
+use Rattle.core_trees.specs.Slots.{occurs, one_at, NamesOnce}
+use Rattle.core_trees.specs.SpelledTree.{Graph, IsSpelled, SameAt, IsOutside, KeepsOutside, OneTreeLaw, FrameLaw, SwapLaw}
 use Rattle.core_trees.proofs.Compare.{compared, less, more, same}
 use Rattle.core_trees.proofs.Updates.{update-left, update-right, update-here, subtree_at-left, subtree_at-right, subtree_at-here, end_node-left, end_node-right, end_node-here, end_side-left, end_side-right, end_side-here}
-use Rattle.core_trees.proofs.Slots.{subtree_tally}
+use Rattle.core_trees.proofs.Slots.{subtree_tally, one_at-same}
 
 pub spelled-same : (g : Graph) (c : ℕ) (x y : NamedTree) → IsSpelled g c x → IsSpelled g c y → x ≡ y
 spelled-same g c Null Null hx hy = refl
@@ -24,16 +23,6 @@ spelled-same g c (Branch s k v l r) (Branch s' k' v' l' r') hx hy =
     let lefts : l ≡ l' = spelled-same g (g.child Left s) l l' hx.4 (subst (λ x. IsSpelled g (g.child Left x) l') (sym slots) hy.4) in
     let rights : r ≡ r' = spelled-same g (g.child Right s) r r' hx.5 (subst (λ x. IsSpelled g (g.child Right x) r') (sym slots) hy.5) in
     cc
-
--- a slot stands at itself, and nowhere else
-pub one_at-same : (x : ℕ) → one_at x x ≡ 1
-one_at-same x = rw (eq-eqb x x refl)
-
-pub one_at-other : (x s : ℕ) → ¬ (x ≡ s) → one_at x s ≡ 0
-one_at-other x s h = rw (ne_eqb x s h)
-
-pub one_at-positive : (x s : ℕ) → 0 < one_at x s → x ≡ s
-one_at-positive x s h = elim (compared x s) [ less b ↦ absurd (omega (arith, h, one_at-other x s (λ e. omega arith))) | more b ↦ absurd (omega (arith, h, one_at-other x s (λ e. omega arith))) | same e ↦ e ]
 
 pub spelled-frame : (g g' : Graph) (c : ℕ) (tree : NamedTree) → ((x : ℕ) → 0 < occurs x tree → SameAt g g' x) → IsSpelled g c tree
     → IsSpelled g' c tree

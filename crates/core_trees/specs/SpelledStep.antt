@@ -6,8 +6,8 @@ use Rattle.index_words.specs.declared.side.Side.TheVariants.{Left, Right}
 use Rattle.core_trees.specs.NamedTree.{NamedTree, Null, Branch, IsWithin}
 use Rattle.core_trees.specs.TreeStep.{subtree_at, tree_put, tree_remove, first_pair, without_first}
 use Rattle.core_trees.specs.Search.{end_node, end_side}
-use Rattle.core_trees.specs.Slots.{occurs}
-use Rattle.core_trees.specs.SpelledTree.{Graph, IsSpelled, SameAt, NamesOnce, KeepsOutside}
+use Rattle.core_trees.specs.Slots.{occurs, NamesOnce}
+use Rattle.core_trees.specs.SpelledTree.{Graph, IsSpelled, SameAt, KeepsOutside}
 
 -- the child at the link at which the search for the key ends
 abbrev pub end_child : Graph → ℕ → ℕ → Side → NamedTree → ℕ

@@ -1,11 +1,11 @@
 -- The tree that keys, values and child links spell.
-use Rattle.std.specs.Prelude.{◌≡◌, ℕ, ◌+◌, ◌<◌, ◌≤◌, ◌⊎◌}
+use Rattle.std.specs.Prelude.{◌≡◌, ℕ, ◌<◌, ◌⊎◌}
 use Rattle.index_words.specs.declared.side.Side.{Side}
 use Rattle.index_words.specs.declared.side.Side.TheVariants.{Left, Right}
 use Rattle.core_trees.specs.NamedTree.{NamedTree, Null, Branch}
 use Rattle.core_trees.specs.TreeStep.{update, subtree_at}
 use Rattle.core_trees.specs.Search.{end_node, end_side}
-use Rattle.core_trees.specs.Slots.{occurs, one_at}
+use Rattle.core_trees.specs.Slots.{occurs, NamesOnce}
 
 -- what is read of the nodes at one number: the key and the value of each, and its child on each side, where
 -- 0 is none
@@ -27,10 +27,6 @@ pub record SameAt (g g' : Graph) (node : ℕ) : Type 0 where
   pub val : g.val node ≡ g'.val node
   pub left : g.child Left node ≡ g'.child Left node
   pub right : g.child Right node ≡ g'.child Right node
-
--- no slot stands in the tree twice, and the root of the tree does not stand in it
-abbrev pub NamesOnce : ℕ → NamedTree → Type 0
-NamesOnce root tree = (x : ℕ) → one_at x root + occurs x tree ≤ 1
 
 -- a node is the root, or in the tree outside of the subtree at which the search for the key ends
 abbrev pub IsOutside : ℕ → ℕ → NamedTree → ℕ → Type 0

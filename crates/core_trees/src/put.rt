@@ -1,18 +1,18 @@
 ghost use Rattle.std.specs.Prelude.{◌≡◌, [], ◌∷◌, IfOk, IfErr};
-ghost use Rattle.index_words.specs.Map.{map_put};
 ghost use Rattle.core_trees.specs.Gaps.{WidensOtherGaps};
-ghost use Rattle.core_trees.specs.Slots.{MovesSlots, put_takes};
-ghost use Rattle.core_trees.specs.NamedTree.{Branch, Null, contents, IsLawful};
+ghost use Rattle.core_trees.specs.NamedTree.{contents, IsLawful};
 ghost use Rattle.core_trees.specs.Shape.{shape};
+ghost use Rattle.core_trees.specs.Slots.{MovesSlots, put_takes};
 ghost use Rattle.core_trees.specs.TreeStep.{tree_put};
+ghost use Rattle.index_words.specs.Map.{map_put};
 
 use crate::tree::{Tree, TreeError, TreeNode};
 use std::alloc::Global;
 use std::mem;
 
 impl Tree {
-    /// The tree with the key at this value, in a node with this slot: a new leaf, or a node in the place of
-    /// the key's. Memory is wanted for a new leaf alone.
+    /// The tree with the key at this value, in a new node with this slot: a leaf, or a node in the place of
+    /// the key's, with the same children.
     pub fn put(self, alloc: Global, slot: u32, key: u64, val: u64) -> Result<Tree, TreeError>
         requires lawful { IsLawful (shape self) }
         ensures step { IfOk result (λ tree. shape tree ≡ tree_put slot key val (shape self)) }
@@ -22,69 +22,42 @@ impl Tree {
         ensures gaps { IfOk result (λ tree. WidensOtherGaps key (shape self) (shape tree)) }
         ensures refused { IfErr result (λ error. error.tree ≡ self) }
     {
-        self.put_node(alloc, slot, key, val)
+        let node = TreeNode {
+            slot,
+            key,
+            val,
+            left: Tree::Empty,
+            right: Tree::Empty,
+        };
+        match Box::new(alloc, node) {
+            Ok(leaf) => Ok(self.with_node(leaf)),
+            Err(_) => Err(TreeError { tree: self }),
+        }
     }
 
-    // The tree step of the put.
-    fn put_node(self, alloc: Global, slot: u32, key: u64, val: u64) -> Result<Tree, TreeError>
-        ensures step { IfOk result (λ tree. shape tree ≡ tree_put slot key val (shape self)) }
-        ensures refused { IfErr result (λ error. error.tree ≡ self) }
+    // The tree step of a put, with the new node as a leaf.
+    fn with_node(self, mut new: Box<TreeNode>) -> Tree
+        requires left { new.value.left ≡ Tree.Empty }
+        requires right { new.value.right ≡ Tree.Empty }
+        ensures { shape result ≡ tree_put new.value.slot new.value.key new.value.val (shape self) }
     {
         match self {
-            Tree::Empty => leaf(alloc, slot, key, val),
+            Tree::Empty => Tree::Node(new),
             Tree::Node(mut node) => {
-                if key < node.key {
+                if new.key < node.key {
                     let left = mem::replace(&mut node.left, Tree::Empty);
-                    match left.put_node(alloc, slot, key, val) {
-                        Ok(tree) => {
-                            node.left = tree;
-                            Ok(Tree::Node(node))
-                        }
-                        Err(error) => {
-                            node.left = error.tree;
-                            Err(TreeError {
-                                tree: Tree::Node(node),
-                            })
-                        }
-                    }
-                } else if node.key < key {
+                    node.left = left.with_node(new);
+                    Tree::Node(node)
+                } else if node.key < new.key {
                     let right = mem::replace(&mut node.right, Tree::Empty);
-                    match right.put_node(alloc, slot, key, val) {
-                        Ok(tree) => {
-                            node.right = tree;
-                            Ok(Tree::Node(node))
-                        }
-                        Err(error) => {
-                            node.right = error.tree;
-                            Err(TreeError {
-                                tree: Tree::Node(node),
-                            })
-                        }
-                    }
+                    node.right = right.with_node(new);
+                    Tree::Node(node)
                 } else {
-                    node.slot = slot;
-                    node.val = val;
-                    Ok(Tree::Node(node))
+                    new.left = mem::replace(&mut node.left, Tree::Empty);
+                    new.right = mem::replace(&mut node.right, Tree::Empty);
+                    Tree::Node(new)
                 }
             }
         }
-    }
-}
-
-// A node without children.
-fn leaf(alloc: Global, slot: u32, key: u64, val: u64) -> Result<Tree, TreeError>
-    ensures made { IfOk result (λ tree. shape tree ≡ Branch slot key val Null Null) }
-    ensures refused { IfErr result (λ error. error.tree ≡ Tree.Empty) }
-{
-    let node = TreeNode {
-        slot,
-        key,
-        val,
-        left: Tree::Empty,
-        right: Tree::Empty,
-    };
-    match Box::new(alloc, node) {
-        Ok(node) => Ok(Tree::Node(node)),
-        Err(_) => Err(TreeError { tree: Tree::Empty }),
     }
 }
