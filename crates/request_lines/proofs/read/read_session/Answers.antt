@@ -1,0 +1,43 @@
+use Rattle.std.proofs.Common.{◌+◌, ap, arith}
+use Rattle.std.proofs.lemmas.Result.{err_from_is_err_and}
+use Rattle.request_lines.specs.Reading.{progress, texts_left, size_left}
+use Rattle.request_lines.proofs.InputLaws.{halfway_start, halfway_more, halfway_next, refused_at, session_at, answer_at}
+use Rattle.request_lines.proofs.read.read_session.Goals as goal
+
+pub loop-left-init : goal.loop-left-init
+loop-left-init c = record {
+  halfway = rw c.new-reader.ensures.start (halfway_start c.args.bytes.now);
+  within = c.new-reader.ensures.within;
+  number = omega arith;
+}
+
+pub loop-left-preserved : goal.loop-left-preserved
+loop-left-preserved c =
+    let p = progress c.loop-left.reader in
+    let number = c.loop-left.number + 1 in
+    let text = c.first_line.result.0.now in
+    let rest = c.first_line.result.1 in
+    let half = halfway_next c.args.bytes.now p number c.loop-left.left rest c.in-Some.lines text c.in-Some.is c.first_line.ensures.cut c.loop-left.invariant.halfway in
+    record {
+      halfway = rw c.in_ok-take.ensures.taken.1 (halfway_more c.args.bytes.now p number text (texts_left rest) c.in_ok-take.ensures.taken.0 half);
+      within = c.in_ok-take.ensures.within;
+      number = omega (arith, ap size_left c.in-Some.is);
+    }
+
+pub returns-in_err-take-clause-refused : goal.returns-in_err-take-clause-refused
+returns-in_err-take-clause-refused c =
+    let error = err_from_is_err_and c.from_residual.result c.from_residual.ensures.1 in
+    let p = progress c.loop-left.reader in
+    let number = c.loop-left.number + 1 in
+    let text = c.first_line.result.0.now in
+    let rest = c.first_line.result.1 in
+    let half = halfway_next c.args.bytes.now p number c.loop-left.left rest c.in-Some.lines text c.in-Some.is c.first_line.ensures.cut c.loop-left.invariant.halfway in
+    rw (error.1, error.2) (refused_at c.args.bytes.now p p number text (texts_left rest) _ c.in_err-take.ensures.taken half)
+
+pub returns-clause-session : goal.returns-clause-session
+returns-clause-session c =
+    session_at c.args.bytes.now (progress c.loop-left.reader) (c.loop-left.number + 1) c.finish.result
+    (rw c.in_default.is at c.loop-left.invariant.halfway) c.finish.ensures.clients c.finish.ensures.names c.finish.ensures.records
+
+pub returns-clause-refused : goal.returns-clause-refused
+returns-clause-refused c = answer_at c.args.bytes.now _ (returns-clause-session c) c.finish.ensures.memory

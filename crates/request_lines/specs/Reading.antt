@@ -1,0 +1,86 @@
+-- How far a reader has come: what it keeps of the lines so far.
+use Rattle.std.specs.Prelude.{◌≡◌, ℕ, ◌+◌, ◌==◌, Bool, true, false, List, [], ◌∷◌, ◌++◌, length, Option, Some, None, Result, Ok, Err, if◌then◌else◌}
+use Rattle.std.specs.Borrow.{Bor}
+use Rattle.std.specs.Option.{option_to_list}
+use Rattle.bucket_terms.specs.declared.record.Record.{Record}
+use Rattle.request_lines.specs.declared.cause.Cause.{Cause}
+use Rattle.request_lines.specs.declared.command.Command.{Command}
+use Rattle.request_lines.specs.declared.counts.Counts.{Counts}
+use Rattle.request_lines.specs.declared.line_error.LineError.{LineError}
+use Rattle.request_lines.specs.declared.line_error.LineError.TheVariants as faults
+use Rattle.request_lines.specs.declared.reader.Reader.{Reader}
+use Rattle.request_lines.specs.declared.session.Asked.{Asked}
+use Rattle.request_lines.specs.declared.session.ClientPart.{ClientPart}
+use Rattle.request_lines.specs.declared.session_error.InputError.{InputError}
+use Rattle.request_lines.specs.declared.session_error.SessionError.{SessionError}
+use Rattle.request_lines.specs.declared.session_error.SessionError.TheVariants as errors
+use Rattle.request_lines.specs.Lines.{texts_of}
+use Rattle.request_lines.specs.Grammar.{IsWithin, reading_of, none_counted}
+use Rattle.request_lines.specs.Input.{counted_with, cause_after, error_at, is_client, request_by, asked_at, name_by, record_by}
+
+-- what the lines so far have asked: how much, the parts of the clients that have ended, what the last client
+-- has asked, and the names and records
+pub record Progress : Type 0 where
+  pub counts : Counts
+  pub ended : List ClientPart
+  pub current : List Asked
+  pub names : List (List ℕ)
+  pub records : List Record
+
+abbrev pub progress : Reader → Progress
+progress reader = record { counts = reader.counts; ended = reader.ended.items; current = reader.current.items; names = reader.names.items; records = reader.records.items }
+
+-- before the first line
+abbrev pub no_progress : Progress
+no_progress = record { counts = none_counted; ended = []; current = []; names = []; records = [] }
+
+-- the parts of all clients, of which the last has ended too
+abbrev pub all_ended : Progress → List ClientPart
+all_ended p = if p.counts.clients == 0 then p.ended else p.ended ++ record { requests = p.current } ∷ []
+
+-- with one line more. A line that begins a client ends the one before it.
+abbrev pub ended_by : Bool → Progress → List ClientPart
+ended_by true p = all_ended p
+ended_by false p = p.ended
+
+abbrev pub current_by : Bool → Progress → Option Asked → List Asked
+current_by true p asked = []
+current_by false p asked = p.current ++ option_to_list asked
+
+unfoldable pub kept : Progress → ℕ → Result Command Cause → Progress
+kept p number reading = record {
+  counts = counted_with p.counts reading;
+  ended = ended_by (is_client reading) p;
+  current = current_by (is_client reading) p (asked_at number (request_by p.counts reading));
+  names = p.names ++ option_to_list (name_by reading);
+  records = p.records ++ option_to_list (record_by reading);
+}
+
+-- the same for a text, which may be empty
+unfoldable pub taken : Progress → ℕ → List ℕ → Progress
+taken p number text = if length text == 0 then p else kept p number (reading_of text)
+
+unfoldable pub error_of_text : Progress → ℕ → List ℕ → Option InputError
+error_of_text p number text = if length text == 0 then None else error_at number (cause_after p.counts (reading_of text))
+
+-- what is left of the input: None behind its last line
+abbrev pub texts_left : Option (Bor (List ℕ)) → List (List ℕ)
+texts_left None = []
+texts_left (Some bytes) = texts_of bytes.now
+
+-- how much is left: nothing, or these bytes, of which the last line may have none
+abbrev pub size_left : Option (Bor (List ℕ)) → ℕ
+size_left None = 0
+size_left (Some bytes) = length bytes.now + 1
+
+-- the line was taken, or it has this cause
+abbrev pub Takes : Progress → ℕ → List ℕ → Progress → Result (Unit {0}) SessionError → Type 0
+Takes p number text after (Ok done) = (error_of_text p number text ≡ None) × (after ≡ taken p number text)
+Takes p number text after (Err (errors.Input e)) = error_of_text p number text ≡ Some e
+Takes p number text after (Err errors.NoMemory) = Unit {0}
+
+-- the same of a line that is not empty
+abbrev pub Keeps : Progress → ℕ → List ℕ → Progress → Result (Unit {0}) LineError → Type 0
+Keeps p number text after (Ok done) = (cause_after p.counts (reading_of text) ≡ None) × (after ≡ kept p number (reading_of text))
+Keeps p number text after (Err (faults.Faulty cause)) = cause_after p.counts (reading_of text) ≡ Some cause
+Keeps p number text after (Err faults.NoMemory) = Unit {0}

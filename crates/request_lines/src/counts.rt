@@ -1,0 +1,82 @@
+// What the lines so far have asked, against the limits of a session.
+ghost use Rattle.std.specs.Prelude.{◌≡◌, None, Some, IfOk, MatchResult};
+ghost use Rattle.request_lines.specs.Grammar.{IsWithin, IsFineCommand, counted, limit_cause, none_counted};
+
+use crate::Cause;
+use crate::command::Command;
+
+/// How much the lines so far have asked.
+#[derive(Clone, Copy, Debug)]
+pub struct Counts {
+    /// `CLIENT` lines.
+    pub clients: u32,
+    /// Lines that are neither empty nor `CLIENT`.
+    pub requests: u32,
+    /// `PUT` lines.
+    pub puts: u32,
+    /// The most entries that the LIST and NEXT lines can be answered, together.
+    pub entries: u32,
+    /// The most entries of a page of the client's last LIST, or 0 where there is none.
+    pub last: u32,
+}
+
+impl Counts {
+    /// Before the first line.
+    pub fn none() -> Counts
+        ensures value { result ≡ none_counted }
+        ensures within { IsWithin result }
+    {
+        Counts {
+            clients: 0,
+            requests: 0,
+            puts: 0,
+            entries: 0,
+            last: 0,
+        }
+    }
+
+    /// The counts with this line, or the limit that it passes.
+    pub fn admitted(self, command: &Command) -> Result<Counts, Cause>
+        requires within { IsWithin self }
+        requires fine { IsFineCommand command.now }
+        ensures counts { IfOk result (λ so_far. so_far ≡ counted self command.now) }
+        ensures cause { MatchResult result (λ so_far. limit_cause (counted self command.now) command.now ≡ None)
+            (λ cause. limit_cause (counted self command.now) command.now ≡ Some cause) }
+        ensures within { IfOk result IsWithin }
+    {
+        let so_far = self.counted(command);
+        match command {
+            Command::Client if so_far.clients <= 1 => Ok(so_far),
+            Command::Put { .. } if 0 < so_far.clients && so_far.puts <= 1000 => Ok(so_far),
+            Command::List(_) if 0 < so_far.clients && so_far.requests <= so_far.puts + 4000 => {
+                Ok(so_far)
+            }
+            _ => Err(Cause::NotBuilt),
+        }
+    }
+
+    // The counts with this line.
+    fn counted(self, command: &Command) -> Counts
+        requires within { IsWithin self }
+        requires fine { IsFineCommand command.now }
+        ensures { result ≡ counted self command.now }
+    {
+        let mut so_far = self;
+        match command {
+            Command::Client => {
+                so_far.clients += 1;
+                so_far.last = 0;
+                return so_far;
+            }
+            Command::Put { .. } => so_far.puts += 1,
+            Command::Delete { .. } | Command::Head { .. } => {}
+            Command::List(query) => {
+                so_far.entries += query.max_keys;
+                so_far.last = query.max_keys;
+            }
+            Command::Next => so_far.entries += so_far.last,
+        }
+        so_far.requests += 1;
+        so_far
+    }
+}

@@ -1,0 +1,24 @@
+//! A session's text, read line by line: which clients there are, what each of them asks, and the first fault.
+//! It stands on `key_names` for texts, on `bucket_terms` for requests, and on `percent_encoding`. The layers
+//! above use `read_session`, what `specs/Session.antt` says of every session, and the grammar of
+//! `specs/Grammar.antt`.
+#![tactic(auto)]
+
+mod cause;
+mod command;
+mod counts;
+mod fields;
+mod line_error;
+mod lists;
+mod put;
+mod read;
+mod reader;
+mod session;
+mod session_error;
+mod verb;
+
+pub use cause::Cause;
+pub use lists::{AskedLines, ClientParts, Records};
+pub use read::read_session;
+pub use session::{Asked, ClientPart, Session};
+pub use session_error::{InputError, SessionError};

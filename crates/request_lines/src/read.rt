@@ -1,0 +1,60 @@
+ghost use Rattle.std.specs.Prelude.{◌≡◌, ◌<◌, ◌≤◌, ◌==◌, ◌∷◌, length, IfOk};
+ghost use Rattle.std.specs.List.{position};
+ghost use Rattle.request_lines.specs.Lines.{texts_of};
+ghost use Rattle.request_lines.specs.Input.{IsSessionOf, IsRefused};
+ghost use Rattle.request_lines.specs.Reading.{texts_left, size_left};
+ghost use Rattle.std.specs.Str.Lines.{strip_carriage_return};
+
+use crate::reader::Reader;
+use crate::{Session, SessionError};
+use std::alloc::Global;
+
+/// The session of a text, or the first line that has a cause, with its first cause.
+pub fn read_session(alloc: Global, bytes: &[u8]) -> Result<Session, SessionError>
+    requires { length bytes.now ≤ 67108864 }
+    ensures session { IfOk result (IsSessionOf bytes.now) }
+    ensures refused { IsRefused bytes.now result }
+{
+    let mut reader = Reader::new(alloc);
+    let mut number: u32 = 0;
+    let mut left = Some(bytes);
+    while let Some(lines) = left {
+        let (text, rest) = first_line(lines);
+        number += 1;
+        reader.take(alloc, number, text)?;
+        left = rest;
+    }
+    reader.finish()
+}
+
+// The first line without its end, and what stands behind it: None behind the last line.
+fn first_line(bytes: &[u8]) -> (&[u8], Option<&[u8]>)
+    ensures cut { texts_of bytes.now ≡ result.0.now ∷ texts_left result.1 }
+    ensures shorter { size_left result.1 ≤ length bytes.now }
+{
+    match line_feed(bytes) {
+        Some(end) => {
+            let (line, _) = bytes.split_at(end);
+            let (_, rest) = bytes.split_at(end + 1);
+            (without_return(line), Some(rest))
+        }
+        None => (without_return(bytes), None),
+    }
+}
+
+// The place of the first line feed.
+fn line_feed(bytes: &[u8]) -> Option<usize>
+    ensures { result ≡ position (λ b. b == 10) bytes.now }
+{
+    bytes.iter().position(|b| *b == b'\n')
+}
+
+// The line without one carriage return at its end.
+fn without_return(line: &[u8]) -> &[u8]
+    ensures { result.now ≡ strip_carriage_return line.now }
+{
+    match line.split_last() {
+        Some((b'\r', front)) => front,
+        _ => line,
+    }
+}

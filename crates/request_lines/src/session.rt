@@ -1,0 +1,54 @@
+// What a session's text asks.
+ghost use Rattle.std.specs.Prelude.{◌≡◌, ◌<◌, ◌^◌, length, count_by};
+ghost use Rattle.bucket_terms.specs.LegalRun as spec;
+
+use crate::{AskedLines, ClientParts, Records};
+use bucket_terms::Request;
+use key_names::Names;
+
+/// One request and the number of its line, counted from 1.
+#[derive(Debug, Drop)]
+pub struct Asked {
+    pub line: u32,
+    pub request: Request,
+}
+
+/// What one client asks.
+#[derive(Debug, Drop)]
+pub struct ClientPart {
+    pub requests: AskedLines,
+}
+
+/// What a text asks, client by client.
+#[derive(Debug, Drop)]
+pub struct Session {
+    pub clients: ClientParts,
+    /// The names of all PUT, DELETE and HEAD lines, in the order of the lines.
+    pub names: Names,
+    /// The records of all PUT lines, in the order of the lines.
+    pub records: Records,
+}
+
+impl ClientPart {
+    ghost use Rattle.bucket_terms.specs.LegalRun.{RequestLine, is_update};
+    ghost use Rattle.request_lines.specs.Session.{request_lines};
+
+    /// How many of the requests are updates: PUT and DELETE lines.
+    pub fn writes(&self) -> u32
+        requires { length self.now.requests < 2 ^ 32 }
+        ensures { result ≡ count_by (λ (l : RequestLine). is_update l.request) (request_lines self.now) }
+    {
+        let mut writes = 0;
+        for asked in self.requests.as_slice() {
+            writes += u32::from(is_update(&asked.request));
+        }
+        writes
+    }
+}
+
+// Whether the request is a PUT or a DELETE.
+fn is_update(request: &Request) -> bool
+    ensures { result ≡ spec.is_update request.now }
+{
+    matches!(request, Request::Put { .. } | Request::Delete { .. })
+}

@@ -1,0 +1,24 @@
+ghost use Rattle.std.specs.Prelude.{◌≡◌};
+ghost use Rattle.request_lines.specs.Grammar.{verb_of};
+
+/// The first field of a line.
+#[derive(Clone, Copy, Debug, PartialEq, Eq)]
+pub enum Verb {
+    Client,
+    Put,
+    List,
+}
+
+impl Verb {
+    /// The verb of this text, in upper case.
+    pub fn of(text: &str) -> Option<Verb>
+        ensures { result ≡ verb_of text.now }
+    {
+        match text {
+            "CLIENT" => Some(Verb::Client),
+            "PUT" => Some(Verb::Put),
+            "LIST" => Some(Verb::List),
+            _ => None,
+        }
+    }
+}
