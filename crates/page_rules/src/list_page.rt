@@ -1,0 +1,67 @@
+ghost use Rattle.std.specs.Prelude.{◌≡◌, IfOk, map, filter};
+ghost use Rattle.std.specs.Option.{option_copied};
+ghost use Rattle.key_names.specs.Names.{name_at};
+ghost use Rattle.bucket_terms.specs.Entries.{is_admitted, is_under, entry_of, entries_of};
+ghost use Rattle.bucket_terms.specs.Page.{page_of};
+
+use crate::rules::{entry_of, is_admitted, is_same_group, is_under, name_at};
+use bucket_terms::{ListQuery, Page, PageEntries, PageEntry, TokenPoint};
+use index_words::Pair;
+use key_names::{Directory, NoMemory};
+use std::alloc::Global;
+
+/// The page of a query on a whole list of pairs, from a point on: filter, group and cut. It is the
+/// definition of the page made a program, for small lists and to compare with.
+pub fn page_of_list(
+    alloc: Global,
+    dir: &Directory,
+    list: &[Pair],
+    query: &ListQuery,
+    point: Option<&TokenPoint>,
+) -> Result<Page, NoMemory>
+    ensures page { IfOk result (λ page. page ≡ page_of dir.now query.now (option_copied point.entry) list.now) }
+{
+    let mut entries = entries_of(alloc, dir, list, query, point)?;
+    let most = query.max_keys as usize;
+    let truncated = 0 < most && most < entries.len();
+    entries.truncate(most);
+    Ok(Page {
+        entries: PageEntries::new(entries),
+        truncated,
+    })
+}
+
+// The entries of a query on the list, from a point on: each group once.
+fn entries_of(
+    alloc: Global,
+    dir: &Directory,
+    list: &[Pair],
+    query: &ListQuery,
+    point: Option<&TokenPoint>,
+) -> Result<Vec<PageEntry>, NoMemory>
+    ensures { IfOk result (λ entries. entries.items ≡ entries_of dir.now query.now (option_copied point.entry) list.now) }
+{
+    let mut entries = listed(alloc, dir, list, query, point)?;
+    entries.dedup_by(|next, last| is_same_group(dir, next, last));
+    Ok(entries)
+}
+
+// The entry of each listed pair.
+fn listed(
+    alloc: Global,
+    dir: &Directory,
+    list: &[Pair],
+    query: &ListQuery,
+    point: Option<&TokenPoint>,
+) -> Result<Vec<PageEntry>, NoMemory>
+    ensures { IfOk result (λ entries. entries.items ≡ map (entry_of dir.now query.now) (filter (is_under dir.now query.now)
+        (filter (λ p. is_admitted query.now (option_copied point.entry) (name_at dir.now p.key)) list.now))) }
+{
+    Ok(
+        list.iter()
+            .filter(|pair| is_admitted(query, point, name_at(dir, pair.key)))
+            .filter(|pair| is_under(dir, query, pair))
+            .map(|pair| entry_of(dir, query, pair))
+            .collect(alloc)?,
+    )
+}

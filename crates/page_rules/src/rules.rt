@@ -1,0 +1,112 @@
+// The rules for one name, one pair and two neighbouring entries. A number that is no rank has the empty
+// name, as in the definitions.
+ghost use Rattle.std.specs.Prelude.{◌≡◌, ◌<◌, ◌≤◌, Some, None, IfSome, length, take, drop};
+ghost use Rattle.std.specs.Option.{option_copied};
+ghost use Rattle.key_names.specs.Names.{name_at};
+ghost use Rattle.bucket_terms.specs.Entries.{begins_with, is_above, is_admitted, is_under, first_end, group_len, entry_of, is_same_group};
+
+use bucket_terms::{ListQuery, PageEntry, TokenPoint};
+use index_words::Pair;
+use key_names::{Directory, Text};
+
+/// The bytes of the name at a rank.
+pub(crate) fn name_at(dir: &Directory, rank: u64) -> &[u8]
+    ensures { result.now ≡ name_at dir.now rank }
+{
+    if rank < dir.len() {
+        dir.name(rank).bytes()
+    } else {
+        &[]
+    }
+}
+
+/// Whether a listing that goes on from this point has the name.
+pub(crate) fn is_admitted(query: &ListQuery, point: Option<&TokenPoint>, name: &[u8]) -> bool
+    ensures { result ≡ is_admitted query.now (option_copied point.entry) name.now }
+{
+    match point {
+        None => query.start_after.bytes().is_empty() || is_above(name, query.start_after.bytes()),
+        Some(TokenPoint::Key(key)) => is_above(name, key.bytes()),
+        Some(TokenPoint::Group(group)) => {
+            is_above(name, group.bytes()) && !name.starts_with(group.bytes())
+        }
+    }
+}
+
+/// Whether the pair's key is a rank, and its name begins with the prefix.
+pub(crate) fn is_under(dir: &Directory, query: &ListQuery, pair: &Pair) -> bool
+    ensures { result ≡ is_under dir.now query.now pair.now }
+{
+    pair.key < dir.len() && name_at(dir, pair.key).starts_with(query.prefix.bytes())
+}
+
+/// The entry of a pair: the common prefix into which its name is rolled up, or else its key.
+pub(crate) fn entry_of(dir: &Directory, query: &ListQuery, pair: &Pair) -> PageEntry
+    ensures { result ≡ entry_of dir.now query.now pair.now }
+{
+    match group_len(query, name_at(dir, pair.key)) {
+        Some(len) => PageEntry::Group {
+            rank: pair.key,
+            len,
+        },
+        None => PageEntry::Key {
+            rank: pair.key,
+            val: pair.val,
+        },
+    }
+}
+
+/// Whether both are groups of one text.
+pub(crate) fn is_same_group(dir: &Directory, next: &PageEntry, last: &PageEntry) -> bool
+    ensures { result ≡ is_same_group dir.now next.now last.now }
+{
+    match (*next, *last) {
+        (
+            PageEntry::Group { rank, len },
+            PageEntry::Group {
+                rank: last,
+                len: last_len,
+            },
+        ) => { group_text(dir, rank, len) == group_text(dir, last, last_len) }
+        _ => false,
+    }
+}
+
+// How `name` stands to `other` in the byte order.
+fn is_above(name: &[u8], other: &[u8]) -> bool
+    ensures { result ≡ is_above name.now other.now }
+{
+    other.cmp(name).is_lt()
+}
+
+// The first `len` bytes of the name at a rank.
+fn group_text(dir: &Directory, rank: u64, len: u64) -> &[u8]
+    ensures { result.now ≡ take len (name_at dir.now rank) }
+{
+    let name = name_at(dir, rank);
+    name.get(..len as usize).unwrap_or(name)
+}
+
+// The length of the common prefix into which the name is rolled up: it ends with the first delimiter at
+// or after the prefix's length.
+#[tactic(auto, unfolding(bucket_terms::specs::Entries::group_len))]
+fn group_len(query: &ListQuery, name: &[u8]) -> Option<u64>
+    ensures { result ≡ group_len query.now name.now }
+{
+    if query.delimiter.bytes().is_empty() {
+        return None;
+    }
+    first_end(query.delimiter.bytes(), query.prefix.bytes().len(), name)
+}
+
+// Where the first delimiter from place `from` on ends.
+fn first_end(delimiter: &[u8], from: usize, name: &[u8]) -> Option<u64>
+    ensures { result ≡ first_end delimiter.now from (drop from name.now) }
+{
+    for at in from..name.len() {
+        if name[at..].starts_with(delimiter) {
+            return Some((at + delimiter.len()) as u64);
+        }
+    }
+    None
+}
