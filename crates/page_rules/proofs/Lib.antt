@@ -1,1 +1,6 @@
+pub mod Admission
 pub mod FirstEnd
+pub mod Groups
+pub mod Listing
+pub mod NameOrder
+pub mod Rolled

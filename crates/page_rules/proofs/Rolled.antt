@@ -1,0 +1,51 @@
+-- What is left of a list of entries behind its first one.
+use Rattle.std.proofs.Common.{◌≡◌, ℕ, ◌+◌, ◌<◌, ◌≤◌, Bool, true, false, not, cond, List, [], ◌∷◌, map, filter, refl, sym, ◌∙◌, ap, subst, inl, inr, arith}
+use Rattle.std.specs.List.{dedup, dedup_from}
+use Rattle.std.proofs.lemmas.Bool.{cases_Bool}
+
+module _ {X : Type 0} (under admitted : X → Bool) where
+  -- each listed item is admitted
+  abbrev pub AreAdmitted : List X → Type 0
+  AreAdmitted [] = Unit {0}
+  AreAdmitted (x ∷ xs) = (under x ≡ true → admitted x ≡ true) × AreAdmitted xs
+
+  pub filter_admitted : (xs : List X) → AreAdmitted xs → filter under (filter admitted xs) ≡ filter under xs
+  filter_admitted [] h = refl
+  filter_admitted (x ∷ xs) h =
+      let rest = filter_admitted xs h.1 in
+      elim (cases_Bool (under x)) [
+        | inl is ↦ let admits : admitted x ≡ true = h.0 is in rw admits (rw is (ap (λ l. x ∷ l) rest))
+        | inr not_under ↦
+            elim (cases_Bool (admitted x)) [
+              | inl admits ↦ rw admits (rw not_under rest)
+              | inr refused ↦ rw refused (rw not_under rest)
+            ]
+      ]
+
+module _ {X E : Type 0} (same : E → E → Bool) (entry : X → E) (under admitted : X → Bool) where
+  -- a listed item is admitted exactly where its entry is another than `first`, and then all later ones are
+  abbrev pub FollowFrom : E → List X → Type 0
+  FollowFrom first [] = Unit {0}
+  FollowFrom first (x ∷ xs) =
+      (under x ≡ true → admitted x ≡ not (same (entry x) first)) × (under x ≡ true → admitted x ≡ true → AreAdmitted under admitted xs) × FollowFrom first xs
+
+  -- the items whose entry is that of the first one are dropped with it
+  pub dedup_from-rest : (first : E) (xs : List X) → FollowFrom first xs
+      → dedup_from same first (map entry (filter under xs)) ≡ first ∷ dedup same (map entry (filter under (filter admitted xs)))
+  dedup_from-rest first [] h = refl
+  dedup_from-rest first (x ∷ xs) h =
+      let rest = dedup_from-rest first xs h.2 in
+      elim (cases_Bool (under x)) [
+        | inl is ↦
+            elim (cases_Bool (same (entry x) first)) [
+              | inl one ↦ let refused : admitted x ≡ false = h.0 is ∙ ap not one in rw refused (rw is (rw one rest))
+              | inr other ↦
+                  let admits : admitted x ≡ true = h.0 is ∙ ap not other in
+                  rw admits (rw is (rw other (ap (λ l. first ∷ dedup_from same (entry x) (map entry l)) (sym (filter_admitted under admitted xs (h.1 is admits))))))
+            ]
+        | inr not_under ↦
+            elim (cases_Bool (admitted x)) [
+              | inl admits ↦ rw admits (rw not_under rest)
+              | inr refused ↦ rw refused (rw not_under rest)
+            ]
+      ]
