@@ -1,6 +1,9 @@
 // A page of a listing, in ranks of names: no text is copied to make one.
 ghost use Rattle.std.specs.Prelude.{◌≡◌};
 
+use crate::TokenPoint;
+use key_names::{Directory, NoMemory, Text};
+use std::alloc::Global;
 use std::marker::Model;
 
 /// One return of a listing.
@@ -11,6 +14,29 @@ pub enum PageEntry {
     /// A common prefix: the first `len` bytes of the name at `rank`, which is the first listed name of
     /// the group.
     Group { rank: u64, len: u64 },
+}
+
+impl PageEntry {
+    ghost use Rattle.std.specs.Prelude.{◌≡◌, IfOk};
+    ghost use Rattle.key_names.specs.Names.{IsFine};
+    ghost use Rattle.bucket_terms.specs.Token.{point_text};
+    ghost use Rattle.bucket_terms.specs.Page.{IsEntryInRange, entry_point};
+
+    /// Where a listing goes on behind this entry: behind its key, or behind all keys of its common prefix.
+    pub fn point(&self, alloc: Global, dir: &Directory) -> Result<TokenPoint, NoMemory>
+        requires { IsEntryInRange dir.now self.now }
+        ensures point { IfOk result (λ point. point ≡ entry_point dir.now self.now) }
+        ensures fine { IfOk result (λ point. IsFine (point_text point)) }
+    {
+        let _names = dir.len();
+        match *self {
+            PageEntry::Key { rank, .. } => Ok(TokenPoint::Key(dir.name(rank).copy(alloc)?)),
+            PageEntry::Group { rank, len } => {
+                let name = dir.name(rank).as_str();
+                Ok(TokenPoint::Group(Text::of(alloc, &name[..len as usize])?))
+            }
+        }
+    }
 }
 
 /// The entries of a page, in order. Contracts see the list.
@@ -55,4 +81,28 @@ impl PageEntries {
 pub struct Page {
     pub entries: PageEntries,
     pub truncated: bool,
+}
+
+impl Page {
+    ghost use Rattle.std.specs.Prelude.{◌≡◌, is_some, IfOk, IfSome};
+    ghost use Rattle.key_names.specs.Names.{IsFine};
+    ghost use Rattle.bucket_terms.specs.Token.{point_text};
+    ghost use Rattle.bucket_terms.specs.Page.{IsInRange, page_point};
+
+    /// Where the next page begins: behind the last entry of a truncated page, and nowhere behind another
+    /// page (Amazon S3 API reference, ListObjectsV2: `NextContinuationToken`).
+    pub fn point(&self, alloc: Global, dir: &Directory) -> Result<Option<TokenPoint>, NoMemory>
+        requires { IsInRange dir.now self.now }
+        ensures point { IfOk result (λ point. point ≡ page_point dir.now self.now) }
+        ensures variant { IfOk result (λ point. is_some point ≡ self.now.truncated) }
+        ensures fine { IfOk result (λ point. IfSome point (λ p. IsFine (point_text p))) }
+    {
+        if !self.truncated {
+            return Ok(None);
+        }
+        match self.entries.as_slice().last() {
+            Some(entry) => Ok(Some(entry.point(alloc, dir)?)),
+            None => Ok(None),
+        }
+    }
 }

@@ -19,7 +19,7 @@ above_by_rank dir low high rises lt below = ap is_lt (Less-from_sorted byte_orde
 -- a text not below `front` that does not begin with it: no higher text begins with it either
 pub not_begins_above : (front low high : List ℕ) → is_above front low ≡ false → is_above high low ≡ true → begins_with low front ≡ false → begins_with high front ≡ false
 not_begins_above front low high upto above none =
-    false_from_ne_true _ (λ begins. both_ways _ none (begins_between front low high upto above begins))
+    false_from_ne_true _ (λ begins. both_ways _ none (begins_between front low high upto (not_above_back high low above) begins))
 
 -- a name above an admitted name is admitted
 pub admitted_above : (query : ListQuery) (point : Option TokenPoint) (low high : List ℕ) → is_above high low ≡ true → is_admitted query point low ≡ true → is_admitted query point high ≡ true

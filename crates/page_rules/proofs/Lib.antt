@@ -3,4 +3,5 @@ pub mod FirstEnd
 pub mod Groups
 pub mod Listing
 pub mod NameOrder
+pub mod Places
 pub mod Rolled

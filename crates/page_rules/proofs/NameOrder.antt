@@ -45,7 +45,7 @@ begins_not_below [] (y ∷ front) h = grind arith
 begins_not_below (x ∷ text) (y ∷ front) h = grind (arith, nat_tests, begins_not_below text front)
 
 -- between a text and one that begins with it, all begin with it
-pub begins_between : (front mid last : List ℕ) → is_above front mid ≡ false → is_above last mid ≡ true → begins_with last front ≡ true → begins_with mid front ≡ true
+pub begins_between : (front mid last : List ℕ) → is_above front mid ≡ false → is_above mid last ≡ false → begins_with last front ≡ true → begins_with mid front ≡ true
 begins_between [] mid last h k b = refl
 begins_between (x ∷ front) mid [] h k b = grind arith
 begins_between (x ∷ front) [] (z ∷ last) h k b = grind arith

@@ -1,7 +1,35 @@
 -- What is left of a list of entries behind its first one.
-use Rattle.std.proofs.Common.{◌≡◌, ℕ, ◌+◌, ◌<◌, ◌≤◌, Bool, true, false, not, cond, List, [], ◌∷◌, map, filter, refl, sym, ◌∙◌, ap, subst, inl, inr, arith}
+use Rattle.std.proofs.Common.{◌≡◌, ℕ, ◌+◌, ◌<◌, ◌≤◌, Bool, true, false, not, cond, ◌&&◌, List, [], ◌∷◌, map, filter, refl, sym, ◌∙◌, ap, subst, inl, inr, arith}
 use Rattle.std.specs.List.{dedup, dedup_from}
 use Rattle.std.proofs.lemmas.Bool.{cases_Bool}
+
+module _ {X : Type 0} (under : X → Bool) where
+  filter_skip : (x : X) (xs : List X) → under x ≡ false → (b : Bool) → filter under (cond b (x ∷ xs) xs) ≡ filter under xs
+  filter_skip x xs out true = ap (λ t. cond t (x ∷ filter under xs) (filter under xs)) out
+  filter_skip x xs out false = refl
+
+  pub filter-filter : (p q : X → Bool) (xs : List X) → filter q (filter p xs) ≡ filter (λ x. p x && q x) xs
+  filter-filter p q [] = refl
+  filter-filter p q (x ∷ xs) =
+      let rest = filter-filter p q xs in
+      elim (cases_Bool (p x)) [
+        | inl keeps ↦ rw keeps (ap (λ l. cond (q x) (x ∷ l) l) rest)
+        | inr drops ↦ rw drops rest
+      ]
+
+  -- tests that agree on the listed items leave the same listed items
+  pub filter_congr : (p q : X → Bool) (xs : List X) → ((x : X) → under x ≡ true → p x ≡ q x) → filter under (filter p xs) ≡ filter under (filter q xs)
+  filter_congr p q [] same = refl
+  filter_congr p q (x ∷ xs) same =
+      let rest = filter_congr p q xs same in
+      elim (cases_Bool (under x)) [
+        | inl is ↦
+          elim (cases_Bool (q x)) [
+            | inl keeps ↦ let first : p x ≡ true = same x is ∙ keeps in rw first (rw keeps (rw is (ap (λ l. x ∷ l) rest)))
+            | inr drops ↦ let first : p x ≡ false = same x is ∙ drops in rw first (rw drops rest)
+          ]
+        | inr out ↦ filter_skip x (filter p xs) out (p x) ∙ (rest ∙ sym (filter_skip x (filter q xs) out (q x)))
+      ]
 
 module _ {X : Type 0} (under admitted : X → Bool) where
   -- each listed item is admitted
