@@ -1,20 +1,17 @@
 -- The entries of a query on a map: filtered by prefix and resume point, and grouped by the delimiter
 -- (Amazon S3 API reference, ListObjectsV2: `Prefix`, `Delimiter`, `CommonPrefixes`, `StartAfter`).
 use Rattle.std.specs.Prelude.{ℕ, ◌+◌, ◌==◌, Bool, true, false, not, ◌&&◌, nat_lt, nat_eq, if◌then◌else◌, List, [], ◌∷◌, length, drop, take, map, filter, Option, Some, None}
-use Rattle.std.specs.List.{starts_with, dedup}
+use Rattle.std.specs.List.{dedup}
 use Rattle.std.specs.Ordering.{is_lt}
 use Rattle.std.specs.Cmp.Lexicographic.{pointwise}
 use Rattle.key_names.specs.Names.{byte_order, name_at}
+pub use Rattle.key_names.specs.Names.{begins_with}
 use Rattle.index_words.specs.declared.pair.Pair.{Pair}
 use Rattle.bucket_terms.specs.declared.list_query.ListQuery.{ListQuery}
 use Rattle.bucket_terms.specs.declared.token_point.TokenPoint.{TokenPoint}
 use Rattle.bucket_terms.specs.declared.token_point.TokenPoint.TheVariants.{Key as AtKey, Group as AtGroup}
 use Rattle.bucket_terms.specs.declared.page.PageEntry.{PageEntry}
 use Rattle.bucket_terms.specs.declared.page.PageEntry.TheVariants.{Key, Group}
-
--- whether `text` begins with `front`
-abbrev pub begins_with : List ℕ → List ℕ → Bool
-begins_with text front = starts_with nat_eq text front
 
 -- whether `text` stands above `other` in the byte order
 abbrev pub is_above : List ℕ → List ℕ → Bool
