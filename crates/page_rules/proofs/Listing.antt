@@ -30,7 +30,7 @@ length_group : (dir : List (List ℕ)) (query : ListQuery) (p : Pair) (len : ℕ
 length_group dir query p len h = length-take-le len (name_at dir p.key) (rolled_up query (name_at dir p.key) len h).within
 
 -- a name that begins with a group's text is rolled up into it
-in_group : (dir : List (List ℕ)) (query : ListQuery) (p : Pair) (len : ℕ) (name : List ℕ) → group_len query (name_at dir p.key) ≡ Some len
+pub in_group : (dir : List (List ℕ)) (query : ListQuery) (p : Pair) (len : ℕ) (name : List ℕ) → group_len query (name_at dir p.key) ≡ Some len
     → begins_with name (group_text dir p.key len) ≡ true → take len name ≡ group_text dir p.key len
 in_group dir query p len name h begins =
     sym (ap (λ n. take n name) (length_group dir query p len h)) ∙ begins_take name (group_text dir p.key len) begins

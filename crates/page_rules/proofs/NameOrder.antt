@@ -62,3 +62,9 @@ pub begins_own : (n : ℕ) (text : List ℕ) → begins_with text (take n text) 
 begins_own zero text = refl
 begins_own (suc n) [] = refl
 begins_own (suc n) (x ∷ text) = grind (arith, nat_tests, begins_own n text)
+
+pub begins_trans : (text mid front : List ℕ) → begins_with text mid ≡ true → begins_with mid front ≡ true → begins_with text front ≡ true
+begins_trans text mid [] h k = refl
+begins_trans text [] (z ∷ front) h k = cc
+begins_trans [] (y ∷ mid) (z ∷ front) h k = cc
+begins_trans (x ∷ text) (y ∷ mid) (z ∷ front) h k = grind (arith, nat_tests, begins_trans text mid front)

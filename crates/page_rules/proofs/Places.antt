@@ -40,7 +40,7 @@ listing_skip dir query x t out =
     ap (λ b. dedup (is_same_group dir) (map (entry_of dir query) (cond b (x ∷ rest) rest))) out
 
 -- what is behind an entry is above its name
-behind_above : (dir : List (List ℕ)) (query : ListQuery) (p : Pair) (o : Option ℕ) (name : List ℕ)
+pub behind_above : (dir : List (List ℕ)) (query : ListQuery) (p : Pair) (o : Option ℕ) (name : List ℕ)
     → is_admitted query (Some (entry_point dir (entry_by o p))) name ≡ true → is_above name (name_at dir p.key) ≡ true
 behind_above dir query p None name h = h
 behind_above dir query p (Some len) name h =
@@ -54,13 +54,13 @@ not_behind dir query p x rises le below =
     let own = name_at dir p.key in
     let name = name_at dir x.key in
     false_from_ne_true _ (λ behind.
-      let above = behind_above dir query p _ name behind in
-      elim (cases_lt x.key p.key) [
-        | inl lt ↦ both_ways _ (not_above_back own name (above_by_rank dir x.key p.key rises lt below)) above
-        | inr ge ↦
+    let above = behind_above dir query p _ name behind in
+    elim (cases_lt x.key p.key) [
+      | inl lt ↦ both_ways _ (not_above_back own name (above_by_rank dir x.key p.key rises lt below)) above
+      | inr ge ↦
           let e : x.key ≡ p.key = omega arith in
           both_ways _ (above_irreflexive own) (subst (λ k. is_above (name_at dir k) own ≡ true) e above)
-      ])
+    ])
 
 -- ---- the first entry
 
@@ -81,8 +81,8 @@ entries_skip dir query point x t none =
     let choice : Bool → List PageEntry = λ b. listing dir query (cond b (x ∷ rest) rest) in
     elim (cases_Bool (admits dir query point x)) [
       | inl keeps ↦
-        let out : is_under dir query x ≡ false = false_from_ne_true _ (λ under. both_ways _ (none under) keeps) in
-        ap choice keeps ∙ listing_skip dir query x rest out
+          let out : is_under dir query x ≡ false = false_from_ne_true _ (λ under. both_ways _ (none under) keeps) in
+          ap choice keeps ∙ listing_skip dir query x rest out
       | inr drops ↦ ap choice drops
     ]
 
@@ -98,10 +98,10 @@ unfolding entries_of
 entries_behind dir query point p t h =
     let behind = is_behind dir query (entry_of dir query p) in
     let both : (x : Pair) → (admits dir query point x && behind x) ≡ behind x =
-        λ x. elim (cases_Bool (behind x)) [
-          | inl is ↦ and_from _ _ (behind_listed dir query point p x h is) is ∙ sym is
-          | inr is_not ↦ and_right _ _ is_not ∙ sym is_not
-        ] in
+    λ x. elim (cases_Bool (behind x)) [
+      | inl is ↦ and_from _ _ (behind_listed dir query point p x h is) is ∙ sym is
+      | inr is_not ↦ and_right _ _ is_not ∙ sym is_not
+    ] in
     ap (listing dir query) (filter-filter (is_under dir query) (admits dir query point) behind t)
     ∙ listing_congr dir query (λ x. admits dir query point x && behind x) behind t (λ x under. both x)
 
@@ -113,7 +113,7 @@ first_entry dir query point low (x ∷ t) rises r =
     elim (cases_Bool (is_under dir query x && admits dir query point x)) [
       | inl both ↦ inr (here (and_parts _ _ both).0 (and_parts _ _ both).1)
       | inr not_both ↦
-        later (λ under. false_from_ne_true _ (λ keeps. both_ways _ not_both (and_from _ _ under keeps))) (first_entry dir query point (x.key + 1) t rises r.1)
+          later (λ under. false_from_ne_true _ (λ keeps. both_ways _ not_both (and_from _ _ under keeps))) (first_entry dir query point (x.key + 1) t rises r.1)
     ]
   where
     here : is_under dir query x ≡ true → admits dir query point x ≡ true → BeginsWith dir query point low (x ∷ t)
@@ -128,7 +128,7 @@ first_entry dir query point low (x ∷ t) rises r =
           is = ap (λ b. listing dir query (cond b (x ∷ rest) rest)) keeps
               ∙ listing_under dir query x rest rises under (RisesFrom-filter (admits dir query point) (x.key + 1) t r.1)
               ∙ ap (λ l. e ∷ l) (entries_behind dir query point x t keeps
-                ∙ sym (entries_skip dir query (Some (entry_point dir e)) x t (λ _. not_behind dir query x x rises (omega arith) (rank_below dir query x under))));
+              ∙ sym (entries_skip dir query (Some (entry_point dir e)) x t (λ _. not_behind dir query x x rises (omega arith) (rank_below dir query x under))));
         }
 
     later : (is_under dir query x ≡ true → admits dir query point x ≡ false) → (entries_of dir query point t ≡ []) ⊎ BeginsWith dir query point (x.key + 1) t
@@ -144,5 +144,43 @@ first_entry dir query point low (x ∷ t) rises r =
           admitted = begins.admitted;
           is = entries_skip dir query point x t none ∙ begins.is
               ∙ ap (λ l. e ∷ l) (sym (entries_skip dir query (Some (entry_point dir e)) x t
-                (λ _. not_behind dir query first x rises (omega (arith, begins.from)) (rank_below dir query first begins.under))));
+              (λ _. not_behind dir query first x rises (omega (arith, begins.from)) (rank_below dir query first begins.under))));
         })
+
+-- ---- the entry at a place
+
+-- the entry at place `k`, and what is left behind it
+pub record IsEntryAt (dir : List (List ℕ)) (query : ListQuery) (point : Option TokenPoint) (m : List Pair) (k : ℕ) : Type 0 where
+  pub pair : Pair
+  pub under : is_under dir query pair ≡ true
+  pub admitted : admits dir query point pair ≡ true
+  pub is : (d : PageEntry) → get_or (entries_of dir query point m) k d ≡ entry_of dir query pair
+  pub rest : drop (suc k) (entries_of dir query point m) ≡ entries_of dir query (Some (entry_point dir (entry_of dir query pair))) m
+
+pub entry_at : (dir : List (List ℕ)) (query : ListQuery) (point : Option TokenPoint) (m : List Pair) (k : ℕ) → Rises dir → IsMap m → k < length (entries_of dir query point m)
+    → IsEntryAt dir query point m k
+entry_at dir query point m zero rises map below =
+    elim (first_entry dir query point 0 m rises map) [
+      | inl empty ↦ absurd (omega (arith, ap length empty))
+      | inr begins ↦ record {
+        pair = begins.first;
+        under = begins.under;
+        admitted = begins.admitted;
+        is = λ d. ap (λ l. get_or l 0 d) begins.is;
+        rest = ap (drop 1) begins.is;
+      }
+    ]
+entry_at dir query point m (suc k) rises map below =
+    elim (first_entry dir query point 0 m rises map) [
+      | inl empty ↦ absurd (omega (arith, ap length empty))
+      | inr begins ↦
+          let point' = Some (entry_point dir (entry_of dir query begins.first)) in
+          let at = entry_at dir query point' m k rises map (omega (arith, ap length begins.is)) in
+          record {
+            pair = at.pair;
+            under = at.under;
+            admitted = behind_listed dir query point begins.first at.pair begins.admitted at.admitted;
+            is = λ d. ap (λ l. get_or l (suc k) d) begins.is ∙ at.is d;
+            rest = ap (drop (suc (suc k))) begins.is ∙ at.rest;
+          }
+    ]

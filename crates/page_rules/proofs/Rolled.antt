@@ -24,10 +24,10 @@ module _ {X : Type 0} (under : X → Bool) where
       let rest = filter_congr p q xs same in
       elim (cases_Bool (under x)) [
         | inl is ↦
-          elim (cases_Bool (q x)) [
-            | inl keeps ↦ let first : p x ≡ true = same x is ∙ keeps in rw first (rw keeps (rw is (ap (λ l. x ∷ l) rest)))
-            | inr drops ↦ let first : p x ≡ false = same x is ∙ drops in rw first (rw drops rest)
-          ]
+            elim (cases_Bool (q x)) [
+              | inl keeps ↦ let first : p x ≡ true = same x is ∙ keeps in rw first (rw keeps (rw is (ap (λ l. x ∷ l) rest)))
+              | inr drops ↦ let first : p x ≡ false = same x is ∙ drops in rw first (rw drops rest)
+            ]
         | inr out ↦ filter_skip x (filter p xs) out (p x) ∙ (rest ∙ sym (filter_skip x (filter q xs) out (q x)))
       ]
 
