@@ -1,21 +1,21 @@
 -- What is read has a name that an object may have, or a query that a listing takes.
-use Rattle.std.proofs.Common.{◌≡◌, ℕ, zero, suc, ◌+◌, ◌<◌, ◌≤◌, Bool, true, false, ◌&&◌, List, [], ◌∷◌, length, get_or, Result, Ok, Err, IfOk, subst, refl, arith, rules}
+use Rattle.std.proofs.Common.{◌≡◌, ℕ, zero, suc, ◌<◌, Bool, true, false, ◌&&◌, List, [], ◌∷◌, get_or, Result, Ok, Err, IfOk, subst, refl, arith, rules}
 use Rattle.std.specs.Prelude.{if◌then◌else◌}
 use Rattle.std.specs.List.{list_all}
-use Rattle.std.specs.Str.{IsUtf8, IsAscii, is_utf8}
+use Rattle.std.specs.Str.{is_utf8}
 use Rattle.std.proofs.lemmas.Str.{IsUtf8-from_ascii, IsUtf8-nil}
 use Rattle.std.proofs.lemmas.Bool.Decides.{nat_tests}
 use Rattle.key_names.specs.Names.{IsFine}
 use Rattle.request_lines.specs.declared.cause.Cause.{Cause}
 use Rattle.request_lines.specs.declared.command.Command.{Command}
-use Rattle.request_lines.specs.declared.command.Command.TheVariants as says
 use Rattle.request_lines.specs.declared.line_error.LineError.{LineError}
 use Rattle.request_lines.specs.Reads.{Reads}
 use Rattle.request_lines.specs.declared.verb.Verb.{Verb}
 use Rattle.request_lines.specs.declared.verb.Verb.TheVariants as verbs
 use Rattle.std.specs.Prelude.{Option, Some, None}
+use Rattle.request_lines.specs.Queries.{IsFineQuery}
 use Rattle.request_lines.specs.Lines.{fields_of}
-use Rattle.request_lines.specs.Grammar.{IsFineCommand, IsFineQuery, is_letter, is_plain, is_plain_key, is_plain_number, is_etag, plain_query, put_read, read_fields, read_verb, verb_of, read_line, reading_of}
+use Rattle.request_lines.specs.Grammar.{IsFineCommand, is_letter, is_plain, is_plain_key, is_plain_number, is_etag, plain_query, put_read, read_fields, read_verb, verb_of, read_line, reading_of}
 
 abbrev pub IsFineReading : Result Command Cause → Type 0
 IsFineReading (Ok command) = IsFineCommand command

@@ -1,5 +1,5 @@
 -- What is kept of the lines so far, and what is left, make up the session of the whole input.
-use Rattle.std.proofs.Common.{◌≡◌, ℕ, zero, suc, ◌+◌, ◌<◌, ◌≤◌, Bool, true, false, List, [], ◌∷◌, ◌++◌, length, map, drop, eqb, Option, Some, None, Result, Ok, Err, refl, ap, sym, subst, ◌∙◌, append_assoc, inl, inr, arith, rules}
+use Rattle.std.proofs.Common.{◌≡◌, ℕ, ◌+◌, Bool, true, false, List, [], ◌∷◌, ◌++◌, length, map, drop, Option, Some, None, Result, Ok, Err, refl, ap, sym, subst, ◌∙◌, append_assoc, inl, inr, arith}
 use Rattle.std.specs.Borrow.{Bor}
 use Rattle.request_lines.specs.declared.session_error.SessionError.{SessionError}
 use Rattle.request_lines.specs.declared.session_error.SessionError.TheVariants as errors
@@ -10,7 +10,6 @@ use Rattle.std.proofs.lemmas.Bool.{cases_Bool}
 use Rattle.std.proofs.lemmas.Bool.Decides.{nat_tests}
 use Rattle.std.proofs.lemmas.List.{append-nil}
 use Rattle.std.proofs.lemmas.List.Splits.{slice_split-cons_yes, slice_split-cons_no}
-use Rattle.bucket_terms.specs.declared.record.Record.{Record}
 use Rattle.request_lines.specs.declared.cause.Cause.{Cause}
 use Rattle.request_lines.specs.declared.command.Command.{Command}
 use Rattle.request_lines.specs.declared.command.Command.TheVariants as says
@@ -20,8 +19,8 @@ use Rattle.request_lines.specs.declared.session.ClientPart.{ClientPart}
 use Rattle.request_lines.specs.declared.session.Session.{Session}
 use Rattle.request_lines.specs.declared.session_error.InputError.{InputError}
 use Rattle.request_lines.specs.Lines.{texts_of}
-use Rattle.request_lines.specs.Grammar.{reading_of, none_counted}
-use Rattle.request_lines.specs.Input.{Line, counted_with, lines_from, lines_of, cause_after, error_at, error_of, refusal_of, is_client, asked_at, asked_of, request_by, name_by, record_by, part_of, parts_of, names_of, records_of, IsSessionOf, IsRefused}
+use Rattle.request_lines.specs.Grammar.{reading_of}
+use Rattle.request_lines.specs.Input.{Line, counted_with, lines_from, lines_of, cause_after, error_at, error_of, refusal_of, is_client, asked_of, name_by, record_by, part_of, parts_of, names_of, records_of, IsSessionOf, IsRefused}
 use Rattle.request_lines.specs.Reading.{Progress, Takes, texts_left, no_progress, all_ended, ended_by, current_by, kept, taken, error_of_text}
 
 -- the parts of all clients, with the lines that are left, cut at each line that begins a client

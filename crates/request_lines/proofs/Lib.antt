@@ -1,3 +1,4 @@
 pub mod TextLaws
 pub mod Fine
 pub mod InputLaws
+pub mod Sound

@@ -1,8 +1,8 @@
 -- What a line says, by cases on its verb and its fields, and when it is refused.
-use Rattle.std.specs.Prelude.{◌≡◌, ℕ, ◌+◌, ◌*◌, ◌≤◌, ◌==◌, ◌&&◌, ◌||◌, nat_lt, nat_le, Bool, true, false, List, [], ◌∷◌, length, Option, Some, None, Result, Ok, Err, codes, if◌then◌else◌}
+use Rattle.std.specs.Prelude.{ℕ, ◌+◌, ◌*◌, ◌≤◌, ◌==◌, ◌&&◌, ◌||◌, nat_lt, nat_le, Bool, false, List, [], ◌∷◌, length, Option, Some, None, Result, Ok, Err, codes, if◌then◌else◌}
 use Rattle.std.specs.Char.{is_ascii_digit}
 use Rattle.std.specs.List.{list_all}
-use Rattle.std.specs.Str.{IsUtf8, is_utf8, bytes_eq, all_ascii_digits}
+use Rattle.std.specs.Str.{is_utf8, bytes_eq, all_ascii_digits}
 use Rattle.std.specs.Str.Parse.{digits_value}
 use Rattle.bucket_terms.specs.declared.list_query.ListQuery.{ListQuery}
 use Rattle.request_lines.specs.declared.cause.Cause.{Cause}
@@ -13,6 +13,7 @@ use Rattle.request_lines.specs.declared.counts.Counts.{Counts}
 use Rattle.request_lines.specs.declared.verb.Verb.{Verb}
 use Rattle.request_lines.specs.declared.verb.Verb.TheVariants as verbs
 use Rattle.key_names.specs.Names.{IsFine}
+use Rattle.request_lines.specs.Queries.{IsFineQuery}
 use Rattle.request_lines.specs.Lines.{fields_of}
 
 -- the verb of this text, in upper case
@@ -77,17 +78,6 @@ read_line (verb ∷ fields) = read_verb (verb_of verb) fields
 -- what a line says, or the first cause that it has alone, whatever came before it
 unfoldable pub reading_of : List ℕ → Result Command Cause
 reading_of text = if is_utf8 text then read_line (fields_of text) else Err NotBuilt
-
--- a query that a listing takes: texts of UTF-8, three of them of at most 1,024 bytes, and at most 1,000 entries
-pub record IsFineQuery (query : ListQuery) : Type 0 where
-  pub short_prefix : length query.prefix ≤ 1024
-  pub short_delimiter : length query.delimiter ≤ 1024
-  pub short_start_after : length query.start_after ≤ 1024
-  pub prefix : IsUtf8 query.prefix
-  pub delimiter : IsUtf8 query.delimiter
-  pub start_after : IsUtf8 query.start_after
-  pub token : IsUtf8 query.token
-  pub entries : query.max_keys ≤ 1000
 
 -- what a line that is read says: its name is that of an object, its query one that a listing takes
 abbrev pub IsFineCommand : Command → Type 0

@@ -1,3 +1,4 @@
+pub mod Queries
 pub mod Lines
 pub mod Reads
 pub mod Grammar

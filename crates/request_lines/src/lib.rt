@@ -22,3 +22,6 @@ pub use lists::{AskedLines, ClientParts, Records};
 pub use read::read_session;
 pub use session::{Asked, ClientPart, Session};
 pub use session_error::{InputError, SessionError};
+
+#[cfg(test)]
+mod tests;

@@ -2,6 +2,7 @@ ghost use Rattle.std.specs.Prelude.{◌≡◌, ◌<◌, ◌≤◌, ◌==◌, ◌
 ghost use Rattle.std.specs.List.{position};
 ghost use Rattle.request_lines.specs.Lines.{texts_of};
 ghost use Rattle.request_lines.specs.Input.{IsSessionOf, IsRefused};
+ghost use Rattle.request_lines.specs.Session.{HasNames, HasRecords, HasRequests, HasLines, IsSmall};
 ghost use Rattle.request_lines.specs.Reading.{texts_left, size_left};
 ghost use Rattle.std.specs.Str.Lines.{strip_carriage_return};
 
@@ -14,6 +15,13 @@ pub fn read_session(alloc: Global, bytes: &[u8]) -> Result<Session, SessionError
     requires { length bytes.now ≤ 67108864 }
     ensures session { IfOk result (IsSessionOf bytes.now) }
     ensures refused { IsRefused bytes.now result }
+
+    // What the layers above need of every session.
+    ensures names { IfOk result HasNames }
+    ensures records { IfOk result HasRecords }
+    ensures requests { IfOk result HasRequests }
+    ensures lines { IfOk result HasLines }
+    ensures small { IfOk result IsSmall }
 {
     let mut reader = Reader::new(alloc);
     let mut number: u32 = 0;

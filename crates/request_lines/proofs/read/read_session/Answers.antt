@@ -1,12 +1,15 @@
-use Rattle.std.proofs.Common.{◌+◌, ap, arith}
-use Rattle.std.proofs.lemmas.Result.{err_from_is_err_and}
+use Rattle.std.proofs.Common.{IfOk, ◌+◌, ap, arith}
+use Rattle.std.proofs.lemmas.Result.{err_from_is_err_and, IfOk-weaker}
+use Rattle.request_lines.specs.Session.{HasNames, HasRecords, HasRequests, HasLines, IsSmall}
 use Rattle.request_lines.specs.Reading.{progress, texts_left, size_left}
 use Rattle.request_lines.proofs.InputLaws.{halfway_start, halfway_more, halfway_next, refused_at, session_at, answer_at}
+use Rattle.request_lines.proofs.Sound.{sound_start, sound_more, sound_answer, IsSoundSession}
 use Rattle.request_lines.proofs.read.read_session.Goals as goal
 
 pub loop-left-init : goal.loop-left-init
 loop-left-init c = record {
   halfway = rw c.new-reader.ensures.start (halfway_start c.args.bytes.now);
+  sound = rw c.new-reader.ensures.start sound_start;
   within = c.new-reader.ensures.within;
   number = omega arith;
 }
@@ -20,6 +23,7 @@ loop-left-preserved c =
     let half = halfway_next c.args.bytes.now p number c.loop-left.left rest c.in-Some.lines text c.in-Some.is c.first_line.ensures.cut c.loop-left.invariant.halfway in
     record {
       halfway = rw c.in_ok-take.ensures.taken.1 (halfway_more c.args.bytes.now p number text (texts_left rest) c.in_ok-take.ensures.taken.0 half);
+      sound = rw c.in_ok-take.ensures.taken.1 (sound_more p number text c.in_ok-take.ensures.taken.0 (omega arith) (omega arith) c.loop-left.invariant.sound);
       within = c.in_ok-take.ensures.within;
       number = omega (arith, ap size_left c.in-Some.is);
     }
@@ -41,3 +45,23 @@ returns-clause-session c =
 
 pub returns-clause-refused : goal.returns-clause-refused
 returns-clause-refused c = answer_at c.args.bytes.now _ (returns-clause-session c) c.finish.ensures.memory
+
+-- what holds of the session
+sound : (c : goal.After-finish) → IfOk c.finish.result IsSoundSession
+sound c = sound_answer (progress c.loop-left.reader) (c.loop-left.number + 1) c.finish.result (omega arith) c.loop-left.invariant.within c.loop-left.invariant.sound
+    c.finish.ensures.clients c.finish.ensures.names c.finish.ensures.records
+
+pub returns-clause-names : goal.returns-clause-names
+returns-clause-names c = IfOk-weaker _ IsSoundSession HasNames (λ s holds. holds.names) (sound c)
+
+pub returns-clause-records : goal.returns-clause-records
+returns-clause-records c = IfOk-weaker _ IsSoundSession HasRecords (λ s holds. holds.records) (sound c)
+
+pub returns-clause-requests : goal.returns-clause-requests
+returns-clause-requests c = IfOk-weaker _ IsSoundSession HasRequests (λ s holds. holds.requests) (sound c)
+
+pub returns-clause-lines : goal.returns-clause-lines
+returns-clause-lines c = IfOk-weaker _ IsSoundSession HasLines (λ s holds. holds.lines) (sound c)
+
+pub returns-clause-small : goal.returns-clause-small
+returns-clause-small c = IfOk-weaker _ IsSoundSession IsSmall (λ s holds. holds.small) (sound c)

@@ -2,11 +2,13 @@ use Rattle.std.proofs.Common.{◌≤◌, ◌+◌, length}
 use Rattle.request_lines.specs.Grammar.{IsWithin}
 use Rattle.request_lines.specs.Reading.{progress, texts_left, size_left}
 use Rattle.request_lines.proofs.InputLaws.{IsHalfway}
+use Rattle.request_lines.proofs.Sound.{IsSound}
 use Rattle.request_lines.proofs.read.read_session.Given as goal
 
 abbrev pub invariant-loop-left : goal.invariant-loop-left
 invariant-loop-left l = record {
   halfway : IsHalfway l.bytes (progress l.reader) (l.number + 1) (texts_left l.left);
+  sound : IsSound (progress l.reader) (l.number + 1);
   within : IsWithin l.reader.counts;
   number : l.number + size_left l.left ≤ length l.bytes + 1;
 }
