@@ -1,8 +1,9 @@
 -- Chains and selection.
 use Rattle.std.proofs.Common.{◌≡◌, ℕ, ◌<◌, ◌≤◌, inl, inr, List, [], ◌∷◌, ◌++◌, refl, ap, sym, ◌∙◌, subst, arith}
 use Rattle.std.specs.List.{AllByRecursion}
-use Rattle.std.proofs.lemmas.Bool.{lt-leb, le-leb}
-use Rattle.core_trees.specs.Bundle.{IsChain, select, AgreeAt, OneChainLaw, ChainFrameLaw, SelectLaw, FrontLaw, WalkLaw, CutLaw}
+use Rattle.std.proofs.lemmas.Bool.{lt-leb, le-leb, eq-eqb, ne_eqb}
+use Rattle.std.specs.Prelude.{◌==◌, true, false}
+use Rattle.core_trees.specs.Bundle.{WrittenLaw, IsFirstAtMost, IsChain, select, AgreeAt, OneChainLaw, ChainFrameLaw, SelectLaw, FrontLaw, WalkLaw, CutLaw}
 use Rattle.core_trees.proofs.Compare.{compared, less, more, same}
 
 pub chain-same : (next : ℕ → ℕ) (head : ℕ) (xs ys : List ℕ) → IsChain next head xs → IsChain next head ys → xs ≡ ys
@@ -63,4 +64,23 @@ cut_law number t e (x ∷ front) back h =
       | less b ↦ select-behind number t x (front ++ e ∷ back) b ∙ cut_law number t e front back h ∙ sym (select-behind number t x (front ++ e ∷ []) b)
       | more b ↦ select-here number t x (front ++ e ∷ back) (omega arith) ∙ sym (select-here number t x (front ++ e ∷ []) (omega arith))
       | same b ↦ select-here number t x (front ++ e ∷ back) (omega arith) ∙ sym (select-here number t x (front ++ e ∷ []) (omega arith))
+    ]
+
+pub written_law : WrittenLaw
+written_law written written' raised e none some same' =
+    (let pending : (written e == 0) ≡ true = eq-eqb (written e) 0 none in rw pending refl)
+    ∙ sym same'
+    ∙ sym (let done : (written' e == 0) ≡ false = ne_eqb (written' e) 0 (omega arith) in rw done refl)
+
+first-behind : (number : ℕ → ℕ) (t e : ℕ) (es : List ℕ) (x : ℕ) → t < number e → IsFirstAtMost number t es x → IsFirstAtMost number t (e ∷ es) x
+first-behind number t e es x b (inl h) = inl ((b, h.0), h.1)
+first-behind number t e es x b (inr h) = inr (e ∷ h.0, h.1, ap (λ zs. e ∷ zs) h.2, (b, h.3), h.4)
+
+pub select_first : (number : ℕ → ℕ) (t : ℕ) (es : List ℕ) → IsFirstAtMost number t es (select number t es)
+select_first number t [] = inl (tt, refl)
+select_first number t (e ∷ es) =
+    elim (compared t (number e)) [
+      | less b ↦ subst (IsFirstAtMost number t (e ∷ es)) (sym (select-behind number t e es b)) (first-behind number t e es (select number t es) b (select_first number t es))
+      | more b ↦ subst (IsFirstAtMost number t (e ∷ es)) (sym (select-here number t e es (omega arith))) (inr ([], es, refl, tt, omega arith))
+      | same b ↦ subst (IsFirstAtMost number t (e ∷ es)) (sym (select-here number t e es (omega arith))) (inr ([], es, refl, tt, omega arith))
     ]

@@ -11,3 +11,4 @@ pub mod Chains
 pub mod SpelledTree
 pub mod SpelledStep
 pub mod LawfulContents
+pub mod Versions

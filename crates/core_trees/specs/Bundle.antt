@@ -21,10 +21,11 @@ abbrev pub select : (ℕ → ℕ) → ℕ → List ℕ → ℕ
 select number t [] = 0
 select number t (e ∷ es) = if nat_le (number e) t then e else select number t es
 
--- the numbers fall strictly from the front on, and are below `top`
-abbrev pub Falls : (ℕ → ℕ) → ℕ → List ℕ → Type 0
-Falls number top [] = Unit {0}
-Falls number top (e ∷ es) = (number e < top) × Falls number (number e) es
+-- the entry is the first that has a number of at most `t`, or 0 where each has a greater one
+abbrev pub IsFirstAtMost : (ℕ → ℕ) → ℕ → List ℕ → ℕ → Type 0
+IsFirstAtMost number t es e =
+    (AllByRecursion (λ x. t < number x) es × (e ≡ 0))
+    ⊎ ((front : List ℕ) × (back : List ℕ) × (es ≡ front ++ e ∷ back) × AllByRecursion (λ x. t < number x) front × (number e ≤ t))
 
 -- two numberings tell the same of an entry at `t`: its number is the same, or above `t` in both
 abbrev pub AgreeAt : ℕ → (ℕ → ℕ) → (ℕ → ℕ) → ℕ → Type 0
@@ -49,6 +50,12 @@ StaysBehind number t es selected =
 abbrev pub IsWalkedTo : (ℕ → ℕ) → ℕ → List ℕ → ℕ → Type 0
 IsWalkedTo number t es selected =
     (front : List ℕ) → AllByRecursion (λ e. t < number e) front → select number t (front ++ es) ≡ selected
+
+-- the number that the raise gave stays the entry's number when it is written
+abbrev pub WrittenLaw : Type 0
+WrittenLaw =
+    (written written' raised : ℕ → ℕ) (e : ℕ) → written e ≡ 0 → 0 < raised e → written' e ≡ raised e
+    → number_of written raised e ≡ number_of written' raised e
 
 abbrev pub OneChainLaw : Type 0
 OneChainLaw = (next : ℕ → ℕ) (head : ℕ) (es : List ℕ) → IsChain next head es → IsOnlyChain next head es

@@ -9,3 +9,4 @@ pub mod SpelledTree
 pub mod SpelledStep
 pub mod NodeLists
 pub mod Bounds
+pub mod SpelledAt

@@ -32,7 +32,9 @@ impl Tree {
 
     // The link at which the search for the key ends, where it is null, in a tree that hangs at the link `at`.
     fn end_link(&self, key: u64, at: Link) -> Option<Link>
-        ensures { MatchOption result (¬ IsNull (subtree_at key (shape self.now))) (λ link. IsNull (subtree_at key (shape self.now)) × EndsAt key link.node link.side at.node at.side (shape self.now)) }
+        ensures { MatchOption result (¬ IsNull (subtree_at key (shape self.now)))
+            (λ link. IsNull (subtree_at key (shape self.now))
+            × EndsAt key link.node link.side at.node at.side (shape self.now)) }
     {
         match self {
             Tree::Empty => Some(at),

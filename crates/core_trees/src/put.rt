@@ -18,7 +18,8 @@ impl Tree {
         ensures step { IfOk result (λ tree. shape tree ≡ tree_put slot key val (shape self)) }
         ensures contents { IfOk result (λ tree. contents (shape tree) ≡ map_put key val (contents (shape self))) }
         ensures lawful { IfOk result (λ tree. IsLawful (shape tree)) }
-        ensures slots { IfOk result (λ tree. MovesSlots (put_takes key (shape self)) (slot ∷ []) (shape self) (shape tree)) }
+        ensures slots { IfOk result
+            (λ tree. MovesSlots (put_takes key (shape self)) (slot ∷ []) (shape self) (shape tree)) }
         ensures gaps { IfOk result (λ tree. WidensOtherGaps key (shape self) (shape tree)) }
         ensures refused { IfErr result (λ error. error.tree ≡ self) }
     {

@@ -19,7 +19,8 @@ impl Tree {
         ensures step { shape result ≡ tree_remove slot key (shape self) }
         ensures contents { contents (shape result) ≡ map_remove key (contents (shape self)) }
         ensures lawful { IsLawful (shape result) }
-        ensures slots { MovesSlots (remove_takes key (shape self)) (remove_brings slot key (shape self)) (shape self) (shape result) }
+        ensures slots { MovesSlots (remove_takes key (shape self)) (remove_brings slot key (shape self))
+            (shape self) (shape result) }
         ensures gaps { WidensGaps (shape self) (shape result) }
     {
         self.remove_node(key, slot)

@@ -12,6 +12,13 @@ type Row = (u32, u64, u64);
 
 const FIVE: [Row; 5] = [(1, 1, 10), (2, 0, 11), (3, 4, 12), (4, 2, 13), (5, 3, 14)];
 
+const fn right_of(node: u32) -> Option<Link> {
+    Some(Link {
+        node,
+        side: Side::Right,
+    })
+}
+
 // The tree of these puts, in order.
 fn tree_of(alloc: Global, rows: &[Row]) -> Result<Tree, TreeError>
     ensures { IfOk result (λ tree. IsLawful (shape tree)) }
@@ -99,32 +106,10 @@ fn finds_pairs_and_gaps(rt: HostRuntime) -> Result<(), Fail> {
     ] {
         assert_eq!(rt; tree.first_from(key), first);
     }
-    for (key, link) in [
-        (2, None),
-        (
-            1,
-            Some(Link {
-                node: 2,
-                side: Side::Right,
-            }),
-        ),
-        (
-            7,
-            Some(Link {
-                node: 3,
-                side: Side::Right,
-            }),
-        ),
-    ] {
+    for (key, link) in [(2, None), (1, right_of(2)), (7, right_of(3))] {
         assert_eq!(rt; tree.gap_link(key), link);
     }
-    assert_eq!(rt;
-        Tree::Empty.gap_link(9),
-        Some(Link {
-            node: ROOT,
-            side: Side::Right
-        })
-    );
+    assert_eq!(rt; Tree::Empty.gap_link(9), right_of(ROOT));
     assert!(rt; tree.is_lawful());
     Ok(())
 }

@@ -1,4 +1,5 @@
-/// A binary search tree whose nodes are named by slots.
+/// A binary search tree whose nodes are named by slots. It is lawful where its keys rise strictly from left
+/// to right, as every tree does that puts and removals make of the empty one.
 #[derive(Debug, PartialEq, Eq, Drop)]
 #[cycle(tree)]
 pub enum Tree {
