@@ -7,33 +7,67 @@ use Rattle.core_trees.specs.TreeStep.{update, subtree_at, put_here, remove_here,
 use Rattle.core_trees.specs.Search.{end_node, end_side}
 use Rattle.core_trees.specs.Slots.{NamesOnce}
 use Rattle.core_trees.specs.SpelledTree.{Graph, IsSpelled, KeepsOutside}
-use Rattle.core_trees.specs.SpelledStep.{end_child, IsNodeOf, behind_first, SubtreeLaw, GrowLaw, ReplaceLaw, LiftRightLaw, LiftLeftLaw, JoinLaw, UnlinkLaw}
+use Rattle.core_trees.specs.SpelledStep.{end_child, IsNodeOf, behind_first, SubtreeLaw, UpdateEndLaw, PutEndLaw, GrowLaw, ReplaceLaw, LiftRightLaw, LiftLeftLaw, JoinLaw, UnlinkLaw}
 use Rattle.core_trees.proofs.Compare.{compared, less, more, same}
 use Rattle.core_trees.proofs.Bounds.{first-within}
-use Rattle.core_trees.proofs.Updates.{update-left, update-here, subtree_at-left, subtree_at-right, subtree_at-here, end_node-left, end_node-right, end_node-here, end_side-left, end_side-right, end_side-here}
+use Rattle.core_trees.proofs.Updates.{update-left, update-right, update-here, subtree_at-left, subtree_at-right, subtree_at-here, end_node-left, end_node-right, end_node-here, end_side-left, end_side-right, end_side-here}
 use Rattle.core_trees.proofs.SpelledTree.{spelled-frame, spelled-swap}
 
--- a subtree that is spelled at one link is spelled at the link at which the search ends, where these are one
-along : (g : Graph) (key root root' : ℕ) (top top' : Side) (tree tree' : NamedTree)
-    → end_node key root tree ≡ end_node key root' tree' → end_side key top tree ≡ end_side key top' tree' → subtree_at key tree ≡ subtree_at key tree'
-    → IsSpelled g (end_child g key root' top' tree') (subtree_at key tree') → IsSpelled g (end_child g key root top tree) (subtree_at key tree)
-along g key root root' top top' tree tree' node side sub h =
-    subst (λ n. IsSpelled g (g.child (end_side key top tree) n) (subtree_at key tree)) (sym node)
-    (subst (λ w. IsSpelled g (g.child w (end_node key root' tree')) (subtree_at key tree)) (sym side)
-    (subst (λ t. IsSpelled g (end_child g key root' top' tree') t) (sym sub) h))
+-- a changed subtree that is spelled at one link is spelled at the link at which the search ends, where these
+-- are one
+along : (g : Graph) (key root root' : ℕ) (top top' : Side) (f : NamedTree → NamedTree) (tree tree' : NamedTree)
+    → end_node key root tree ≡ end_node key root' tree' → end_side key top tree ≡ end_side key top' tree'
+    → subtree_at key tree ≡ subtree_at key tree'
+    → IsSpelled g (end_child g key root' top' tree') (f (subtree_at key tree'))
+    → IsSpelled g (end_child g key root top tree) (f (subtree_at key tree))
+along g key root root' top top' f tree tree' node side sub h =
+    subst (λ n. IsSpelled g (g.child (end_side key top tree) n) (f (subtree_at key tree))) (sym node)
+    (subst (λ w. IsSpelled g (g.child w (end_node key root' tree')) (f (subtree_at key tree))) (sym side)
+    (subst (λ t. IsSpelled g (end_child g key root' top' tree') (f t)) (sym sub) h))
+
+pub update_end_law : UpdateEndLaw
+update_end_law g root key top f Null h = h
+update_end_law g root key top f (Branch s k v l r) h =
+    elim (compared key k) [
+      | less b ↦
+          let changed : IsSpelled g (g.child top root) (Branch s k v (update key f l) r)
+          = subst (IsSpelled g (g.child top root)) (update-left key f s k v l r b) h in
+          along g key root s top Left f (Branch s k v l r) l (end_node-left key s k v l r root b) (end_side-left key s k v l r top b)
+          (subtree_at-left key s k v l r b) (update_end_law g s key Left f l changed.4)
+      | more b ↦
+          let changed : IsSpelled g (g.child top root) (Branch s k v l (update key f r))
+          = subst (IsSpelled g (g.child top root)) (update-right key f s k v l r b) h in
+          along g key root s top Right f (Branch s k v l r) r (end_node-right key s k v l r root b) (end_side-right key s k v l r top b)
+          (subtree_at-right key s k v l r b) (update_end_law g s key Right f r changed.5)
+      | same e ↦
+          subst (λ n. IsSpelled g (g.child (end_side key top (Branch s k v l r)) n) (f (subtree_at key (Branch s k v l r)))) (sym (end_node-here key s k v l r root e))
+          (subst (λ w. IsSpelled g (g.child w root) (f (subtree_at key (Branch s k v l r)))) (sym (end_side-here key s k v l r top e))
+          (subst (λ t. IsSpelled g (g.child top root) (f t)) (sym (subtree_at-here key s k v l r e))
+          (subst (IsSpelled g (g.child top root)) (update-here key f s k v l r e) h)))
+    ]
+
+-- an update that changes nothing leaves the tree
+update-same : (key : ℕ) (tree : NamedTree) → update key (λ t. t) tree ≡ tree
+update-same key Null = refl
+update-same key (Branch s k v l r) =
+    elim (compared key k) [
+      | less b ↦ update-left key (λ t. t) s k v l r b ∙ ap (λ t. Branch s k v t r) (update-same key l)
+      | more b ↦ update-right key (λ t. t) s k v l r b ∙ ap (λ t. Branch s k v l t) (update-same key r)
+      | same e ↦ update-here key (λ t. t) s k v l r e
+    ]
 
 pub subtree_law : SubtreeLaw
-subtree_law g root key top Null h = h
-subtree_law g root key top (Branch s k v l r) h =
-    elim (compared key k) [
-      | less b ↦ along g key root s top Left (Branch s k v l r) l (end_node-left key s k v l r root b) (end_side-left key s k v l r top b) (subtree_at-left key s k v l r b)
-          (subtree_law g s key Left l h.4)
-      | more b ↦ along g key root s top Right (Branch s k v l r) r (end_node-right key s k v l r root b) (end_side-right key s k v l r top b) (subtree_at-right key s k v l r b)
-          (subtree_law g s key Right r h.5)
-      | same e ↦ subst (λ n. IsSpelled g (g.child (end_side key top (Branch s k v l r)) n) (subtree_at key (Branch s k v l r))) (sym (end_node-here key s k v l r root e))
-          (subst (λ w. IsSpelled g (g.child w root) (subtree_at key (Branch s k v l r))) (sym (end_side-here key s k v l r top e))
-          (subst (IsSpelled g (g.child top root)) (sym (subtree_at-here key s k v l r e)) h))
-    ]
+subtree_law g root key top tree h =
+    update_end_law g root key top (λ t. t) tree (subst (IsSpelled g (g.child top root)) (sym (update-same key tree)) h)
+
+-- the top of a put where its search ends is the new node
+put-top : (g : Graph) (c slot key val : ℕ) (tree : NamedTree) → IsSpelled g c (put_here slot key val tree) → (c ≡ slot) × (0 < slot)
+put-top g c slot key val Null h = (h.0, h.1)
+put-top g c slot key val (Branch s k v l r) h = (h.0, h.1)
+
+pub put_end_law : PutEndLaw
+put_end_law g root slot key val top tree h =
+    put-top g (end_child g key root top tree) slot key val (subtree_at key tree) (update_end_law g root key top (put_here slot key val) tree h)
 
 -- the swap, where it is known what the subtree is
 swapped : (g g' : Graph) (root key : ℕ) (top : Side) (f : NamedTree → NamedTree) (tree sub : NamedTree) → NamesOnce root tree

@@ -4,7 +4,7 @@ use Rattle.std.specs.Prelude.{◌≡◌, ℕ, ◌<◌}
 use Rattle.index_words.specs.declared.side.Side.{Side}
 use Rattle.index_words.specs.declared.side.Side.TheVariants.{Left, Right}
 use Rattle.core_trees.specs.NamedTree.{NamedTree, Null, Branch, IsWithin}
-use Rattle.core_trees.specs.TreeStep.{subtree_at, tree_put, tree_remove, first_pair, without_first}
+use Rattle.core_trees.specs.TreeStep.{update, subtree_at, tree_put, tree_remove, first_pair, without_first}
 use Rattle.core_trees.specs.Search.{end_node, end_side}
 use Rattle.core_trees.specs.Slots.{occurs, NamesOnce}
 use Rattle.core_trees.specs.SpelledTree.{Graph, IsSpelled, SameAt, KeepsOutside}
@@ -36,6 +36,18 @@ abbrev pub SubtreeLaw : Type 0
 SubtreeLaw =
     (g : Graph) (root key : ℕ) (top : Side) (tree : NamedTree) → IsSpelled g (g.child top root) tree
     → IsSpelled g (end_child g key root top tree) (subtree_at key tree)
+
+-- in the update of a tree the changed subtree is spelled at the link at which the search ended in the old tree
+abbrev pub UpdateEndLaw : Type 0
+UpdateEndLaw =
+    (g : Graph) (root key : ℕ) (top : Side) (f : NamedTree → NamedTree) (tree : NamedTree)
+    → IsSpelled g (g.child top root) (update key f tree) → IsSpelled g (end_child g key root top tree) (f (subtree_at key tree))
+
+-- after a put the link at which its search ended in the old tree leads to the new node
+abbrev pub PutEndLaw : Type 0
+PutEndLaw =
+    (g : Graph) (root slot key val : ℕ) (top : Side) (tree : NamedTree)
+    → IsSpelled g (g.child top root) (tree_put slot key val tree) → (end_child g key root top tree ≡ slot) × (0 < slot)
 
 -- a put of an absent key: a node without children hangs at the link
 abbrev pub GrowLaw : Type 0
