@@ -12,3 +12,4 @@ pub mod SpelledTree
 pub mod SpelledStep
 pub mod LawfulContents
 pub mod Versions
+pub mod SpelledGaps

@@ -10,3 +10,4 @@ pub mod SpelledStep
 pub mod NodeLists
 pub mod Bounds
 pub mod SpelledAt
+pub mod SpelledGaps
