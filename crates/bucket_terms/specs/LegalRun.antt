@@ -95,14 +95,14 @@ update_at s zero = None
 update_at s (suc before) = slice_get s.updates before
 
 -- the put has its own update at its place, and `was` tells whether the key was there just before it
-pub record MadePut (s : Setting) (line : ℕ) (name : List ℕ) (val : ℕ) (was : Bool) (at : ℕ) : Type 0 where
+pub record PutStands (s : Setting) (line : ℕ) (name : List ℕ) (val : ℕ) (was : Bool) (at : ℕ) : Type 0 where
   pub key : ℕ
   pub rank : IsRank s.dir name key
   pub update : update_at s at ≡ Some (record { client = s.client; line = line; key = key; change = PutVal val })
   pub before : was ≡ map_has key (after s.updates (at - 1))
 
 -- the delete has its own update at its place, and the key was there just before it
-pub record MadeRemoval (s : Setting) (line : ℕ) (name : List ℕ) (at : ℕ) : Type 0 where
+pub record RemovalStands (s : Setting) (line : ℕ) (name : List ℕ) (at : ℕ) : Type 0 where
   pub key : ℕ
   pub rank : IsRank s.dir name key
   pub update : update_at s at ≡ Some (record { client = s.client; line = line; key = key; change = Remove })
@@ -139,8 +139,8 @@ pub record AnswersNext (s : Setting) (last : Option Reply) (at : ℕ) (query : L
 abbrev pub is_earlier_of : Setting → ℕ → Update → Bool
 is_earlier_of s line u = (u.client == s.client) && nat_lt u.line line
 
--- the client's earlier lines have made as many updates as it has node slots
-pub record IsOutOfSlots (s : Setting) (line : ℕ) : Type 0 where
+-- the client's earlier lines have made at least as many updates as it has node slots
+pub record HasUsedItsSlots (s : Setting) (line : ℕ) : Type 0 where
   pub made : s.slots ≤ count_by (is_earlier_of s line) s.updates
 
 -- the reply is right at its place, where `last` is the reply of the client's last listing. A request is refused, and so has no place, only for a bad token or for
@@ -149,10 +149,10 @@ abbrev pub IsRight : Setting → Option Reply → RequestLine → Option ℕ →
 IsRight s last asked at reply = IsRightFor asked.request at reply
   where
     IsRightFor : Request → Option ℕ → Reply → Type 0
-    IsRightFor (Put name val) (Some at) (PutReply was) = MadePut s asked.line name val was at
-    IsRightFor (Put name val) None NoSlot = IsOutOfSlots s asked.line
-    IsRightFor (Delete name) (Some at) Deleted = MadeRemoval s asked.line name at ⊎ FoundNone s asked.line name at
-    IsRightFor (Delete name) None NoSlot = IsOutOfSlots s asked.line
+    IsRightFor (Put name val) (Some at) (PutReply was) = PutStands s asked.line name val was at
+    IsRightFor (Put name val) None NoSlot = HasUsedItsSlots s asked.line
+    IsRightFor (Delete name) (Some at) Deleted = RemovalStands s asked.line name at ⊎ FoundNone s asked.line name at
+    IsRightFor (Delete name) None NoSlot = HasUsedItsSlots s asked.line
     IsRightFor (Head name) (Some at) (Found val) = AnswersHead s name at (Found val)
     IsRightFor (Head name) (Some at) Missing = AnswersHead s name at Missing
     IsRightFor (ListRequest query) (Some at) (Listed query' page) = AnswersList s query at query' page
@@ -212,14 +212,19 @@ pub record IsMadeBy (dir : List (List ℕ)) (u : Update) (at : ℕ) (a : Answere
   pub place : a.placed.at ≡ Some at
   pub change : IsChangeOf dir u a.asked.request
 
--- how many node slots a client has that names no number of its own: one more than its PUT and DELETE lines
+-- whether the request may make an update
 abbrev pub is_update : Request → Bool
 is_update (Put name val) = true
 is_update (Delete name) = true
 is_update request = false
 
+-- how many of the requests may make one
+abbrev pub updates_in : List RequestLine → ℕ
+updates_in lines = count_by (λ (l : RequestLine). is_update l.request) lines
+
+-- the node slots of a client where the command line gives none: one more than its PUT and DELETE lines
 abbrev pub default_slots : List RequestLine → ℕ
-default_slots lines = count_by (λ (l : RequestLine). is_update l.request) lines + 1
+default_slots lines = updates_in lines + 1
 
 -- a client's lines, and its replies
 abbrev pub lines_of : List (List RequestLine) → ℕ → List RequestLine

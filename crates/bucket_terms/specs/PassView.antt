@@ -13,13 +13,14 @@ pub record PassView : Type 0 where
   pub number : ℕ
   -- the updates that it knows: a beginning of the index's history
   pub seen : List Update
-  -- the places of its own updates
+  -- the places of its own updates, rising, counted from 1
   pub mine : List ℕ
-  -- how many loads of the stamp have fixed a place; a count that stays at its last value
+  -- how many loads of the stamp, the index's count of its updates, have fixed a place; a count of 64 bits
+  -- that stays at its last value
   pub looks : ℕ
   -- the number that the last of them gave
   pub found : ℕ
-  -- the node slots and the entry slots that it owns
+  -- the node slots and the entry slots that it owns, free and retired
   pub nodes : ℕ
   pub entries : ℕ
   -- how many updates it may still make
@@ -111,6 +112,10 @@ abbrev pub AnsweredRemoval : PassView → PassView → ℕ → ℕ → Done → 
 AnsweredRemoval old new line key done =
     MatchBool done.was (Removed old new line key done) (FoundAbsent old new key done.at)
 
--- the pass lacks the slots that an update may take
+-- the pass lacks the slots that an update may take: one node slot and four entry slots
+abbrev pub IsShort : PassView → Type 0
+IsShort pass = (pass.nodes < 1) ⊎ (pass.entries < 4)
+
+-- calls are left, but not the slots that an update may take
 abbrev pub IsOutOfSlots : PassView → Type 0
-IsOutOfSlots pass = (0 < pass.left) × ((pass.nodes < 1) ⊎ (pass.entries < 4))
+IsOutOfSlots pass = (0 < pass.left) × IsShort pass

@@ -1,5 +1,5 @@
-// One caller's way to the map. A pass is used by one caller at a time; other passes of the same index may
-// change the map between two of its calls and, but for an open snapshot, during them.
+// One caller's way to the map. A pass is used by one caller at a time. Other passes of the same index may
+// change the map between two of its calls and during them; an open snapshot stays as it is.
 ghost use Rattle.std.specs.Prelude.{◌≡◌, ◌<◌, ◌↔◌, ℕ, List, None, Some, IsSome, IfOk, OnErr, IsErrOf};
 ghost use Rattle.index_words.specs.Map.{first_from};
 ghost use Rattle.index_words.specs.History.{after};
@@ -11,7 +11,8 @@ use std::sync::Wait;
 /// A pass to an ordered map from ranks to values, of which every update has a number.
 /// A call that takes `rt` may wait for another pass; no call takes memory.
 pub trait KeyPass {
-    /// The index that the pass is of.
+    /// The index that the pass is of: passes are of one index exactly where these are equal. A pass of no
+    /// index has the empty list.
     ghost home: { Self → List ℕ };
 
     /// What its caller knows of the pass.
@@ -55,7 +56,7 @@ pub trait KeyPass {
         ensures closed { view self.new ≡ record (view self.old) { opened = None } }
         ensures home { home self.new ≡ home self.old };
 
-    /// The number of the pass.
+    /// The number of the pass. A caller learns here too that the pass knows its own updates.
     fn client(&self) -> u32
         ensures number { result ≡ (view self.now).number }
         ensures mine { KnowsOwn (view self.now) };

@@ -76,7 +76,7 @@ impl PageEntries {
     }
 }
 
-/// A page of a listing: at most 1,000 entries, and whether entries are left behind it.
+/// A page of a listing: its entries, at most 1,000, and whether it has some and more are left behind them.
 #[derive(Debug, Drop)]
 pub struct Page {
     pub entries: PageEntries,

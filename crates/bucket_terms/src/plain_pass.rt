@@ -1,6 +1,7 @@
 // A pass over one sorted list: the trait's meaning made a program, for one caller.
-ghost use Rattle.std.specs.Prelude.{◌≡◌, ◌<◌, ◌≤◌, ◌↔◌, ◌⊎◌, [], None, All, IfOk, IsTrue, length};
+ghost use Rattle.std.specs.Prelude.{◌≡◌, ◌<◌, ◌≤◌, ◌↔◌, [], None, All, IfOk, OnErr, IsErrOf, IsTrue};
 ghost use Rattle.index_words.specs.declared.update.Update.{Update};
+ghost use Rattle.bucket_terms.specs.PassView.{MadePut, AnsweredRemoval, IsOutOfSlots};
 ghost use Rattle.bucket_terms.specs.PlainPass.{fresh};
 
 use crate::KeyPass;
@@ -71,13 +72,14 @@ impl KeyPass for PlainPass {
 
     ghost view = { λ pass. pass };
 
-    fn put<Rt: Wait>(
-        &mut self,
-        _rt: &Rt,
-        line: u32,
-        key: u64,
-        val: u64,
-    ) -> Result<Done, PassError> {
+    fn put<Rt: Wait>(&mut self, _rt: &Rt, line: u32, key: u64, val: u64) -> Result<Done, PassError>
+        requires { self.old.opened ≡ None }
+        ensures made { IfOk result (MadePut self.old self.new line key val) }
+        ensures spent { IsErrOf result PassError.Spent ↔ (self.old.left ≡ 0) }
+        ensures no_slot { IsErrOf result PassError.NoSlot ↔ IsOutOfSlots self.old }
+        ensures unchanged { OnErr result (self.new ≡ self.old) }
+        ensures entries { self.new.entries ≡ self.old.entries }
+    {
         if self.left == 0 {
             return Err(PassError::Spent);
         }
@@ -99,7 +101,14 @@ impl KeyPass for PlainPass {
         })
     }
 
-    fn remove<Rt: Wait>(&mut self, _rt: &Rt, line: u32, key: u64) -> Result<Done, PassError> {
+    fn remove<Rt: Wait>(&mut self, _rt: &Rt, line: u32, key: u64) -> Result<Done, PassError>
+        requires { self.old.opened ≡ None }
+        ensures made { IfOk result (AnsweredRemoval self.old self.new line key) }
+        ensures spent { IsErrOf result PassError.Spent ↔ (self.old.left ≡ 0) }
+        ensures no_slot { IsErrOf result PassError.NoSlot ↔ IsOutOfSlots self.old }
+        ensures unchanged { OnErr result (self.new ≡ self.old) }
+        ensures entries { self.new.entries ≡ self.old.entries }
+    {
         if self.left == 0 {
             return Err(PassError::Spent);
         }

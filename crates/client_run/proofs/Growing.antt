@@ -76,6 +76,7 @@ pub record Running (dir : List (List ℕ)) (lines : List RequestLine) (old now :
 pub start : (dir : List (List ℕ)) (old : PassView) → KnowsOwn old → old.opened ≡ None → Running dir [] old old []
 start dir old knows closed = record {
   ran = record {
+    knew = knows;
     continues = record { number = refl; seen = ([], sym (append-nil old.seen)); mine = knows; looks = omega arith };
     closed = closed;
     answered = λ n few enough. tt;

@@ -4,3 +4,4 @@ pub mod Replies
 pub mod Longer
 pub mod Growing
 pub mod OneMore
+pub mod Turn

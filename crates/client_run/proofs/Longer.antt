@@ -19,7 +19,7 @@ use Rattle.bucket_terms.specs.declared.request.Request.TheVariants.{Put, Delete,
 use Rattle.bucket_terms.specs.declared.reply.Reply.{Reply}
 use Rattle.bucket_terms.specs.declared.reply.Reply.TheVariants.{Put as PutReply, Deleted, Found, Missing, Listed, BadToken, NoSlot}
 use Rattle.bucket_terms.specs.declared.reply.Placed.{Placed}
-use Rattle.bucket_terms.specs.LegalRun.{Setting, RequestLine, Answered, IsOf, IsRight, IsAnswered, AreAnswered, KeepsOrder, MadePut, MadeRemoval, FoundNone, AnswersHead, AnswersList, AnswersNext, IsOutOfSlots, is_earlier_of, update_at, last_listing}
+use Rattle.bucket_terms.specs.LegalRun.{Setting, RequestLine, Answered, IsOf, IsRight, IsAnswered, AreAnswered, KeepsOrder, PutStands, RemovalStands, FoundNone, AnswersHead, AnswersList, AnswersNext, HasUsedItsSlots, is_earlier_of, update_at, last_listing}
 use Rattle.client_run.proofs.Places.{slice_get-append_front}
 
 -- the same client in a history
@@ -41,7 +41,7 @@ before-longer : (s : Setting) (more : List Update) (at : ℕ) → at ≤ length 
 before-longer s more at le = sym (after-append s.updates more (at - 1) (omega arith))
 
 module _ (s : Setting) (more : List Update) where
-  put-longer : (line : ℕ) (name : List ℕ) (val : ℕ) (was : Bool) (n : ℕ) → n ≤ length s.updates → MadePut s line name val was n → MadePut (over s (s.updates ++ more)) line name val was n
+  put-longer : (line : ℕ) (name : List ℕ) (val : ℕ) (was : Bool) (n : ℕ) → n ≤ length s.updates → PutStands s line name val was n → PutStands (over s (s.updates ++ more)) line name val was n
   put-longer line name val was n le made = record {
     key = made.key;
     rank = made.rank;
@@ -49,7 +49,7 @@ module _ (s : Setting) (more : List Update) where
     before = made.before ∙ ap (λ (m : List Pair). map_has made.key m) (before-longer s more n le);
   }
 
-  removal-longer : (line : ℕ) (name : List ℕ) (n : ℕ) → n ≤ length s.updates → MadeRemoval s line name n → MadeRemoval (over s (s.updates ++ more)) line name n
+  removal-longer : (line : ℕ) (name : List ℕ) (n : ℕ) → n ≤ length s.updates → RemovalStands s line name n → RemovalStands (over s (s.updates ++ more)) line name n
   removal-longer line name n le made = record {
     key = made.key;
     rank = made.rank;
@@ -89,7 +89,7 @@ module _ (s : Setting) (more : List Update) where
     same_page = next.same_page ∙ ap (λ (m : List Pair). page_of s.dir next.next.query (Some next.next.point) m) (after-longer s more n le);
   }
 
-  slots-longer : (line : ℕ) → IsOutOfSlots s line → IsOutOfSlots (over s (s.updates ++ more)) line
+  slots-longer : (line : ℕ) → HasUsedItsSlots s line → HasUsedItsSlots (over s (s.updates ++ more)) line
   slots-longer line out = record {
     made = omega (arith, out.made, sum_by-append (λ (u : Update). cond (is_earlier_of s line u) 1 0) s.updates more);
   }

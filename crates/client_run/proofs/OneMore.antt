@@ -11,9 +11,9 @@ use Rattle.index_words.specs.declared.update.Update.{Update}
 use Rattle.bucket_terms.specs.declared.reply.Reply.{Reply}
 use Rattle.bucket_terms.specs.declared.reply.Reply.TheVariants.{Put, Deleted, Found, Missing, Listed, BadToken, NoSlot}
 use Rattle.bucket_terms.specs.declared.reply.Placed.{Placed}
-use Rattle.bucket_terms.specs.PassView.{PassView, Continues, RoseBy}
+use Rattle.bucket_terms.specs.PassView.{PassView, Continues, RoseBy, IsShort}
 use Rattle.bucket_terms.specs.LegalRun.{Setting, RequestLine, Answered, IsOf, AreAnswered, KeepsOrder, IsMadeBy, IsPlacedUpTo, IsPlacedBelow, answered_lines, is_earlier_of, is_update, update_at, last_listing}
-use Rattle.client_run.specs.ClientRun.{setting, IsShort, IsLaterLine, Answers, Ended, is_looked_up, has_own, is_of}
+use Rattle.client_run.specs.ClientRun.{setting, IsLaterLine, Answers, Ended, is_looked_up, has_own, is_of}
 use Rattle.client_run.proofs.Places.{slice_get-append_front, slice_get-append_back}
 use Rattle.client_run.proofs.Longer.{over, OtherLines, update_at-longer, AreAnswered-longer}
 use Rattle.client_run.proofs.Growing.{Running, count_earlier, answered_lines-push, AreAnswered-push, Any-front, Any-last, later_now}
@@ -207,6 +207,7 @@ module _ (dir : List (List ℕ)) (lines : List RequestLine) (old mid now : PassV
   pub one_more : Running dir (lines ++ l ∷ []) old now (replies ++ p ∷ [])
   one_more = record {
     ran = record {
+      knew = run.ran.knew;
       continues = Continues-trans old mid now run.ran.continues step.continues;
       closed = step.closed;
       answered = answered_now;

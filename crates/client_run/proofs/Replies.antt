@@ -14,14 +14,14 @@ use Rattle.bucket_terms.specs.declared.request.Request.TheVariants.{Put as PutRe
 use Rattle.bucket_terms.specs.declared.reply.Reply.{Reply}
 use Rattle.bucket_terms.specs.declared.reply.Reply.TheVariants.{Put as PutReply, Deleted, Found, Missing, NoSlot}
 use Rattle.bucket_terms.specs.Answer.{head_by}
-use Rattle.bucket_terms.specs.PassView.{PassView, KnowsOwn, MadePut, AnsweredRemoval, Removed, FoundAbsent, Looked, Began, RoseBy, RoseByOne, IsOutOfSlots, own_places}
+use Rattle.bucket_terms.specs.PassView.{PassView, KnowsOwn, MadePut, AnsweredRemoval, Removed, FoundAbsent, Looked, Began, RoseBy, RoseByOne, IsOutOfSlots, own_places, IsShort}
 use Rattle.std.specs.List.{count_by, slice_get}
 use Rattle.std.proofs.lemmas.Bool.{cases_lt, cases_Bool}
 use Rattle.std.proofs.lemmas.List.{get_or_append_left}
 use Rattle.std.proofs.lemmas.Option.{slice_get_within, slice_get-get_or, get_or_from_slice_get}
 use Rattle.index_words.specs.declared.update.Update.{Update}
 use Rattle.bucket_terms.specs.LegalRun.{Setting, IsRight, IsOf, is_earlier_of, update_at}
-use Rattle.client_run.specs.ClientRun.{setting, answered, Answers, IsShort, IsLaterLine, is_of}
+use Rattle.client_run.specs.ClientRun.{setting, answered, Answers, IsLaterLine, is_of}
 use Rattle.client_run.proofs.Places.{no_own_added}
 use Rattle.client_run.proofs.Steps.{update_here, step_made, step_refused, step_looked}
 

@@ -10,9 +10,9 @@ use Rattle.bucket_terms.specs.declared.request.Request.{Request}
 use Rattle.bucket_terms.specs.declared.reply.Reply.{Reply}
 use Rattle.bucket_terms.specs.declared.reply.Reply.TheVariants.{NoSlot}
 use Rattle.bucket_terms.specs.declared.reply.Placed.{Placed}
-use Rattle.bucket_terms.specs.PassView.{PassView, KnowsOwn, MadeUpdate, Looked, RoseBy, own_places}
+use Rattle.bucket_terms.specs.PassView.{PassView, KnowsOwn, MadeUpdate, Looked, RoseBy, own_places, IsShort}
 use Rattle.bucket_terms.specs.LegalRun.{IsRight, is_earlier_of, IsChangeOf, update_at, is_update}
-use Rattle.client_run.specs.ClientRun.{setting, answered, Answers, IsShort, is_looked_up}
+use Rattle.client_run.specs.ClientRun.{setting, answered, Answers, is_looked_up}
 use Rattle.client_run.proofs.Places.{slice_get-append_back, own_added_last, no_own_added}
 
 abbrev some_update : Update → Option Update

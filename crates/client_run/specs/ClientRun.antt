@@ -1,20 +1,32 @@
 -- What running one client over a pass has done, by what the pass knows before and after.
-use Rattle.std.specs.Prelude.{◌≡◌, ℕ, ◌+◌, ◌*◌, ◌<◌, ◌≤◌, ◌⊎◌, ⊤, ◌==◌, ◌&&◌, Bool, true, false, not, if◌then◌else◌, List, [], ◌∷◌, ◌++◌, length, count_by, All, Any, Option, Some, None, MatchOption, slice_get}
+use Rattle.std.specs.Prelude.{◌≡◌, ℕ, ◌+◌, ◌*◌, ◌<◌, ◌≤◌, ◌⊎◌, ⊤, ◌==◌, ◌&&◌, Bool, true, false, not, if◌then◌else◌, List, [], ◌∷◌, ◌++◌, length, count_by, All, Any, AllPairs, Contains, Option, Some, None, MatchOption, slice_get}
 use Rattle.index_words.specs.declared.update.Update.{Update}
 use Rattle.bucket_terms.specs.declared.request.Request.{Request}
+use Rattle.bucket_terms.specs.declared.request.Request.TheVariants.{Put as PutRequest, Delete, Head, List as ListRequest, Next}
 use Rattle.bucket_terms.specs.declared.reply.Reply.{Reply}
 use Rattle.bucket_terms.specs.declared.reply.Reply.TheVariants.{Deleted, Found, Missing, Listed, NoSlot}
 use Rattle.bucket_terms.specs.declared.reply.Placed.{Placed}
-use Rattle.bucket_terms.specs.PassView.{PassView, Continues, RoseBy}
+use Rattle.bucket_terms.specs.PassView.{PassView, Continues, KnowsOwn, RoseBy, IsShort}
 use Rattle.bucket_terms.specs.LegalRun.{RequestLine, Setting, Answered, AreAnswered, IsRight, IsMadeBy, answered_lines, update_at, is_earlier_of, is_update}
-
--- the pass lacks the slots that an update may take
-abbrev pub IsShort : PassView → Type 0
-IsShort pass = (pass.nodes < 1) ⊎ (pass.entries < 4)
 
 -- the line is later than those of the pass's updates so far
 abbrev pub IsLaterLine : PassView → ℕ → Type 0
 IsLaterLine pass line = All (λ (u : Update). u.client ≡ pass.number → u.line < line) pass.seen
+
+-- the names that the request speaks of are in the directory
+abbrev pub IsAskable : List (List ℕ) → RequestLine → Type 0
+IsAskable dir l = by_request l.request
+  where
+    by_request : Request → Type 0
+    by_request (PutRequest name val) = Contains dir name
+    by_request (Delete name) = Contains dir name
+    by_request (Head name) = Contains dir name
+    by_request (ListRequest query) = Unit {0}
+    by_request Next = Unit {0}
+
+-- the lines rise strictly
+abbrev pub Rise : List RequestLine → Type 0
+Rise lines = AllPairs (λ (l m : RequestLine). l.line < m.line) lines
 
 -- what the pass's client is answered in
 abbrev pub setting : List (List ℕ) → PassView → ℕ → Setting
@@ -76,6 +88,7 @@ pub record Answers (dir : List (List ℕ)) (old new : PassView) (last : Option R
 
 -- the client's requests were answered, in order, over a pass that knew `old` before and knows `new` now
 pub record RanClient (dir : List (List ℕ)) (lines : List RequestLine) (old new : PassView) (replies : List Placed) : Type 0 where
+  pub knew : KnowsOwn old
   pub continues : Continues old new
   pub closed : new.opened ≡ None
   -- a refusal for want of slots comes only after as many updates of this call as there were slots for

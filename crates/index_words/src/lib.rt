@@ -1,6 +1,6 @@
-// The bottom of the index: numbers in place of names, the updates that change the map, and what the map
-// is after each of them. It stands on nothing of this repository. The layers above use the definitions
-// of `specs/Map.antt`, the plain types below, and `PlainMap`, the map as one sorted list.
+//! The bottom of the index: numbers in place of names, the updates that change the map, and what the map
+//! is after each of them. It stands on nothing of this repository. The layers above use the definitions
+//! of `specs/`, the plain types below, and `PlainMap`, the map as one sorted list.
 #![tactic(auto)]
 
 mod pair;

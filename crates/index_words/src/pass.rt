@@ -10,7 +10,7 @@ pub struct PassSize {
 /// in the map.
 #[derive(Clone, Copy, Debug, PartialEq, Eq)]
 pub struct Done {
-    /// How many updates stand up to and with this place.
+    /// The place of the update, or the place at which the key was found absent.
     pub at: u64,
     pub was: bool,
 }

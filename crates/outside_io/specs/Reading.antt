@@ -10,7 +10,7 @@ pub record Gave (before now : Option (List ℕ)) (IsCount : ℕ → Type 0) : Ty
   pub read : IsRead before now bytes
   pub count : IsCount (length bytes)
 
--- too long exactly where more than `limit` bytes were given before any fault
+-- too long exactly where more than `limit` bytes were given, a fault only where no more were
 abbrev pub IsReadError : ℕ → Option (List ℕ) → Option (List ℕ) → ReadError → Type 0
 IsReadError limit before now Fault = Gave before now (λ n. n ≤ limit)
 IsReadError limit before now TooLong = Gave before now (λ n. limit < n)

@@ -1,0 +1,90 @@
+-- One turn of the loop over a client's lines.
+use Rattle.std.proofs.Common.{◌≡◌, ℕ, zero, suc, ◌+◌, ◌-◌, ◌<◌, ◌≤◌, ◌⊎◌, Bool, true, false, cond, if◌then◌else◌, All, AllPairs, List, [], ◌∷◌, ◌++◌, Option, Some, None, inl, inr, length, get_or, take, drop, map, refl, sym, ap, ◌∙◌, subst, arith}
+use Rattle.std.specs.List.{slice_get, count_by, sum_by}
+use Rattle.std.specs.Option.{option_map, option_and_then, ForSome}
+use Rattle.std.proofs.lemmas.Option.{same_Some}
+use Rattle.std.proofs.lemmas.Bool.{cases_Bool}
+use Rattle.std.proofs.lemmas.List.{length-take-le, get_or-take, take_more, take-append-drop, length_push, get_or_default, drop_more}
+use Rattle.std.proofs.lemmas.List.Sums.{sum_by-append, sum_by-cons, sum_by_push}
+use Rattle.bucket_terms.specs.declared.reply.Reply.{Reply}
+use Rattle.bucket_terms.specs.declared.reply.Placed.{Placed}
+use Rattle.bucket_terms.specs.PassView.{PassView}
+use Rattle.bucket_terms.specs.LegalRun.{RequestLine, Answered, answered_lines, last_listing, is_listing, is_update, updates_in}
+use Rattle.client_run.specs.ClientRun.{Answers, RanClient, IsAskable, IsLaterLine, Rise}
+use Rattle.client_run.proofs.Places.{slice_get-append_front, slice_get-append_back}
+use Rattle.client_run.proofs.Growing.{Running, later_now, answered_lines-push}
+use Rattle.client_run.proofs.OneMore.{one_more}
+
+-- the lines before a line are earlier
+earlier_lines : (lines : List RequestLine) (i : ℕ) (d : RequestLine) → i < length lines → Rise lines
+    → All (λ (m : RequestLine). m.line < (get_or lines i d).line) (take i lines)
+earlier_lines lines i d below rising = λ k e within.
+    let before : k < i = omega (arith, length-take-le i lines (omega arith)) in
+    let same : get_or (take i lines) k e ≡ get_or lines k d = get_or-take i lines k e before ∙ get_or_default lines k e d (omega arith) in
+    subst (λ (m : RequestLine). m.line < (get_or lines i d).line) (sym same) (rising k i d before below)
+
+-- the next line is later than the own updates so far
+pub later_at : (dir : List (List ℕ)) (lines : List RequestLine) (i : ℕ) (d : RequestLine) (old now : PassView) (replies : List Placed) → i < length lines
+    → Running dir (take i lines) old now replies → All (λ (l : RequestLine). IsLaterLine old l.line) lines → Rise lines → IsLaterLine now (get_or lines i d).line
+later_at dir lines i d old now replies below run later rising =
+    later_now dir (take i lines) old now replies (get_or lines i d).line run (later i d below) (earlier_lines lines i d below rising)
+
+-- a call is left for the next line, where it may make an update
+pub call_at : (dir : List (List ℕ)) (lines : List RequestLine) (i : ℕ) (d : RequestLine) (old now : PassView) (replies : List Placed) → i < length lines
+    → Running dir (take i lines) old now replies → updates_in lines ≤ old.left → updates_in (get_or lines i d ∷ []) ≤ now.left
+call_at dir lines i d old now replies below run calls =
+    let f : RequestLine → ℕ = λ (l : RequestLine). cond (is_update l.request) 1 0 in
+    let whole : sum_by f lines ≡ sum_by f (take i lines) + sum_by f (drop i lines) = ap (sum_by f) (sym (take-append-drop i lines)) ∙ sum_by-append f (take i lines) (drop i lines) in
+    let rest : sum_by f (drop i lines) ≡ f (get_or lines i d) + sum_by f (drop (i + 1) lines) = ap (sum_by f) (drop_more lines i d below) ∙ sum_by-cons f (get_or lines i d) (drop (i + 1) lines) in
+    omega (arith, run.left, run.updates)
+
+-- the run with the next line's answer
+pub turn : (dir : List (List ℕ)) (lines : List RequestLine) (i : ℕ) (d : RequestLine) (old mid now : PassView) (replies : List Placed) (p : Placed) → i < length lines
+    → Running dir (take i lines) old mid replies → All (λ (l : RequestLine). IsLaterLine old l.line) lines → Rise lines
+    → Answers dir mid now (last_listing (answered_lines (take i lines) replies)) (record { asked = get_or lines i d; placed = p })
+    → Running dir (take (i + 1) lines) old now (replies ++ p ∷ [])
+turn dir lines i d old mid now replies p below run later rising step =
+    subst (λ (ls : List RequestLine). Running dir ls old now (replies ++ p ∷ [])) (sym (take_more lines i d below))
+    (one_more dir (take i lines) old mid now replies (get_or lines i d) p run step (later i d below) (earlier_lines lines i d below rising))
+
+-- ---- the last listing
+
+last_listing-yes : (done : List Answered) (a : Answered) → is_listing a.asked.request ≡ true → last_listing (done ++ a ∷ []) ≡ Some a.placed.reply
+last_listing-yes [] a e = rw e
+last_listing-yes (x ∷ done) a e = rw (last_listing-yes done a e)
+
+last_listing-no : (done : List Answered) (a : Answered) → is_listing a.asked.request ≡ false → last_listing (done ++ a ∷ []) ≡ last_listing done
+last_listing-no [] a e = rw e
+last_listing-no (x ∷ done) a e = rw (last_listing-no done a e)
+
+-- the reply at the place of the last listing, where there is one
+abbrev pub reply_at : List Placed → Option ℕ → Option Reply
+reply_at replies place = option_and_then (λ k. option_map (λ (p : Placed). p.reply) (slice_get replies k)) place
+
+reply_at-push : (replies : List Placed) (p : Placed) (place : Option ℕ) → ForSome place (λ k. k < length replies) → reply_at (replies ++ p ∷ []) place ≡ reply_at replies place
+reply_at-push replies p None within = refl
+reply_at-push replies p (Some k) within = ap (λ (o : Option Placed). option_map (λ (q : Placed). q.reply) o) (slice_get-append_front replies (p ∷ []) k (within k refl))
+
+reply_at-last : (replies : List Placed) (p : Placed) → reply_at (replies ++ p ∷ []) (Some (length replies)) ≡ Some p.reply
+reply_at-last replies p =
+    let z : length replies - length replies ≡ 0 = omega arith in
+    ap (λ (o : Option Placed). option_map (λ (q : Placed). q.reply) o) (slice_get-append_back replies (p ∷ []) (length replies) (omega arith) ∙ ap (λ (n : ℕ). slice_get (p ∷ []) n) z)
+
+-- the place of the last listing, one answer later
+pub last_turn : (lines : List RequestLine) (i : ℕ) (d : RequestLine) (replies : List Placed) (p : Placed) (last : Option ℕ) → i < length lines → length (take i lines) ≡ length replies
+    → reply_at replies last ≡ last_listing (answered_lines (take i lines) replies) → ForSome last (λ k. k < length replies)
+    → reply_at (replies ++ p ∷ []) (if is_listing (get_or lines i d).request then Some (length replies) else last)
+    ≡ last_listing (answered_lines (take (i + 1) lines) (replies ++ p ∷ []))
+last_turn lines i d replies p last below same here within =
+    let l = get_or lines i d in
+    let a : Answered = record { asked = l; placed = p } in
+    let longer : answered_lines (take (i + 1) lines) (replies ++ p ∷ []) ≡ answered_lines (take i lines) replies ++ a ∷ [] =
+    ap (λ (ls : List RequestLine). answered_lines ls (replies ++ p ∷ [])) (take_more lines i d below) ∙ answered_lines-push (take i lines) replies l p same in
+    elim (cases_Bool (is_listing l.request)) [
+      | inl listing ↦ rw (listing, longer) (reply_at-last replies p ∙ sym (last_listing-yes (answered_lines (take i lines) replies) a listing))
+      | inr other ↦ rw (other, longer) (reply_at-push replies p last within ∙ here ∙ sym (last_listing-no (answered_lines (take i lines) replies) a other))
+    ]
+
+pub place_turn : (listing : Bool) (n m : ℕ) (last : Option ℕ) → m ≡ n + 1 → ForSome last (λ k. k < n) → ForSome (if listing then Some n else last) (λ k. k < m)
+place_turn true n m last e within = λ k same. let here = same_Some n k same in omega arith
+place_turn false n m last e within = λ k same. let here = within k same in omega arith
