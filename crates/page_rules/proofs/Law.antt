@@ -59,7 +59,7 @@ module _ (dir : List (List ℕ)) (query : ListQuery) (m : List Pair) (rises : Ri
   pub page_left : (point : Option TokenPoint) (page : Page) → page ≡ page_of dir query point m → LeavesTheRest dir query point m page
   page_left point page is = subst (LeavesTheRest dir query point m) (sym is) (cut_left point query.max_keys)
 
-  pub chained_all : 0 < query.max_keys → (point : Option TokenPoint) (pages : List Page) → AreChained dir query m point pages → all_entries pages ≡ entries_of dir query point m
+  chained_all : 0 < query.max_keys → (point : Option TokenPoint) (pages : List Page) → AreChained dir query m point pages → all_entries pages ≡ entries_of dir query point m
   chained_all some point [] chained = absurd chained
   chained_all some point (page ∷ pages) chained =
       elim (cases_Bool page.truncated) [
@@ -70,6 +70,9 @@ module _ (dir : List (List ℕ)) (query : ListQuery) (m : List Pair) (rises : Ri
             let ends = MatchBool-at_false (AreChained dir query m (page_point dir page) pages) (pages ≡ []) last chained.1 in
             ap (λ l. page.entries ++ all_entries l) ends ∙ append-nil page.entries ∙ page_whole some point page chained.0 last
       ]
+
+  pub begins_all : (point : Option TokenPoint) (page : Page) → BeginsAll dir query point m page
+  begins_all point page some pages = chained_all some point (page ∷ pages)
 
 -- ---- each once
 

@@ -1,8 +1,10 @@
 ghost use Rattle.std.specs.Prelude.{◌≡◌, IfOk, map, filter};
 ghost use Rattle.std.specs.Option.{option_copied};
 ghost use Rattle.key_names.specs.Names.{name_at};
+ghost use Rattle.index_words.specs.Map.{IsMap};
 ghost use Rattle.bucket_terms.specs.Entries.{is_admitted, is_under, entry_of, entries_of};
-ghost use Rattle.bucket_terms.specs.Page.{page_of};
+ghost use Rattle.bucket_terms.specs.Page.{cut_at, page_of, IsInRange};
+ghost use Rattle.page_rules.specs.PageLaw.{LeavesTheRest, BeginsAll, RiseByText};
 
 use crate::rules::{entry_of, is_admitted, is_same_group, is_under, name_at};
 use bucket_terms::{ListQuery, Page, PageEntries, PageEntry, TokenPoint};
@@ -20,15 +22,29 @@ pub fn page_of_list(
     point: Option<&TokenPoint>,
 ) -> Result<Page, NoMemory>
     ensures page { IfOk result (λ page. page ≡ page_of dir.now query.now (option_copied point.entry) list.now) }
+    ensures in_range { IfOk result (IsInRange dir.now) }
+
+    // The law of pages, over a map.
+    ensures left { IfOk result (λ page. IsMap list.now → LeavesTheRest dir.now query.now (option_copied point.entry) list.now page) }
+    ensures chained { IfOk result (λ page. IsMap list.now → BeginsAll dir.now query.now (option_copied point.entry) list.now page) }
+    ensures each_once { IfOk result (λ page. IsMap list.now → RiseByText dir.now page.entries) }
 {
-    let mut entries = entries_of(alloc, dir, list, query, point)?;
-    let most = query.max_keys as usize;
+    let (_names, _delimiter) = (dir.len(), query.delimiter.bytes());
+    let entries = entries_of(alloc, dir, list, query, point)?;
+    Ok(cut_at(query.max_keys, entries))
+}
+
+// The first `max_keys` of these entries; truncated where it may have some and more are left.
+fn cut_at(max_keys: u32, mut entries: Vec<PageEntry>) -> Page
+    ensures { result ≡ cut_at max_keys entries.items }
+{
+    let most = max_keys as usize;
     let truncated = 0 < most && most < entries.len();
     entries.truncate(most);
-    Ok(Page {
+    Page {
         entries: PageEntries::new(entries),
         truncated,
-    })
+    }
 }
 
 // The entries of a query on the list, from a point on: each group once.
