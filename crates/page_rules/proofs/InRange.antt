@@ -24,7 +24,7 @@ starts_char name text at utf8 some fits is =
     ap (λ l. get_or l 0 0) (sym is) ∙ get_or-take (length text) (drop at name) 0 0 some ∙ get_or-drop at name 0 0 ∙ ap (λ k. get_or name k 0) (add-zero at) in
     (omega (arith, fits), λ below high. subst (λ b. 192 ≤ b) first ((IsCharBoundary-start text utf8).1 some (subst (λ b. 128 ≤ b) (sym first) high)))
 
-whole_group : (dir : List (List ℕ)) (query : ListQuery) (rank len : ℕ) → rank < length dir → IsUtf8 (name_at dir rank) → IsUtf8 query.delimiter → group_len query (name_at dir rank) ≡ Some len
+pub whole_group : (dir : List (List ℕ)) (query : ListQuery) (rank len : ℕ) → rank < length dir → IsUtf8 (name_at dir rank) → IsUtf8 query.delimiter → group_len query (name_at dir rank) ≡ Some len
     → IsGroupInRange dir rank len
 whole_group dir query rank len below utf8 delimiter_utf8 h =
     let name = name_at dir rank in

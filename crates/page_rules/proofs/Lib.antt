@@ -5,5 +5,8 @@ pub mod InRange
 pub mod Law
 pub mod Listing
 pub mod NameOrder
+pub mod OnWay
 pub mod Places
+pub mod NextRank
 pub mod Rolled
+pub mod Taken

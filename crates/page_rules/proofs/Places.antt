@@ -33,7 +33,7 @@ listing_congr dir query p q m same =
     ap (λ l. dedup (is_same_group dir) (map (entry_of dir query) l)) (filter_congr (is_under dir query) p q m same)
 
 -- a pair that is not under the prefix gives no entry
-listing_skip : (dir : List (List ℕ)) (query : ListQuery) (x : Pair) (t : List Pair) → is_under dir query x ≡ false → listing dir query (x ∷ t) ≡ listing dir query t
+pub listing_skip : (dir : List (List ℕ)) (query : ListQuery) (x : Pair) (t : List Pair) → is_under dir query x ≡ false → listing dir query (x ∷ t) ≡ listing dir query t
 unfolding listing
 listing_skip dir query x t out =
     let rest = filter (is_under dir query) t in
@@ -49,7 +49,7 @@ behind_above dir query p (Some len) name h =
     let parts = and_parts (is_above name group) (not (begins_with name group)) h in
     true_from_ne_false _ (λ low. both_ways _ (not-true _ parts.1) (begins_between group name own (not_above_back name group parts.0) low (begins_own len own)))
 
-not_behind : (dir : List (List ℕ)) (query : ListQuery) (p x : Pair) → Rises dir → x.key ≤ p.key → p.key < length dir → is_behind dir query (entry_of dir query p) x ≡ false
+pub not_behind : (dir : List (List ℕ)) (query : ListQuery) (p x : Pair) → Rises dir → x.key ≤ p.key → p.key < length dir → is_behind dir query (entry_of dir query p) x ≡ false
 not_behind dir query p x rises le below =
     let own = name_at dir p.key in
     let name = name_at dir x.key in

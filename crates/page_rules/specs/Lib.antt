@@ -1,1 +1,3 @@
 pub mod PageLaw
+pub mod Cursor
+pub mod CursorInside

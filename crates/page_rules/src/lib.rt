@@ -4,7 +4,10 @@
 //! program.
 #![tactic(auto)]
 
+mod cursor;
 mod list_page;
+mod resume;
 mod rules;
 
+pub use cursor::PageCursor;
 pub use list_page::page_of_list;

@@ -3,6 +3,7 @@
 ghost use Rattle.std.specs.Prelude.{◌≡◌, ◌<◌, ◌≤◌, Some, None, IfSome, length, take, drop};
 ghost use Rattle.std.specs.Option.{option_copied};
 ghost use Rattle.key_names.specs.Names.{name_at};
+ghost use Rattle.bucket_terms.specs.Page.{IsEntryInRange};
 ghost use Rattle.bucket_terms.specs.Entries.{begins_with, is_above, is_admitted, is_under, first_end, group_len, entry_of, is_same_group};
 
 use bucket_terms::{ListQuery, PageEntry, TokenPoint};
@@ -42,8 +43,11 @@ pub(crate) fn is_under(dir: &Directory, query: &ListQuery, pair: &Pair) -> bool
 
 /// The entry of a pair: the common prefix into which its name is rolled up, or else its key.
 pub(crate) fn entry_of(dir: &Directory, query: &ListQuery, pair: &Pair) -> PageEntry
-    ensures { result ≡ entry_of dir.now query.now pair.now }
+    ensures entry { result ≡ entry_of dir.now query.now pair.now }
+    ensures in_range { pair.now.key < length dir.now → IsEntryInRange dir.now result }
 {
+    let _names = dir.len();
+    let _delimiter = query.delimiter.bytes();
     match group_len(query, name_at(dir, pair.key)) {
         Some(len) => PageEntry::Group {
             rank: pair.key,
@@ -80,7 +84,7 @@ fn is_above(name: &[u8], other: &[u8]) -> bool
 }
 
 // The first `len` bytes of the name at a rank.
-fn group_text(dir: &Directory, rank: u64, len: u64) -> &[u8]
+pub(crate) fn group_text(dir: &Directory, rank: u64, len: u64) -> &[u8]
     ensures { result.now ≡ take len (name_at dir.now rank) }
 {
     let name = name_at(dir, rank);

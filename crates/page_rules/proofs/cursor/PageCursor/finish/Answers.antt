@@ -1,0 +1,14 @@
+use Rattle.std.proofs.Common.{sym, ap, ◌∙◌}
+use Rattle.index_words.specs.Map.{IsMap}
+use Rattle.bucket_terms.specs.declared.page.Page.{Page}
+use Rattle.page_rules.specs.CursorInside.{view_of}
+use Rattle.page_rules.specs.Cursor.{CursorView, IsOver, IsOnWay}
+use Rattle.page_rules.proofs.Taken.{over_is_page}
+use Rattle.page_rules.proofs.cursor.PageCursor.finish.Goals as goal
+
+pub returns-clause-page : goal.returns-clause-page
+returns-clause-page c point m map over on =
+    let v = view_of c.self.inside in
+    let over' : IsOver v m = rw (← c.self.view_is) at over in
+    let on' : IsOnWay v point m = rw (← c.self.view_is) at on in
+    rw (c.new.ensures, ← c.self.view_is) (over_is_page v point m c.self.invariant map over' on')

@@ -1,0 +1,109 @@
+// The page made from look-ups. A group is left by one jump to the rank past its prefix, so a page costs as
+// many look-ups as it has entries, and one more, however many keys its groups hide.
+use crate::resume::{first_rank, rank_behind};
+use crate::rules::{entry_of, is_under};
+use bucket_terms::{ListQuery, Page, PageEntries, PageEntry, TokenPoint};
+use index_words::Pair;
+use key_names::{Directory, NoMemory};
+use std::alloc::Global;
+use std::marker::Model;
+
+/// A page that is being made from the pairs of one map. Its caller looks for the first pair from `next_rank`
+/// on and hands it to `take`, until `next_rank` is None or there is no such pair; then `finish` gives the page.
+#[derive(Drop)]
+pub struct PageCursor<'a> {
+    dir: &'a Directory,
+    query: &'a ListQuery,
+    entries: Vec<PageEntry>,
+    next: Option<u64>,
+    truncated: bool,
+}
+
+impl<'a> Model for PageCursor<'a> {
+    ghost use Rattle.page_rules.specs.Cursor.{CursorView};
+
+    ghost Value = { CursorView };
+
+    ghost use Rattle.page_rules.specs.CursorInside.{view_of, IsCursor};
+
+    ghost view = { view_of };
+
+    ghost invariant = { λ c. IsCursor (view_of c) };
+}
+
+impl<'a> PageCursor<'a> {
+    ghost use Rattle.std.specs.Prelude.{◌≡◌, ◌≤◌, List, length, Option, IsSome, IfSome, OnOk, OnErr};
+    ghost use Rattle.std.specs.Option.{option_copied};
+    ghost use Rattle.index_words.specs.Map.{IsMap};
+    ghost use Rattle.index_words.specs.declared.pair.Pair.{Pair};
+    ghost use Rattle.bucket_terms.specs.declared.token_point.TokenPoint.{TokenPoint};
+    ghost use Rattle.bucket_terms.specs.Page.{page_of, IsInRange};
+    ghost use Rattle.page_rules.specs.Cursor.{IsNew, IsOnWay, IsOver, Took, page_so_far};
+
+    /// A cursor for the page of the query, from a point on. It takes no memory yet.
+    pub fn new(
+        alloc: Global,
+        dir: &'a Directory,
+        query: &'a ListQuery,
+        point: Option<&TokenPoint>,
+    ) -> PageCursor<'a>
+        ensures start { IsNew result dir.now query.now (option_copied point.entry) }
+        ensures on_way { (m : List Pair) → IsOnWay result (option_copied point.entry) m }
+    {
+        let next = if query.max_keys == 0 {
+            None
+        } else {
+            Some(first_rank(dir, query, point))
+        };
+        PageCursor {
+            dir,
+            query,
+            entries: Vec::new(alloc),
+            next,
+            truncated: false,
+        }
+    }
+
+    /// The rank from which the next pair is to be looked for. None where the page is settled.
+    pub fn next_rank(&self) -> Option<u64>
+        ensures next { result ≡ self.now.next }
+        ensures within { IfSome result (λ rank. rank ≤ length self.now.dir) }
+    {
+        self.next
+    }
+
+    /// Takes the first pair from `next_rank` on: adds its entry, or settles that the page is truncated or
+    /// ended. A pair whose key is no rank ends the page.
+    pub fn take(&mut self, _alloc: Global, pair: Pair) -> Result<(), NoMemory>
+        requires { IsSome self.old.next }
+        ensures took { OnOk result (Took self.old self.new pair) }
+        ensures unchanged { OnErr result (self.new ≡ self.old) }
+    {
+        let _names = self.dir.len();
+        if !is_under(self.dir, self.query, &pair) {
+            self.next = None;
+        } else if self.entries.len() < self.query.max_keys as usize {
+            let entry = entry_of(self.dir, self.query, &pair);
+            self.entries.push(entry)?;
+            self.next = Some(rank_behind(self.dir, self.query, &entry));
+        } else {
+            self.truncated = true;
+            self.next = None;
+        }
+        Ok(())
+    }
+
+    /// The page. It is that of the query on each map to whose page the cursor is on its way, once nothing is
+    /// left to take.
+    pub fn finish(self) -> Page
+        ensures entries { result ≡ page_so_far self.entry }
+        ensures page { (point : Option TokenPoint) (m : List Pair) → IsMap m → IsOver self.entry m → IsOnWay self.entry point m
+            → result ≡ page_of self.entry.dir self.entry.query point m }
+        ensures in_range { IsInRange self.entry.dir result }
+    {
+        Page {
+            entries: PageEntries::new(self.entries),
+            truncated: self.truncated,
+        }
+    }
+}

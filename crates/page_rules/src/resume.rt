@@ -1,0 +1,46 @@
+// The rank at which a listing goes on.
+ghost use Rattle.std.specs.Prelude.{◌≡◌, ◌≤◌, not, false, Some, length};
+ghost use Rattle.std.specs.Option.{option_copied};
+ghost use Rattle.key_names.specs.Names.{is_before, StandFirst};
+ghost use Rattle.bucket_terms.specs.Entries.{is_admitted};
+ghost use Rattle.bucket_terms.specs.Page.{entry_point, IsEntryInRange};
+ghost use Rattle.page_rules.specs.PageLaw.{entry_text};
+ghost use Rattle.page_rules.specs.Cursor.{GoesOnAt};
+
+use crate::rules::group_text;
+use bucket_terms::{ListQuery, PageEntry, TokenPoint};
+use key_names::Directory;
+
+/// The rank at which a listing from this point goes on.
+pub(crate) fn first_rank(dir: &Directory, query: &ListQuery, point: Option<&TokenPoint>) -> u64
+    ensures { GoesOnAt dir.now query.now (option_copied point.entry) result }
+{
+    let prefix = dir.at_or_after(query.prefix.bytes());
+    prefix.max(first_admitted(dir, query, point))
+}
+
+/// The rank at which a listing goes on behind an entry: past its key, or past all keys of its common prefix.
+pub(crate) fn rank_behind(dir: &Directory, query: &ListQuery, entry: &PageEntry) -> u64
+    requires in_range { IsEntryInRange dir.now entry.now }
+    requires listed { is_before (entry_text dir.now entry.now) query.now.prefix ≡ false }
+    ensures { GoesOnAt dir.now query.now (Some (entry_point dir.now entry.now)) result }
+{
+    let _names = dir.len();
+    match *entry {
+        PageEntry::Key { rank, .. } => rank + 1,
+        PageEntry::Group { rank, len } => dir.past_prefix(group_text(dir, rank, len)),
+    }
+}
+
+// The rank of the first name that the point admits.
+fn first_admitted(dir: &Directory, query: &ListQuery, point: Option<&TokenPoint>) -> u64
+    ensures within { result ≤ length dir.now }
+    ensures first { StandFirst (λ name. not (is_admitted query.now (option_copied point.entry) name)) dir.now result }
+{
+    match point {
+        None if query.start_after.bytes().is_empty() => 0,
+        None => dir.after(query.start_after.bytes()),
+        Some(TokenPoint::Key(key)) => dir.after(key.bytes()),
+        Some(TokenPoint::Group(group)) => dir.past_prefix(group.bytes()),
+    }
+}
