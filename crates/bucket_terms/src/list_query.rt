@@ -1,4 +1,7 @@
-use key_names::Text;
+ghost use Rattle.std.specs.Prelude.{◌≡◌, IfOk};
+
+use key_names::{NoMemory, Text};
+use std::alloc::Global;
 
 /// The parameters of a listing (Amazon S3 API reference, ListObjectsV2). An empty text is a parameter
 /// that was not given.
@@ -16,4 +19,20 @@ pub struct ListQuery {
     pub max_keys: u32,
     /// Whether the texts of the answer are percent-encoded (`encoding-type=url`).
     pub url: bool,
+}
+
+impl ListQuery {
+    /// An equal query with texts of its own.
+    pub fn copy(&self, alloc: Global) -> Result<ListQuery, NoMemory>
+        ensures { IfOk result (λ copied. copied ≡ self.now) }
+    {
+        Ok(ListQuery {
+            prefix: self.prefix.copy(alloc)?,
+            delimiter: self.delimiter.copy(alloc)?,
+            start_after: self.start_after.copy(alloc)?,
+            token: self.token.copy(alloc)?,
+            max_keys: self.max_keys,
+            url: self.url,
+        })
+    }
 }
