@@ -76,6 +76,17 @@ begins_from rank low (x ∷ m) p r h =
           is = pairs_skip rank x m lt ∙ begins.is ∙ ap (λ l. p ∷ l) (sym skip);
         }
 
+pub key_from : (rank : ℕ) (m : List Pair) (p : Pair) → first_from rank m ≡ Some p → rank ≤ p.key
+key_from rank [] p h = cc
+key_from rank (x ∷ m) p h =
+    elim (cases_Bool (nat_le rank x.key)) [
+      | inl keeps ↦
+          let is : Some x ≡ Some p = ap (λ b. cond b (Some x) (first_from rank m)) (sym keeps) ∙ h in
+          let e : x ≡ p = cc in
+          subst (λ y. rank ≤ y.key) e (leb-true rank x.key keeps)
+      | inr drops ↦ key_from rank m p (ap (λ b. cond b (Some x) (first_from rank m)) (sym drops) ∙ h)
+    ]
+
 pub none_from : (rank : ℕ) (m : List Pair) → first_from rank m ≡ None → pairs_from rank m ≡ []
 none_from rank [] h = refl
 none_from rank (x ∷ m) h =

@@ -1,6 +1,6 @@
 -- What taking a pair does to a cursor: the page is ended, or is full, or has one entry more.
-use Rattle.std.proofs.Common.{◌≡◌, ℕ, ◌+◌, ◌<◌, ◌≤◌, Bool, true, false, not, cond, ◌&&◌, nat_lt, List, [], ◌∷◌, ◌++◌, length, take, filter, Option, Some, None, MatchOption, refl, sym, ◌∙◌, ap, subst, arith}
-use Rattle.std.specs.Option.{IfSome, IsSome}
+use Rattle.std.proofs.Common.{◌≡◌, ℕ, ◌+◌, ◌-◌, ◌<◌, ◌≤◌, Bool, true, false, not, cond, ◌&&◌, nat_lt, List, [], ◌∷◌, ◌++◌, length, take, filter, Option, Some, None, MatchOption, refl, sym, ◌∙◌, ap, subst, arith}
+use Rattle.std.specs.Option.{IfSome, IsSome, option_map_or}
 use Rattle.std.specs.Bool.{⊤}
 use Rattle.std.proofs.lemmas.Bool.{and_from, and_left, and_right, and_parts, lt-ltb, le-ltb, false≢true}
 use Rattle.std.proofs.lemmas.List.{append_assoc, take-take}
@@ -12,13 +12,13 @@ use Rattle.bucket_terms.specs.declared.token_point.TokenPoint.{TokenPoint}
 use Rattle.bucket_terms.specs.declared.page.PageEntry.{PageEntry}
 use Rattle.bucket_terms.specs.Entries.{begins_with, is_under, group_len, entry_by, entry_of, listing, entries_of}
 use Rattle.bucket_terms.specs.Page.{page_of, entry_point, IsEntryInRange}
-use Rattle.page_rules.specs.Cursor.{CursorView, page_so_far, GoesOnAt, pairs_from, IsOnWay, IsNext, adds, Took, IsOver}
+use Rattle.page_rules.specs.Cursor.{CursorView, page_so_far, GoesOnAt, pairs_from, IsOnWay, IsNext, adds, look_ups_left, Took, IsOver}
 use Rattle.page_rules.specs.CursorInside.{IsOpenAt, IsCursor}
 use Rattle.page_rules.specs.PageLaw.{entry_text}
 use Rattle.page_rules.proofs.NameOrder.{begins_not_below}
 use Rattle.page_rules.proofs.Groups.{rolled_up, begins_same}
 use Rattle.page_rules.proofs.Listing.{is_behind}
-use Rattle.page_rules.proofs.OnWay.{entries_from, left_first, next_above, left_under, left_ended, left_over, page_ended, page_full}
+use Rattle.page_rules.proofs.OnWay.{key_from, entries_from, left_first, next_above, left_under, left_ended, left_over, page_ended, page_full}
 
 -- the first pair from the next rank on, and what was left, by that rank
 next_is : (v : CursorView) (m : List Pair) (pair : Pair) (rank : ℕ) → v.next ≡ Some rank → IsNext v m pair → first_from rank m ≡ Some pair
@@ -27,6 +27,17 @@ next_is v m pair rank next is = subst (λ o. IfSome o (λ r. first_from r m ≡ 
 left_is : (v : CursorView) (point : Option TokenPoint) (m : List Pair) (rank : ℕ) → v.next ≡ Some rank → IsOnWay v point m
     → entries_of v.dir v.query point m ≡ v.entries ++ listing v.dir v.query (pairs_from rank m)
 left_is v point m rank next on = subst (λ o. MatchOption o (page_so_far v ≡ page_of v.dir v.query point m) (λ r. entries_of v.dir v.query point m ≡ v.entries ++ listing v.dir v.query (pairs_from r m))) next on
+
+-- fewer look-ups are left where the page is settled, or goes on above the pair's key
+fewer_left : (v new : CursorView) (m : List Pair) (pair : Pair) (rank : ℕ) → new.dir ≡ v.dir → v.next ≡ Some rank → rank ≤ length v.dir
+    → IfSome new.next (λ next. (pair.key < next) × (next ≤ length v.dir)) → IsNext v m pair → look_ups_left new < look_ups_left v
+fewer_left v new m pair rank same next within behind is =
+    let from = key_from rank m pair (next_is v m pair rank next is) in
+    subst (λ o. look_ups_left new < option_map_or (λ r. length v.dir + 1 - r) o 0) (sym next) (go new.next behind from)
+  where
+    go : (o : Option ℕ) → IfSome o (λ next. (pair.key < next) × (next ≤ length v.dir)) → rank ≤ pair.key → option_map_or (λ r. length new.dir + 1 - r) o 0 < length v.dir + 1 - rank
+    go None behind from = omega arith
+    go (Some r) behind from = let e = ap length same in omega (arith, behind.0, behind.1)
 
 pub took_ended : (v : CursorView) (rank : ℕ) (pair : Pair) → Rises v.dir → length v.entries ≤ v.query.max_keys → v.next ≡ Some rank → IsOpenAt v rank
     → is_under v.dir v.query pair ≡ false → Took v (record v { next = None }) pair
@@ -38,6 +49,7 @@ took_ended v rank pair rises room next unsettled out =
       entries = sym (ap (λ b. cond b (v.entries ++ entry_of v.dir v.query pair ∷ []) v.entries) none);
       truncated = unsettled.not_yet ∙ sym (and_left _ _ out);
       next = none;
+      fewer = λ m is. fewer_left v (record v { next = None }) m pair rank refl next unsettled.within tt is;
       on_way = λ point m map is on.
           ap (λ t. page_so_far (record v { truncated = t })) unsettled.not_yet
           ∙ page_ended v.dir v.query point m v.entries _ room (left_is v point m rank next on)
@@ -56,6 +68,7 @@ took_full v rank pair rises full next unsettled under =
       entries = sym (ap (λ b. cond b (v.entries ++ e ∷ []) v.entries) none);
       truncated = sym (and_from _ _ under (ap not none));
       next = none;
+      fewer = λ m is. fewer_left v (record v { next = None; truncated = true }) m pair rank refl next unsettled.within tt is;
       on_way = λ point m map is on.
           let later = listing v.dir v.query (filter (is_behind v.dir v.query e) (pairs_from (pair.key + 1) m)) in
           page_full v.dir v.query point m v.entries later e full unsettled.some
@@ -74,6 +87,7 @@ took_added v rank pair entries behind rises room next unsettled under goes is =
       entries = is ∙ sym (ap (λ b. cond b (v.entries ++ e ∷ []) v.entries) adds_it);
       truncated = unsettled.not_yet ∙ sym (and_right _ _ (ap not adds_it));
       next = (adds_it, next_above v.dir v.query pair behind rises under goes, goes);
+      fewer = λ m is_next. fewer_left v (record v { entries = entries; next = Some behind }) m pair rank refl next unsettled.within (next_above v.dir v.query pair behind rises under goes, goes.within) is_next;
       on_way = λ point m map is_next on.
           let later = listing v.dir v.query (pairs_from behind m) in
           left_is v point m rank next on

@@ -1,5 +1,6 @@
 -- A page that is made from one look-up after another.
-use Rattle.std.specs.Prelude.{◌≡◌, ℕ, ◌<◌, ◌≤◌, ◌&&◌, ◌||◌, not, Bool, true, false, nat_lt, nat_le, if◌then◌else◌, ⊤, List, [], ◌∷◌, ◌++◌, length, filter, Option, Some, None, MatchOption, IfSome}
+use Rattle.std.specs.Prelude.{◌≡◌, ℕ, ◌+◌, ◌-◌, ◌<◌, ◌≤◌, ◌&&◌, ◌||◌, not, Bool, true, false, nat_lt, nat_le, if◌then◌else◌, ⊤, List, [], ◌∷◌, ◌++◌, length, filter, Option, Some, None, MatchOption, IfSome}
+use Rattle.std.specs.Option.{option_map_or}
 use Rattle.key_names.specs.Names.{is_before, StandFirst}
 use Rattle.index_words.specs.declared.pair.Pair.{Pair}
 use Rattle.index_words.specs.Map.{IsMap, first_from}
@@ -57,6 +58,10 @@ IsNext v m pair = IfSome v.next (λ rank. first_from rank m ≡ Some pair)
 abbrev pub adds : CursorView → Pair → Bool
 adds v pair = is_under v.dir v.query pair && nat_lt (length v.entries) v.query.max_keys
 
+-- at most how many look-ups are left, by the ranks from the next one on
+abbrev pub look_ups_left : CursorView → ℕ
+look_ups_left v = option_map_or (λ rank. length v.dir + 1 - rank) v.next 0
+
 -- the pair was taken
 pub record Took (old new : CursorView) (pair : Pair) : Type 0 where
   pub dir : new.dir ≡ old.dir
@@ -67,6 +72,8 @@ pub record Took (old new : CursorView) (pair : Pair) : Type 0 where
   -- behind a new entry the listing goes on past its key, or past all keys of its common prefix; else the page is settled
   pub next : MatchOption new.next (adds old pair ≡ false)
       (λ rank. (adds old pair ≡ true) × (pair.key < rank) × GoesOnAt old.dir old.query (Some (entry_point old.dir (entry_of old.dir old.query pair))) rank)
+  -- each look-up leaves fewer
+  pub fewer : (m : List Pair) → IsNext old m pair → look_ups_left new < look_ups_left old
   -- on the way to the page of every map that has the pair next, the cursor stays so
   pub on_way : (point : Option TokenPoint) (m : List Pair) → IsMap m → IsNext old m pair → IsOnWay old point m → IsOnWay new point m
 

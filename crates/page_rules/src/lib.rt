@@ -6,8 +6,10 @@
 
 mod cursor;
 mod list_page;
+mod look_ups;
 mod resume;
 mod rules;
 
 pub use cursor::PageCursor;
 pub use list_page::page_of_list;
+pub use look_ups::page_by_look_ups;

@@ -1,0 +1,48 @@
+// The cursor over a sorted list. A caller with another kind of map writes the same loop.
+ghost use Rattle.std.specs.Prelude.{◌≡◌, slice_get, IfOk};
+ghost use Rattle.std.specs.Option.{option_copied};
+ghost use Rattle.index_words.specs.Map.{IsMap, first_from};
+ghost use Rattle.bucket_terms.specs.Page.{page_of, IsInRange};
+
+use crate::PageCursor;
+use bucket_terms::{ListQuery, Page, TokenPoint};
+use index_words::Pair;
+use key_names::{Directory, NoMemory};
+use std::alloc::Global;
+
+/// The page of a query on a sorted list of pairs, from a point on, made by one binary search for each entry
+/// and one more at the end.
+pub fn page_by_look_ups(
+    alloc: Global,
+    dir: &Directory,
+    list: &[Pair],
+    query: &ListQuery,
+    point: Option<&TokenPoint>,
+) -> Result<Page, NoMemory>
+    requires { IsMap list.now }
+    ensures page { IfOk result (λ page. page ≡ page_of dir.now query.now (option_copied point.entry) list.now) }
+    ensures in_range { IfOk result (IsInRange dir.now) }
+{
+    let mut cursor = PageCursor::new(alloc, dir, query, point);
+    while let Some(rank) = cursor.next_rank() {
+        match first_from(list, rank) {
+            Some(pair) => cursor.take(alloc, pair)?,
+            None => break,
+        }
+    }
+    Ok(cursor.finish())
+}
+
+// The first pair whose key is at least `key`.
+fn first_from(list: &[Pair], key: u64) -> Option<Pair>
+    requires { IsMap list.now }
+    ensures { result ≡ first_from key list.now }
+{
+    pair_at(list, list.partition_point(|pair| pair.key < key))
+}
+
+fn pair_at(list: &[Pair], place: usize) -> Option<Pair>
+    ensures { result ≡ slice_get list.now place }
+{
+    list.get(place).copied()
+}
