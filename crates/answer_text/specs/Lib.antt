@@ -1,0 +1,6 @@
+pub mod Escaping
+pub mod Objects
+pub mod Lines
+pub mod InRange
+pub mod Sending
+pub mod Views
