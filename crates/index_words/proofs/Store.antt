@@ -1,0 +1,224 @@
+-- A store at the number of a word is that word anew; the number of a word is its own.
+use Rattle.std.proofs.Common.{◌≡◌, ℕ, ◌+◌, ◌*◌, ◌-◌, ◌<◌, ◌≤◌, List, length, Bool, true, false, eqb, set, arith, refl, sym, ap, ◌∙◌, get_or-set_same, get_or-set_other, Option, Some, None, eqb-true, ◌&&◌}
+use Rattle.std.proofs.lemmas.Bool.{false≢true}
+use Rattle.std.proofs.lemmas.Bool.Decides.{nat_tests}
+use mathlib.Core.Path.{fun_ext}
+use Rattle.index_words.specs.declared.layout.Layout.{Layout}
+use Rattle.index_words.specs.declared.side.Side.{Side}
+use Rattle.index_words.specs.declared.side.Side.TheVariants.{Left, Right}
+use Rattle.index_words.specs.declared.word.Field.{Field}
+use Rattle.index_words.specs.declared.word.Field.TheVariants.{Key, Val, Lock, Mark, Head, Link, Tag}
+use Rattle.index_words.specs.declared.word.Part.{Part}
+use Rattle.index_words.specs.declared.word.Part.TheVariants.{Child, Stamp as Number, Next}
+use Rattle.index_words.specs.declared.word.Word.{Word}
+use Rattle.index_words.specs.declared.word.Word.TheVariants.{Stamp, Section, Announced, Node, Entry}
+use Rattle.index_words.specs.Words.{address, word_count, is_there, memory, written, StoreLaw, same_word, same_field, same_part, same_side, field_number, part_number, field_at, part_at}
+
+-- the numbers of fields are below ten, and tell them apart
+pub field_number-lt : (f : Field) → field_number f < 10
+field_number-lt Key = omega arith
+field_number-lt Val = omega arith
+field_number-lt Lock = omega arith
+field_number-lt Mark = omega arith
+field_number-lt (Head Left) = omega arith
+field_number-lt (Head Right) = omega arith
+field_number-lt (Link Left) = omega arith
+field_number-lt (Link Right) = omega arith
+field_number-lt (Tag Left) = omega arith
+field_number-lt (Tag Right) = omega arith
+
+pub part_number-lt : (p : Part) → part_number p < 3
+part_number-lt Child = omega arith
+part_number-lt Number = omega arith
+part_number-lt Next = omega arith
+
+-- a word that is there has a number in range
+pub address-lt : (z : Layout) (w : Word) → is_there z w ≡ true → address z w < word_count z
+address-lt z Stamp t = omega arith
+address-lt z (Section i) t = let h : i < z.passes = grind (arith, nat_tests) in omega arith
+address-lt z (Announced i) t = let h : i < z.passes = grind (arith, nat_tests) in omega arith
+address-lt z (Node f k) t = let h : k ≤ z.nodes = grind (arith, nat_tests) in omega (arith, field_number-lt f)
+address-lt z (Entry p e) t = let h : (0 < e) × (e ≤ z.entries) = grind (arith, nat_tests) in omega (arith, part_number-lt p)
+
+-- tests of two names
+same_side-refl : (s : Side) → same_side s s ≡ true
+same_side-refl Left = refl
+same_side-refl Right = refl
+
+same_side-true : (s t : Side) → same_side s t ≡ true → s ≡ t
+same_side-true Left Left e = refl
+same_side-true Right Right e = refl
+same_side-true _ _ e = cc
+
+pub same_field-refl : (f : Field) → same_field f f ≡ true
+same_field-refl Key = refl
+same_field-refl Val = refl
+same_field-refl Lock = refl
+same_field-refl Mark = refl
+same_field-refl (Head s) = same_side-refl s
+same_field-refl (Link s) = same_side-refl s
+same_field-refl (Tag s) = same_side-refl s
+
+pub same_field-true : (f g : Field) → same_field f g ≡ true → f ≡ g
+same_field-true Key Key e = refl
+same_field-true Val Val e = refl
+same_field-true Lock Lock e = refl
+same_field-true Mark Mark e = refl
+same_field-true (Head s) (Head t) e = ap Head (same_side-true s t e)
+same_field-true (Link s) (Link t) e = ap Link (same_side-true s t e)
+same_field-true (Tag s) (Tag t) e = ap Tag (same_side-true s t e)
+same_field-true _ _ e = cc
+
+same_part-refl : (p : Part) → same_part p p ≡ true
+same_part-refl Child = refl
+same_part-refl Number = refl
+same_part-refl Next = refl
+
+same_part-true : (p q : Part) → same_part p q ≡ true → p ≡ q
+same_part-true Child Child e = refl
+same_part-true Number Number e = refl
+same_part-true Next Next e = refl
+same_part-true _ _ e = cc
+
+pub same_word-refl : (w : Word) → same_word w w ≡ true
+same_word-refl Stamp = refl
+same_word-refl (Section i) = grind (arith, nat_tests)
+same_word-refl (Announced i) = grind (arith, nat_tests)
+same_word-refl (Node f k) = rw (same_field-refl f) (grind (arith, nat_tests))
+same_word-refl (Entry p e) = rw (same_part-refl p) (grind (arith, nat_tests))
+
+both_true : (a b : Bool) → (a && b) ≡ true → (a ≡ true) × (b ≡ true)
+both_true true true e = (refl, refl)
+both_true true false e = cc
+both_true false b e = cc
+
+pub same_word-true : (v w : Word) → same_word v w ≡ true → v ≡ w
+same_word-true Stamp Stamp e = refl
+same_word-true (Section i) (Section j) e = let h : i ≡ j = grind (arith, nat_tests) in ap Section h
+same_word-true (Announced i) (Announced j) e = let h : i ≡ j = grind (arith, nat_tests) in ap Announced h
+same_word-true (Node f k) (Node g l) e =
+    let both = both_true (same_field f g) (eqb k l) e in
+    let fields : f ≡ g = same_field-true f g both.0 in
+    let nodes : k ≡ l = eqb-true _ _ both.1 in
+    cc
+same_word-true (Entry p d) (Entry q e) h =
+    let both = both_true (same_part p q) (eqb d e) h in
+    let parts : p ≡ q = same_part-true p q both.0 in
+    let entries : d ≡ e = eqb-true _ _ both.1 in
+    cc
+same_word-true _ _ e = cc
+
+-- the number of a field gives the field
+field_at-number : (f : Field) → field_at (field_number f) ≡ f
+field_at-number Key = refl
+field_at-number Val = refl
+field_at-number Lock = refl
+field_at-number Mark = refl
+field_at-number (Head Left) = refl
+field_at-number (Head Right) = refl
+field_at-number (Link Left) = refl
+field_at-number (Link Right) = refl
+field_at-number (Tag Left) = refl
+field_at-number (Tag Right) = refl
+
+part_at-number : (p : Part) → part_at (part_number p) ≡ p
+part_at-number Child = refl
+part_at-number Number = refl
+part_at-number Next = refl
+
+field_number-apart : (f g : Field) → field_number f ≡ field_number g → f ≡ g
+field_number-apart f g e = sym (field_at-number f) ∙ ap field_at e ∙ field_at-number g
+
+part_number-apart : (p q : Part) → part_number p ≡ part_number q → p ≡ q
+part_number-apart p q e = sym (part_at-number p) ∙ ap part_at e ∙ part_at-number q
+
+-- where a number below ten or three is added, the two parts are told apart
+tens : (a b f g : ℕ) → f < 10 → g < 10 → 10 * a + f ≡ 10 * b + g → (a ≡ b) × (f ≡ g)
+tens a b f g hf hg e = (omega arith, omega arith)
+
+threes : (a b f g : ℕ) → f < 3 → g < 3 → 3 * a + f ≡ 3 * b + g → (a ≡ b) × (f ≡ g)
+threes a b f g hf hg e = (omega arith, omega arith)
+
+IsThere : Layout → Word → Type 0
+IsThere z Stamp = Unit {0}
+IsThere z (Section i) = i < z.passes
+IsThere z (Announced i) = i < z.passes
+IsThere z (Node f k) = (k ≤ z.nodes) × (field_number f < 10)
+IsThere z (Entry p e) = (0 < e) × (e ≤ z.entries) × (part_number p < 3)
+
+is_there-says : (z : Layout) (w : Word) → is_there z w ≡ true → IsThere z w
+unfolding IsThere
+is_there-says z Stamp t = tt
+is_there-says z (Section i) t = grind (arith, nat_tests)
+is_there-says z (Announced i) t = grind (arith, nat_tests)
+is_there-says z (Node f k) t = (grind (arith, nat_tests), field_number-lt f)
+is_there-says z (Entry p e) t = let h : (0 < e) × (e ≤ z.entries) = grind (arith, nat_tests) in (h.0, h.1, part_number-lt p)
+
+-- no two words that are there have one number
+apart : (z : Layout) (v w : Word) → IsThere z v → IsThere z w → address z v ≡ address z w → v ≡ w
+unfolding IsThere
+apart z Stamp Stamp a b e = refl
+apart z (Section i) (Section j) a b e = let h : i ≡ j = omega arith in ap Section h
+apart z (Announced i) (Announced j) a b e = let h : i ≡ j = omega arith in ap Announced h
+apart z (Node f k) (Node g l) a b e =
+    let h = tens k l (field_number f) (field_number g) a.1 b.1 (omega arith) in
+    let nodes : k ≡ l = h.0 in
+    let fields : f ≡ g = field_number-apart f g h.1 in
+    cc
+apart z (Entry p d) (Entry q c) a b e =
+    let h = threes (d - 1) (c - 1) (part_number p) (part_number q) a.2 b.2 (omega arith) in
+    let entries : d ≡ c = omega (arith, a.0, b.0, h.0) in
+    let parts : p ≡ q = part_number-apart p q h.1 in
+    cc
+apart z Stamp (Section j) a b e = absurd (omega arith)
+apart z Stamp (Announced j) a b e = absurd (omega arith)
+apart z Stamp (Node g l) a b e = absurd (omega arith)
+apart z Stamp (Entry q c) a b e = absurd (omega arith)
+apart z (Section i) Stamp a b e = absurd (omega arith)
+apart z (Section i) (Announced j) a b e = absurd (omega arith)
+apart z (Section i) (Node g l) a b e = absurd (omega arith)
+apart z (Section i) (Entry q c) a b e = absurd (omega arith)
+apart z (Announced i) Stamp a b e = absurd (omega arith)
+apart z (Announced i) (Section j) a b e = absurd (omega arith)
+apart z (Announced i) (Node g l) a b e = absurd (omega arith)
+apart z (Announced i) (Entry q c) a b e = absurd (omega arith)
+apart z (Node f k) Stamp a b e = absurd (omega arith)
+apart z (Node f k) (Section j) a b e = absurd (omega arith)
+apart z (Node f k) (Announced j) a b e = absurd (omega arith)
+apart z (Node f k) (Entry q c) a b e = absurd (omega arith)
+apart z (Entry p d) Stamp a b e = absurd (omega arith)
+apart z (Entry p d) (Section j) a b e = absurd (omega arith)
+apart z (Entry p d) (Announced j) a b e = absurd (omega arith)
+apart z (Entry p d) (Node g l) a b e = absurd (omega arith)
+
+pub address-apart : (z : Layout) (v w : Word) → is_there z v ≡ true → is_there z w ≡ true → address z v ≡ address z w → v ≡ w
+address-apart z v w a b e = apart z v w (is_there-says z v a) (is_there-says z w b) e
+
+-- what stands at a word after a store: the stored number at the same word, and the old one elsewhere
+stored_here : (z : Layout) (words : List ℕ) (w : Word) (x : ℕ) → length words ≡ word_count z → is_there z w ≡ true
+    → memory z (set words (address z w) x) w ≡ x
+stored_here z words w x long here =
+    let low : address z w < length words = omega (arith, address-lt z w here) in
+    rw here (get_or-set_same words (address z w) x 0 low)
+
+stored_elsewhere : (z : Layout) (words : List ℕ) (w v : Word) (x : ℕ) (b : Bool) → is_there z v ≡ b → is_there z w ≡ true → (v ≡ w → ⊥)
+    → memory z (set words (address z w) x) v ≡ memory z words v
+stored_elsewhere z words w v x true there here other =
+    let ne : address z v ≡ address z w → ⊥ = λ e. other (address-apart z v w there here e) in
+    rw there (get_or-set_other words (address z w) (address z v) x 0 ne)
+stored_elsewhere z words w v x false there here other = rw there refl
+
+where_stored : (z : Layout) (words : List ℕ) (w v : Word) (x : ℕ) (b : Bool) → same_word v w ≡ b → length words ≡ word_count z → is_there z w ≡ true
+    → memory z (set words (address z w) x) v ≡ written (memory z words) w x v
+where_stored z words w v x true same long here =
+    rw same (rw (same_word-true v w same) (stored_here z words w x long here))
+where_stored z words w v x false same long here =
+    rw same (stored_elsewhere z words w v x (is_there z v) refl here (λ e. false≢true (sym same ∙ ap (λ u. same_word u w) e ∙ same_word-refl w)))
+
+pub store : StoreLaw
+store z words w x long here = fun_ext (λ v. where_stored z words w v x (same_word v w) refl long here)
+
+-- the word of a number is there, and has that number
+pub IsWordAt : Layout → ℕ → Option Word → Type 0
+IsWordAt z n None = word_count z ≤ n
+IsWordAt z n (Some w) = (is_there z w ≡ true) × (address z w ≡ n)

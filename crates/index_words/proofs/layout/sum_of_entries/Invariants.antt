@@ -1,0 +1,6 @@
+use Rattle.std.proofs.Common.{◌≡◌, ◌*◌, ◌^◌, ◌≤◌, take}
+use Rattle.index_words.specs.Sizes.{all_entries}
+use Rattle.index_words.proofs.layout.sum_of_entries.Given as goal
+
+abbrev pub invariant-loop-size : goal.invariant-loop-size
+invariant-loop-size l = record { sum_is : l.sum ≡ all_entries (take l.size-index l.sizes); small : l.sum ≤ l.size-index * 2 ^ 32 }

@@ -1,0 +1,109 @@
+use crate::items::Items;
+use crate::side::Side;
+use std::alloc::Global;
+
+/// A node of the tree at the section number.
+#[derive(Clone, Copy, Debug, PartialEq, Eq)]
+pub struct TreeNode {
+    pub slot: u32,
+    pub key: u64,
+    pub val: u64,
+    /// The children's slots, 0 for none.
+    pub left: u32,
+    pub right: u32,
+}
+
+/// Where a seat stands.
+#[derive(Clone, Copy, Debug, PartialEq, Eq)]
+pub enum Place {
+    /// Nowhere yet. A search on plain links begins at the root.
+    Nowhere,
+    /// At an entry of a bundle, 0 behind its last one, with the stamp word where it was loaded.
+    Entry {
+        node: u32,
+        side: Side,
+        entry: u32,
+        stamp: Option<u64>,
+    },
+    /// At a node that a search on plain links has come to.
+    Node(u32),
+    /// At a null link at which a search on plain links ended.
+    Gap {
+        node: u32,
+        side: Side,
+    },
+}
+
+/// How a link was found.
+#[derive(Clone, Copy, Debug, PartialEq, Eq)]
+pub enum LinkSource {
+    /// Through the link's bundle: the entry that selected it, 0 where none did.
+    Bundle {
+        entry: u32,
+    },
+    /// As a plain link: its tag where that was loaded, and the keys of the two turns.
+    Plain {
+        tag: Option<u64>,
+        above: Option<u64>,
+        below: Option<u64>,
+    },
+}
+
+/// A link that a seat remembers.
+#[derive(Clone, Copy, Debug, PartialEq, Eq)]
+pub struct Link {
+    pub node: u32,
+    pub side: Side,
+    /// The child's slot, 0 for none.
+    pub child: u32,
+    pub source: LinkSource,
+}
+
+/// A node at which a search on plain links last turned.
+#[derive(Clone, Copy, Debug, PartialEq, Eq)]
+pub struct Turn {
+    pub node: u32,
+    pub key: u64,
+}
+
+/// What a seat has read in its section.
+#[derive(Drop)]
+pub struct Reading {
+    /// The number at which it reads bundles, where it has one.
+    pub section: Option<u64>,
+    /// The number of the open snapshot, where there is one.
+    pub opened: Option<u64>,
+    /// The tree at the section number, in the order of the keys. Empty without a section number.
+    pub tree: Items<TreeNode>,
+    pub place: Place,
+    pub links: Items<Link>,
+    /// The node at which the search last turned left, and the one at which it last turned right.
+    pub left_turn: Option<Turn>,
+    pub right_turn: Option<Turn>,
+    /// The least number that a pruner has found announced, its own section number among them.
+    pub least: Option<u64>,
+    /// The passes at whose announcements it has looked.
+    pub looked: Items<u32>,
+}
+
+impl Reading {
+    ghost use Rattle.std.specs.Prelude.{◌≡◌};
+    ghost use Rattle.index_words.specs.Views.{no_reading};
+
+    /// Nothing read. It takes no memory.
+    pub fn none(alloc: Global) -> Reading
+        ensures { result ≡ no_reading }
+    {
+        Reading {
+            section: None,
+            opened: None,
+            tree: Items::new(alloc),
+            place: Place::Nowhere,
+            links: Items::new(alloc),
+            left_turn: None,
+            right_turn: None,
+            least: None,
+            looked: Items::new(alloc),
+        }
+    }
+}

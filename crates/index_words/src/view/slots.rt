@@ -1,0 +1,87 @@
+use crate::items::Items;
+use crate::no_memory::NoMemory;
+use std::alloc::Global;
+
+/// Node slots and entry slots.
+#[derive(Drop)]
+pub struct Slots {
+    pub nodes: Items<u32>,
+    pub entries: Items<u32>,
+}
+
+/// A section word as it was found.
+#[derive(Clone, Copy, Debug, PartialEq, Eq)]
+pub struct SectionFound {
+    /// The pass whose section word it is.
+    pub pass: u32,
+    pub word: u64,
+}
+
+/// What the looks at other passes' sections have shown since a wait began.
+#[derive(Drop)]
+pub struct Looks {
+    /// The odd word that was found first, of each pass that was found inside a section.
+    pub found: Items<SectionFound>,
+    /// The passes that have been outside a section since the wait began.
+    pub passed: Items<u32>,
+}
+
+impl Slots {
+    ghost use Rattle.std.specs.Prelude.{◌≡◌, ◌++◌, ◌==◌, ◌&&◌, OnOk, OnErr, IfOk, length};
+    ghost use Rattle.index_words.specs.Views.{no_slots};
+
+    /// No slots. It takes no memory.
+    pub fn none(alloc: Global) -> Slots
+        ensures { result ≡ no_slots }
+    {
+        Slots {
+            nodes: Items::new(alloc),
+            entries: Items::new(alloc),
+        }
+    }
+
+    /// Whether there is neither a node nor an entry.
+    pub fn is_empty(&self) -> bool
+        ensures { result ≡ (length self.now.nodes == 0 && length self.now.entries == 0) }
+    {
+        self.nodes.is_empty() && self.entries.is_empty()
+    }
+
+    /// Adds the slots of another list behind these. After a refusal they are unchanged.
+    pub fn append(&mut self, other: &Slots) -> Result<(), NoMemory>
+        ensures ok { OnOk result (self.new ≡ record { nodes = self.old.nodes ++ other.now.nodes; entries = self.old.entries ++ other.now.entries }) }
+        ensures err { OnErr result (self.new ≡ self.old) }
+    {
+        let count = self.nodes.len();
+        self.nodes.append(other.nodes.as_slice())?;
+        if self.entries.append(other.entries.as_slice()).is_err() {
+            self.nodes.truncate(count);
+            return Err(NoMemory);
+        }
+        Ok(())
+    }
+
+    /// A copy of the slots.
+    pub fn copy(&self, alloc: Global) -> Result<Slots, NoMemory>
+        ensures { IfOk result (λ c. c ≡ self.now) }
+    {
+        let nodes = self.nodes.copy(alloc)?;
+        let entries = self.entries.copy(alloc)?;
+        Ok(Slots { nodes, entries })
+    }
+}
+
+impl Looks {
+    ghost use Rattle.std.specs.Prelude.{◌≡◌};
+    ghost use Rattle.index_words.specs.Views.{no_looks};
+
+    /// No looks. It takes no memory.
+    pub fn none(alloc: Global) -> Looks
+        ensures { result ≡ no_looks }
+    {
+        Looks {
+            found: Items::new(alloc),
+            passed: Items::new(alloc),
+        }
+    }
+}
