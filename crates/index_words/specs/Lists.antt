@@ -1,15 +1,15 @@
 -- Lists of slots and of pass numbers.
-use Rattle.std.specs.Prelude.{◌≡◌, ℕ, ◌+◌, ◌<◌, cond, List, [], ◌∷◌, Bool, false, ◌==◌, ◌||◌, length, slice_index_or}
+use Rattle.std.specs.Prelude.{◌≡◌, ℕ, ◌+◌, ◌<◌, cond, List, [], ◌∷◌, Bool, ◌==◌, length, slice_index_or}
+use Rattle.std.specs.List.{list_any}
 
 -- how often a number stands in a list
 abbrev pub count : ℕ → List ℕ → ℕ
 count x [] = 0
-count x (y ∷ ys) = cond (x == y) 1 0 + count x ys
+count x (y ∷ ys) = cond (y == x) 1 0 + count x ys
 
 -- whether a number stands in a list
 abbrev pub has : ℕ → List ℕ → Bool
-has x [] = false
-has x (y ∷ ys) = x == y || has x ys
+has x xs = list_any (λ y. y == x) xs
 
 -- each item has P
 abbrev pub Every : {X : Type 0} → (X → Type 0) → List X → Type 0

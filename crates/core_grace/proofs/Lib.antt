@@ -1,0 +1,2 @@
+pub mod SlotMoves
+pub mod RuleMoves

@@ -1,0 +1,4 @@
+pub mod Sections
+pub mod Batches
+pub mod Holds
+pub mod Slots

@@ -1,0 +1,10 @@
+// Read-side sections and grace periods, and the rule on slots: when a retired slot may be used again.
+// It stands on `index_words`. The layers above use `passed`, the moves of a view's batch, and the rule of
+// `specs/Slots.antt`, which the moves keep.
+#![tactic(auto)]
+
+mod batch;
+mod section;
+
+pub use batch::{current_looks, look_at, settle};
+pub use section::{left_word, passed};
