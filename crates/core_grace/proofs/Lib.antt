@@ -1,2 +1,3 @@
 pub mod SlotMoves
 pub mod RuleMoves
+pub mod TwoSeats

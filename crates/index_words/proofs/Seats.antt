@@ -2,7 +2,7 @@
 use Rattle.std.proofs.Common.{◌≡◌, ◌≢◌, ℕ, ◌+◌, ◌<◌, ◌≤◌, ◌⊎◌, cond, List, [], ◌∷◌, ◌++◌, length, take, get_or, set, arith, refl, ap, ◌∙◌, sym, subst, get_or-set_same, get_or-set_other, length-set, inl, inr}
 use Rattle.std.specs.List.{All, sum_by}
 use Rattle.std.proofs.lemmas.List.{get_or-take, length-take, get_or_default}
-use Rattle.std.proofs.lemmas.List.Sums.{sum_by-set, sum_by_more_le, get_or-le-sum_by}
+use Rattle.std.proofs.lemmas.List.Sums.{sum_by_push, sum_by-set, sum_by_more_le, get_or-le-sum_by}
 use Rattle.std.proofs.lemmas.Bool.{cases_lt}
 use Rattle.std.proofs.lemmas.Bool.Decides.{eqb_tells}
 use Rattle.index_words.specs.Lists.{IsItem}
@@ -76,3 +76,19 @@ pairs_moved R S xs i x y at all here row column rest =
     all_moved (λ v. All (R v) xs) (λ v. All (S v) (set xs i y)) xs i x y at all
     (all_moved (R x) (S y) xs i x y at (at_item (λ v. All (R v) xs) xs i x at all) here (λ w beside. row w beside))
     (λ v beside of. all_moved (R v) (S v) xs i x y at of (column v beside (at_item (R v) xs i x at of)) (λ w other. rest v w beside other))
+
+-- where one item is split in two, whose terms are together its term
+pub sum_split : {X : Type 0} (f : X → ℕ) (xs : List X) (i : ℕ) (x y z : X) → IsItem xs i x → f y + f z ≡ f x → sum_by f (set xs i y ++ z ∷ []) ≡ sum_by f xs
+sum_split f xs i x y z at same = omega (arith, sum_moved f xs i x y at, sum_by_push f (set xs i y) z)
+
+pub beside_item : {X : Type 0} (xs : List X) (i j : ℕ) (u y : X) → IsItem xs j u → (j ≡ i → ⊥) → IsItem (set xs i y) j u
+beside_item xs i j u y at other = record {
+  within = omega (arith, length-set xs i y, at.within);
+  is = λ d. get_or-set_other xs i j y d other ∙ at.is d;
+}
+
+-- where two items become two others, with the same terms together
+pub sum_joined : {X : Type 0} (f : X → ℕ) (xs : List X) (i j : ℕ) (x u y z : X) → IsItem xs i x → IsItem xs j u → (j ≡ i → ⊥) → f y + f z ≡ f x + f u
+    → sum_by f (set (set xs i y) j z) ≡ sum_by f xs
+sum_joined f xs i j x u y z at of other same =
+    omega (arith, sum_moved f xs i x y at, sum_moved f (set xs i y) j u z (beside_item xs i j u y of other))

@@ -1,5 +1,5 @@
 -- A store at the number of a word is that word anew; the number of a word is its own.
-use Rattle.std.proofs.Common.{◌≡◌, ℕ, ◌+◌, ◌*◌, ◌-◌, ◌<◌, ◌≤◌, List, length, Bool, true, false, eqb, set, arith, refl, sym, ap, ◌∙◌, get_or-set_same, get_or-set_other, Option, Some, None, eqb-true, ◌&&◌}
+use Rattle.std.proofs.Common.{Bool, List, None, Option, Some, ap, arith, cond, eqb, eqb-true, false, get_or-set_other, get_or-set_same, leb, length, ltb, refl, set, subst, sym, true, ℕ, ◌%◌, ◌&&◌, ◌*◌, ◌+◌, ◌-◌, ◌/◌, ◌<◌, ◌∙◌, ◌≡◌, ◌≤◌}
 use Rattle.std.proofs.lemmas.Bool.{false≢true}
 use Rattle.std.proofs.lemmas.Bool.Decides.{nat_tests}
 use mathlib.Core.Path.{fun_ext}
@@ -12,7 +12,7 @@ use Rattle.index_words.specs.declared.word.Part.{Part}
 use Rattle.index_words.specs.declared.word.Part.TheVariants.{Child, Stamp as Number, Next}
 use Rattle.index_words.specs.declared.word.Word.{Word}
 use Rattle.index_words.specs.declared.word.Word.TheVariants.{Stamp, Section, Announced, Node, Entry}
-use Rattle.index_words.specs.Words.{address, word_count, is_there, memory, written, StoreLaw, same_word, same_field, same_part, same_side, field_number, part_number, field_at, part_at}
+use Rattle.index_words.specs.Words.{address, word_count, is_there, memory, written, StoreLaw, same_word, same_field, same_part, same_side, field_number, part_number, field_at, part_at, word_at, nodes_begin, entries_begin}
 
 -- the numbers of fields are below ten, and tell them apart
 pub field_number-lt : (f : Field) → field_number f < 10
@@ -222,3 +222,54 @@ store z words w x long here = fun_ext (λ v. where_stored z words w v x (same_wo
 pub IsWordAt : Layout → ℕ → Option Word → Type 0
 IsWordAt z n None = word_count z ≤ n
 IsWordAt z n (Some w) = (is_there z w ≡ true) × (address z w ≡ n)
+
+field_number-at : (r : ℕ) → r < 10 → field_number (field_at r) ≡ r
+field_number-at r low = grind (arith, nat_tests)
+
+part_number-at : (r : ℕ) → r < 3 → part_number (part_at r) ≡ r
+part_number-at r low = grind (arith, nat_tests)
+
+says : (z : Layout) (n : ℕ) (b0 b1 b2 b3 b4 : Bool) → eqb n 0 ≡ b0 → leb n z.passes ≡ b1 → ltb n (nodes_begin z) ≡ b2 → ltb n (entries_begin z) ≡ b3 → ltb n (word_count z) ≡ b4
+    → IsWordAt z n
+    (cond b0 (Some Stamp) (cond b1 (Some (Section (n - 1))) (cond b2 (Some (Announced (n - 1 - z.passes)))
+      (cond b3 (Some (Node (field_at ((n - nodes_begin z) % 10)) ((n - nodes_begin z) / 10)))
+        (cond b4 (Some (Entry (part_at ((n - entries_begin z) % 3)) ((n - entries_begin z) / 3 + 1))) None)))))
+unfolding IsWordAt
+says z n true b1 b2 b3 b4 e0 e1 e2 e3 e4 = (refl, sym (eqb-true n 0 e0))
+says z n false true b2 b3 b4 e0 e1 e2 e3 e4 =
+    let some : 0 < n = grind (arith, nat_tests) in
+    let low : n ≤ z.passes = grind (arith, nat_tests) in
+    (grind (arith, nat_tests), omega arith)
+says z n false false true b3 b4 e0 e1 e2 e3 e4 =
+    let high : z.passes < n = grind (arith, nat_tests) in
+    let low : n < nodes_begin z = grind (arith, nat_tests) in
+    let inside : n - 1 - z.passes < z.passes = omega arith in
+    (grind (arith, nat_tests), omega arith)
+says z n false false false true b4 e0 e1 e2 e3 e4 =
+    let high : nodes_begin z ≤ n = grind (arith, nat_tests) in
+    let low : n < entries_begin z = grind (arith, nat_tests) in
+    let inside : (n - nodes_begin z) / 10 ≤ z.nodes = omega arith in
+    let rest : (n - nodes_begin z) % 10 < 10 = omega arith in
+    (grind (arith, nat_tests), omega (arith, field_number-at ((n - nodes_begin z) % 10) rest))
+says z n false false false false true e0 e1 e2 e3 e4 =
+    let high : entries_begin z ≤ n = grind (arith, nat_tests) in
+    let low : n < word_count z = grind (arith, nat_tests) in
+    let inside : (n - entries_begin z) / 3 + 1 ≤ z.entries = omega arith in
+    let rest : (n - entries_begin z) % 3 < 3 = omega arith in
+    (grind (arith, nat_tests), omega (arith, part_number-at ((n - entries_begin z) % 3) rest))
+says z n false false false false false e0 e1 e2 e3 e4 = grind (arith, nat_tests)
+
+pub word_at-says : (z : Layout) (n : ℕ) → IsWordAt z n (word_at z n)
+word_at-says z n = says z n (eqb n 0) (leb n z.passes) (ltb n (nodes_begin z)) (ltb n (entries_begin z)) (ltb n (word_count z)) refl refl refl refl refl
+
+-- a word that was found by its number
+pub word_there : (z : Layout) (n : ℕ) (w : Word) → word_at z n ≡ Some w → (is_there z w ≡ true) × (address z w ≡ n)
+unfolding IsWordAt
+word_there z n w found = subst (IsWordAt z n) found (word_at-says z n)
+
+-- a store at the number of a word
+pub stored_at : (z : Layout) (words : List ℕ) (n : ℕ) (w : Word) (x : ℕ) → length words ≡ word_count z → word_at z n ≡ Some w
+    → memory z (set words n x) ≡ written (memory z words) w x
+stored_at z words n w x long found =
+    let there = word_there z n w found in
+    subst (λ k. memory z (set words k x) ≡ written (memory z words) w x) there.1 (store z words w x long there.0)

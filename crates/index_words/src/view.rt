@@ -22,8 +22,8 @@ pub struct View {
     pub number: Option<u32>,
     /// Whether the seat was joined into another one. Nothing is said of such a view.
     pub joined: bool,
-    /// How many of the last numbers it has still to give. Only the table's first view has any.
-    pub to_give: u32,
+    /// The numbers that it has still to give, while the table is opened.
+    pub to_give: Items<u32>,
     /// What its own section word holds, and 0 without a number.
     pub section_word: u64,
     /// What its own announcement holds, and 0 without a number.
@@ -60,7 +60,7 @@ impl View {
             layout,
             number: None,
             joined: false,
-            to_give: 0,
+            to_give: Items::new(alloc),
             section_word: 0,
             announced: 0,
             history: SeenHistory::none(alloc),

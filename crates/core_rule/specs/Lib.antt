@@ -1,0 +1,9 @@
+pub mod Tables
+pub mod Needs
+pub mod Moves
+pub mod Steps
+pub mod Numbers
+pub mod SectionRule
+pub mod Rule
+pub mod Openings
+pub mod Runs

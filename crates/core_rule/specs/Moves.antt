@@ -1,0 +1,65 @@
+-- The view of a seat after each kind of event.
+use Rattle.std.specs.Prelude.{ℕ, List, [], ◌∷◌, ◌++◌, take, drop, length, nat_lt, cond, Option, Some, None, map}
+use Rattle.index_words.specs.declared.view.View.{View}
+use Rattle.index_words.specs.declared.view.slots.Slots.{Slots}
+use Rattle.index_words.specs.declared.view.history.SeenHistory.{SeenHistory}
+use Rattle.index_words.specs.declared.view.history.EndedPlace.{EndedPlace}
+use Rattle.index_words.specs.declared.view.reading.Reading.{Reading}
+use Rattle.index_words.specs.declared.view.reading.Place.TheVariants.{Nowhere}
+use Rattle.index_words.specs.declared.update.Update.{Update}
+use Rattle.index_words.specs.Views.{empty_view, no_reading}
+use Rattle.core_grace.specs.Batches.{batch_taken, settled, both}
+
+-- it stands nowhere and remembers no link
+abbrev pub nowhere : Reading → Reading
+nowhere r = record r { place = Nowhere; links = []; left_turn = None; right_turn = None }
+
+abbrev pub in_section : View → ℕ → View
+in_section v word = record v { section_word = word; reading = nowhere v.reading }
+
+-- enter: where no batch waits the retired slots become the batch
+abbrev pub entered : ℕ → View → ℕ → View
+entered passes v word = settled passes (batch_taken (in_section v word))
+
+-- leave: what was read is gone, and the snapshot is ended
+abbrev pub left : View → ℕ → View
+left v word = record v { section_word = word; reading = no_reading }
+
+-- split: so many of the first free nodes move to the new view, which has no number and copies what is seen
+abbrev pub split_left : View → ℕ → View
+split_left v nodes = record v { free = record { nodes = drop nodes v.free.nodes; entries = v.free.entries } }
+
+abbrev pub split_right : View → ℕ → View
+split_right v nodes = record (empty_view v.layout) {
+  history = record (empty_view v.layout).history { seen = v.history.seen };
+  free = record { nodes = take nodes v.free.nodes; entries = [] };
+}
+
+-- the longer of two histories
+abbrev pub longer : List Update → List Update → List Update
+longer seen other = cond (nat_lt (length seen) (length other)) other seen
+
+abbrev pub own_number : Option ℕ → List ℕ
+own_number None = []
+own_number (Some n) = n ∷ []
+
+abbrev pub own_ended : Option ℕ → List ℕ → List EndedPlace
+own_ended None mine = []
+own_ended (Some n) mine = map (λ at. record { pass = n; at = at }) mine
+
+-- join: what the other view knew and owned
+abbrev pub joined_history : View → View → SeenHistory
+joined_history v other = record v.history {
+  seen = longer v.history.seen other.history.seen;
+  told = other.history.seen;
+  ended = v.history.ended ++ (other.history.ended ++ own_number other.number);
+  ended_places = v.history.ended_places ++ (other.history.ended_places ++ own_ended other.number other.history.mine);
+}
+
+abbrev pub joined_with : View → View → View
+joined_with v other = record v {
+  to_give = v.to_give ++ other.to_give;
+  history = joined_history v other;
+  free = both v.free other.free;
+  retired = both v.retired (both other.retired other.batch);
+}

@@ -1,0 +1,14 @@
+-- The rule on pass numbers: each is the number of one view, or was given up to one view, or is still to be
+-- given by one view.
+use Rattle.std.specs.Prelude.{◌≡◌, ℕ, ◌+◌, List, cond, nat_lt, sum_by}
+use Rattle.index_words.specs.declared.layout.Layout.{Layout}
+use Rattle.index_words.specs.declared.view.View.{View}
+use Rattle.index_words.specs.Lists.{count}
+use Rattle.core_rule.specs.Moves.{own_number}
+
+-- how often a view has a pass number, in one of these ways
+abbrev pub number_count : ℕ → View → ℕ
+number_count n v = count n (own_number v.number) + (count n v.history.ended + count n v.to_give)
+
+abbrev pub NumbersRight : Layout → List View → Type 0
+NumbersRight z vs = (n : ℕ) → sum_by (number_count n) vs ≡ cond (nat_lt n z.passes) 1 0

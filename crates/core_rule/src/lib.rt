@@ -1,0 +1,8 @@
+// The pure machine: a table as plain data, the events that change it, and the rule that every event keeps.
+// It stands on `index_words` and `core_grace`. The running table keeps this very rule: the layers above
+// cite the definitions of `specs/` and the laws of `proofs/`.
+#![tactic(auto)]
+
+mod event;
+
+pub use event::{Event, Kind};
