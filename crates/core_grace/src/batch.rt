@@ -30,7 +30,8 @@ fn may_pass(first: Option<u64>, word: u64) -> bool
     }
 }
 
-fn is_own(number: Option<u32>, pass: u32) -> bool
+/// Whether this is the view's number.
+pub fn is_own(number: Option<u32>, pass: u32) -> bool
     ensures { result ≡ is_number pass number }
 {
     number == Some(pass)

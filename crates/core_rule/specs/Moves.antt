@@ -48,18 +48,18 @@ own_ended None mine = []
 own_ended (Some n) mine = map (λ at. record { pass = n; at = at }) mine
 
 -- join: what the other view knew and owned
-abbrev pub joined_history : View → View → SeenHistory
-joined_history v other = record v.history {
-  seen = longer v.history.seen other.history.seen;
-  told = other.history.seen;
-  ended = v.history.ended ++ (other.history.ended ++ own_number other.number);
-  ended_places = v.history.ended_places ++ (other.history.ended_places ++ own_ended other.number other.history.mine);
+abbrev pub history_with : SeenHistory → Option ℕ → SeenHistory → SeenHistory
+history_with own number other = record own {
+  seen = longer own.seen other.seen;
+  told = other.seen;
+  ended = own.ended ++ (other.ended ++ own_number number);
+  ended_places = own.ended_places ++ (other.ended_places ++ own_ended number other.mine);
 }
 
 abbrev pub joined_with : View → View → View
 joined_with v other = record v {
   to_give = v.to_give ++ other.to_give;
-  history = joined_history v other;
+  history = history_with v.history other.number other.history;
   free = both v.free other.free;
   retired = both v.retired (both other.retired other.batch);
 }

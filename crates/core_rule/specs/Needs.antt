@@ -16,9 +16,12 @@ use Rattle.core_grace.specs.Batches.{is_empty, is_number}
 abbrev pub is_outside : View → Bool
 is_outside v = is_even v.section_word && length v.held.nodes == 0
 
+abbrev pub is_marked_node : Memory → ℕ → Bool
+is_marked_node m k = m (Node Mark k) == 1
+
 -- no entry of the view is without a written number, and no node that its update took out is unmarked
 abbrev pub nothing_pending : Memory → View → Bool
-nothing_pending m v = length v.update.pending == 0 && list_all (λ k. m (Node Mark k) == 1) v.update.taken
+nothing_pending m v = length v.update.pending == 0 && list_all (is_marked_node m) v.update.taken
 
 abbrev pub is_own_section : Option ℕ → Word → Bool
 is_own_section (Some n) (Section pass) = pass == n

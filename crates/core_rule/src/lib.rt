@@ -4,5 +4,7 @@
 #![tactic(auto)]
 
 mod event;
+mod moves;
+mod needs;
 
 pub use event::{Event, Kind};

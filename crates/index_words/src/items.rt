@@ -1,4 +1,4 @@
-ghost use Rattle.std.specs.Prelude.{◌≡◌, ◌+◌, ◌≤◌, ◌++◌, ◌∷◌, [], length, take, drop, IfOk, OnOk, OnErr, ◌==◌};
+ghost use Rattle.std.specs.Prelude.{◌≡◌, ◌<◌, ◌+◌, ◌≤◌, ◌++◌, ◌∷◌, [], length, take, drop, IfOk, OnOk, OnErr, ◌==◌};
 
 use crate::no_memory::NoMemory;
 use std::alloc::{AllocFailed, Global};
@@ -69,6 +69,16 @@ impl<T> Items<T> {
     }
 }
 
+impl<T> Items<T> {
+    /// Takes the first item out.
+    pub fn remove_first(&mut self) -> T
+        requires { 0 < length self.old }
+        ensures { self.old ≡ result ∷ self.new }
+    {
+        self.items.remove(0)
+    }
+}
+
 impl<T: Drop> Items<T> {
     /// Adds an item at the end. After a refusal the list is unchanged.
     pub fn push(&mut self, item: T) -> Result<(), NoMemory>
@@ -77,6 +87,13 @@ impl<T: Drop> Items<T> {
     {
         self.items.push(item)?;
         Ok(())
+    }
+
+    /// Drops all items, and keeps their memory.
+    pub fn clear(&mut self)
+        ensures { self.new ≡ [] }
+    {
+        self.items.clear();
     }
 
     /// Keeps the first `count` items.
@@ -95,6 +112,16 @@ impl<T: Copy> Items<T> {
     {
         self.items.extend_from_slice(other)?;
         Ok(())
+    }
+
+    /// The items of one list and then those of another.
+    pub fn concat(alloc: Global, first: &[T], second: &[T]) -> Result<Items<T>, NoMemory>
+        ensures { IfOk result (λ both. both ≡ first.now ++ second.now) }
+    {
+        let mut both = Items::new(alloc);
+        both.append(first)?;
+        both.append(second)?;
+        Ok(both)
     }
 
     /// A copy of the list.

@@ -127,6 +127,18 @@ impl Layout {
         self.entries_begin() + 3 * u64::from(self.entries)
     }
 
+    /// Whether the table has this word.
+    pub fn is_there(&self, word: Word) -> bool
+        ensures { result ≡ is_there self.now word }
+    {
+        match word {
+            Word::Stamp => true,
+            Word::Section(pass) | Word::Announced(pass) => pass < self.passes,
+            Word::Node(_, node) => node <= self.nodes,
+            Word::Entry(_, entry) => 0 < entry && entry <= self.entries,
+        }
+    }
+
     /// The number of a word.
     pub fn address(&self, word: Word) -> u64
         ensures number { result ≡ address self.now word }

@@ -61,6 +61,15 @@ impl Slots {
         Ok(())
     }
 
+    /// The slots of one list and then those of another.
+    pub fn concat(alloc: Global, first: &Slots, second: &Slots) -> Result<Slots, NoMemory>
+        ensures { IfOk result (λ c. c ≡ record { nodes = first.now.nodes ++ second.now.nodes; entries = first.now.entries ++ second.now.entries }) }
+    {
+        let nodes = Items::concat(alloc, first.nodes.as_slice(), second.nodes.as_slice())?;
+        let entries = Items::concat(alloc, first.entries.as_slice(), second.entries.as_slice())?;
+        Ok(Slots { nodes, entries })
+    }
+
     /// A copy of the slots.
     pub fn copy(&self, alloc: Global) -> Result<Slots, NoMemory>
         ensures { IfOk result (λ c. c ≡ self.now) }
