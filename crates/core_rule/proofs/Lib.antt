@@ -4,3 +4,6 @@ pub mod Stores
 pub mod TwoViews
 pub mod EachKind
 pub mod StepLaw
+pub mod SplitViews
+pub mod Allowed
+pub mod Changes

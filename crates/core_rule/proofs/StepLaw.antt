@@ -28,7 +28,7 @@ not_true : (b : Bool) → not b ≡ true → b ≡ false
 not_true true e = cc
 not_true false e = refl
 
-not_equal : (a b : ℕ) → not (eqb a b) ≡ true → a ≡ b → ⊥
+pub not_equal : (a b : ℕ) → not (eqb a b) ≡ true → a ≡ b → ⊥
 not_equal a b e same = cc (eq-eqb a b same, not_true (eqb a b) e)
 
 -- the rule over the words after a store

@@ -1,7 +1,9 @@
 pub mod Tables
 pub mod Needs
 pub mod Moves
+pub mod Gains
 pub mod Steps
+pub mod Seats
 pub mod Numbers
 pub mod SectionRule
 pub mod Rule

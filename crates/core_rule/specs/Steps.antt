@@ -5,7 +5,7 @@ use Rattle.index_words.specs.declared.layout.Layout.{Layout}
 use Rattle.index_words.specs.declared.view.View.{View}
 use Rattle.index_words.specs.declared.word.Word.{Word}
 use Rattle.index_words.specs.declared.word.Word.TheVariants.{Section}
-use Rattle.index_words.specs.Words.{Memory, word_at}
+use Rattle.index_words.specs.Words.{Memory, memory, word_at}
 use Rattle.index_words.specs.Views.{spent_view}
 use Rattle.core_grace.specs.Batches.{looked}
 use Rattle.core_rule.specs.declared.event.Event.{Event}
@@ -71,6 +71,10 @@ after_at t e _ _ = t
 -- the table after an event
 abbrev pub after : Table → Event → Table
 after t e = after_at t e (slice_get t.views e.seat) (word_at t.layout e.word)
+
+-- the views after an allowed event whose word has this name
+abbrev pub IsChange : Layout → List ℕ → List View → Event → Word → List View → Type 0
+IsChange z words views e w changed = (v : View) → slice_get views e.seat ≡ Some v → changed ≡ views_after e.kind z (memory z words) views e.seat v w e.value
 
 -- an event that is allowed keeps the rule, from every table that meets it
 abbrev pub KeepsLaw : Type 0

@@ -6,5 +6,7 @@
 mod event;
 mod moves;
 mod needs;
+mod seats;
+mod step;
 
 pub use event::{Event, Kind};

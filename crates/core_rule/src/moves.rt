@@ -1,7 +1,8 @@
 // The view of a seat after each kind of event.
-ghost use Rattle.std.specs.Prelude.{◌≡◌, ◌≤◌, ◌++◌, OnOk, OnErr, IfOk, length, slice_index, Some};
-ghost use Rattle.core_grace.specs.Batches.{looked};
-ghost use Rattle.core_rule.specs.Moves.{entered, in_section, nowhere, left, split_left, split_right, longer, own_number, own_ended, history_with, joined_with};
+ghost use Rattle.std.specs.Prelude.{◌≡◌, ◌≤◌, ◌++◌, OnOk, OnErr, IfOk, length, take, Some};
+ghost use Rattle.core_grace.specs.Batches.{looked, both};
+ghost use Rattle.core_rule.specs.Gains.{gained, with_gain};
+ghost use Rattle.core_rule.specs.Moves.{entered, in_section, nowhere, left, split_left, split_right, longer, own_number, own_ended};
 
 use core_grace::{current_looks, look_at, settle};
 use index_words::{EndedPlace, Items, NoMemory, Place, Reading, SeenHistory, Slots, Update, View};
@@ -42,31 +43,38 @@ pub(crate) fn look(alloc: Global, view: &mut View, passes: u32, pass: u32, word:
     settle(alloc, view, looks, passes)
 }
 
-/// Splits off a view that has no number and has seen what this one has. So many of the first free nodes,
-/// none or one, move to it. After a refusal the view is unchanged.
-pub(crate) fn split(alloc: Global, view: &mut View, nodes: u64) -> Result<View, NoMemory>
-    requires few { nodes ≤ 1 }
-    requires there { nodes ≤ length view.old.free.nodes }
-    ensures left { OnOk result (view.new ≡ split_left view.old nodes) }
-    ensures right { IfOk result (λ part. part ≡ split_right view.old nodes) }
-    ensures err { OnErr result (view.new ≡ view.old) }
+fn first_nodes(alloc: Global, nodes: &[u32], count: u64) -> Result<Items<u32>, NoMemory>
+    requires { count ≤ length nodes.now }
+    ensures { IfOk result (λ first. first ≡ take count nodes.now) }
 {
+    let mut first = Items::new(alloc);
+    first.append(&nodes[..count as usize])?;
+    Ok(first)
+}
+
+/// The view that is split off: it has no number and has seen what this one has. So many of the first free
+/// nodes are to move to it.
+pub(crate) fn split_off(alloc: Global, view: &View, nodes: u64) -> Result<View, NoMemory>
+    requires { nodes ≤ length view.now.free.nodes }
+    ensures { IfOk result (λ part. part ≡ split_right view.now nodes) }
+{
+    let seen = view.history.seen.copy(alloc)?;
+    let free = first_nodes(alloc, view.free.nodes.as_slice(), nodes)?;
     let mut part = View::empty(alloc, view.layout);
-    part.history.seen = view.history.seen.copy(alloc)?;
-    if nodes == 1 {
-        part.free.nodes.reserve(1)?;
-        let node = first_of(view.free.nodes.as_slice());
-        part.free.nodes.push(node)?;
-        view.free.nodes.remove_first();
-    }
+    part.history.seen = seen;
+    part.free.nodes = free;
     Ok(part)
 }
 
-fn first_of(nodes: &[u32]) -> u32
-    requires { 1 ≤ length nodes.now }
-    ensures { slice_index nodes.now 0 ≡ result }
+/// The view without the free nodes that were split off.
+pub(crate) fn keep_rest(view: &mut View, nodes: u64)
+    requires few { nodes ≤ 1 }
+    requires there { nodes ≤ length view.old.free.nodes }
+    ensures { view.new ≡ split_left view.old nodes }
 {
-    nodes[0]
+    if nodes == 1 {
+        view.free.nodes.remove_first();
+    }
 }
 
 fn longer_of(alloc: Global, seen: &Items<Update>, other: &Items<Update>) -> Result<Items<Update>, NoMemory>
@@ -112,37 +120,82 @@ fn ended_of(alloc: Global, number: Option<u32>, mine: &[u64]) -> Result<Items<En
     }
 }
 
-fn add_history(alloc: Global, history: &mut SeenHistory, number: Option<u32>, other: &SeenHistory) -> Result<(), NoMemory>
-    ensures ok { OnOk result (history.new ≡ history_with history.old number other.now) }
-    ensures err { OnErr result (history.new ≡ history.old) }
+/// What changes in a view that another one is joined into.
+#[derive(Drop)]
+pub(crate) struct Gained {
+    seen: Items<Update>,
+    told: Items<Update>,
+    ended: Items<u32>,
+    ended_places: Items<EndedPlace>,
+    to_give: Items<u32>,
+    free: Slots,
+    retired: Slots,
+}
+
+fn all_ended(alloc: Global, own: &Items<u32>, number: Option<u32>, other: &Items<u32>) -> Result<Items<u32>, NoMemory>
+    ensures { IfOk result (λ ended. ended ≡ own.now ++ (other.now ++ own_number number)) }
 {
-    let seen = longer_of(alloc, &history.seen, &other.seen)?;
-    let told = other.seen.copy(alloc)?;
-    let own = number_list(alloc, number)?;
-    let more = Items::concat(alloc, other.ended.as_slice(), own.as_slice())?;
-    let ended = Items::concat(alloc, history.ended.as_slice(), more.as_slice())?;
-    let own_places = ended_of(alloc, number, other.mine.as_slice())?;
-    let more_places = Items::concat(alloc, other.ended_places.as_slice(), own_places.as_slice())?;
-    let ended_places = Items::concat(alloc, history.ended_places.as_slice(), more_places.as_slice())?;
+    let last = number_list(alloc, number)?;
+    let more = Items::concat(alloc, other.as_slice(), last.as_slice())?;
+    Items::concat(alloc, own.as_slice(), more.as_slice())
+}
+
+fn all_places(alloc: Global, own: &Items<EndedPlace>, number: Option<u32>, other: &SeenHistory) -> Result<Items<EndedPlace>, NoMemory>
+    ensures { IfOk result (λ places. places ≡ own.now ++ (other.now.ended_places ++ own_ended number other.now.mine)) }
+{
+    let last = ended_of(alloc, number, other.mine.as_slice())?;
+    let more = Items::concat(alloc, other.ended_places.as_slice(), last.as_slice())?;
+    Items::concat(alloc, own.as_slice(), more.as_slice())
+}
+
+fn all_retired(alloc: Global, own: &Slots, other: &View) -> Result<Slots, NoMemory>
+    ensures { IfOk result (λ slots. slots ≡ both own.now (both other.now.retired other.now.batch)) }
+{
+    let more = Slots::concat(alloc, &other.retired, &other.batch)?;
+    Slots::concat(alloc, own, &more)
+}
+
+/// What a view gains from another one.
+pub(crate) fn gain(alloc: Global, view: &View, other: &View) -> Result<Gained, NoMemory>
+    ensures { IfOk result (λ gains. gains ≡ gained view.now other.now) }
+{
+    let seen = longer_of(alloc, &view.history.seen, &other.history.seen)?;
+    let told = other.history.seen.copy(alloc)?;
+    let ended = all_ended(alloc, &view.history.ended, other.number, &other.history.ended)?;
+    let ended_places = all_places(alloc, &view.history.ended_places, other.number, &other.history)?;
+    let to_give = Items::concat(alloc, view.to_give.as_slice(), other.to_give.as_slice())?;
+    let free = Slots::concat(alloc, &view.free, &other.free)?;
+    let retired = all_retired(alloc, &view.retired, other)?;
+    Ok(Gained {
+        seen,
+        told,
+        ended,
+        ended_places,
+        to_give,
+        free,
+        retired,
+    })
+}
+
+/// The view with what it has gained.
+pub(crate) fn take_gain(view: &mut View, gains: Gained)
+    ensures { view.new ≡ with_gain view.old gains }
+{
+    let Gained {
+        seen,
+        told,
+        ended,
+        ended_places,
+        to_give,
+        free,
+        retired,
+    } = gains;
+    let history = &mut view.history;
     history.seen = seen;
     history.told = told;
     history.ended = ended;
     history.ended_places = ended_places;
-    Ok(())
-}
-
-/// The view with what another one knew and owned. After a refusal it is unchanged.
-pub(crate) fn join(alloc: Global, view: &mut View, other: &View) -> Result<(), NoMemory>
-    ensures ok { OnOk result (view.new ≡ joined_with view.old other.now) }
-    ensures err { OnErr result (view.new ≡ view.old) }
-{
-    let to_give = Items::concat(alloc, view.to_give.as_slice(), other.to_give.as_slice())?;
-    let free = Slots::concat(alloc, &view.free, &other.free)?;
-    let more = Slots::concat(alloc, &other.retired, &other.batch)?;
-    let retired = Slots::concat(alloc, &view.retired, &more)?;
-    add_history(alloc, &mut view.history, other.number, &other.history)?;
     view.to_give = to_give;
     view.free = free;
     view.retired = retired;
-    Ok(())
 }

@@ -1,0 +1,8 @@
+-- What a step needs to know of the seat that makes it.
+use Rattle.std.specs.Prelude.{◌≡◌, ℕ, ◌<◌, ◌≤◌, List, length, Some, slice_index_or}
+use Rattle.index_words.specs.declared.view.View.{View}
+
+-- the seat has at least so many free nodes
+pub record HasFree (vs : List View) (i n : ℕ) : Type 0 where
+  pub within : i < length vs
+  pub free : (d : View) → n ≤ length (slice_index_or vs i d).free.nodes
