@@ -7,3 +7,4 @@ pub mod StepLaw
 pub mod SplitViews
 pub mod Allowed
 pub mod Changes
+pub mod Stepped

@@ -7,6 +7,8 @@ mod event;
 mod moves;
 mod needs;
 mod seats;
+mod state;
 mod step;
 
 pub use event::{Event, Kind};
+pub use state::{State, StepError};

@@ -1,5 +1,5 @@
 // One step of a table: whether its event is allowed, and the change that it makes.
-ghost use Rattle.std.specs.Prelude.{◌≡◌, ◌≢◌, ◌<◌, OnOk, OnErr, Some, true, length};
+ghost use Rattle.std.specs.Prelude.{◌≡◌, ◌≢◌, ◌<◌, OnOk, OnErr, Some, true, vec_len};
 ghost use Rattle.std.specs.List.{slice_get};
 ghost use Rattle.index_words.specs.Words.{word_at, word_count, memory};
 ghost use Rattle.core_rule.specs.Tables.{Table};
@@ -25,9 +25,10 @@ pub(crate) fn is_allowed(layout: &Layout, words: &[u64], views: &[View], word: W
     }
 }
 
-fn store(words: &mut [u64], event: &Event)
-    requires { event.now.word < length words.old }
-    ensures { words.new ≡ words_after event.now.kind words.old event.now.word event.now.value }
+/// Puts the value of an event of a kind that stores.
+pub(crate) fn store(words: &mut Vec<u64>, event: &Event)
+    requires { event.now.word < vec_len words.old }
+    ensures { words.new.items ≡ words_after event.now.kind words.old.items event.now.word event.now.value }
 {
     match event.kind {
         Kind::Enter | Kind::Leave | Kind::Fill => words[event.word as usize] = event.value,

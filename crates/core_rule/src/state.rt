@@ -1,0 +1,79 @@
+ghost use Rattle.std.specs.Prelude.{◌≡◌, ◌↔◌, ◌≤◌, OnOk, OnErr, IsNone, IfSome, true, false, slice_index};
+ghost use Rattle.std.specs.List.{slice_get};
+ghost use Rattle.std.specs.Option.{option_copied};
+ghost use Rattle.index_words.specs.Words.{word_count};
+ghost use Rattle.core_rule.specs.Steps.{allowed, after};
+ghost use Rattle.core_rule.specs.Rule.{IsRight};
+
+use index_words::{Layout, View};
+use std::alloc::Global;
+use std::marker::Model;
+
+use crate::event::Event;
+use crate::step::{change, is_allowed, store};
+
+/// A table as plain data, which meets the rule at every moment.
+#[derive(Drop)]
+pub struct State {
+    layout: Layout,
+    words: Vec<u64>,
+    views: Vec<View>,
+}
+
+impl Model for State {
+    ghost use Rattle.core_rule.specs.Tables.{Table};
+
+    ghost Value = { Table };
+
+    ghost use Rattle.core_rule.specs.Rule.{InRule};
+
+    ghost view = { λ s. record { layout = s.layout; words = s.words.items; views = s.views.items } };
+
+    ghost invariant = { λ s. InRule s.layout s.words.items s.views.items };
+}
+
+/// Why an event was refused. The state is then unchanged.
+#[derive(Clone, Copy, Debug, PartialEq, Eq)]
+pub enum StepError {
+    /// The event's needs are not met.
+    NotAllowed,
+    NoMemory,
+}
+
+impl State {
+    /// The word with this number. None exactly where the table has no such word.
+    pub fn word(&self, word: u64) -> Option<u64>
+        ensures none { IsNone result ↔ (word_count self.now.layout ≤ word) }
+        ensures value { IfSome result (λ x. x ≡ slice_index self.now.words word) }
+    {
+        self.words.get(word as usize).copied()
+    }
+
+    /// The view of this seat. None exactly where there is no such seat.
+    pub fn view(&self, seat: u32) -> Option<&View>
+        ensures { option_copied result ≡ slice_get self.now.views seat }
+    {
+        self.views.get(seat as usize)
+    }
+
+    /// Makes one step. It is refused exactly where the event's needs are not met, or for want of memory; the
+    /// state is then unchanged.
+    pub fn step(&mut self, alloc: Global, event: &Event) -> Result<(), StepError>
+        ensures ok { OnOk result ((allowed self.old event.now ≡ true) × (self.new ≡ after self.old event.now)) }
+        ensures refused { (result ≡ Err StepError.NotAllowed) ↔ (allowed self.old event.now ≡ false) }
+        ensures unchanged { OnErr result (self.new ≡ self.old) }
+        ensures rule { IsRight self.new }
+    {
+        let Some(word) = self.layout.word_at(event.word) else {
+            return Err(StepError::NotAllowed);
+        };
+        if !is_allowed(&self.layout, self.words.as_slice(), self.views.as_slice(), word, event) {
+            return Err(StepError::NotAllowed);
+        }
+        if change(alloc, &self.layout, self.words.as_slice(), &mut self.views, word, event).is_err() {
+            return Err(StepError::NoMemory);
+        }
+        store(&mut self.words, event);
+        Ok(())
+    }
+}
