@@ -45,12 +45,15 @@ impl PlainPass {
         ensures fresh { IfOk result (λ pass. pass ≡ fresh number size) }
     {
         let room = size.calls as usize;
+        let Ok(map) = PlainMap::with_room(alloc, room) else {
+            return Err(NoMemory);
+        };
         Ok(PlainPass {
             number,
             nodes: u64::from(size.nodes),
             entries: size.entries,
             left: size.calls,
-            map: PlainMap::with_room(alloc, room)?,
+            map,
             updates: Vec::with_capacity(alloc, room)?,
             looks: 0,
             found: 0,

@@ -25,7 +25,7 @@ two_terms_before f xs i j d low high =
 pub two_terms : {X : Type 0} (f : X → ℕ) (xs : List X) (i : ℕ) (x y : X) → IsItem xs i x → Beside xs i y → f x + f y ≤ sum_by f xs
 two_terms f xs i x y at beside =
     elim (cases_lt i beside.place) as (λ _. f x + f y ≤ sum_by f xs) [
-        inl low ↦ rw (← at.is x) (subst (λ z. f (get_or xs i x) + f z ≤ sum_by f xs) (beside.at.is x) (two_terms_before f xs i beside.place x low beside.at.within))
+      | inl low ↦ rw (← at.is x) (subst (λ z. f (get_or xs i x) + f z ≤ sum_by f xs) (beside.at.is x) (two_terms_before f xs i beside.place x low beside.at.within))
       | inr high ↦
           let lt : beside.place < i = omega (arith, beside.other) in
           let sum : f (get_or xs beside.place x) + f (get_or xs i x) ≤ sum_by f xs = two_terms_before f xs beside.place i x lt at.within in
@@ -58,7 +58,7 @@ pub all_moved : {X : Type 0} (P Q : X → Type 0) (xs : List X) (i : ℕ) (x y :
 all_moved P Q xs i x y at all new others k d within =
     let inside : k < length xs = omega (arith, length-set xs i y) in
     elim (eqb_tells k i) as (λ _. Q (get_or (set xs i y) k d)) [
-        inl e ↦ let same : k ≡ i = e.1 in subst Q (sym (ap (λ n. get_or (set xs i y) n d) same ∙ get_or-set_same xs i y d at.within)) new
+      | inl e ↦ let same : k ≡ i = e.1 in subst Q (sym (ap (λ n. get_or (set xs i y) n d) same ∙ get_or-set_same xs i y d at.within)) new
       | inr e ↦
           let beside : Beside xs i (get_or xs k d) = record { place = k; at = record { within = inside; is = λ c. get_or_default xs k c d inside }; other = e.1 } in
           subst Q (sym (get_or-set_other xs i k y d e.1)) (others (get_or xs k d) beside (all k d inside))

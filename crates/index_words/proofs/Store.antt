@@ -232,8 +232,8 @@ part_number-at r low = grind (arith, nat_tests)
 says : (z : Layout) (n : ℕ) (b0 b1 b2 b3 b4 : Bool) → eqb n 0 ≡ b0 → leb n z.passes ≡ b1 → ltb n (nodes_begin z) ≡ b2 → ltb n (entries_begin z) ≡ b3 → ltb n (word_count z) ≡ b4
     → IsWordAt z n
     (cond b0 (Some Stamp) (cond b1 (Some (Section (n - 1))) (cond b2 (Some (Announced (n - 1 - z.passes)))
-      (cond b3 (Some (Node (field_at ((n - nodes_begin z) % 10)) ((n - nodes_begin z) / 10)))
-        (cond b4 (Some (Entry (part_at ((n - entries_begin z) % 3)) ((n - entries_begin z) / 3 + 1))) None)))))
+    (cond b3 (Some (Node (field_at ((n - nodes_begin z) % 10)) ((n - nodes_begin z) / 10)))
+    (cond b4 (Some (Entry (part_at ((n - entries_begin z) % 3)) ((n - entries_begin z) / 3 + 1))) None)))))
 unfolding IsWordAt
 says z n true b1 b2 b3 b4 e0 e1 e2 e3 e4 = (refl, sym (eqb-true n 0 e0))
 says z n false true b2 b3 b4 e0 e1 e2 e3 e4 =

@@ -5,8 +5,8 @@ ghost use Rattle.index_words.specs.History.{after, updated};
 ghost use Rattle.index_words.specs.PlainMap.{roomy};
 ghost use Rattle.index_words.specs.declared.pair.Pair.{Pair};
 
-use crate::{Change, Pair, Update};
-use std::alloc::{AllocError, Global};
+use crate::{Change, NoMemory, Pair, Update};
+use std::alloc::Global;
 use std::marker::Model;
 
 /// A map kept as one sorted list of pairs, with memory reserved for a number of pairs. It is the map's
@@ -31,7 +31,7 @@ impl Model for PlainMap {
 
 impl PlainMap {
     /// An empty map with memory for `room` pairs.
-    pub fn with_room(alloc: Global, room: usize) -> Result<PlainMap, AllocError>
+    pub fn with_room(alloc: Global, room: usize) -> Result<PlainMap, NoMemory>
         ensures empty { IfOk result (λ m. m ≡ roomy [] room) }
     {
         Ok(PlainMap {
@@ -40,7 +40,7 @@ impl PlainMap {
     }
 
     /// The map after these updates, in order, from the empty map.
-    pub fn replayed(alloc: Global, updates: &[Update]) -> Result<PlainMap, AllocError>
+    pub fn replayed(alloc: Global, updates: &[Update]) -> Result<PlainMap, NoMemory>
         ensures map { IfOk result (λ m. m.pairs ≡ after updates.now (length updates.now)) }
     {
         let mut map = PlainMap::with_room(alloc, updates.len())?;

@@ -9,7 +9,7 @@ invariant_of-result c =
     let none = after-none updates in
     let empty = c.in_ok-with_capacity.ensures.items in
     let exact = c.in_ok-with_capacity.ensures.exact in
-    let map = c.in_ok-with_room.ensures.empty in
+    let map = c.in-Ok.ensures.empty in
     let no_updates : length updates ≡ 0 = ap length empty in
     record {
       map = rw (no_updates, none, map);
