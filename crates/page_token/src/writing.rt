@@ -7,7 +7,7 @@ use bucket_terms::TokenPoint;
 use key_names::{NoMemory, Text};
 use std::alloc::Global;
 
-/// The token of a point: the URL-safe base64 without padding (RFC 4648, section 5) of the letter `K` and
+/// The token of a point: the URL-safe base64 without padding (RFC 4648, `base64url`) of the letter `K` and
 /// the key, or of `P` and the common prefix.
 pub fn write(alloc: Global, point: &TokenPoint) -> Result<Text, NoMemory>
     ensures { IfOk result (λ token. token ≡ token_text point.now) }

@@ -1,0 +1,2 @@
+pub mod TextBytes
+pub mod OnePointLaws
