@@ -1,47 +1,83 @@
 -- What is read has a name that an object may have, or a query that a listing takes.
-use Rattle.std.proofs.Common.{◌≡◌, ℕ, zero, suc, ◌<◌, Bool, true, false, ◌&&◌, List, [], ◌∷◌, get_or, Result, Ok, Err, IfOk, subst, refl, arith, rules}
-use Rattle.std.specs.Prelude.{if◌then◌else◌}
-use Rattle.std.specs.List.{list_all}
-use Rattle.std.specs.Str.{is_utf8}
-use Rattle.std.proofs.lemmas.Str.{IsUtf8-from_ascii, IsUtf8-nil}
+use Rattle.std.proofs.Common.{◌≡◌, ℕ, ◌+◌, ◌<◌, ◌≤◌, Bool, true, false, ◌&&◌, List, [], ◌∷◌, length, Option, Some, None, Result, Ok, Err, IfOk, subst, refl, arith, rules}
+use Rattle.std.specs.Prelude.{if◌then◌else◌, ◌==◌, nat_lt, nat_le, min}
+use Rattle.std.specs.Str.{IsUtf8, is_utf8}
+use Rattle.std.specs.Str.Parse.{digits_value}
+use Rattle.std.proofs.lemmas.Str.{IsUtf8-from_is_utf8, IsUtf8-nil}
 use Rattle.std.proofs.lemmas.Bool.Decides.{nat_tests}
+use Rattle.percent_encoding.specs.Percent.{percent_decode}
 use Rattle.key_names.specs.Names.{IsFine}
+use Rattle.bucket_terms.specs.declared.list_query.ListQuery.{ListQuery}
 use Rattle.request_lines.specs.declared.cause.Cause.{Cause}
 use Rattle.request_lines.specs.declared.command.Command.{Command}
+use Rattle.request_lines.specs.declared.command.Command.TheVariants as says
 use Rattle.request_lines.specs.declared.line_error.LineError.{LineError}
-use Rattle.request_lines.specs.Reads.{Reads}
+use Rattle.request_lines.specs.declared.parameter.Name.{Name}
+use Rattle.request_lines.specs.declared.parameter.Name.TheVariants as names
 use Rattle.request_lines.specs.declared.verb.Verb.{Verb}
 use Rattle.request_lines.specs.declared.verb.Verb.TheVariants as verbs
-use Rattle.std.specs.Prelude.{Option, Some, None}
-use Rattle.request_lines.specs.Queries.{IsFineQuery}
 use Rattle.request_lines.specs.Lines.{fields_of}
-use Rattle.request_lines.specs.Grammar.{IsFineCommand, is_letter, is_plain, is_plain_key, is_plain_number, is_etag, plain_query, put_read, read_fields, read_verb, verb_of, read_line, reading_of}
+use Rattle.request_lines.specs.Reads.{Reads, ◌>>=◌}
+use Rattle.request_lines.specs.Texts.{unescaped, escapes_are_whole, name_of, key_read, numbers_read, etag_read}
+use Rattle.request_lines.specs.Causes.{earliest, place_of}
+use Rattle.request_lines.specs.declared.cause.Cause.TheVariants.{KeyTooLong}
+use Rattle.request_lines.specs.Queries as q
+use Rattle.request_lines.specs.Queries.{asking_with, with_parameter, parameter_cause, is_too_long, parameter_read, parameters_read, query_read}
+use Rattle.request_lines.specs.Grammar.{IsFineCommand, put_read, delete_read, head_read, list_read, is_paged, read_fields, read_verb, verb_of, read_line, reading_of}
+
+-- what is read has this property
+abbrev Gives : {A : Type 0} → (A → Type 0) → Result A Cause → Type 0
+Gives P (Ok x) = P x
+Gives P (Err cause) = Unit {0}
 
 abbrev pub IsFineReading : Result Command Cause → Type 0
-IsFineReading (Ok command) = IsFineCommand command
-IsFineReading (Err cause) = Unit {0}
+IsFineReading reading = Gives IsFineCommand reading
 
--- a choice of two readings is fine where each is
-if_fine : (b : Bool) (x y : Result Command Cause) → (b ≡ true → IsFineReading x) → (b ≡ false → IsFineReading y) → IsFineReading (if b then x else y)
-if_fine true x y chosen other = chosen refl
-if_fine false x y chosen other = other refl
+-- a choice of two readings has what each has
+if_gives : {A : Type 0} (P : A → Type 0) (b : Bool) (x y : Result A Cause) → (b ≡ true → Gives P x) → (b ≡ false → Gives P y) → Gives P (if b then x else y)
+if_gives P true x y chosen other = chosen refl
+if_gives P false x y chosen other = other refl
 
-plain_small : (b : ℕ) → is_plain b ≡ true → b < 128
-unfolding is_plain is_letter
-plain_small b plain = grind (arith, nat_tests)
+-- one reading after another has what the second has
+then_gives : {A B : Type 0} (P : A → Type 0) (Q : B → Type 0) (x : Result A Cause) (f : A → Result B Cause) → Gives P x → ((y : A) → P y → Gives Q (f y)) → Gives Q (x >>= f)
+then_gives P Q (Ok x) f first next = next x first
+then_gives P Q (Err cause) f first next = tt
 
-plain_ascii : (key : List ℕ) → list_all is_plain key ≡ true → (i : ℕ) → get_or key i 0 < 128
-plain_ascii [] plain i = omega arith
-plain_ascii (b ∷ key) plain zero = plain_small b (search rules)
-plain_ascii (b ∷ key) plain (suc i) = plain_ascii key (search rules) i
+any : {A : Type 0} (r : Result A Cause) → Gives (λ _. Unit {0}) r
+any (Ok x) = tt
+any (Err cause) = tt
 
-key_fine : (key : List ℕ) → is_plain_key key ≡ true → IsFine key
-unfolding is_plain_key
-key_fine key plain =
-    let all : list_all is_plain key ≡ true = search rules in
-    record { not_empty = grind (arith, nat_tests); short = grind (arith, nat_tests); text = IsUtf8-from_ascii key (plain_ascii key all) }
+unescaped_text : (text : List ℕ) → Gives IsUtf8 (unescaped text)
+unfolding unescaped
+unescaped_text text = if_gives IsUtf8 (escapes_are_whole text && is_utf8 (percent_decode text)) _ _ (λ whole. IsUtf8-from_is_utf8 (percent_decode text) (search rules)) (λ _. tt)
 
-plain_query_fine : IsFineQuery plain_query
+name_fine : (name : List ℕ) → IsUtf8 name → Gives IsFine (name_of name)
+unfolding name_of
+name_fine name utf8 = if_gives IsFine (length name == 0) _ _ (λ _. tt) (λ some.
+    if_gives IsFine (nat_lt 1024 (length name)) _ _ (λ _. tt) (λ short. record { not_empty = grind (arith, nat_tests); short = grind (arith, nat_tests); text = utf8 }))
+
+key_fine : (key : List ℕ) → Gives IsFine (key_read key)
+unfolding key_read
+key_fine key = then_gives IsUtf8 IsFine (unescaped key) _ (unescaped_text key) name_fine
+
+put_fine : (key size etag modified : List ℕ) → IsFineReading (put_read key size etag modified)
+unfolding put_read
+put_fine key size etag modified =
+    then_gives IsFine IsFineCommand (key_read key) _ (key_fine key) (λ name fine.
+    then_gives (λ _. Unit {0}) IsFineCommand (numbers_read size modified) _ (any _) (λ _ _.
+    then_gives (λ _. Unit {0}) IsFineCommand (etag_read etag) _ (any _) (λ _ _. fine)))
+
+delete_fine : (key : List ℕ) → IsFineReading (delete_read key)
+unfolding delete_read
+delete_fine key = then_gives IsFine IsFineCommand (key_read key) _ (key_fine key) (λ name fine. fine)
+
+head_fine : (key : List ℕ) → IsFineReading (head_read key)
+unfolding head_read
+head_fine key = then_gives IsFine IsFineCommand (key_read key) _ (key_fine key) (λ name fine. fine)
+
+-- ---- queries
+
+plain_query_fine : q.IsFineQuery q.plain_query
 plain_query_fine = record {
   short_prefix = omega arith;
   short_delimiter = omega arith;
@@ -53,15 +89,158 @@ plain_query_fine = record {
   entries = omega arith;
 }
 
-put_fine : (key size etag modified : List ℕ) → IsFineReading (put_read key size etag modified)
-unfolding put_read
-put_fine key size etag modified = if_fine (is_plain_key key && is_plain_number size && is_etag etag && is_plain_number modified) _ _ (λ plain. key_fine key (search rules)) (λ _. tt)
+-- where no cause has come the query so far is fine
+abbrev IsFineAsking : q.Asking → Type 0
+IsFineAsking a = a.cause ≡ None → q.IsFineQuery a.query
+
+no_earlier : (cause other : Option Cause) → earliest cause other ≡ None → (cause ≡ None) × (other ≡ None)
+unfolding earliest
+no_earlier None other none = (refl, none)
+no_earlier (Some cause) None none = cc
+no_earlier (Some cause) (Some other) none = absurd (one (nat_le (place_of cause) (place_of other)) none)
+  where
+    chosen : Bool → Option Cause
+    chosen b = if b then Some cause else Some other
+
+    one : (b : Bool) → chosen b ≡ None → ⊥
+    one true is = cc
+    one false is = cc
+
+not_long : (seen : List Name) (name : Name) (value : List ℕ) → parameter_cause seen (Some name) value ≡ None → q.is_too_long name value ≡ false
+unfolding parameter_cause
+not_long seen name value none = by_test (q.is_too_long name value) _ none
+  where
+    by_test : (b : Bool) (other : Option Cause) → (if b then Some KeyTooLong else other) ≡ None → b ≡ false
+    by_test true other is = cc
+    by_test false other is = refl
+
+chosen_fine : (b : Bool) (x y : ListQuery) → q.IsFineQuery x → q.IsFineQuery y → q.IsFineQuery (if b then x else y)
+chosen_fine true x y one other = one
+chosen_fine false x y one other = other
+
+fine_with : (query : ListQuery) (seen : List Name) (name : Option Name) (value : List ℕ) → IsUtf8 value → parameter_cause seen name value ≡ None
+    → q.IsFineQuery query → q.IsFineQuery (with_parameter query name value)
+unfolding with_parameter is_too_long
+fine_with query seen None value utf8 none fine = fine
+fine_with query seen (Some names.ListType) value utf8 none fine = fine
+fine_with query seen (Some names.FetchOwner) value utf8 none fine = fine
+fine_with query seen (Some names.Prefix) value utf8 none fine =
+    let short : nat_lt 1024 (length value) ≡ false = not_long seen names.Prefix value none in
+    record {
+      short_prefix = grind (arith, nat_tests);
+      short_delimiter = fine.short_delimiter;
+      short_start_after = fine.short_start_after;
+      prefix = utf8;
+      delimiter = fine.delimiter;
+      start_after = fine.start_after;
+      token = fine.token;
+      entries = fine.entries;
+    }
+fine_with query seen (Some names.Delimiter) value utf8 none fine =
+    let short : nat_lt 1024 (length value) ≡ false = not_long seen names.Delimiter value none in
+    record {
+      short_prefix = fine.short_prefix;
+      short_delimiter = grind (arith, nat_tests);
+      short_start_after = fine.short_start_after;
+      prefix = fine.prefix;
+      delimiter = utf8;
+      start_after = fine.start_after;
+      token = fine.token;
+      entries = fine.entries;
+    }
+fine_with query seen (Some names.StartAfter) value utf8 none fine =
+    let short : nat_lt 1024 (length value) ≡ false = not_long seen names.StartAfter value none in
+    record {
+      short_prefix = fine.short_prefix;
+      short_delimiter = fine.short_delimiter;
+      short_start_after = grind (arith, nat_tests);
+      prefix = fine.prefix;
+      delimiter = fine.delimiter;
+      start_after = utf8;
+      token = fine.token;
+      entries = fine.entries;
+    }
+fine_with query seen (Some names.ContinuationToken) value utf8 none fine =
+    record {
+      short_prefix = fine.short_prefix;
+      short_delimiter = fine.short_delimiter;
+      short_start_after = fine.short_start_after;
+      prefix = fine.prefix;
+      delimiter = fine.delimiter;
+      start_after = fine.start_after;
+      token = utf8;
+      entries = fine.entries;
+    }
+fine_with query seen (Some names.EncodingType) value utf8 none fine =
+    record {
+      short_prefix = fine.short_prefix;
+      short_delimiter = fine.short_delimiter;
+      short_start_after = fine.short_start_after;
+      prefix = fine.prefix;
+      delimiter = fine.delimiter;
+      start_after = fine.start_after;
+      token = fine.token;
+      entries = fine.entries;
+    }
+fine_with query seen (Some names.MaxKeys) value utf8 none fine = chosen_fine (q.is_max_keys value) _ _
+    (record {
+      short_prefix = fine.short_prefix;
+      short_delimiter = fine.short_delimiter;
+      short_start_after = fine.short_start_after;
+      prefix = fine.prefix;
+      delimiter = fine.delimiter;
+      start_after = fine.start_after;
+      token = fine.token;
+      entries = omega arith;
+    })
+    fine
+
+asking_fine : (a : q.Asking) (p : q.Parameter) → IsUtf8 p.value → IsFineAsking a → IsFineAsking (asking_with a p)
+unfolding asking_with
+asking_fine a p utf8 fine none =
+    let each = no_earlier a.cause (parameter_cause a.names p.name p.value) none in
+    fine_with a.query a.names p.name p.value utf8 each.1 (fine each.0)
+
+abbrev AreTexts : List q.Parameter → Type 0
+AreTexts [] = Unit {0}
+AreTexts (p ∷ ps) = IsUtf8 p.value × AreTexts ps
+
+parameters_texts : (pieces : List (List ℕ)) → Gives AreTexts (q.parameters_read pieces)
+unfolding parameters_read parameter_read
+parameters_texts [] = tt
+parameters_texts (piece ∷ pieces) = if_gives AreTexts (length piece == 0) _ _ (λ _. parameters_texts pieces) (λ _.
+    then_gives (λ (p : q.Parameter). IsUtf8 p.value) AreTexts (q.parameter_read piece) _
+    (then_gives IsUtf8 (λ (p : q.Parameter). IsUtf8 p.value) (unescaped (q.value_of_piece piece)) _ (unescaped_text (q.value_of_piece piece)) (λ value utf8. utf8))
+    (λ p utf8. then_gives AreTexts AreTexts (q.parameters_read pieces) _ (parameters_texts pieces) (λ ps texts. (utf8, texts))))
+
+query_or_fine : (cause : Option Cause) (query : ListQuery) → (cause ≡ None → q.IsFineQuery query) → Gives q.IsFineQuery (q.query_or cause query)
+query_or_fine None query fine = fine refl
+query_or_fine (Some cause) query fine = tt
+
+query_by_fine : (a : q.Asking) (ps : List q.Parameter) → AreTexts ps → IsFineAsking a → Gives q.IsFineQuery (q.query_by a ps)
+query_by_fine a [] texts fine = query_or_fine a.cause a.query fine
+query_by_fine a (p ∷ ps) texts fine = query_by_fine (asking_with a p) ps texts.1 (asking_fine a p texts.0 fine)
+
+query_fine : (text : List ℕ) → Gives q.IsFineQuery (q.query_read text)
+unfolding query_read
+query_fine text = then_gives AreTexts q.IsFineQuery (q.parameters_read (q.pieces_of text)) _ (parameters_texts (q.pieces_of text))
+    (λ ps texts. query_by_fine q.nothing_asked ps texts (λ none. plain_query_fine))
+
+list_fine : (text : List ℕ) → IsFineReading (list_read text)
+unfolding list_read
+list_fine text = then_gives q.IsFineQuery IsFineCommand (q.query_read text) _ (query_fine text) (λ query fine. fine)
+
+-- ---- lines
 
 fields_fine : (verb : Verb) (fields : List (List ℕ)) → IsFineReading (read_fields verb fields)
 unfolding read_fields
 fields_fine verbs.Client [] = tt
 fields_fine verbs.Put (key ∷ size ∷ etag ∷ modified ∷ []) = put_fine key size etag modified
+fields_fine verbs.Delete (key ∷ []) = delete_fine key
+fields_fine verbs.Head (key ∷ []) = head_fine key
 fields_fine verbs.List [] = plain_query_fine
+fields_fine verbs.List (query ∷ []) = list_fine query
+fields_fine verbs.Next [] = tt
 fields_fine verb fields = tt
 
 verb_fine : (verb : Option Verb) (fields : List (List ℕ)) → IsFineReading (read_verb verb fields)
@@ -75,7 +254,7 @@ line_fine (verb ∷ fields) = verb_fine (verb_of verb) fields
 
 pub reading_fine : (text : List ℕ) → IsFineReading (reading_of text)
 unfolding reading_of
-reading_fine text = if_fine (is_utf8 text) _ _ (λ _. line_fine (fields_of text)) (λ _. tt)
+reading_fine text = if_gives IsFineCommand (is_utf8 text) _ _ (λ _. line_fine (fields_of text)) (λ _. tt)
 
 -- so is what a function answers that reads
 pub fine_answer : (answer : Result Command LineError) (read : Result Command Cause) → IsFineReading read → Reads answer read → IfOk answer IsFineCommand

@@ -20,8 +20,9 @@ use Rattle.request_lines.specs.declared.session.Session.{Session}
 use Rattle.request_lines.specs.declared.session_error.InputError.{InputError}
 use Rattle.request_lines.specs.Lines.{texts_of}
 use Rattle.request_lines.specs.Grammar.{reading_of}
-use Rattle.request_lines.specs.Input.{Line, counted_with, lines_from, lines_of, cause_after, error_at, error_of, refusal_of, is_client, asked_of, name_by, record_by, part_of, parts_of, names_of, records_of, IsSessionOf, IsRefused}
-use Rattle.request_lines.specs.Reading.{Progress, Takes, texts_left, no_progress, all_ended, ended_by, current_by, kept, taken, error_of_text}
+use Rattle.request_lines.specs.Input.{Line, counted_with, lines_from, lines_of, cause_after, error_at, error_of, refusal_of, begins_client, asked_of, name_by, record_by, part_of, parts_of, names_of, records_of, IsSessionOf, IsRefused}
+use Rattle.request_lines.specs.Left.{texts_left}
+use Rattle.request_lines.specs.Reading.{Progress, Takes, no_progress, all_ended, ended_by, current_by, kept, taken, error_of_text}
 
 -- the parts of all clients, with the lines that are left, cut at each line that begins a client
 abbrev with_pieces : Bool → List ClientPart → List Asked → List (List Line) → List ClientPart
@@ -30,7 +31,7 @@ with_pieces false ended current [] = ended ++ record { requests = current } ∷ 
 with_pieces false ended current (piece ∷ pieces) = ended ++ record { requests = current ++ filter_map asked_of piece } ∷ map part_of pieces
 
 abbrev begins : Line → Bool
-begins l = is_client l.reading
+begins l = begins_client l.reading
 
 abbrev with_lines : Progress → List Line → List ClientPart
 with_lines p lines = with_pieces (p.counts.clients == 0) p.ended p.current (slice_split begins lines)
@@ -117,12 +118,12 @@ parts_kept false p l lines is =
     rw (cut, some.2) (parts_more (p.counts.clients == 0) p.ended p.current l some.0 some.1)
 
 -- whether a client was begun before or by this line
-clients_counted : (before : Counts) (reading : Result Command Cause) → ((counted_with before reading).clients == 0) ≡ (if is_client reading then false else (before.clients == 0))
+clients_counted : (before : Counts) (reading : Result Command Cause) → ((counted_with before reading).clients == 0) ≡ (if begins_client reading then false else (before.clients == 0))
 clients_counted before (Ok says.Client) = grind (arith, nat_tests)
 clients_counted before (Ok (says.Put name fields)) = refl
 clients_counted before (Ok (says.Delete name)) = refl
 clients_counted before (Ok (says.Head name)) = refl
-clients_counted before (Ok (says.List query)) = refl
+clients_counted before (Ok (says.List query paged)) = refl
 clients_counted before (Ok says.Next) = refl
 clients_counted before (Err cause) = refl
 
@@ -141,8 +142,8 @@ keeps bytes p number text texts full right half =
     let records : p.records ++ records_of (l ∷ rest) ≡ records_of (lines_of bytes) = rw full at half.records in
     record {
       refusal = rw right at refusal;
-      parts = ap (λ none. with_pieces none (ended_by (is_client reading) p) (current_by (is_client reading) p (asked_of l)) (slice_split begins rest)) (clients_counted p.counts reading)
-          ∙ parts_kept (is_client reading) p l rest refl ∙ parts;
+      parts = ap (λ none. with_pieces none (ended_by (begins_client reading) p) (current_by (begins_client reading) p (asked_of l)) (slice_split begins rest)) (clients_counted p.counts reading)
+          ∙ parts_kept (begins_client reading) p l rest refl ∙ parts;
       names = keeps_option p.names (name_by reading) (names_of rest) ∙ names;
       records = keeps_option p.records (record_by reading) (records_of rest) ∙ records;
     }

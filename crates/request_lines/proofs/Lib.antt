@@ -2,3 +2,4 @@ pub mod TextLaws
 pub mod Fine
 pub mod InputLaws
 pub mod Sound
+pub mod PieceLaws

@@ -21,8 +21,8 @@ use Rattle.request_lines.specs.declared.session.Asked.{Asked}
 use Rattle.request_lines.specs.declared.session.ClientPart.{ClientPart}
 use Rattle.request_lines.specs.declared.session.Session.{Session}
 use Rattle.request_lines.specs.declared.session_error.SessionError.{SessionError}
-use Rattle.request_lines.specs.declared.cause.Cause.TheVariants.{NotBuilt}
-use Rattle.request_lines.specs.Grammar.{IsWithin, IsFineCommand, counted, limit_cause, reading_of}
+use Rattle.request_lines.specs.declared.cause.Cause.TheVariants.{NoClient}
+use Rattle.request_lines.specs.Grammar.{IsWithin, IsFineCommand, is_client, counted, limit_cause, reading_of}
 use Rattle.request_lines.specs.Input.{cause_after, error_at}
 use Rattle.request_lines.specs.Reading.{Progress, no_progress, all_ended, kept, taken, error_of_text}
 use Rattle.request_lines.specs.Session.{request_line, request_lines, all_requests, requested_name, record_place, asked_name, asked_place, HasNames, HasRecords, IsFineRequest, IsServed, HasRequests, LinesRise, HasLines, IsSmall}
@@ -217,13 +217,14 @@ sound_asked p number after name stored request by positive sound =
       rising = rw (map-append request_line p.current (asked ∷ [])) (rises_push 0 number (map request_line p.current) request positive sound.rising);
     }
 
--- a limit that is kept
-abbrev no_cause : Bool → Option Cause
-no_cause b = if b then None else Some NotBuilt
-
-allowed : (b : Bool) → no_cause b ≡ None → b ≡ true
-allowed true none = refl
-allowed false none = cc
+-- a line that begins no client has one before it
+begun_before : (so_far : Counts) (command : Command) → is_client command ≡ false → limit_cause so_far command ≡ None → 0 < so_far.clients
+unfolding limit_cause
+begun_before so_far command other none = by_test (so_far.clients == 0) refl _ (rw other at none)
+  where
+    by_test : (b : Bool) → so_far.clients == 0 ≡ b → (rest : Option Cause) → (if b then Some NoClient else rest) ≡ None → 0 < so_far.clients
+    by_test true is rest none = cc
+    by_test false is rest none = grind (arith, nat_tests)
 
 fine_name : (name : List ℕ) → IsFine name → All IsFine (name ∷ [])
 fine_name name fine = All-push IsFine [] name (All-nil IsFine) fine
@@ -233,16 +234,65 @@ sound_kept : (p : Progress) (number : ℕ) (command : Command) → IsFineCommand
 unfolding kept
 sound_kept p number says.Client fine right positive small sound = sound_client p number small sound
 sound_kept p number (says.Put name fields) fine right positive small sound =
-    let built : (nat_lt 0 p.counts.clients && nat_le (p.counts.puts + 1) 1000) ≡ true = allowed _ right in
     sound_asked p number (counted p.counts (says.Put name fields)) (Some name) (Some fields) (asks.Put name p.counts.puts)
-    (record { begun = grind (arith, nat_tests); clients = refl; requests = refl; puts = refl; named = refl; fine = fine_name name fine; placed = refl; query = tt }) positive sound
-sound_kept p number (says.List query) fine right positive small sound =
-    let built : (nat_lt 0 p.counts.clients && nat_le (p.counts.requests + 1) (p.counts.puts + 4000)) ≡ true = allowed _ right in
-    sound_asked p number (counted p.counts (says.List query)) None None (asks.List query)
-    (record { begun = grind (arith, nat_tests); clients = refl; requests = refl; puts = omega arith; named = refl; fine = All-nil IsFine; placed = refl; query = fine }) positive sound
-sound_kept p number (says.Delete name) fine right positive small sound = cc
-sound_kept p number (says.Head name) fine right positive small sound = cc
-sound_kept p number says.Next fine right positive small sound = cc
+    (record {
+      begun = begun_before (counted p.counts (says.Put name fields)) (says.Put name fields) refl right;
+      clients = refl;
+      requests = refl;
+      puts = refl;
+      named = refl;
+      fine = fine_name name fine;
+      placed = refl;
+      query = tt;
+    }) positive sound
+sound_kept p number (says.Delete name) fine right positive small sound =
+    sound_asked p number (counted p.counts (says.Delete name)) (Some name) None (asks.Delete name)
+    (record {
+      begun = begun_before (counted p.counts (says.Delete name)) (says.Delete name) refl right;
+      clients = refl;
+      requests = refl;
+      puts = omega arith;
+      named = refl;
+      fine = fine_name name fine;
+      placed = refl;
+      query = tt;
+    }) positive sound
+sound_kept p number (says.Head name) fine right positive small sound =
+    sound_asked p number (counted p.counts (says.Head name)) (Some name) None (asks.Head name)
+    (record {
+      begun = begun_before (counted p.counts (says.Head name)) (says.Head name) refl right;
+      clients = refl;
+      requests = refl;
+      puts = omega arith;
+      named = refl;
+      fine = fine_name name fine;
+      placed = refl;
+      query = tt;
+    }) positive sound
+sound_kept p number (says.List query paged) fine right positive small sound =
+    sound_asked p number (counted p.counts (says.List query paged)) None None (asks.List query)
+    (record {
+      begun = begun_before (counted p.counts (says.List query paged)) (says.List query paged) refl right;
+      clients = refl;
+      requests = refl;
+      puts = omega arith;
+      named = refl;
+      fine = All-nil IsFine;
+      placed = refl;
+      query = fine;
+    }) positive sound
+sound_kept p number says.Next fine right positive small sound =
+    sound_asked p number (counted p.counts says.Next) None None asks.Next
+    (record {
+      begun = begun_before (counted p.counts says.Next) says.Next refl right;
+      clients = refl;
+      requests = refl;
+      puts = omega arith;
+      named = refl;
+      fine = All-nil IsFine;
+      placed = refl;
+      query = tt;
+    }) positive sound
 
 -- a line that was taken
 sound_read : (p : Progress) (number : ℕ) (reading : Result Command Cause) → IsFineReading reading → error_at number (cause_after p.counts reading) ≡ None → 0 < number → number ≤ 2 ^ 32
@@ -297,7 +347,7 @@ sound_end p number s below within sound clients names records =
       records = record { in_order = rw (all, records) sound.places };
       requests = record { served = rw (clients, names, records) (all_ended_served p number sound) };
       lines = record { rising = rw clients (all_ended_rising p number below sound) };
-      small = record { clients = omega (arith, within.clients); one_client = omega (arith, within.clients); requests = rw (all, sound.requests) (omega (arith, within.others, within.puts)) };
+      small = record { clients = omega (arith, within.clients); one_client = omega (arith, within.clients); requests = rw (all, sound.requests) (omega (arith, within.requests)) };
     }
 
 pub sound_answer : (p : Progress) (number : ℕ) (r : Result Session SessionError) → number ≤ 2 ^ 32 → IsWithin p.counts → IsSound p number

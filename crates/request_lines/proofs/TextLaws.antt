@@ -1,19 +1,24 @@
 -- Texts that are cut, and texts that are UTF-8.
-use Rattle.std.proofs.Common.{◌≡◌, ℕ, ◌+◌, ◌<◌, ◌≤◌, ◌^◌, Bool, true, false, List, [], ◌∷◌, length, take, drop, map, refl, ◌&&◌, ap, sym, ◌∙◌, Option, inl, inr, Result, Ok, arith, rules}
-use Rattle.std.specs.List.{slice_split, position, position_or_len, before_first, after_first, list_all}
-use Rattle.std.specs.Prelude.{◌==◌, MatchOption, nat_lt, not}
-use Rattle.std.proofs.lemmas.Bool.{cases_Bool}
+use Rattle.std.proofs.Common.{◌≡◌, ◌≢◌, ℕ, ◌+◌, ◌<◌, ◌≤◌, ◌^◌, Bool, true, false, List, [], ◌∷◌, length, take, drop, map, refl, ◌&&◌, ap, sym, ◌∙◌, Option, inl, inr, Result, Ok, Err, zero, suc, ◌||◌, get_or, arith, rules}
+use Rattle.std.specs.List.{slice_split, position, position_or_len, before_first, after_first, list_all, list_any}
+use Rattle.std.specs.Prelude.{◌==◌, MatchOption, nat_lt, nat_le, not}
+use Rattle.std.specs.Result.{result_ok}
+use Rattle.std.proofs.lemmas.Bool.{cases_Bool, cases_lt}
 use Rattle.std.specs.Str.Lines.{strip_carriage_return}
 use Rattle.std.specs.Char.{is_ascii_digit}
 use Rattle.std.specs.Str.{IsUtf8, is_utf8, all_ascii_digits}
-use Rattle.std.proofs.lemmas.Str.{IsUtf8-from_is_utf8}
+use Rattle.std.proofs.lemmas.Str.{IsUtf8-from_is_utf8, is_utf8-from_IsUtf8, IsUtf8-from_ascii}
 use Rattle.std.proofs.lemmas.List.Splits.{slice_split_first, slice_split_none}
 use Rattle.std.proofs.lemmas.List.Sums.{fails_before_first, prefix_len-le-length}
 use Rattle.std.specs.Str.Parse.{ParsesUnsigned, digits_value}
-use Rattle.std.proofs.lemmas.Str.Parse.{IsNumeralModel, numerals_by_value, tells_all_ascii_digits, digits_value_short, parse_gives}
+use Rattle.std.proofs.lemmas.Str.Parse.{IsNumeralModel, numerals_by_value, tells_all_ascii_digits, parse_digits}
 use Rattle.std.proofs.lemmas.Bool.Decides.{nat_tests}
 use Rattle.request_lines.specs.Lines.{texts_of}
-use Rattle.request_lines.specs.Grammar.{is_plain_number}
+use Rattle.request_lines.specs.declared.cause.Cause.{Cause}
+use Rattle.request_lines.specs.declared.cause.Cause.TheVariants.{BadEscape}
+use Rattle.request_lines.specs.Texts.{escapes_are_whole, unescaped, is_number, is_small, is_tag, is_tag_byte}
+use Rattle.request_lines.specs.Queries.{without_mark}
+use Rattle.percent_encoding.specs.Percent.{percent_decode, is_escape}
 
 -- a text that is cut at its first byte of a kind
 pub cut_at_first : (p : ℕ → Bool) (text front back : List ℕ) → position_or_len p text < length text → front ≡ before_first p text → back ≡ after_first p text
@@ -34,22 +39,30 @@ is_utf8-none bytes none = by_test (is_utf8 bytes) (λ holds. none (IsUtf8-from_i
     by_test false not_true = refl
 
 -- both ways to say that each byte is a digit
-pub list_all-digits : (bytes : List ℕ) → list_all is_ascii_digit bytes ≡ all_ascii_digits bytes
-list_all-digits [] = refl
-list_all-digits (b ∷ bytes) = ap (λ more. is_ascii_digit b && more) (list_all-digits bytes)
+pub digits_all : (bytes : List ℕ) → list_all is_ascii_digit bytes ≡ all_ascii_digits bytes
+digits_all [] = refl
+digits_all (b ∷ bytes) = ap (λ more. is_ascii_digit b && more) (digits_all bytes)
 
 numerals : IsNumeralModel (λ digits. all_ascii_digits digits ≡ true) (digits_value 10)
 numerals = numerals_by_value _ tells_all_ascii_digits
 
--- a number of few digits is read
-pub parses_plain : {E : Type 0} (bytes : List ℕ) (r : Result ℕ E) → ParsesUnsigned 64 10 bytes r → is_plain_number bytes ≡ true → r ≡ Ok (digits_value 10 bytes)
-unfolding is_plain_number
-parses_plain bytes r parsed plain =
+-- a number is read where it has 64 bits
+pub number_answer : {E : Type 0} (bytes : List ℕ) (r : Result ℕ E) → ParsesUnsigned 64 10 bytes r → is_number bytes ≡ true
+    → MatchOption (result_ok r) (is_small bytes ≡ false) (λ n. (is_small bytes ≡ true) × (n ≡ digits_value 10 bytes))
+unfolding is_number is_small
+number_answer {E = E} bytes (Ok n) parsed number =
+    let digits : all_ascii_digits bytes ≡ true = search rules in
+    let read = parse_digits numerals {E = E} 64 bytes (Ok n) parsed digits in
+    let small : digits_value 10 bytes < 2 ^ 64 = read.0.1 in
+    (grind (arith, nat_tests), read.1)
+number_answer {E = E} bytes (Err e) parsed number =
     let digits : all_ascii_digits bytes ≡ true = search rules in
     let some : 0 < length bytes = grind (arith, nat_tests) in
-    let few : length bytes ≤ 18 = grind (arith, nat_tests) in
-    let small : digits_value 10 bytes < 10 ^ 18 = digits_value_short numerals bytes 18 digits few in
-    parse_gives numerals 64 bytes r parsed digits some (omega arith)
+    let read = parse_digits numerals {E = E} 64 bytes (Err e) parsed digits in
+    by_size (digits_value 10 bytes) (λ small. read (some, small))
+  where
+    by_size : (n : ℕ) → ¬ (n < 2 ^ 64) → nat_le n 18446744073709551615 ≡ false
+    by_size n not_small = elim (cases_lt n (2 ^ 64)) [ inl small ↦ absurd (not_small small) | inr large ↦ grind (arith, nat_tests) ]
 
 -- the first place, in the other words
 pub place_found : (p : ℕ → Bool) (xs : List ℕ) (r : Option ℕ) → r ≡ position p xs
@@ -70,3 +83,70 @@ texts_cut bytes end front back text place inside is_front is_back is_text =
 pub texts_whole : (bytes text : List ℕ) → position_or_len (λ b. b == 10) bytes ≡ length bytes → text ≡ strip_carriage_return bytes → texts_of bytes ≡ text ∷ []
 texts_whole bytes text none is_text =
     ap (map strip_carriage_return) (not_cut (λ b. b == 10) bytes none) ∙ ap (λ first. first ∷ []) (sym is_text)
+
+-- ---- escapes
+
+both_false : (a b : Bool) → (a || b) ≡ false → (a ≡ false) × (b ≡ false)
+both_false true b none = cc
+both_false false b none = (refl, none)
+
+escapes_plain : (text : List ℕ) → list_any (λ b. b == 37) text ≡ false → escapes_are_whole text ≡ true
+unfolding escapes_are_whole
+escapes_plain [] none = refl
+escapes_plain (b ∷ text) none =
+    let each = both_false (b == 37) (list_any (λ b. b == 37) text) none in
+    rw (each.0, escapes_plain text each.1)
+
+decode_plain : (text : List ℕ) → list_any (λ b. b == 37) text ≡ false → percent_decode text ≡ text
+unfolding percent_decode
+decode_plain [] none = refl
+decode_plain (b ∷ []) none = refl
+decode_plain (b ∷ c ∷ []) none = refl
+decode_plain (b ∷ high ∷ low ∷ rest) none =
+    let each = both_false (b == 37) (list_any (λ b. b == 37) (high ∷ low ∷ rest)) none in
+    rw each.0 (ap (λ more. b ∷ more) (decode_plain (high ∷ low ∷ rest) each.1))
+
+-- a text without escapes stands for itself
+pub unescaped_plain : (text : List ℕ) → list_any (λ b. b == 37) text ≡ false → IsUtf8 text → unescaped text ≡ Ok text
+unfolding unescaped
+unescaped_plain text none utf8 = rw (escapes_plain text none, decode_plain text none, is_utf8-from_IsUtf8 text utf8)
+
+-- a text with escapes, of which its unescaped bytes are UTF-8 or not
+pub decoded_text : (text made : List ℕ) → escapes_are_whole text ≡ true → IsUtf8 (percent_decode text) → made ≡ percent_decode text → unescaped text ≡ Ok made
+unfolding unescaped
+decoded_text text made whole utf8 is = rw (whole, is_utf8-from_IsUtf8 (percent_decode text) utf8) (ap (λ name. Ok name) (sym is))
+
+pub decoded_none : (text : List ℕ) → escapes_are_whole text ≡ true → ¬ (IsUtf8 (percent_decode text)) → unescaped text ≡ Err BadEscape
+unfolding unescaped
+decoded_none text whole none = rw (whole, is_utf8-none (percent_decode text) none)
+
+-- ---- tags
+
+tag_small : (b : ℕ) → is_tag_byte b ≡ true → b < 128
+unfolding is_tag_byte
+tag_small b tag = grind (arith, nat_tests)
+
+tag_ascii : (text : List ℕ) → list_all is_tag_byte text ≡ true → (i : ℕ) → get_or text i 0 < 128
+tag_ascii [] tag i = omega arith
+tag_ascii (b ∷ text) tag zero = tag_small b (search rules)
+tag_ascii (b ∷ text) tag (suc i) = tag_ascii text (search rules) i
+
+-- a tag is a text
+pub tag_utf8 : (text : List ℕ) → is_tag text ≡ true → IsUtf8 text
+unfolding is_tag
+tag_utf8 text tag = let all : list_all is_tag_byte text ≡ true = search rules in IsUtf8-from_ascii text (tag_ascii text all)
+
+-- ---- the mark of a query
+
+pub marked : (text query : List ℕ) → text ≡ 63 ∷ query → query ≡ without_mark text
+unfolding without_mark
+marked text query is = rw is refl
+
+pub unmarked : (text : List ℕ) → ((query : List ℕ) → text ≢ 63 ∷ query) → text ≡ without_mark text
+unfolding without_mark
+unmarked [] none = refl
+unmarked (b ∷ text) none =
+    elim (cases_Bool (b == 63)) [
+      | inl mark ↦ let is : b ≡ 63 = grind (arith, nat_tests) in absurd (none text (ap (λ first. first ∷ text) is))
+      | inr other ↦ rw other refl
+    ]

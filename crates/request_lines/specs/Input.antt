@@ -15,7 +15,7 @@ use Rattle.request_lines.specs.declared.session_error.InputError.{InputError}
 use Rattle.request_lines.specs.declared.session_error.SessionError.{SessionError}
 use Rattle.request_lines.specs.declared.session_error.SessionError.TheVariants as errors
 use Rattle.request_lines.specs.Lines.{texts_of}
-use Rattle.request_lines.specs.Grammar.{reading_of, none_counted, counted, limit_cause}
+use Rattle.request_lines.specs.Grammar.{reading_of, is_client, none_counted, counted, limit_cause}
 
 -- a line that is not empty: its number, counted from 1 over all lines, what it says or its own cause, and
 -- what the lines before it have asked
@@ -66,16 +66,16 @@ IsRefused bytes (Err errors.NoMemory) = Unit {0}
 -- ---- the session
 
 -- a line begins a client
-abbrev pub is_client : Result Command Cause → Bool
-is_client (Ok says.Client) = true
-is_client reading = false
+abbrev pub begins_client : Result Command Cause → Bool
+begins_client (Ok command) = is_client command
+begins_client (Err cause) = false
 
 -- the request of a line. The record of a PUT line has as many records before it as there are PUT lines.
 abbrev pub request_by : Counts → Result Command Cause → Option Request
 request_by before (Ok (says.Put name fields)) = Some (asks.Put name before.puts)
 request_by before (Ok (says.Delete name)) = Some (asks.Delete name)
 request_by before (Ok (says.Head name)) = Some (asks.Head name)
-request_by before (Ok (says.List query)) = Some (asks.List query)
+request_by before (Ok (says.List query paged)) = Some (asks.List query)
 request_by before (Ok says.Next) = Some asks.Next
 request_by before reading = None
 
@@ -104,7 +104,7 @@ part_of lines = record { requests = filter_map asked_of lines }
 -- the parts of the clients: the lines are cut at each line that begins one. No client has the lines
 -- before the first of these.
 unfoldable pub parts_of : List Line → List ClientPart
-parts_of lines = map part_of (drop 1 (slice_split (λ (l : Line). is_client l.reading) lines))
+parts_of lines = map part_of (drop 1 (slice_split (λ (l : Line). begins_client l.reading) lines))
 
 unfoldable pub names_of : List Line → List (List ℕ)
 names_of lines = filter_map (λ (l : Line). name_by l.reading) lines

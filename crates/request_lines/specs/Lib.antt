@@ -1,7 +1,11 @@
-pub mod Queries
+pub mod Causes
 pub mod Lines
 pub mod Reads
+pub mod Texts
+pub mod Queries
 pub mod Grammar
 pub mod Input
-pub mod Reading
 pub mod Session
+pub mod Left
+pub mod Pieces
+pub mod Reading

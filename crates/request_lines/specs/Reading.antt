@@ -16,7 +16,7 @@ use Rattle.request_lines.specs.declared.session_error.SessionError.{SessionError
 use Rattle.request_lines.specs.declared.session_error.SessionError.TheVariants as errors
 use Rattle.request_lines.specs.Lines.{texts_of}
 use Rattle.request_lines.specs.Grammar.{reading_of, none_counted}
-use Rattle.request_lines.specs.Input.{counted_with, cause_after, error_at, is_client, request_by, asked_at, name_by, record_by}
+use Rattle.request_lines.specs.Input.{counted_with, cause_after, error_at, begins_client, request_by, asked_at, name_by, record_by}
 
 -- what the lines so far have asked: how much, the parts of the clients that have ended, what the last client
 -- has asked, and the names and records
@@ -50,8 +50,8 @@ current_by false p asked = p.current ++ option_to_list asked
 unfoldable pub kept : Progress → ℕ → Result Command Cause → Progress
 kept p number reading = record {
   counts = counted_with p.counts reading;
-  ended = ended_by (is_client reading) p;
-  current = current_by (is_client reading) p (asked_at number (request_by p.counts reading));
+  ended = ended_by (begins_client reading) p;
+  current = current_by (begins_client reading) p (asked_at number (request_by p.counts reading));
   names = p.names ++ option_to_list (name_by reading);
   records = p.records ++ option_to_list (record_by reading);
 }
@@ -62,16 +62,6 @@ taken p number text = if length text == 0 then p else kept p number (reading_of 
 
 unfoldable pub error_of_text : Progress → ℕ → List ℕ → Option InputError
 error_of_text p number text = if length text == 0 then None else error_at number (cause_after p.counts (reading_of text))
-
--- what is left of the input: None behind its last line
-abbrev pub texts_left : Option (Bor (List ℕ)) → List (List ℕ)
-texts_left None = []
-texts_left (Some bytes) = texts_of bytes.now
-
--- how much is left: nothing, or these bytes, of which the last line may have none
-abbrev pub size_left : Option (Bor (List ℕ)) → ℕ
-size_left None = 0
-size_left (Some bytes) = length bytes.now + 1
 
 -- the line was taken, or it has this cause
 abbrev pub Takes : Progress → ℕ → List ℕ → Progress → Result (Unit {0}) SessionError → Type 0

@@ -1,6 +1,71 @@
-/// Why a line is refused. Where several causes hold for a line, the first of this list is given.
+ghost use Rattle.std.specs.Prelude.{◌≡◌};
+ghost use Rattle.request_lines.specs.Causes as spec;
+
+/// Why a line is refused. The causes are in the order in which they are tested: where several hold for a
+/// line, the first of them is given.
 #[derive(Clone, Copy, Debug, PartialEq, Eq)]
 pub enum Cause {
-    /// The line is none that is built yet.
+    /// The line's bytes are not UTF-8.
+    NotUtf8,
+    /// The first field is no verb.
+    UnknownVerb,
+    /// The number of fields is not the verb's.
+    WrongFields,
+    /// In the key or in a query's value a `%` is not followed by two hexadecimal digits, or the unescaped
+    /// bytes are not UTF-8.
+    BadEscape,
+    /// The key is empty.
+    EmptyKey,
+    /// The unescaped key, or the value of `prefix`, `delimiter` or `start-after`, has more than 1,024 bytes,
+    /// the most that Amazon S3 takes for an object key.
+    KeyTooLong,
+    /// Size or modified is not one or more ASCII digits.
+    BadNumber,
+    /// Size or modified is above 18446744073709551615.
+    NumberTooLarge,
+    /// The etag is not 1 to 64 ASCII letters, digits and `-`, perhaps between two double quotes.
+    BadEtag,
+    /// A name is no parameter of ListObjectsV2 (Amazon S3 API reference).
+    UnknownParameter,
+    /// A name stands twice.
+    RepeatedParameter,
+    /// `list-type` is written and is not `2`.
+    BadListType,
+    /// `max-keys` is written and is not one or more ASCII digits with a number of at most 2147483647.
+    BadMaxKeys,
+    /// `encoding-type` is not empty and not `url`.
+    BadEncoding,
+    /// `fetch-owner` is not empty, not `true` and not `false`.
+    BadFetchOwner,
+    /// The verb is not `CLIENT`, and no `CLIENT` line came before.
+    NoClient,
+    /// This is the 33rd `CLIENT` line.
+    TooManyClients,
+    /// This is the 200,001st line that is neither empty nor `CLIENT`.
+    TooManyLines,
+    /// The pages of the LIST and NEXT lines so far can have more than 4,000,000 entries together.
+    TooManyEntries,
+    /// The line is one that is not built yet.
     NotBuilt,
+}
+
+// The place of a cause in the order in which they are tested.
+#[tactic(auto, unfolding(crate::specs::Causes::place_of))]
+fn place_of(cause: Cause) -> u8
+    ensures { result ≡ spec.place_of cause }
+{
+    cause as u8
+}
+
+/// The earlier of two causes.
+#[tactic(auto, unfolding(crate::specs::Causes::earliest))]
+pub fn earliest(cause: Option<Cause>, other: Option<Cause>) -> Option<Cause>
+    ensures { result ≡ spec.earliest cause other }
+{
+    match (cause, other) {
+        (None, _) => other,
+        (Some(_), None) => cause,
+        (Some(first), Some(second)) if place_of(first) <= place_of(second) => cause,
+        (Some(_), Some(_)) => other,
+    }
 }

@@ -1,14 +1,17 @@
 // One line: what it says, or its own first cause.
-ghost use Rattle.std.specs.Prelude.{◌≡◌, [], IfOk};
-ghost use Rattle.request_lines.specs.Grammar.{IsFineCommand, read_fields, read_line, reading_of};
+ghost use Rattle.std.specs.Prelude.{◌≡◌, [], ◌∷◌, IfOk, MatchOption};
+ghost use Rattle.request_lines.specs.declared.verb.Verb.TheVariants as verbs;
+ghost use Rattle.request_lines.specs.Grammar.{IsFineCommand, read_fields, read_line, reading_of, list_read};
 ghost use Rattle.request_lines.specs.Lines.{fields_of};
-ghost use Rattle.request_lines.specs.Grammar as spec;
-ghost use Rattle.request_lines.specs.Reads.{Reads, fields_left, read_without};
+ghost use Rattle.request_lines.specs.Left.{parts_left, IsNotOne};
+ghost use Rattle.request_lines.specs.Reads.{Reads};
 
 use crate::Cause;
-use crate::fields::{first_field, next_field};
 use crate::line_error::LineError;
+use crate::parts::{first_part, next_part};
 use crate::put::{put_fields, put_of};
+use crate::query::{plain_query, query_of, writes_paging};
+use crate::texts::key_of;
 use crate::verb::Verb;
 use bucket_terms::{ListQuery, Record};
 use key_names::Text;
@@ -23,7 +26,8 @@ pub enum Command {
     Put { name: Text, record: Record },
     Delete { name: Text },
     Head { name: Text },
-    List(ListQuery),
+    /// `paged` tells whether the line writes a parameter of paging.
+    List { query: ListQuery, paged: bool },
     /// The next page of the client's last listing.
     Next,
 }
@@ -35,7 +39,7 @@ pub fn command_of(alloc: Global, text: &[u8]) -> Result<Command, LineError>
     ensures fine { IfOk result IsFineCommand }
 {
     let Ok(line) = str::from_utf8(text) else {
-        return Err(LineError::Faulty(Cause::NotBuilt));
+        return Err(LineError::Faulty(Cause::NotUtf8));
     };
     said(alloc, line)
 }
@@ -44,53 +48,115 @@ pub fn command_of(alloc: Global, text: &[u8]) -> Result<Command, LineError>
 fn said(alloc: Global, line: &str) -> Result<Command, LineError>
     ensures { Reads result (read_line (fields_of line.now)) }
 {
-    let (verb, left) = first_field(line);
+    let (verb, left) = first_part(line, ' ');
     match Verb::of(verb) {
         Some(verb) => with_fields(alloc, verb, left),
-        None => Err(LineError::Faulty(Cause::NotBuilt)),
+        None => Err(LineError::Faulty(Cause::UnknownVerb)),
+    }
+}
+
+fn with_fields(alloc: Global, verb: Verb, left: Option<&str>) -> Result<Command, LineError>
+    ensures { Reads result (read_fields verb (parts_left 32 left.entry)) }
+{
+    match verb {
+        Verb::Client => client(left),
+        Verb::Put => put(alloc, left),
+        Verb::Delete => delete(alloc, left),
+        Verb::Head => head(alloc, left),
+        Verb::List => list(alloc, left),
+        Verb::Next => next(left),
     }
 }
 
 #[tactic(auto, unfolding(crate::specs::Grammar::read_fields))]
-fn with_fields(alloc: Global, verb: Verb, left: Option<&str>) -> Result<Command, LineError>
-    ensures { Reads result (read_fields verb (fields_left left.entry)) }
+fn client(left: Option<&str>) -> Result<Command, LineError>
+    ensures { Reads result (read_fields verbs.Client (parts_left 32 left.entry)) }
 {
-    match verb {
-        Verb::Client => without_fields(left, Command::Client),
-        Verb::Put => match put_fields(left) {
-            Some(fields) => put_of(alloc, fields),
-            None => Err(LineError::Faulty(Cause::NotBuilt)),
-        },
-        Verb::List => without_fields(left, Command::List(plain_query(alloc))),
+    match next_part(left, ' ') {
+        None => Ok(Command::Client),
+        Some(_) => Err(LineError::Faulty(Cause::WrongFields)),
     }
 }
 
-// The command, of a line that has no field left.
-fn without_fields(left: Option<&str>, command: Command) -> Result<Command, LineError>
-    ensures { Reads result (read_without (fields_left left.entry) command) }
+#[tactic(auto, unfolding(crate::specs::Grammar::read_fields))]
+fn next(left: Option<&str>) -> Result<Command, LineError>
+    ensures { Reads result (read_fields verbs.Next (parts_left 32 left.entry)) }
 {
-    match next_field(left) {
-        None => Ok(command),
-        Some(_) => Err(LineError::Faulty(Cause::NotBuilt)),
+    match next_part(left, ' ') {
+        None => Ok(Command::Next),
+        Some(_) => Err(LineError::Faulty(Cause::WrongFields)),
     }
 }
 
-// A listing of everything.
-fn plain_query(alloc: Global) -> ListQuery
-    ensures { result ≡ spec.plain_query }
+#[tactic(auto, unfolding(crate::specs::Grammar::read_fields))]
+fn put(alloc: Global, left: Option<&str>) -> Result<Command, LineError>
+    ensures { Reads result (read_fields verbs.Put (parts_left 32 left.entry)) }
 {
-    ListQuery {
-        prefix: empty(alloc),
-        delimiter: empty(alloc),
-        start_after: empty(alloc),
-        token: empty(alloc),
-        max_keys: 1000,
-        url: false,
+    match put_fields(left) {
+        Some(fields) => put_of(alloc, fields),
+        None => Err(LineError::Faulty(Cause::WrongFields)),
     }
 }
 
-fn empty(alloc: Global) -> Text
-    ensures { result ≡ [] }
+#[tactic(auto, unfolding(crate::specs::Grammar::read_fields, crate::specs::Grammar::delete_read))]
+fn delete(alloc: Global, left: Option<&str>) -> Result<Command, LineError>
+    ensures { Reads result (read_fields verbs.Delete (parts_left 32 left.entry)) }
 {
-    Text::from_string(String::new(alloc))
+    let Some(key) = only_field(left) else {
+        return Err(LineError::Faulty(Cause::WrongFields));
+    };
+    let name = key_of(alloc, key)?;
+    Ok(Command::Delete { name })
+}
+
+#[tactic(auto, unfolding(crate::specs::Grammar::read_fields, crate::specs::Grammar::head_read))]
+fn head(alloc: Global, left: Option<&str>) -> Result<Command, LineError>
+    ensures { Reads result (read_fields verbs.Head (parts_left 32 left.entry)) }
+{
+    let Some(key) = only_field(left) else {
+        return Err(LineError::Faulty(Cause::WrongFields));
+    };
+    let name = key_of(alloc, key)?;
+    Ok(Command::Head { name })
+}
+
+// The field that is left, where there is one.
+fn only_field(left: Option<&str>) -> Option<&str>
+    ensures { MatchOption result (IsNotOne (parts_left 32 left.entry)) (λ field. parts_left 32 left.entry ≡ field.now ∷ []) }
+{
+    let Some((field, left)) = next_part(left, ' ') else {
+        return None;
+    };
+    match next_part(left, ' ') {
+        None => Some(field),
+        Some(_) => None,
+    }
+}
+
+#[tactic(auto, unfolding(crate::specs::Grammar::read_fields))]
+fn list(alloc: Global, left: Option<&str>) -> Result<Command, LineError>
+    ensures { Reads result (read_fields verbs.List (parts_left 32 left.entry)) }
+{
+    let Some((text, left)) = next_part(left, ' ') else {
+        return Ok(Command::List {
+            query: plain_query(alloc),
+            paged: false,
+        });
+    };
+    match next_part(left, ' ') {
+        None => list_of(alloc, text),
+        Some(_) => Err(LineError::Faulty(Cause::WrongFields)),
+    }
+}
+
+// The LIST line with this query.
+#[tactic(auto, unfolding(crate::specs::Grammar::list_read))]
+fn list_of(alloc: Global, text: &str) -> Result<Command, LineError>
+    ensures { Reads result (list_read text.now) }
+{
+    let query = query_of(alloc, text)?;
+    Ok(Command::List {
+        query,
+        paged: writes_paging(text),
+    })
 }

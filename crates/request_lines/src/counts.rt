@@ -1,6 +1,6 @@
 // What the lines so far have asked, against the limits of a session.
 ghost use Rattle.std.specs.Prelude.{◌≡◌, None, Some, IfOk, MatchResult};
-ghost use Rattle.request_lines.specs.Grammar.{IsWithin, IsFineCommand, counted, limit_cause, none_counted};
+ghost use Rattle.request_lines.specs.Grammar.{IsWithin, IsFineCommand, counted, limit_cause, is_built, none_counted};
 
 use crate::Cause;
 use crate::command::Command;
@@ -36,6 +36,7 @@ impl Counts {
     }
 
     /// The counts with this line, or the limit that it passes.
+    #[tactic(auto, unfolding(crate::specs::Grammar::limit_cause))]
     pub fn admitted(self, command: &Command) -> Result<Counts, Cause>
         requires within { IsWithin self }
         requires fine { IsFineCommand command.now }
@@ -45,13 +46,35 @@ impl Counts {
         ensures within { IfOk result IsWithin }
     {
         let so_far = self.counted(command);
+        let is_client = matches!(command, Command::Client);
+        if !is_client && so_far.clients == 0 {
+            return Err(Cause::NoClient);
+        }
+        if is_client && so_far.clients > 32 {
+            return Err(Cause::TooManyClients);
+        }
+        if so_far.requests > 200_000 {
+            return Err(Cause::TooManyLines);
+        }
+        if so_far.entries > 4_000_000 {
+            return Err(Cause::TooManyEntries);
+        }
+        if !so_far.is_built(command) {
+            return Err(Cause::NotBuilt);
+        }
+        Ok(so_far)
+    }
+
+    // Whether a line with these counts is built.
+    fn is_built(self, command: &Command) -> bool
+        ensures { result ≡ is_built self command.now }
+    {
         match command {
-            Command::Client if so_far.clients <= 1 => Ok(so_far),
-            Command::Put { .. } if 0 < so_far.clients && so_far.puts <= 1000 => Ok(so_far),
-            Command::List(_) if 0 < so_far.clients && so_far.requests <= so_far.puts + 4000 => {
-                Ok(so_far)
-            }
-            _ => Err(Cause::NotBuilt),
+            Command::Client => self.clients <= 1,
+            Command::Put { .. } => self.puts <= 1000,
+            Command::Delete { .. } | Command::Head { .. } => true,
+            Command::List { paged, .. } => !*paged,
+            Command::Next => false,
         }
     }
 
@@ -70,7 +93,7 @@ impl Counts {
             }
             Command::Put { .. } => so_far.puts += 1,
             Command::Delete { .. } | Command::Head { .. } => {}
-            Command::List(query) => {
+            Command::List { query, .. } => {
                 so_far.entries += query.max_keys;
                 so_far.last = query.max_keys;
             }

@@ -7,14 +7,17 @@
 mod cause;
 mod command;
 mod counts;
-mod fields;
 mod line_error;
 mod lists;
+mod parameter;
+mod parts;
 mod put;
+mod query;
 mod read;
 mod reader;
 mod session;
 mod session_error;
+mod texts;
 mod verb;
 
 pub use cause::Cause;

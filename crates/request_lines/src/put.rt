@@ -1,22 +1,20 @@
 // A PUT line.
-ghost use Rattle.std.specs.Prelude.{◌≡◌, ℕ, ◌<◌, ◌^◌, [], ◌∷◌, true, Err, IfOk, MatchOption, MatchResult};
-ghost use Rattle.std.specs.Char.{is_ascii_digit};
-ghost use Rattle.std.specs.List.{list_all};
-ghost use Rattle.std.specs.Str.Parse.{digits_value};
+ghost use Rattle.std.specs.Prelude.{◌≡◌, [], ◌∷◌, Err, MatchOption};
+ghost use Rattle.request_lines.specs.declared.cause.Cause.TheVariants.{WrongFields};
 ghost use Rattle.request_lines.specs.declared.verb.Verb.TheVariants as verbs;
-ghost use Rattle.request_lines.specs.declared.cause.Cause.TheVariants.{NotBuilt};
 ghost use Rattle.request_lines.specs.Grammar as spec;
-ghost use Rattle.request_lines.specs.Reads.{Reads, fields_left};
+ghost use Rattle.request_lines.specs.Left.{parts_left};
+ghost use Rattle.request_lines.specs.Reads.{Reads};
 
-use crate::Cause;
 use crate::command::Command;
-use crate::fields::next_field;
 use crate::line_error::LineError;
+use crate::parts::next_part;
+use crate::texts::{etag_of, key_of, numbers_of};
 use bucket_terms::Record;
-use key_names::Text;
 use std::alloc::Global;
 
 /// The fields of a PUT line behind its verb.
+#[derive(Clone, Copy)]
 pub struct PutFields<'a> {
     pub key: &'a str,
     pub size: &'a str,
@@ -27,22 +25,22 @@ pub struct PutFields<'a> {
 /// These fields, where there are four.
 #[tactic(auto, unfolding(crate::specs::Grammar::read_fields))]
 pub fn put_fields(left: Option<&str>) -> Option<PutFields<'_>>
-    ensures { MatchOption result (spec.read_fields verbs.Put (fields_left left.entry) ≡ Err NotBuilt)
-        (λ f. fields_left left.entry ≡ f.key.now ∷ f.size.now ∷ f.etag.now ∷ f.modified.now ∷ []) }
+    ensures { MatchOption result (spec.read_fields verbs.Put (parts_left 32 left.entry) ≡ Err WrongFields)
+        (λ f. parts_left 32 left.entry ≡ f.key.now ∷ f.size.now ∷ f.etag.now ∷ f.modified.now ∷ []) }
 {
-    let Some((key, left)) = next_field(left) else {
+    let Some((key, left)) = next_part(left, ' ') else {
         return None;
     };
-    let Some((size, left)) = next_field(left) else {
+    let Some((size, left)) = next_part(left, ' ') else {
         return None;
     };
-    let Some((etag, left)) = next_field(left) else {
+    let Some((etag, left)) = next_part(left, ' ') else {
         return None;
     };
-    let Some((modified, left)) = next_field(left) else {
+    let Some((modified, left)) = next_part(left, ' ') else {
         return None;
     };
-    let None = next_field(left) else {
+    let None = next_part(left, ' ') else {
         return None;
     };
     Some(PutFields {
@@ -58,94 +56,15 @@ pub fn put_fields(left: Option<&str>) -> Option<PutFields<'_>>
 pub fn put_of(alloc: Global, fields: PutFields<'_>) -> Result<Command, LineError>
     ensures { let f = fields.entry in Reads result (spec.put_read f.key.now f.size.now f.etag.now f.modified.now) }
 {
-    let PutFields {
-        key,
-        size,
-        etag,
-        modified,
-    } = fields;
-    if !is_plain_key(key) || !is_etag(etag) {
-        return Err(LineError::Faulty(Cause::NotBuilt));
-    }
-    if !is_plain_number(size) || !is_plain_number(modified) {
-        return Err(LineError::Faulty(Cause::NotBuilt));
-    }
-    let record = Record {
-        size: number(size),
-        etag: Text::of(alloc, etag)?,
-        modified: number(modified),
-    };
-    let name = Text::of(alloc, key)?;
-    Ok(Command::Put { name, record })
-}
-
-#[tactic(auto, unfolding(crate::specs::Grammar::is_plain_key))]
-fn is_plain_key(key: &str) -> bool
-    ensures { result ≡ spec.is_plain_key key.now }
-{
-    !key.is_empty() && key.len() <= 1024 && is_all_plain(key)
-}
-
-fn is_all_plain(key: &str) -> bool
-    ensures { result ≡ list_all spec.is_plain key.now }
-{
-    key.bytes().all(is_plain)
-}
-
-#[tactic(auto, unfolding(crate::specs::Grammar::is_plain))]
-fn is_plain(b: u8) -> bool
-    ensures { result ≡ spec.is_plain b }
-{
-    is_letter(b) || b == b'-' || b == b'.' || b == b'_' || b == b'~' || b == b'/'
-}
-
-#[tactic(auto, unfolding(crate::specs::Grammar::is_letter))]
-fn is_letter(b: u8) -> bool
-    ensures { result ≡ spec.is_letter b }
-{
-    b.is_ascii_digit() || (b'A' <= b && b <= b'Z') || (b'a' <= b && b <= b'z')
-}
-
-#[tactic(auto, unfolding(crate::specs::Grammar::is_etag))]
-fn is_etag(text: &str) -> bool
-    ensures { result ≡ spec.is_etag text.now }
-{
-    !text.is_empty() && text.len() <= 64 && is_all_tag(text)
-}
-
-fn is_all_tag(text: &str) -> bool
-    ensures { result ≡ list_all spec.is_tag_byte text.now }
-{
-    text.bytes().all(is_tag_byte)
-}
-
-#[tactic(auto, unfolding(crate::specs::Grammar::is_tag_byte))]
-fn is_tag_byte(b: u8) -> bool
-    ensures { result ≡ spec.is_tag_byte b }
-{
-    is_letter(b) || b == b'-'
-}
-
-#[tactic(auto, unfolding(crate::specs::Grammar::is_plain_number))]
-fn is_plain_number(text: &str) -> bool
-    ensures { result ≡ spec.is_plain_number text.now }
-{
-    !text.is_empty() && text.len() <= 18 && is_all_digits(text)
-}
-
-fn is_all_digits(text: &str) -> bool
-    ensures { result ≡ list_all is_ascii_digit text.now }
-{
-    text.bytes().all(|b| b.is_ascii_digit())
-}
-
-// The number that the digits write. There are few enough that it fits.
-fn number(text: &str) -> u64
-    requires { spec.is_plain_number text.now ≡ true }
-    ensures { result ≡ digits_value 10 text.now }
-{
-    match text.parse::<u64>() {
-        Ok(number) => number,
-        Err(_) => unreachable!(),
-    }
+    let name = key_of(alloc, fields.key)?;
+    let (size, modified) = numbers_of(fields.size, fields.modified)?;
+    let etag = etag_of(alloc, fields.etag)?;
+    Ok(Command::Put {
+        name,
+        record: Record {
+            size,
+            etag,
+            modified,
+        },
+    })
 }

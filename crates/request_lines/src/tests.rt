@@ -74,25 +74,168 @@ fn reads_other_line_ends(rt: HostRuntime) -> Result<(), Fail> {
     Ok(())
 }
 
+// The cause of a line behind `CLIENT`.
+fn cause(alloc: Global, line: &str) -> Result<Option<Cause>, Fail> {
+    let text = format!(in alloc; "CLIENT\n{line}\nCLIENT x\n")?;
+    match refusal(alloc, text.as_str()) {
+        Some(SessionError::Input(e)) if e.line == 2 => Ok(Some(e.cause)),
+        Some(SessionError::Input(e)) if e.line == 3 => Ok(None),
+        _ => Err("another answer")?,
+    }
+}
+
+#[test]
+fn refuses_faulty_lines(rt: HostRuntime) -> Result<(), Fail> {
+    for (line, wanted) in [
+        ("GET a", Cause::UnknownVerb),
+        ("put a 1 e1 1", Cause::UnknownVerb),
+        ("PUT a 1 e1", Cause::WrongFields),
+        ("PUT a 1 e1 1 ", Cause::WrongFields),
+        ("HEAD", Cause::WrongFields),
+        ("LIST a b", Cause::WrongFields),
+        ("NEXT a", Cause::WrongFields),
+        ("PUT a%2 1 e1 1", Cause::BadEscape),
+        ("PUT a%2x 1 e1 1", Cause::BadEscape),
+        ("HEAD %FF", Cause::BadEscape),
+        ("LIST marker=%", Cause::BadEscape),
+        ("PUT  1 e1 1", Cause::EmptyKey),
+        ("DELETE ", Cause::EmptyKey),
+        ("PUT a x e1 1", Cause::BadNumber),
+        ("PUT a 1 e1 +1", Cause::BadNumber),
+        ("PUT a  e1 1", Cause::BadNumber),
+        ("PUT a 18446744073709551616 e1 1", Cause::NumberTooLarge),
+        ("PUT a 1 e! 1", Cause::BadEtag),
+        ("PUT a 1 \" 1", Cause::BadEtag),
+        ("PUT a 1 \"\" 1", Cause::BadEtag),
+        ("LIST marker=a", Cause::UnknownParameter),
+        ("LIST =a", Cause::UnknownParameter),
+        ("LIST ??prefix=a", Cause::UnknownParameter),
+        ("LIST prefix=a&prefix=b", Cause::RepeatedParameter),
+        ("LIST list-type=1", Cause::BadListType),
+        ("LIST list-type", Cause::BadListType),
+        ("LIST max-keys=-1", Cause::BadMaxKeys),
+        ("LIST max-keys=", Cause::BadMaxKeys),
+        ("LIST max-keys=2147483648", Cause::BadMaxKeys),
+        ("LIST encoding-type=gzip", Cause::BadEncoding),
+        ("LIST fetch-owner=yes", Cause::BadFetchOwner),
+    ] {
+        assert_eq!(rt; cause(rt.alloc(), line)?, Some(wanted), "in {line:?}");
+    }
+    Ok(())
+}
+
+#[test]
+fn gives_the_first_cause_of_a_line(rt: HostRuntime) -> Result<(), Fail> {
+    for (line, wanted) in [
+        ("PUT %2 x e! 1", Cause::BadEscape),
+        ("PUT  x e! 1", Cause::EmptyKey),
+        ("PUT a 18446744073709551616 e1 x", Cause::BadNumber),
+        ("PUT a 18446744073709551616 e! 1", Cause::NumberTooLarge),
+        (
+            "LIST fetch-owner=yes&encoding-type=gzip",
+            Cause::BadEncoding,
+        ),
+        (
+            "LIST fetch-owner=yes&list-type=2&max-keys=x&list-type=2",
+            Cause::RepeatedParameter,
+        ),
+        ("LIST list-type=1&list-type=1&x", Cause::UnknownParameter),
+        ("LIST x=1&prefix=%zz", Cause::BadEscape),
+    ] {
+        assert_eq!(rt; cause(rt.alloc(), line)?, Some(wanted), "in {line:?}");
+    }
+    Ok(())
+}
+
+#[test]
+fn gives_the_first_faulty_line(rt: HostRuntime) -> Result<(), Fail> {
+    let alloc = rt.alloc();
+    for (text, line, wanted) in [
+        ("PUT a 1 e1 1", 1, Cause::NoClient),
+        ("PUT a x e! 1", 1, Cause::BadNumber),
+        ("CLIENT\n\nPUT a 1 e! 1\nGET\n", 3, Cause::BadEtag),
+        ("CLIENT\nPUT a 1 e1 1\n\nCLIENT", 4, Cause::NotBuilt),
+    ] {
+        assert_eq!(rt; refusal(alloc, text), input(line, wanted), "in {text:?}");
+    }
+    let bytes = b"CLIENT\nPUT \xFF 1 e1\n";
+    assert_eq!(rt;
+        read_session(alloc, bytes.as_slice()).err(),
+        input(2, Cause::NotUtf8)
+    );
+    Ok(())
+}
+
+#[test]
+fn takes_forms_that_are_right(rt: HostRuntime) -> Result<(), Fail> {
+    for line in [
+        "PUT caf%C3%A9%20x 1 e1 1",
+        "PUT a+b 0018446744073709551615 \"e-1\" 00",
+        "DELETE a",
+        "HEAD é",
+        "LIST",
+        "LIST ",
+        "LIST ?list-type=2&&prefix=a%2Fb&delimiter=/&start-after=a&fetch-owner=true&",
+    ] {
+        assert_eq!(rt; cause(rt.alloc(), line)?, None, "in {line:?}");
+    }
+    Ok(())
+}
+
+#[test]
+fn unescapes_names_and_values(rt: HostRuntime) -> Result<(), Fail> {
+    let alloc = rt.alloc();
+    let text =
+        "CLIENT\nPUT caf%C3%a9%20x 1 \"e1\" 1\nPUT a+b 2 e2 2\nLIST ?prefix=a%3D%26&delimiter=b=c&start-after=d\n";
+    let session = read(alloc, text)?;
+    let names = session.names.into_vec();
+    assert_eq!(rt; names.len(), 2);
+    assert_eq!(rt; names[0].as_str(), "café x");
+    assert_eq!(rt; names[1].as_str(), "a+b");
+    let records = session.records.into_vec();
+    assert_eq!(rt; records.len(), 2);
+    assert_eq!(rt; records[0].etag.as_str(), "e1");
+    let clients = session.clients.into_vec();
+    assert_eq!(rt; clients.len(), 1);
+    let last = clients[0].requests.as_slice().last().ok_or("no request")?;
+    let Request::List(query) = &last.request else {
+        panic!(rt; "line 4 is no listing")
+    };
+    assert_eq!(rt; query.prefix.as_str(), "a=&");
+    assert_eq!(rt; query.delimiter.as_str(), "b=c");
+    assert_eq!(rt; query.start_after.as_str(), "d");
+    Ok(())
+}
+
+#[test]
+fn limits_the_length_of_a_name(rt: HostRuntime) -> Result<(), Fail> {
+    let alloc = rt.alloc();
+    let mut key = String::new(alloc);
+    for _ in 0..1024 {
+        key.push('n')?;
+    }
+    let head = format!(in alloc; "HEAD {key}")?;
+    assert_eq!(rt; cause(alloc, head.as_str())?, None);
+    let head = format!(in alloc; "HEAD {key}n")?;
+    assert_eq!(rt; cause(alloc, head.as_str())?, Some(Cause::KeyTooLong));
+    let list = format!(in alloc; "LIST prefix={key}n&x")?;
+    assert_eq!(rt; cause(alloc, list.as_str())?, Some(Cause::KeyTooLong));
+    Ok(())
+}
+
 #[test]
 fn refuses_what_is_not_built(rt: HostRuntime) -> Result<(), Fail> {
-    let alloc = rt.alloc();
-    for (text, line) in [
-        ("PUT a 1 e1 1", 1),
-        ("CLIENT\n\nCLIENT", 3),
-        ("CLIENT\r\nLIST \n", 2),
-        ("CLIENT\nLIST\nPUT a 1 e1", 3),
-        ("CLIENT\nPUT a 1 e1 1 \n", 2),
-        ("CLIENT\nPUT a+ 1 e1 1\n", 2),
-        ("CLIENT\nPUT a +1 e1 1\n", 2),
-        ("CLIENT\nPUT a 1234567890123456789 e1 1\n", 2),
-        ("CLIENT\nPUT a 1 \"e1\" 1\nCLIENT", 2),
-        ("CLIENT\nHEAD a\n", 2),
+    for line in [
+        "CLIENT",
+        "NEXT",
+        "LIST max-keys=1",
+        "LIST continuation-token=",
+        "LIST encoding-type=url",
     ] {
         assert_eq!(rt;
-            refusal(alloc, text),
-            input(line, Cause::NotBuilt),
-            "in {text:?}"
+            cause(rt.alloc(), line)?,
+            Some(Cause::NotBuilt),
+            "in {line:?}"
         );
     }
     Ok(())

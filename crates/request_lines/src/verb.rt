@@ -6,7 +6,10 @@ ghost use Rattle.request_lines.specs.Grammar.{verb_of};
 pub enum Verb {
     Client,
     Put,
+    Delete,
+    Head,
     List,
+    Next,
 }
 
 impl Verb {
@@ -17,7 +20,10 @@ impl Verb {
         match text {
             "CLIENT" => Some(Verb::Client),
             "PUT" => Some(Verb::Put),
+            "DELETE" => Some(Verb::Delete),
+            "HEAD" => Some(Verb::Head),
             "LIST" => Some(Verb::List),
+            "NEXT" => Some(Verb::Next),
             _ => None,
         }
     }

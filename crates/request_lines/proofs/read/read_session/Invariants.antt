@@ -1,6 +1,7 @@
 use Rattle.std.proofs.Common.{◌≤◌, ◌+◌, length}
 use Rattle.request_lines.specs.Grammar.{IsWithin}
-use Rattle.request_lines.specs.Reading.{progress, texts_left, size_left}
+use Rattle.request_lines.specs.Reading.{progress}
+use Rattle.request_lines.specs.Left.{texts_left, size_left}
 use Rattle.request_lines.proofs.InputLaws.{IsHalfway}
 use Rattle.request_lines.proofs.Sound.{IsSound}
 use Rattle.request_lines.proofs.read.read_session.Given as goal

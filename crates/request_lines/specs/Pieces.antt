@@ -1,0 +1,34 @@
+-- How a query is read, piece by piece.
+use Rattle.std.specs.Prelude.{◌≡◌, ℕ, ◌==◌, List, length, Result, Ok, Err, if◌then◌else◌}
+use Rattle.bucket_terms.specs.declared.list_query.ListQuery.{ListQuery}
+use Rattle.request_lines.specs.declared.cause.Cause.{Cause}
+use Rattle.request_lines.specs.declared.line_error.LineError.{LineError}
+use Rattle.request_lines.specs.declared.line_error.LineError.TheVariants as errors
+use Rattle.request_lines.specs.declared.query as code
+use Rattle.request_lines.specs.Reads.{◌>>=◌}
+use Rattle.request_lines.specs.Queries.{Asking, Parameter, parameter_read, parameters_read, asking_with, query_by}
+
+-- what is kept of the parameters so far
+abbrev pub asking : code.Asking.Asking → Asking
+asking so_far = record { query = so_far.query; names = so_far.names.items; cause = so_far.cause }
+
+abbrev pub parameter : code.Parameter.Parameter → Parameter
+parameter p = record { name = p.name; value = p.value }
+
+-- with one piece more
+unfoldable pub piece_asked : Asking → List ℕ → Result Asking Cause
+piece_asked so_far piece =
+    if length piece == 0 then Ok so_far
+    else do
+      p ← parameter_read piece
+      Ok (asking_with so_far p)
+
+-- the query, with the pieces that are left
+abbrev pub pieces_asked : Asking → List (List ℕ) → Result ListQuery Cause
+pieces_asked so_far pieces = parameters_read pieces >>= query_by so_far
+
+-- the piece was taken, or it has this cause
+abbrev pub TakesPiece : Asking → List ℕ → Asking → Result (Unit {0}) LineError → Type 0
+TakesPiece so_far piece after (Ok done) = piece_asked so_far piece ≡ Ok after
+TakesPiece so_far piece after (Err (errors.Faulty cause)) = piece_asked so_far piece ≡ Err cause
+TakesPiece so_far piece after (Err errors.NoMemory) = Unit {0}

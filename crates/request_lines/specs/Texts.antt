@@ -1,0 +1,69 @@
+-- What a field says: a key, a number, an entity tag.
+use Rattle.std.specs.Prelude.{ℕ, ◌+◌, ◌-◌, ◌==◌, ◌&&◌, ◌||◌, not, nat_lt, nat_le, Bool, true, false, List, [], ◌∷◌, length, take, drop, slice_index, Result, Ok, Err, if◌then◌else◌}
+use Rattle.std.specs.Char.{is_digit, is_ascii_digit}
+use Rattle.std.specs.List.{list_all}
+use Rattle.std.specs.Str.{is_utf8, all_ascii_digits}
+use Rattle.std.specs.Str.Parse.{digits_value}
+use Rattle.percent_encoding.specs.Percent.{percent_decode}
+use Rattle.request_lines.specs.declared.cause.Cause.{Cause}
+use Rattle.request_lines.specs.declared.cause.Cause.TheVariants.{BadEscape, EmptyKey, KeyTooLong, BadNumber, NumberTooLarge, BadEtag}
+use Rattle.request_lines.specs.Reads.{◌>>=◌}
+
+-- two hexadecimal digits of either case stand at the front
+abbrev pub begins_with_digits : List ℕ → Bool
+begins_with_digits (high ∷ low ∷ bytes) = is_digit high 16 && is_digit low 16
+begins_with_digits bytes = false
+
+-- each `%` is followed by two hexadecimal digits
+unfoldable pub escapes_are_whole : List ℕ → Bool
+escapes_are_whole [] = true
+escapes_are_whole (b ∷ bytes) = (not (b == 37) || begins_with_digits bytes) && escapes_are_whole bytes
+
+-- the text unescaped, where its escapes are whole and stand for UTF-8: `%` and two hexadecimal digits are one
+-- byte, every other byte stands for itself, `+` too (URL Standard, percent-decode)
+unfoldable pub unescaped : List ℕ → Result (List ℕ) Cause
+unescaped text = if escapes_are_whole text && is_utf8 (percent_decode text) then Ok (percent_decode text) else Err BadEscape
+
+-- an unescaped text that is neither empty nor too long for the name of an object
+unfoldable pub name_of : List ℕ → Result (List ℕ) Cause
+name_of name = if length name == 0 then Err EmptyKey else if nat_lt 1024 (length name) then Err KeyTooLong else Ok name
+
+-- the name of a key
+unfoldable pub key_read : List ℕ → Result (List ℕ) Cause
+key_read key = do
+  name ← unescaped key
+  name_of name
+
+-- one or more ASCII digits
+unfoldable pub is_number : List ℕ → Bool
+is_number text = not (length text == 0) && all_ascii_digits text
+
+-- the number has 64 bits
+unfoldable pub is_small : List ℕ → Bool
+is_small text = nat_le (digits_value 10 text) 18446744073709551615
+
+-- a record's size and time
+unfoldable pub numbers_read : List ℕ → List ℕ → Result (ℕ × ℕ) Cause
+numbers_read size modified =
+    if not (is_number size && is_number modified) then Err BadNumber
+    else if not (is_small size && is_small modified) then Err NumberTooLarge
+    else Ok (digits_value 10 size, digits_value 10 modified)
+
+-- an ASCII letter or digit, or `-`
+unfoldable pub is_tag_byte : ℕ → Bool
+is_tag_byte b = is_ascii_digit b || (nat_le 65 b && nat_le b 90) || (nat_le 97 b && nat_le b 122) || b == 45
+
+-- 1 to 64 of these
+unfoldable pub is_tag : List ℕ → Bool
+is_tag text = nat_lt 0 (length text) && nat_le (length text) 64 && list_all is_tag_byte text
+
+-- a text between two double quotes without them, and any other text as it is
+unfoldable pub unquoted : List ℕ → List ℕ
+unquoted text =
+    if nat_lt 1 (length text) && slice_index text 0 == 34 && slice_index text (length text - 1) == 34
+    then take (length text - 2) (drop 1 text)
+    else text
+
+-- an entity tag
+unfoldable pub etag_read : List ℕ → Result (List ℕ) Cause
+etag_read text = if is_tag (unquoted text) then Ok (unquoted text) else Err BadEtag

@@ -1,0 +1,260 @@
+// The query of a LIST line.
+ghost use Rattle.std.specs.Prelude.{◌≡◌, [], true, false, min, OnOk, IsOkUnless, MatchOption};
+ghost use Rattle.std.specs.Str.Parse.{digits_value};
+ghost use Rattle.request_lines.specs.declared.line_error.LineError.TheVariants.{NoMemory as OutOfMemory};
+ghost use Rattle.request_lines.specs.Grammar.{is_paged, is_paging};
+ghost use Rattle.request_lines.specs.Queries as spec;
+ghost use Rattle.request_lines.specs.Pieces.{asking, parameter as as_parameter, TakesPiece};
+ghost use Rattle.request_lines.specs.Reads.{Reads, ReadsAs};
+
+use crate::Cause;
+use crate::cause::earliest;
+use crate::line_error::LineError;
+use crate::parameter::{Name, stands_in};
+use crate::parts::first_part;
+use crate::texts::{is_number, number, unescaped};
+use bucket_terms::ListQuery;
+use key_names::Text;
+use std::alloc::Global;
+
+/// What the parameters so far ask: the query, their names, each once, and the earliest of their causes.
+#[derive(Drop)]
+pub struct Asking {
+    pub query: ListQuery,
+    pub names: Vec<Name>,
+    pub cause: Option<Cause>,
+}
+
+/// One parameter, with its value unescaped.
+#[derive(Drop)]
+pub struct Parameter {
+    pub name: Option<Name>,
+    pub value: Text,
+}
+
+/// A listing of everything.
+pub fn plain_query(alloc: Global) -> ListQuery
+    ensures { result ≡ spec.plain_query }
+{
+    ListQuery {
+        prefix: empty(alloc),
+        delimiter: empty(alloc),
+        start_after: empty(alloc),
+        token: empty(alloc),
+        max_keys: 1000,
+        url: false,
+    }
+}
+
+fn empty(alloc: Global) -> Text
+    ensures { result ≡ [] }
+{
+    Text::from_string(String::new(alloc))
+}
+
+/// The query that this text writes.
+pub fn query_of(alloc: Global, text: &str) -> Result<ListQuery, LineError>
+    ensures { Reads result (spec.query_read text.now) }
+{
+    let mut so_far = Asking {
+        query: plain_query(alloc),
+        names: Vec::new(alloc),
+        cause: None,
+    };
+    let mut left = Some(without_mark(text));
+    while let Some(pieces) = left {
+        let (piece, rest) = first_part(pieces, '&');
+        so_far.take_piece(alloc, piece)?;
+        left = rest;
+    }
+    so_far.finish()
+}
+
+impl Asking {
+    // Takes the next piece, which may be empty.
+    #[tactic(auto, unfolding(crate::specs::Pieces::piece_asked, crate::specs::Queries::parameter_read))]
+    fn take_piece(&mut self, alloc: Global, piece: &str) -> Result<(), LineError>
+        ensures { TakesPiece (asking self.old) piece.now (asking self.new) result }
+    {
+        if piece.is_empty() {
+            return Ok(());
+        }
+        let parameter = parameter_of(alloc, piece)?;
+        self.take(parameter)
+    }
+
+    // Takes the next parameter.
+    #[tactic(auto, unfolding(crate::specs::Queries::asking_with))]
+    fn take(&mut self, parameter: Parameter) -> Result<(), LineError>
+        ensures asked { OnOk result (asking self.new ≡ spec.asking_with (asking self.old) (as_parameter parameter)) }
+        ensures memory { IsOkUnless result OutOfMemory }
+    {
+        let Parameter { name, value } = parameter;
+        let cause = parameter_cause(self.names.as_slice(), name, value.as_str());
+        self.keep_name(name)?;
+        self.cause = earliest(self.cause, cause);
+        set(&mut self.query, name, value);
+        Ok(())
+    }
+
+    #[tactic(auto, unfolding(crate::specs::Queries::with_name))]
+    fn keep_name(&mut self, name: Option<Name>) -> Result<(), LineError>
+        ensures kept { OnOk result (asking self.new ≡ record (asking self.old) { names = spec.with_name (asking self.old).names name }) }
+        ensures memory { IsOkUnless result OutOfMemory }
+    {
+        match name {
+            Some(name) if !stands_in(self.names.as_slice(), name) => {
+                self.names.push(name)?;
+                Ok(())
+            }
+            _ => Ok(()),
+        }
+    }
+
+    // The query of all parameters.
+    fn finish(self) -> Result<ListQuery, LineError>
+        ensures { Reads result (spec.query_or self.cause self.query) }
+    {
+        match self.cause {
+            None => Ok(self.query),
+            Some(cause) => Err(LineError::Faulty(cause)),
+        }
+    }
+}
+
+// A query without one `?` at its front.
+fn without_mark(text: &str) -> &str
+    ensures { result.now ≡ spec.without_mark text.now }
+{
+    match text.strip_prefix('?') {
+        Some(query) => query,
+        None => text,
+    }
+}
+
+// The parameter of a piece, which is cut at its first `=`.
+#[tactic(auto, unfolding(crate::specs::Queries::parameter_read))]
+fn parameter_of(alloc: Global, piece: &str) -> Result<Parameter, LineError>
+    ensures { ReadsAs as_parameter result (spec.parameter_read piece.now) }
+{
+    let (name, value) = cut(piece);
+    let value = unescaped(alloc, value)?;
+    Ok(Parameter {
+        name: Name::written(name),
+        value,
+    })
+}
+
+fn cut(piece: &str) -> (&str, &str)
+    ensures name { result.0.now ≡ spec.name_of_piece piece.now }
+    ensures value { result.1.now ≡ spec.value_of_piece piece.now }
+{
+    match piece.split_once('=') {
+        Some((name, value)) => (name, value),
+        None => (piece, ""),
+    }
+}
+
+// The first cause of a parameter behind these names.
+#[tactic(auto, unfolding(crate::specs::Queries::parameter_cause))]
+fn parameter_cause(names: &[Name], name: Option<Name>, value: &str) -> Option<Cause>
+    ensures { result ≡ spec.parameter_cause names.now name value.now }
+{
+    let Some(name) = name else {
+        return Some(Cause::UnknownParameter);
+    };
+    if is_too_long(name, value) {
+        return Some(Cause::KeyTooLong);
+    }
+    if stands_in(names, name) {
+        return Some(Cause::RepeatedParameter);
+    }
+    value_cause(name, value)
+}
+
+#[tactic(auto, unfolding(crate::specs::Queries::is_too_long))]
+fn is_too_long(name: Name, value: &str) -> bool
+    ensures { result ≡ spec.is_too_long name value.now }
+{
+    match name {
+        Name::Prefix | Name::Delimiter | Name::StartAfter => value.len() > 1024,
+        _ => false,
+    }
+}
+
+// The cause of a value that its parameter does not take.
+#[tactic(auto, unfolding(crate::specs::Queries::value_cause))]
+fn value_cause(name: Name, value: &str) -> Option<Cause>
+    ensures { result ≡ spec.value_cause name value.now }
+{
+    match name {
+        Name::ListType if value != "2" => Some(Cause::BadListType),
+        Name::MaxKeys if max_keys(value).is_none() => Some(Cause::BadMaxKeys),
+        Name::EncodingType if !value.is_empty() && value != "url" => Some(Cause::BadEncoding),
+        Name::FetchOwner if !value.is_empty() && value != "true" && value != "false" => {
+            Some(Cause::BadFetchOwner)
+        }
+        _ => None,
+    }
+}
+
+// The most entries of a page, at most 1,000. None where the text is no such number.
+#[tactic(auto, unfolding(crate::specs::Queries::is_max_keys, crate::specs::Texts::is_small))]
+fn max_keys(value: &str) -> Option<u32>
+    ensures { MatchOption result (spec.is_max_keys value.now ≡ false)
+        (λ n. (spec.is_max_keys value.now ≡ true) × (n ≡ min (digits_value 10 value.now) 1000)) }
+{
+    if !is_number(value) {
+        return None;
+    }
+    match number(value) {
+        Some(n) if n <= 2_147_483_647 => Some(n.min(1000) as u32),
+        _ => None,
+    }
+}
+
+// The query with this parameter.
+#[tactic(auto, unfolding(crate::specs::Queries::with_parameter))]
+fn set(query: &mut ListQuery, name: Option<Name>, value: Text)
+    ensures { query.new ≡ spec.with_parameter query.old name value }
+{
+    match name {
+        Some(Name::Prefix) => query.prefix = value,
+        Some(Name::Delimiter) => query.delimiter = value,
+        Some(Name::StartAfter) => query.start_after = value,
+        Some(Name::ContinuationToken) => query.token = value,
+        Some(Name::MaxKeys) => {
+            if let Some(most) = max_keys(value.as_str()) {
+                query.max_keys = most;
+            }
+        }
+        Some(Name::EncodingType) => query.url = value.as_str() == "url",
+        Some(Name::ListType | Name::FetchOwner) | None => {}
+    }
+}
+
+/// Whether a query writes a parameter of paging, which is not built yet.
+#[tactic(auto, unfolding(crate::specs::Grammar::is_paged, crate::specs::Queries::pieces_of))]
+pub fn writes_paging(text: &str) -> bool
+    ensures { result ≡ is_paged text.now }
+{
+    let mut left = Some(without_mark(text));
+    while let Some(pieces) = left {
+        let (piece, rest) = first_part(pieces, '&');
+        let (name, _) = cut(piece);
+        if is_paging_name(Name::written(name)) {
+            return true;
+        }
+        left = rest;
+    }
+    false
+}
+
+fn is_paging_name(name: Option<Name>) -> bool
+    ensures { result ≡ is_paging name }
+{
+    matches!(
+        name,
+        Some(Name::MaxKeys | Name::ContinuationToken | Name::EncodingType)
+    )
+}

@@ -1,0 +1,182 @@
+// What a field says: a key, a number, an entity tag.
+ghost use Rattle.std.specs.Prelude.{◌≡◌, ◌==◌, true, false, MatchOption};
+ghost use Rattle.std.specs.Char.{is_ascii_digit, is_digit};
+ghost use Rattle.std.specs.List.{list_all, list_any};
+ghost use Rattle.std.specs.Str.Parse.{digits_value};
+ghost use Rattle.request_lines.specs.Reads.{Reads};
+ghost use Rattle.request_lines.specs.Texts as spec;
+
+use crate::Cause;
+use crate::line_error::LineError;
+use key_names::Text;
+use percent_encoding::{DecodeError, percent_decode};
+use std::alloc::Global;
+use std::str;
+
+/// The name of a key.
+#[tactic(auto, unfolding(crate::specs::Texts::key_read, crate::specs::Texts::name_of))]
+pub fn key_of(alloc: Global, key: &str) -> Result<Text, LineError>
+    ensures { Reads result (spec.key_read key.now) }
+{
+    let name = unescaped(alloc, key)?;
+    let len = name.bytes().len();
+    if len == 0 {
+        return Err(LineError::Faulty(Cause::EmptyKey));
+    }
+    if len > 1024 {
+        return Err(LineError::Faulty(Cause::KeyTooLong));
+    }
+    Ok(name)
+}
+
+/// The text without its escapes, which is copied once.
+pub fn unescaped(alloc: Global, text: &str) -> Result<Text, LineError>
+    ensures { Reads result (spec.unescaped text.now) }
+{
+    if has_percent(text) {
+        decoded(alloc, text.as_bytes())
+    } else {
+        Ok(Text::of(alloc, text)?)
+    }
+}
+
+fn has_percent(text: &str) -> bool
+    ensures { result ≡ list_any (λ b. b == 37) text.now }
+{
+    text.bytes().any(|b| b == b'%')
+}
+
+// The text without its escapes, where it has some.
+#[tactic(auto, unfolding(crate::specs::Texts::unescaped))]
+fn decoded(alloc: Global, text: &[u8]) -> Result<Text, LineError>
+    ensures { Reads result (spec.unescaped text.now) }
+{
+    if !escapes_are_whole(text) {
+        return Err(LineError::Faulty(Cause::BadEscape));
+    }
+    match percent_decode(text).decode_utf8(alloc) {
+        Ok(decoded) => Ok(Text::from_string(decoded.into_owned(alloc)?)),
+        Err(DecodeError::Utf8(_)) => Err(LineError::Faulty(Cause::BadEscape)),
+        Err(DecodeError::OutOfMemory) => Err(LineError::NoMemory),
+    }
+}
+
+// Whether each `%` is followed by two hexadecimal digits.
+#[tactic(auto, unfolding(crate::specs::Texts::escapes_are_whole))]
+fn escapes_are_whole(text: &[u8]) -> bool
+    ensures { result ≡ spec.escapes_are_whole text.now }
+{
+    let mut left = text;
+    while let [byte, rest @ ..] = left {
+        if *byte == b'%' && !begins_with_digits(rest) {
+            return false;
+        }
+        left = rest;
+    }
+    true
+}
+
+fn begins_with_digits(bytes: &[u8]) -> bool
+    ensures { result ≡ spec.begins_with_digits bytes.now }
+{
+    match bytes {
+        [high, low, ..] => is_hex_digit(*high) && is_hex_digit(*low),
+        _ => false,
+    }
+}
+
+fn is_hex_digit(b: u8) -> bool
+    ensures { result ≡ is_digit b 16 }
+{
+    char::from(b).is_digit(16)
+}
+
+/// A record's size and time.
+#[tactic(auto, unfolding(crate::specs::Texts::numbers_read))]
+pub fn numbers_of(size: &str, modified: &str) -> Result<(u64, u64), LineError>
+    ensures { Reads result (spec.numbers_read size.now modified.now) }
+{
+    if !is_number(size) || !is_number(modified) {
+        return Err(LineError::Faulty(Cause::BadNumber));
+    }
+    match (number(size), number(modified)) {
+        (Some(size), Some(modified)) => Ok((size, modified)),
+        _ => Err(LineError::Faulty(Cause::NumberTooLarge)),
+    }
+}
+
+/// Whether the text is one or more ASCII digits.
+#[tactic(auto, using(crate::proofs::TextLaws::digits_all), unfolding(crate::specs::Texts::is_number))]
+pub fn is_number(text: &str) -> bool
+    ensures { result ≡ spec.is_number text.now }
+{
+    !text.is_empty() && is_all_digits(text)
+}
+
+fn is_all_digits(text: &str) -> bool
+    ensures { result ≡ list_all is_ascii_digit text.now }
+{
+    text.bytes().all(|b| b.is_ascii_digit())
+}
+
+/// The number that the digits write. None where it has more than 64 bits.
+pub fn number(text: &str) -> Option<u64>
+    requires { spec.is_number text.now ≡ true }
+    ensures { MatchOption result (spec.is_small text.now ≡ false)
+        (λ n. (spec.is_small text.now ≡ true) × (n ≡ digits_value 10 text.now)) }
+{
+    text.parse::<u64>().ok()
+}
+
+/// An entity tag, perhaps between two double quotes.
+#[tactic(auto, unfolding(crate::specs::Texts::etag_read))]
+pub fn etag_of(alloc: Global, text: &str) -> Result<Text, LineError>
+    ensures { Reads result (spec.etag_read text.now) }
+{
+    let tag = unquoted(text.as_bytes());
+    if !is_tag(tag) {
+        return Err(LineError::Faulty(Cause::BadEtag));
+    }
+    Ok(Text::of(alloc, ascii_text(tag))?)
+}
+
+#[tactic(auto, unfolding(crate::specs::Texts::unquoted))]
+fn unquoted(text: &[u8]) -> &[u8]
+    ensures { result.now ≡ spec.unquoted text.now }
+{
+    match text {
+        [b'"', tag @ .., b'"'] => tag,
+        _ => text,
+    }
+}
+
+#[tactic(auto, unfolding(crate::specs::Texts::is_tag))]
+fn is_tag(text: &[u8]) -> bool
+    ensures { result ≡ spec.is_tag text.now }
+{
+    !text.is_empty() && text.len() <= 64 && is_all_tag(text)
+}
+
+fn is_all_tag(text: &[u8]) -> bool
+    ensures { result ≡ list_all spec.is_tag_byte text.now }
+{
+    text.iter().all(|b| is_tag_byte(*b))
+}
+
+#[tactic(auto, unfolding(crate::specs::Texts::is_tag_byte))]
+fn is_tag_byte(b: u8) -> bool
+    ensures { result ≡ spec.is_tag_byte b }
+{
+    b.is_ascii_digit() || (b'A' <= b && b <= b'Z') || (b'a' <= b && b <= b'z') || b == b'-'
+}
+
+// The bytes of a tag, which are ASCII, as text.
+fn ascii_text(tag: &[u8]) -> &str
+    requires { spec.is_tag tag.now ≡ true }
+    ensures { result.now ≡ tag.now }
+{
+    match str::from_utf8(tag) {
+        Ok(text) => text,
+        Err(_) => unreachable!(),
+    }
+}
