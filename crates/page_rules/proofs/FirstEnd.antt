@@ -1,5 +1,5 @@
 -- The first delimiter in a name, looked for from one place to the next.
-use Rattle.std.proofs.Common.{◌≡◌, ℕ, ◌+◌, ◌<◌, ◌≤◌, true, false, cond, List, ◌∷◌, length, drop, get_or, Some, None, ap, ◌∙◌, refl, sym, arith}
+use Rattle.std.proofs.Common.{◌≡◌, ℕ, ◌+◌, ◌<◌, ◌≤◌, true, false, cond, List, length, drop, Some, None, ap, sym}
 use Rattle.std.proofs.lemmas.List.{drop_more, drop_all}
 use Rattle.bucket_terms.specs.Entries.{begins_with, first_end}
 

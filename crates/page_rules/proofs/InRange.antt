@@ -1,5 +1,5 @@
 -- A page is in range: its common prefixes end with a character.
-use Rattle.std.proofs.Common.{◌≡◌, ℕ, ◌+◌, ◌<◌, ◌≤◌, Bool, true, cond, nat_lt, List, [], ◌∷◌, length, get_or, take, drop, All, filter, Option, Some, None, refl, sym, ◌∙◌, ap, subst, inl, inr, add-zero, arith}
+use Rattle.std.proofs.Common.{◌≡◌, ℕ, ◌+◌, ◌<◌, ◌≤◌, Bool, true, List, [], ◌∷◌, length, get_or, take, drop, All, filter, Option, Some, None, refl, sym, ◌∙◌, ap, subst, inl, inr, add-zero, arith}
 use Rattle.std.specs.Str.{IsUtf8, IsCharBoundary}
 use Rattle.std.proofs.lemmas.Bool.{cases_Bool, and_parts, ltb-true}
 use Rattle.std.proofs.lemmas.List.{length-drop, length-take, get_or-take, get_or-drop}
@@ -14,7 +14,7 @@ use Rattle.bucket_terms.specs.declared.page.Page.{Page}
 use Rattle.bucket_terms.specs.Entries.{is_under, is_admitted, group_len, entry_by, entry_of, is_same_group, listing, entries_of}
 use Rattle.bucket_terms.specs.Page.{page_of, IsGroupInRange, IsEntryInRange, IsInRange}
 use Rattle.page_rules.proofs.NameOrder.{begins_take}
-use Rattle.page_rules.proofs.Groups.{IsRolledUp, rolled_up, begins_fits}
+use Rattle.page_rules.proofs.Groups.{rolled_up}
 use Rattle.page_rules.proofs.Listing.{rank_below}
 
 -- where a whole text stands in another, a character begins, and one ends behind it

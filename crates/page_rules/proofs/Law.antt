@@ -1,8 +1,6 @@
 -- The law of pages.
-use Rattle.std.proofs.Common.{◌≡◌, ℕ, zero, suc, ◌+◌, ◌-◌, ◌<◌, ◌≤◌, ◌&&◌, Bool, true, false, not, MatchBool, nat_lt, nat_eq, List, [], ◌∷◌, ◌++◌, length, get_or, take, drop, Option, Some, None, refl, sym, ◌∙◌, ap, subst, inl, inr, arith}
-use Rattle.std.specs.List.{slice_get, AllPairs}
-use Rattle.std.proofs.lemmas.Bool.{cases_Bool, cases_lt, and_from, and_parts, MatchBool-at_true, MatchBool-at_false, lt-ltb, ltb-true, ltb-false, false_from_ne_true, true_from_ne_false, both_ways, not-true}
-use Rattle.std.proofs.lemmas.Bool.Decides.{nat_tests}
+use Rattle.std.proofs.Common.{◌≡◌, ℕ, zero, suc, ◌+◌, ◌-◌, ◌<◌, ◌&&◌, true, false, not, nat_lt, List, [], ◌∷◌, ◌++◌, length, get_or, take, Option, Some, None, refl, sym, ◌∙◌, ap, subst, inl, inr, arith}
+use Rattle.std.proofs.lemmas.Bool.{cases_Bool, cases_lt, and_from, and_parts, MatchBool-at_true, MatchBool-at_false, lt-ltb, ltb-true, true_from_ne_false, both_ways, not-true}
 use Rattle.std.proofs.lemmas.List.{take-append-drop, take_all, append-nil, length-take, length-drop, get_or-take, get_or-drop}
 use Rattle.key_names.specs.Names.{Rises, name_at}
 use Rattle.index_words.specs.declared.pair.Pair.{Pair}
@@ -11,14 +9,13 @@ use Rattle.bucket_terms.specs.declared.list_query.ListQuery.{ListQuery}
 use Rattle.bucket_terms.specs.declared.token_point.TokenPoint.{TokenPoint}
 use Rattle.bucket_terms.specs.declared.page.PageEntry.{PageEntry}
 use Rattle.bucket_terms.specs.declared.page.Page.{Page}
-use Rattle.bucket_terms.specs.Entries.{begins_with, is_above, is_under, group_len, entry_by, entry_of, group_text, entries_of}
+use Rattle.bucket_terms.specs.Entries.{begins_with, is_above, group_len, entry_by, entry_of, group_text, entries_of}
 use Rattle.bucket_terms.specs.Page.{entry_point, last_point, page_point, cut_at, page_of}
-use Rattle.bucket_terms.proofs.PagePoints.{last_point-at}
 use Rattle.page_rules.specs.PageLaw.{LeavesTheRest, AreChained, all_entries, BeginsAll, entry_text, RiseByText}
-use Rattle.page_rules.proofs.NameOrder.{not_above_back, begins_between, begins_not_below, begins_own, begins_trans}
+use Rattle.page_rules.proofs.NameOrder.{not_above_back, begins_between, begins_own, begins_trans}
 use Rattle.page_rules.proofs.Groups.{group_same}
 use Rattle.page_rules.proofs.Listing.{is_behind, in_group}
-use Rattle.page_rules.proofs.Places.{IsEntryAt, entry_at, behind_above}
+use Rattle.page_rules.proofs.Places.{entry_at}
 
 -- the point behind some first entries is that of the last of them
 last_of_take : (dir : List (List ℕ)) (entries : List PageEntry) (k : ℕ) (e : PageEntry) → k < length entries → ((d : PageEntry) → get_or entries k d ≡ e)

@@ -1,5 +1,5 @@
 -- The entries of a rising list of pairs, from its first pair on.
-use Rattle.std.proofs.Common.{◌≡◌, ℕ, ◌+◌, ◌<◌, ◌≤◌, Bool, true, false, not, cond, ◌&&◌, nat_lt, nat_eq, List, [], ◌∷◌, length, take, map, filter, Option, Some, None, refl, sym, ◌∙◌, ap, subst, inl, inr, arith}
+use Rattle.std.proofs.Common.{◌≡◌, ℕ, ◌+◌, ◌<◌, Bool, true, false, not, cond, nat_eq, List, [], ◌∷◌, length, take, map, filter, Option, Some, None, refl, sym, ◌∙◌, ap, subst, inl, inr, arith}
 use Rattle.std.specs.List.{dedup}
 use Rattle.std.specs.Cmp.Lexicographic.{pointwise, bytes_decides}
 use Rattle.std.proofs.lemmas.Bool.{cases_Bool, and_from, and_parts, and_right, false_from_ne_true, both_ways, ltb-true}
@@ -14,7 +14,7 @@ use Rattle.bucket_terms.specs.declared.page.PageEntry.{PageEntry}
 use Rattle.bucket_terms.specs.Entries.{begins_with, is_above, is_admitted, is_under, group_len, entry_by, entry_of, group_text, is_same_group, listing}
 use Rattle.bucket_terms.specs.Page.{entry_point}
 use Rattle.page_rules.proofs.NameOrder.{above_upto, begins_not_below, begins_own, begins_take}
-use Rattle.page_rules.proofs.Groups.{IsRolledUp, rolled_up, group_same}
+use Rattle.page_rules.proofs.Groups.{rolled_up, group_same}
 use Rattle.page_rules.proofs.Admission.{above_by_rank, admitted_above}
 use Rattle.page_rules.proofs.Rolled.{AreAdmitted, FollowFrom, dedup_from-rest}
 

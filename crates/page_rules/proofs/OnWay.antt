@@ -1,22 +1,18 @@
 -- A cursor stays on its way to the page.
-use Rattle.std.proofs.Common.{◌≡◌, ℕ, zero, suc, ◌+◌, ◌-◌, ◌<◌, ◌≤◌, Bool, true, false, not, cond, ◌&&◌, ◌||◌, ◌==◌, nat_lt, nat_le, List, [], ◌∷◌, ◌++◌, length, take, filter, find, All, Option, Some, None, MatchOption, refl, sym, ◌∙◌, ap, subst, inl, inr, arith}
-use Rattle.std.specs.List.{dedup}
+use Rattle.std.proofs.Common.{◌≡◌, ℕ, ◌+◌, ◌<◌, ◌≤◌, Bool, true, false, not, cond, ◌&&◌, ◌||◌, nat_lt, nat_le, List, [], ◌∷◌, ◌++◌, length, take, filter, Option, Some, None, refl, sym, ◌∙◌, ap, subst, inl, inr, arith}
 use Rattle.std.specs.Option.{IfSome}
-use Rattle.std.proofs.lemmas.Bool.{cases_Bool, cases_lt, cases_eq, and_from, and_left, and_right, and_parts, both_ways, false_from_ne_true, not-true, lt-ltb, le-ltb, le-leb, lt-leb, ltb-true, leb-true, leb-false, eqb-true}
+use Rattle.std.proofs.lemmas.Bool.{cases_Bool, cases_lt, and_from, and_left, and_right, and_parts, both_ways, false_from_ne_true, lt-ltb, le-ltb, le-leb, lt-leb, leb-true, leb-false}
 use Rattle.std.proofs.lemmas.Bool.Decides.{nat_tests}
-use Rattle.std.proofs.lemmas.List.{append-nil, append_assoc, take_all, take_at, length-append}
+use Rattle.std.proofs.lemmas.List.{append-nil, take_all, take_at, length-append}
 use Rattle.key_names.specs.Names.{Rises, name_at, is_before}
 use Rattle.index_words.specs.declared.pair.Pair.{Pair}
 use Rattle.index_words.specs.Map.{IsMap, RisesFrom, first_from}
-use Rattle.index_words.proofs.MapLaws.{RisesFrom-lower}
 use Rattle.bucket_terms.specs.declared.list_query.ListQuery.{ListQuery}
 use Rattle.bucket_terms.specs.declared.token_point.TokenPoint.{TokenPoint}
 use Rattle.bucket_terms.specs.declared.page.PageEntry.{PageEntry}
-use Rattle.bucket_terms.specs.declared.page.Page.{Page}
-use Rattle.bucket_terms.specs.Entries.{begins_with, is_above, is_admitted, is_under, entry_of, is_same_group, listing, entries_of}
-use Rattle.bucket_terms.specs.Page.{cut_at, page_of, entry_point, IsEntryInRange}
-use Rattle.page_rules.specs.Cursor.{CursorView, page_so_far, GoesOnAt, pairs_from, IsOnWay, IsNext, adds, Took, IsOver}
-use Rattle.page_rules.specs.CursorInside.{IsOpenAt, IsCursor}
+use Rattle.bucket_terms.specs.Entries.{begins_with, is_under, entry_of, listing, entries_of}
+use Rattle.bucket_terms.specs.Page.{cut_at, page_of, entry_point}
+use Rattle.page_rules.specs.Cursor.{page_so_far, GoesOnAt, pairs_from}
 use Rattle.page_rules.proofs.NameOrder.{begins_not_below}
 use Rattle.page_rules.proofs.Admission.{above_by_rank, not_begins_above}
 use Rattle.page_rules.proofs.Rolled.{filter-filter}

@@ -1,5 +1,5 @@
 -- The entry at each place of a listing, and what is listed behind it.
-use Rattle.std.proofs.Common.{◌≡◌, ℕ, zero, suc, ◌+◌, ◌-◌, ◌<◌, ◌≤◌, ◌⊎◌, Bool, true, false, not, cond, ◌&&◌, List, [], ◌∷◌, length, get_or, drop, map, filter, Option, Some, None, refl, sym, ◌∙◌, ap, subst, inl, inr, arith}
+use Rattle.std.proofs.Common.{◌≡◌, ℕ, zero, suc, ◌+◌, ◌<◌, ◌≤◌, ◌⊎◌, Bool, true, false, not, cond, ◌&&◌, List, [], ◌∷◌, length, get_or, drop, map, filter, Option, Some, None, refl, sym, ◌∙◌, ap, subst, inl, inr, arith}
 use Rattle.std.specs.List.{dedup}
 use Rattle.std.proofs.lemmas.Bool.{cases_Bool, cases_lt, and_from, and_right, and_parts, false_from_ne_true, true_from_ne_false, both_ways, not-true}
 use Rattle.key_names.specs.Names.{Rises, name_at}
@@ -9,10 +9,10 @@ use Rattle.index_words.proofs.MapLaws.{RisesFrom-lower}
 use Rattle.bucket_terms.specs.declared.list_query.ListQuery.{ListQuery}
 use Rattle.bucket_terms.specs.declared.token_point.TokenPoint.{TokenPoint}
 use Rattle.bucket_terms.specs.declared.page.PageEntry.{PageEntry}
-use Rattle.bucket_terms.specs.Entries.{begins_with, is_above, is_admitted, is_under, group_len, entry_by, entry_of, group_text, is_same_group, listing, entries_of}
+use Rattle.bucket_terms.specs.Entries.{begins_with, is_above, is_admitted, is_under, entry_by, entry_of, group_text, is_same_group, listing, entries_of}
 use Rattle.bucket_terms.specs.Page.{entry_point}
 use Rattle.page_rules.proofs.Rolled.{filter_congr, filter-filter}
-use Rattle.page_rules.proofs.NameOrder.{above_irreflexive, above_trans, not_above_back, begins_between, begins_not_below, begins_own}
+use Rattle.page_rules.proofs.NameOrder.{above_irreflexive, not_above_back, begins_between, begins_own}
 use Rattle.page_rules.proofs.Admission.{above_by_rank, admitted_above}
 use Rattle.page_rules.proofs.Listing.{admits, is_behind, rank_below, listing_under}
 

@@ -1,5 +1,5 @@
 -- What taking a pair does to a cursor: the page is ended, or is full, or has one entry more.
-use Rattle.std.proofs.Common.{◌≡◌, ℕ, ◌+◌, ◌-◌, ◌<◌, ◌≤◌, Bool, true, false, not, cond, ◌&&◌, nat_lt, List, [], ◌∷◌, ◌++◌, length, take, filter, Option, Some, None, MatchOption, refl, sym, ◌∙◌, ap, subst, arith}
+use Rattle.std.proofs.Common.{◌≡◌, ℕ, ◌+◌, ◌-◌, ◌<◌, ◌≤◌, true, false, not, cond, ◌&&◌, nat_lt, List, [], ◌∷◌, ◌++◌, length, take, filter, Option, Some, None, MatchOption, refl, sym, ◌∙◌, ap, subst, arith}
 use Rattle.std.specs.Option.{IfSome, IsSome, option_map_or}
 use Rattle.std.specs.Bool.{⊤}
 use Rattle.std.proofs.lemmas.Bool.{and_from, and_left, and_right, and_parts, lt-ltb, le-ltb, false≢true}
@@ -11,7 +11,7 @@ use Rattle.bucket_terms.specs.declared.list_query.ListQuery.{ListQuery}
 use Rattle.bucket_terms.specs.declared.token_point.TokenPoint.{TokenPoint}
 use Rattle.bucket_terms.specs.declared.page.PageEntry.{PageEntry}
 use Rattle.bucket_terms.specs.Entries.{begins_with, is_under, group_len, entry_by, entry_of, listing, entries_of}
-use Rattle.bucket_terms.specs.Page.{page_of, entry_point, IsEntryInRange}
+use Rattle.bucket_terms.specs.Page.{page_of, entry_point}
 use Rattle.page_rules.specs.Cursor.{CursorView, page_so_far, GoesOnAt, pairs_from, IsOnWay, IsNext, adds, look_ups_left, Took, IsOver}
 use Rattle.page_rules.specs.CursorInside.{IsOpenAt, IsCursor}
 use Rattle.page_rules.specs.PageLaw.{entry_text}

@@ -1,5 +1,5 @@
 -- What a cursor keeps.
-use Rattle.std.specs.Prelude.{◌≡◌, ℕ, ◌<◌, ◌≤◌, true, false, ⊤, List, length, All, MatchOption}
+use Rattle.std.specs.Prelude.{◌≡◌, ℕ, ◌<◌, ◌≤◌, true, false, ⊤, length, All, MatchOption}
 use Rattle.key_names.specs.Names.{name_at, is_before}
 use Rattle.bucket_terms.specs.Page.{IsEntryInRange}
 use Rattle.page_rules.specs.Cursor.{CursorView}

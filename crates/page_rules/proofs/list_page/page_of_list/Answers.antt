@@ -1,7 +1,5 @@
-use Rattle.std.proofs.Common.{◌≡◌, All, ap, ◌∙◌}
-use Rattle.std.specs.Str.{IsUtf8}
+use Rattle.std.proofs.Common.{◌≡◌, ap, ◌∙◌}
 use Rattle.std.specs.Option.{option_copied}
-use Rattle.key_names.specs.Names.{Rises, IsFine}
 use Rattle.bucket_terms.specs.Page.{cut_at, page_of}
 use Rattle.page_rules.proofs.InRange.{page_in_range}
 use Rattle.page_rules.proofs.Law.{page_left, begins_all, page_rises}

@@ -1,9 +1,9 @@
-use Rattle.std.proofs.Common.{◌≡◌, ℕ, rules, tests, arith, sym, ap, ◌∙◌, nat_lt}
-use Rattle.std.specs.List.{prefix_len, slice_get}
+use Rattle.std.proofs.Common.{◌≡◌, rules, tests, arith, sym, ap, ◌∙◌}
+use Rattle.std.specs.List.{slice_get}
 use Rattle.std.proofs.lemmas.List.Sorted.{IsPartitionPoint-from_clause, IsPartitionedBy-ltb}
 use Rattle.std.proofs.lemmas.List.Sums.{prefix_len_is}
 use Rattle.index_words.specs.declared.pair.Pair.{Pair}
-use Rattle.index_words.specs.Map.{pair, first_from}
+use Rattle.index_words.specs.Map.{pair}
 use Rattle.index_words.proofs.MapLaws.{is_below, place, keys_rise, first_from-place}
 use Rattle.page_rules.proofs.look_ups.first_from.Goals as goal
 

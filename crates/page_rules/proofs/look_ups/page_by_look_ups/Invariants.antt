@@ -1,4 +1,4 @@
-use Rattle.std.proofs.Common.{◌≡◌, ℕ}
+use Rattle.std.proofs.Common.{◌≡◌}
 use Rattle.std.specs.Option.{option_copied}
 use Rattle.page_rules.specs.Cursor.{IsOnWay, look_ups_left}
 use Rattle.page_rules.proofs.look_ups.page_by_look_ups.Given as goal

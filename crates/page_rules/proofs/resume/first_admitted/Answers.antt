@@ -1,4 +1,4 @@
-use Rattle.std.proofs.Common.{◌≡◌, ◌==◌, false, not, length, Some, None, sym, ap, ◌∙◌, rules}
+use Rattle.std.proofs.Common.{◌≡◌, ◌==◌, false, not, length, Some, sym, ap, ◌∙◌, rules}
 use Rattle.std.specs.Option.{option_copied}
 use Rattle.key_names.specs.Names.{name_at, is_upto, is_upto_prefix}
 use Rattle.bucket_terms.specs.declared.token_point.TokenPoint.TheVariants.{Key, Group}

@@ -1,6 +1,6 @@
-use Rattle.std.proofs.Common.{◌≡◌, ℕ, ◌+◌, ◌<◌, ◌≤◌, List, length, false, Some, sym, ap, subst, ◌∙◌, arith, count_by}
+use Rattle.std.proofs.Common.{◌≡◌, ◌+◌, ◌≤◌, length, false, Some, sym, subst, arith}
 use Rattle.std.proofs.lemmas.List.Sums.{count_by-le-length}
-use Rattle.key_names.specs.Names.{name_at, is_before, is_upto_prefix, StandFirst}
+use Rattle.key_names.specs.Names.{is_before, is_upto_prefix, StandFirst}
 use Rattle.bucket_terms.specs.Entries.{group_text}
 use Rattle.bucket_terms.specs.Page.{IsEntryInRange, entry_point}
 use Rattle.page_rules.specs.Cursor.{GoesOnAt}

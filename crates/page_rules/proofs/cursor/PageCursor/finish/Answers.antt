@@ -1,8 +1,5 @@
-use Rattle.std.proofs.Common.{sym, ap, ◌∙◌}
-use Rattle.index_words.specs.Map.{IsMap}
-use Rattle.bucket_terms.specs.declared.page.Page.{Page}
 use Rattle.page_rules.specs.CursorInside.{view_of}
-use Rattle.page_rules.specs.Cursor.{CursorView, IsOver, IsOnWay}
+use Rattle.page_rules.specs.Cursor.{IsOver, IsOnWay}
 use Rattle.page_rules.proofs.Taken.{over_is_page}
 use Rattle.page_rules.proofs.cursor.PageCursor.finish.Goals as goal
 

@@ -1,12 +1,9 @@
-use Rattle.std.proofs.Common.{◌≡◌, ℕ, ◌<◌, ◌≤◌, true, false, List, [], ◌∷◌, ◌++◌, length, Option, Some, MatchOption, sym, ap, subst, ◌∙◌, arith}
-use Rattle.std.specs.Bool.{⊤}
-use Rattle.std.specs.Option.{IsSome}
+use Rattle.std.proofs.Common.{◌≡◌, ◌<◌, false, [], ◌∷◌, ◌++◌, length, Some, sym, ap, subst, ◌∙◌, arith}
 use Rattle.key_names.specs.Names.{is_before}
-use Rattle.bucket_terms.specs.Entries.{is_under, entry_of}
 use Rattle.bucket_terms.specs.Page.{entry_point}
 use Rattle.page_rules.specs.PageLaw.{entry_text}
-use Rattle.page_rules.specs.Cursor.{CursorView, Took, GoesOnAt}
-use Rattle.page_rules.specs.CursorInside.{view_of, IsOpenAt, IsCursor}
+use Rattle.page_rules.specs.Cursor.{GoesOnAt}
+use Rattle.page_rules.specs.CursorInside.{view_of}
 use Rattle.page_rules.proofs.Taken.{next_rank, unsettled_at, text_not_below, took_ended, took_full, took_added}
 use Rattle.page_rules.proofs.cursor.PageCursor.take.Goals as goal
 

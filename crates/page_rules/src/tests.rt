@@ -1,0 +1,264 @@
+ghost use Rattle.std.specs.Prelude.{IfOk};
+ghost use Rattle.bucket_terms.specs.Page.{IsInRange};
+
+use super::*;
+use bucket_terms::{ListQuery, Page, PageEntry, TokenPoint};
+use index_words::{Change, Pair, PlainMap, Update};
+use key_names::{Directory, NamesError, NoMemory, Text};
+use std::alloc::Global;
+use std::process::Abort;
+use std::test::Fail;
+
+// A bucket whose keys were put in this order: the place of a name is its value.
+fn bucket(alloc: Global, names: &[&str]) -> Result<(Directory, PlainMap), NamesError> {
+    let mut texts = Vec::new(alloc);
+    for name in names {
+        texts
+            .push(text(alloc, name)?)
+            .map_err(|_| NamesError::NoMemory)?;
+    }
+    let dir = Directory::new(alloc, texts)?;
+    let mut updates = Vec::new(alloc);
+    for (place, name) in names.iter().enumerate() {
+        let key = dir.rank(name.as_bytes()).unwrap_or(0);
+        let change = Change::Put(place as u64);
+        let update = Update {
+            client: 0,
+            line: 0,
+            key,
+            change,
+        };
+        updates.push(update).map_err(|_| NamesError::NoMemory)?;
+    }
+    let map = PlainMap::replayed(alloc, &updates).map_err(|_| NamesError::NoMemory)?;
+    Ok((dir, map))
+}
+
+fn text(alloc: Global, text: &str) -> Result<Text, NamesError> {
+    Text::of(alloc, text).map_err(|_| NamesError::NoMemory)
+}
+
+fn query(
+    alloc: Global,
+    prefix: &str,
+    delimiter: &str,
+    start_after: &str,
+    max_keys: u32,
+) -> Result<ListQuery, NoMemory> {
+    Ok(ListQuery {
+        prefix: Text::of(alloc, prefix)?,
+        delimiter: Text::of(alloc, delimiter)?,
+        start_after: Text::of(alloc, start_after)?,
+        token: Text::of(alloc, "")?,
+        max_keys,
+        url: false,
+    })
+}
+
+const fn key(rank: u64, val: u64) -> PageEntry {
+    PageEntry::Key { rank, val }
+}
+
+const fn group(rank: u64, len: u64) -> PageEntry {
+    PageEntry::Group { rank, len }
+}
+
+// The page of the whole list, which is that by look-ups too.
+fn page(
+    rt: &impl Abort,
+    alloc: Global,
+    dir: &Directory,
+    map: &PlainMap,
+    query: &ListQuery,
+    point: Option<&TokenPoint>,
+) -> Result<Page, NoMemory>
+    ensures { IfOk result (IsInRange dir.now) }
+{
+    let page = page_of_list(alloc, dir, map.pairs(), query, point)?;
+    let again = page_by_look_ups(alloc, dir, map.pairs(), query, point)?;
+    assert_eq!(rt; page.entries.as_slice(), again.entries.as_slice());
+    assert_eq!(rt; page.truncated, again.truncated);
+    Ok(page)
+}
+
+// A listing without a token, and its page.
+#[derive(Clone, Copy)]
+struct Listing<'a> {
+    prefix: &'a str,
+    delimiter: &'a str,
+    start_after: &'a str,
+    max_keys: u32,
+    entries: &'a [PageEntry],
+    truncated: bool,
+}
+
+// Each listing of the bucket has its page.
+fn check(
+    rt: &impl Abort,
+    alloc: Global,
+    names: &[&str],
+    listings: &[Listing<'_>],
+) -> Result<(), Fail> {
+    let (dir, map) = bucket(alloc, names)?;
+    for listing in listings {
+        let query = query(
+            alloc,
+            listing.prefix,
+            listing.delimiter,
+            listing.start_after,
+            listing.max_keys,
+        )?;
+        let page = page(rt, alloc, &dir, &map, &query, None)?;
+        assert_eq!(rt; page.entries.as_slice(), listing.entries);
+        assert_eq!(rt; page.truncated, listing.truncated);
+    }
+    Ok(())
+}
+
+fn whole<'a>(
+    prefix: &'a str,
+    delimiter: &'a str,
+    start_after: &'a str,
+    entries: &'a [PageEntry],
+) -> Listing<'a> {
+    Listing {
+        prefix,
+        delimiter,
+        start_after,
+        max_keys: 1000,
+        entries,
+        truncated: false,
+    }
+}
+
+fn cut<'a>(
+    delimiter: &'a str,
+    max_keys: u32,
+    entries: &'a [PageEntry],
+    truncated: bool,
+) -> Listing<'a> {
+    Listing {
+        prefix: "",
+        delimiter,
+        start_after: "",
+        max_keys,
+        entries,
+        truncated,
+    }
+}
+
+#[test]
+fn rolls_keys_up_into_folders(rt: HostRuntime) -> Result<(), Fail> {
+    let photos = [
+        "sample.jpg",
+        "photos/2006/January/sample.jpg",
+        "photos/2006/February/sample2.jpg",
+    ];
+    check(
+        &rt,
+        rt.alloc(),
+        &photos,
+        &[
+            whole("", "/", "", &[group(0, 7), key(2, 0)]),
+            whole("photos/2006/", "/", "", &[group(0, 21), group(1, 20)]),
+        ],
+    )
+}
+
+#[test]
+fn lists_above_start_after(rt: HostRuntime) -> Result<(), Fail> {
+    check(
+        &rt,
+        rt.alloc(),
+        &["a/1", "a/2", "a/3", "b"],
+        &[
+            whole("", "/", "a/2", &[group(2, 2), key(3, 3)]),
+            whole("", "/", "a/3", &[key(3, 3)]),
+            whole("", "", "a/3", &[key(3, 3)]),
+            whole("", "", "c", &[]),
+        ],
+    )
+}
+
+#[test]
+fn keeps_byte_order_round_the_delimiter(rt: HostRuntime) -> Result<(), Fail> {
+    check(
+        &rt,
+        rt.alloc(),
+        &["a", "a/b", "a0"],
+        &[
+            whole("", "/", "", &[key(0, 0), group(1, 2), key(2, 2)]),
+            whole("", "/b", "", &[key(0, 0), group(1, 3), key(2, 2)]),
+            cut("/", 1, &[key(0, 0)], true),
+            cut("/", 0, &[], false),
+        ],
+    )
+}
+
+#[test]
+fn lists_under_a_prefix(rt: HostRuntime) -> Result<(), Fail> {
+    check(
+        &rt,
+        rt.alloc(),
+        &["photos", "photos/1"],
+        &[
+            whole("photos", "/", "", &[key(0, 0), group(1, 7)]),
+            whole("photos/", "/", "", &[key(1, 1)]),
+            whole("zzz", "", "", &[]),
+        ],
+    )
+}
+
+#[test]
+fn goes_on_behind_a_group(rt: HostRuntime) -> Result<(), Fail> {
+    let alloc = rt.alloc();
+    let (dir, map) = bucket(alloc, &["a/1", "a/2", "a/3", "b"])?;
+    let query = query(alloc, "", "/", "", 1)?;
+    let first = page(&rt, alloc, &dir, &map, &query, None)?;
+    assert_eq!(rt; first.entries.as_slice(), [group(0, 2)].as_slice());
+    assert!(rt; first.truncated);
+    let point = first.point(alloc, &dir)?;
+    assert_eq!(rt; point_text(&point), Some((false, "a/")));
+    let second = page(&rt, alloc, &dir, &map, &query, point.as_ref())?;
+    assert_eq!(rt; second.entries.as_slice(), [key(3, 3)].as_slice());
+    assert!(rt; !second.truncated);
+    assert!(rt; second.point(alloc, &dir)?.is_none());
+    Ok(())
+}
+
+// Whether a point is a key's, and its text.
+fn point_text(point: &Option<TokenPoint>) -> Option<(bool, &str)> {
+    match point {
+        None => None,
+        Some(TokenPoint::Key(key)) => Some((true, key.as_str())),
+        Some(TokenPoint::Group(group)) => Some((false, group.as_str())),
+    }
+}
+
+#[test]
+fn leaves_a_group_with_one_jump(rt: HostRuntime) -> Result<(), Fail> {
+    let alloc = rt.alloc();
+    let (dir, _map) = bucket(alloc, &["b", "a/1", "b", "a/2"])?;
+    assert_eq!(rt; dir.len(), 3);
+    let query = query(alloc, "", "/", "", 1)?;
+    let pairs = [
+        Pair { key: 0, val: 9 },
+        Pair { key: 1, val: 8 },
+        Pair { key: 2, val: 7 },
+    ];
+    let plain = page_of_list(alloc, &dir, &pairs, &query, None)?;
+    assert_eq!(rt; plain.entries.as_slice(), [group(0, 2)].as_slice());
+    assert!(rt; plain.truncated);
+
+    let mut cursor = PageCursor::new(alloc, &dir, &query, None);
+    assert_eq!(rt; cursor.next_rank(), Some(0));
+    cursor.take(alloc, pairs[0])?;
+    assert_eq!(rt; cursor.next_rank(), Some(2));
+    cursor.take(alloc, pairs[2])?;
+    assert_eq!(rt; cursor.next_rank(), None);
+    let page = cursor.finish();
+    assert_eq!(rt; page.entries.as_slice(), plain.entries.as_slice());
+    assert!(rt; page.truncated);
+    assert_eq!(rt; point_text(&page.point(alloc, &dir)?), Some((false, "a/")));
+    Ok(())
+}
