@@ -44,8 +44,18 @@ own_joined : (pick : Slots → List ℕ) (k : ℕ) (v u w y : View) → count k 
     → y.free ≡ no_slots → y.retired ≡ no_slots → y.batch ≡ no_slots
     → own pick k w + own pick k y ≡ own pick k v + own pick k u
 own_joined pick k v u w y none frees retireds batches free retired batch no_free no_retired no_batch =
-    omega (arith, frees, retireds, batches, as_often pick k w.free (both v.free u.free) free, as_often pick k w.retired (both v.retired (both u.retired u.batch)) retired,
-      as_often pick k w.batch v.batch batch, as_often pick k y.free no_slots no_free, as_often pick k y.retired no_slots no_retired, as_often pick k y.batch no_slots no_batch)
+    omega (
+      arith,
+      frees,
+      retireds,
+      batches,
+      as_often pick k w.free (both v.free u.free) free,
+      as_often pick k w.retired (both v.retired (both u.retired u.batch)) retired,
+      as_often pick k w.batch v.batch batch,
+      as_often pick k y.free no_slots no_free,
+      as_often pick k y.retired no_slots no_retired,
+      as_often pick k y.batch no_slots no_batch,
+    )
 
 -- the views of `vs` after a change, whose free slots are those of before in all, and each of which holds
 -- no more than a view of before
@@ -152,16 +162,16 @@ module _ (z : Layout) (linked : Linked) (hn he : View → ℕ → Type 0) where
     grace = grace_push (set vs i w) y (grace_stays vs i v w at rule stays) bare.number bare.grace;
     retired = All-push Keeps (set vs i w) y
         (all_moved Keeps Keeps vs i v w at rule.retired
-          (let keeps = at_item Keeps vs i v at rule.retired in
-            (subst (KeepsEntries linked.entries_of) (sym retired) keeps.0, subst (KeepsEntries linked.entries_of) (sym stays.batch) keeps.1))
-          (λ u beside of. of))
+        (let keeps = at_item Keeps vs i v at rule.retired in
+        (subst (KeepsEntries linked.entries_of) (sym retired) keeps.0, subst (KeepsEntries linked.entries_of) (sym stays.batch) keeps.1))
+        (λ u beside of. of))
         (no_entries_kept y.retired none, no_entries_kept y.batch no_batch);
   }
 
   both_kept : (s t : Slots) → KeepsEntries linked.entries_of s → KeepsEntries linked.entries_of t → KeepsEntries linked.entries_of (both s t)
   both_kept s t in_s in_t k e some of =
       elim (cases_lt 0 (count k s.nodes)) as (λ _. 0 < count e (both s t).entries) [
-          inl here ↦ omega (arith, count-append e s.entries t.entries, in_s k e here of)
+        | inl here ↦ omega (arith, count-append e s.entries t.entries, in_s k e here of)
         | inr none ↦ omega (arith, count-append e s.entries t.entries, in_t k e (omega (arith, count-append k s.nodes t.nodes)) of)
       ]
 
@@ -174,21 +184,22 @@ module _ (z : Layout) (linked : Linked) (hn he : View → ℕ → Type 0) where
   join_slots vs i j v u w y at of other rule stays bare free retired no_free none no_batch = record {
     nodes = slots_same nodes_of z.nodes linked.nodes hn vs (set (set vs i w) j y) rule.nodes
         (λ k. sum_joined (own nodes_of k) vs i j v u w y at of other
-          (own_joined nodes_of k v u w y refl (count-append k v.free.nodes u.free.nodes) (count-append k v.retired.nodes (both u.retired u.batch).nodes) (count-append k u.retired.nodes u.batch.nodes) free retired stays.batch no_free none no_batch))
+        (own_joined nodes_of k v u w y refl (count-append k v.free.nodes u.free.nodes) (count-append k v.retired.nodes (both u.retired u.batch).nodes) (count-append k u.retired.nodes u.batch.nodes) free retired stays.batch no_free none no_batch))
         (λ k. sum_joined (own_free nodes_of k) vs i j v u w y at of other (free_joined nodes_of k v u w y refl (count-append k v.free.nodes u.free.nodes) free no_free))
         (All-set (NodesUnheld vs) (set vs i w) j y (λ k holds. absurd (bare.nodes k holds)) (nodes_stay vs i v w at rule stays));
     entries = slots_same entries_in z.entries linked.entries he vs (set (set vs i w) j y) rule.entries
         (λ e. sum_joined (own entries_in e) vs i j v u w y at of other
-          (own_joined entries_in e v u w y refl (count-append e v.free.entries u.free.entries) (count-append e v.retired.entries (both u.retired u.batch).entries) (count-append e u.retired.entries u.batch.entries) free retired stays.batch no_free none no_batch))
+        (own_joined entries_in e v u w y refl (count-append e v.free.entries u.free.entries) (count-append e v.retired.entries (both u.retired u.batch).entries) (count-append e u.retired.entries u.batch.entries) free retired stays.batch no_free none no_batch))
         (λ e. sum_joined (own_free entries_in e) vs i j v u w y at of other (free_joined entries_in e v u w y refl (count-append e v.free.entries u.free.entries) free no_free))
         (All-set (EntriesUnheld vs) (set vs i w) j y (λ e holds. absurd (bare.entries e holds)) (entries_stay vs i v w at rule stays));
     grace = grace_set (set vs i w) j y (grace_stays vs i v w at rule stays) bare.number bare.grace;
     retired = All-set Keeps (set vs i w) j y
         (no_entries_kept y.retired none, no_entries_kept y.batch no_batch)
         (all_moved Keeps Keeps vs i v w at rule.retired
-          (let keeps = at_item Keeps vs i v at rule.retired in
-            let others = at_item Keeps vs j u of rule.retired in
-            (subst (KeepsEntries linked.entries_of) (sym retired) (both_kept v.retired (both u.retired u.batch) keeps.0 (both_kept u.retired u.batch others.0 others.1)),
-              subst (KeepsEntries linked.entries_of) (sym stays.batch) keeps.1))
-          (λ u beside of. of));
+        (let keeps = at_item Keeps vs i v at rule.retired in
+        let others = at_item Keeps vs j u of rule.retired in (
+          subst (KeepsEntries linked.entries_of) (sym retired) (both_kept v.retired (both u.retired u.batch) keeps.0 (both_kept u.retired u.batch others.0 others.1)),
+          subst (KeepsEntries linked.entries_of) (sym stays.batch) keeps.1,
+        ))
+        (λ u beside of. of));
   }

@@ -1,17 +1,16 @@
 -- What an allowed event says of its seat.
-use Rattle.std.proofs.Common.{◌≡◌, ◌≢◌, ℕ, ◌+◌, ◌<◌, ◌≤◌, List, [], ◌∷◌, length, Bool, true, false, not, eqb, ◌&&◌, ◌||◌, arith, refl, ap, ◌∙◌, sym, subst, Option, Some, None, is_none}
+use Rattle.std.proofs.Common.{◌≡◌, ◌≢◌, ℕ, ◌<◌, ◌≤◌, length, Bool, true, false, not, eqb, ◌&&◌, ◌||◌, arith, refl, sym, subst, Option, Some, None, is_none}
 use Rattle.std.specs.List.{slice_get}
-use Rattle.std.proofs.lemmas.Bool.{and_parts, eqb-true, eq-eqb}
+use Rattle.std.proofs.lemmas.Bool.{and_parts, eqb-true}
 use Rattle.std.proofs.lemmas.Bool.Decides.{nat_tests}
 use Rattle.std.proofs.lemmas.Option.{slice_get_within, get_or_from_slice_get}
 use Rattle.index_words.specs.declared.view.View.{View}
 use Rattle.index_words.specs.declared.word.Word.{Word}
 use Rattle.index_words.specs.declared.word.Word.TheVariants.{Stamp, Section, Announced, Node, Entry}
-use Rattle.index_words.specs.Words.{word_at}
 use Rattle.core_rule.specs.declared.event.Event.{Event}
 use Rattle.core_rule.specs.declared.event.Kind.{Kind}
-use Rattle.core_rule.specs.declared.event.Kind.TheVariants.{MakeSeat, SplitSeat, JoinSeat, Enter, Leave, LookSec, Fill}
-use Rattle.core_rule.specs.Needs.{may_split, may_look, may_join, may_join_found, is_stamp}
+use Rattle.core_rule.specs.declared.event.Kind.TheVariants.{SplitSeat, JoinSeat, LookSec}
+use Rattle.core_rule.specs.Needs.{may_look, may_join_found, is_stamp}
 use Rattle.core_rule.specs.Tables.{Table, held_by}
 use Rattle.core_rule.specs.Seats.{HasFree}
 use Rattle.core_rule.specs.Steps.{needs, allowed_at}

@@ -1,5 +1,5 @@
 -- The views after an event, by the kind of the event.
-use Rattle.std.proofs.Common.{◌≡◌, ℕ, List, [], ◌∷◌, ◌++◌, refl, ap, ◌∙◌, sym, subst, Option, Some, None, Result, Ok, Err, OnOk}
+use Rattle.std.proofs.Common.{◌≡◌, ℕ, List, ap, ◌∙◌, sym, subst, Some, Result, Ok, Err, OnOk}
 use Rattle.std.specs.List.{slice_get}
 use Rattle.index_words.specs.declared.layout.Layout.{Layout}
 use Rattle.index_words.specs.declared.view.View.{View}
@@ -41,5 +41,5 @@ pub look_change : (z : Layout) (words : List ℕ) (vs : List View) (e : Event) (
 look_change z words vs e w changed pass x is word value all =
     change_of z words vs e w changed LookSec is
     (λ v found. all v found
-      ∙ ap (λ y. set vs e.seat (looked z.passes v pass y)) value
-      ∙ ap (λ (u : Word). set vs e.seat (look_from z (memory z words) v u)) (sym word))
+    ∙ ap (λ y. set vs e.seat (looked z.passes v pass y)) value
+    ∙ ap (λ (u : Word). set vs e.seat (look_from z (memory z words) v u)) (sym word))

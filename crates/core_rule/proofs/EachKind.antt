@@ -1,26 +1,25 @@
 -- Each kind of event keeps the rule where its needs are met.
-use Rattle.std.proofs.Common.{◌≡◌, ℕ, ◌+◌, cond, List, [], ◌∷◌, ◌++◌, length, Bool, true, false, not, eqb, ◌&&◌, ◌||◌, set, arith, refl, ap, ◌∙◌, sym, subst, Option, Some, None}
+use Rattle.std.proofs.Common.{◌≡◌, ℕ, cond, List, [], ◌∷◌, length, Bool, true, false, eqb, set, arith, refl, ap, ◌∙◌, subst, Option, Some, None}
 use Rattle.std.specs.List.{slice_get}
 use Rattle.std.proofs.lemmas.List.{set-set}
 use Rattle.std.proofs.lemmas.Option.{slice_get_within, get_or_from_slice_get}
-use Rattle.std.proofs.lemmas.Bool.{and_parts, eqb-true, eq-eqb}
+use Rattle.std.proofs.lemmas.Bool.{and_parts, eqb-true}
 use Rattle.index_words.specs.declared.layout.Layout.{Layout}
 use Rattle.index_words.specs.declared.view.View.{View}
 use Rattle.index_words.specs.declared.word.Word.{Word}
 use Rattle.index_words.specs.declared.word.Word.TheVariants.{Stamp, Section, Announced, Node, Entry}
-use Rattle.index_words.specs.Views.{no_reading, no_slots, no_looks, spent_view}
+use Rattle.index_words.specs.Views.{no_reading, no_slots, no_looks}
 use Rattle.index_words.specs.Words.{Memory, written}
 use Rattle.index_words.specs.Lists.{IsItem}
 use Rattle.index_words.proofs.Seats.{at_item, item_set}
 use Rattle.core_grace.specs.Sections.{is_even}
 use Rattle.core_grace.specs.Batches.{is_empty, batch_taken, settled, looked_at, looked, is_number}
-use Rattle.core_rule.specs.Needs.{is_outside, is_own_section, may_enter, may_leave, may_look_at}
-use Rattle.core_rule.specs.Moves.{nowhere, in_section, entered, left, split_left, split_right, joined_with}
-use Rattle.core_rule.specs.SectionRule.{IsIdle, SectionRight}
+use Rattle.core_rule.specs.Needs.{is_outside, is_own_section}
+use Rattle.core_rule.specs.Moves.{nowhere, in_section, entered, left}
+use Rattle.core_rule.specs.SectionRule.{IsIdle}
 use Rattle.core_rule.specs.Rule.{Meaning, Rule}
 use Rattle.core_rule.proofs.OneView.{Sections, taken, settled_right, look_right}
-use Rattle.core_rule.proofs.Stores.{section_stored, node_stored, entry_stored}
-use Rattle.core_rule.proofs.TwoViews.{split_kept, join_kept}
+use Rattle.core_rule.proofs.Stores.{section_stored}
 
 pub item_from_get : {X : Type 0} (xs : List X) (i : ℕ) (x : X) → slice_get xs i ≡ Some x → IsItem xs i x
 item_from_get xs i x found = record { within = slice_get_within xs i x found; is = λ d. get_or_from_slice_get xs i x d found }

@@ -1,14 +1,12 @@
 -- What idle views hold, and what the rule says of two views with numbers.
-use Rattle.std.proofs.Common.{◌≡◌, ◌≢◌, ℕ, ◌+◌, ◌<◌, ◌≤◌, ◌⊎◌, cond, List, [], ◌∷◌, ◌++◌, length, Bool, true, false, zero, suc, eqb, ltb, set, arith, refl, ap, ◌∙◌, sym, subst, Option, Some, None}
-use Rattle.std.specs.List.{All, sum_by}
+use Rattle.std.proofs.Common.{◌≡◌, ℕ, ◌+◌, ◌<◌, ◌≤◌, cond, List, [], Bool, true, false, eqb, ltb, arith, refl, ap, subst, Option, Some, None}
 use Rattle.std.proofs.lemmas.Bool.Decides.{nat_tests}
 use Rattle.std.proofs.lemmas.Bool.{eq-eqb}
 use Rattle.index_words.specs.declared.layout.Layout.{Layout}
 use Rattle.index_words.specs.declared.view.View.{View}
 use Rattle.index_words.specs.declared.view.slots.Slots.{Slots}
-use Rattle.index_words.specs.Views.{no_reading}
 use Rattle.index_words.specs.Lists.{count, IsItem}
-use Rattle.index_words.proofs.Seats.{Beside, two_terms, one_term, at_item}
+use Rattle.index_words.proofs.Seats.{Beside, two_terms, one_term}
 use Rattle.core_grace.specs.Sections.{is_even}
 use Rattle.core_grace.specs.Batches.{is_number}
 use Rattle.core_grace.specs.Holds.{Bundles, held_nodes, held_entries, HoldsNode, HoldsEntry}
@@ -57,7 +55,6 @@ own_count n (Some k) is = let same : k ≡ n = cc in rw same (ap (λ b. cond b 1
 not_own : (n : ℕ) (number : Option ℕ) → count n (own_number number) ≡ 0 → is_number n number ≡ false
 not_own n None none = refl
 not_own n (Some k) none = not_counted (eqb k n) none
-
 
 cond-lt : (a b : ℕ) → 0 < cond (ltb a b) 1 0 → a < b
 cond-lt a b h = grind (arith, nat_tests)

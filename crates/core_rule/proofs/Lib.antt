@@ -8,3 +8,4 @@ pub mod SplitViews
 pub mod Allowed
 pub mod Changes
 pub mod Stepped
+pub mod AtOpening

@@ -1,26 +1,25 @@
 -- Moves of one view that keep the rule.
-use Rattle.std.proofs.Common.{◌≡◌, ◌≢◌, ℕ, ◌+◌, ◌<◌, ◌≤◌, ◌⊎◌, cond, List, [], ◌∷◌, ◌++◌, length, Bool, true, false, zero, suc, eqb, ltb, ◌&&◌, set, get_or, arith, refl, ap, ◌∙◌, sym, subst, inl, inr, Option, Some, None}
-use Rattle.std.specs.List.{All, sum_by}
-use Rattle.std.proofs.lemmas.List.{set-get_or, set-set}
+use Rattle.std.proofs.Common.{◌≡◌, ℕ, ◌<◌, cond, List, [], ◌∷◌, length, Bool, true, false, eqb, set, arith, refl, ap, ◌∙◌, sym, subst, inl, Option, Some, None}
+use Rattle.std.specs.List.{All}
+use Rattle.std.proofs.lemmas.List.{set-get_or}
 use Rattle.std.proofs.lemmas.Bool.{and_parts, eq-eqb, eqb-true}
 use Rattle.index_words.specs.declared.layout.Layout.{Layout}
 use Rattle.index_words.specs.declared.view.View.{View}
 use Rattle.index_words.specs.declared.view.slots.Slots.{Slots}
-use Rattle.index_words.specs.declared.view.reading.Reading.{Reading}
 use Rattle.index_words.specs.declared.word.Word.TheVariants.{Section, Announced}
-use Rattle.index_words.specs.Views.{no_reading, no_slots, no_looks}
-use Rattle.index_words.specs.Words.{Memory, written}
+use Rattle.index_words.specs.Views.{no_slots, no_looks}
+use Rattle.index_words.specs.Words.{Memory}
 use Rattle.index_words.specs.Lists.{count, IsItem}
-use Rattle.index_words.proofs.Seats.{Beside, sum_kept, at_item, item_set, all_moved, all_framed}
+use Rattle.index_words.proofs.Seats.{sum_kept, at_item, all_moved}
 use Rattle.core_grace.specs.Sections.{is_even}
 use Rattle.core_grace.specs.Batches.{is_empty, batch_taken, batch_freed, settled, looked_at, all_passed, is_number}
 use Rattle.core_grace.specs.Holds.{HoldsNode, HoldsEntry, held_nodes, held_entries}
 use Rattle.core_grace.specs.Slots.{HoldsNone, GraceRight, SlotRule}
-use Rattle.core_grace.proofs.RuleMoves.{HoldsFrom, HoldsLinked, KeepsSection, no_batch, quiet, take_batch, free_batch, same_looks, all_passed_none, look_row}
+use Rattle.core_grace.proofs.RuleMoves.{HoldsFrom, KeepsSection, no_batch, quiet, take_batch, free_batch, all_passed_none, look_row}
 use Rattle.core_rule.specs.Numbers.{number_count, NumbersRight}
-use Rattle.core_rule.specs.SectionRule.{IsIdle, IsOwnWord, SectionRight}
+use Rattle.core_rule.specs.SectionRule.{IsIdle, SectionRight}
 use Rattle.core_rule.specs.Rule.{Meaning, linked_by, HasLayout, Rule}
-use Rattle.core_rule.proofs.Idle.{idle_nodes, idle_entries, idle_none, nameless_idle, section_of, number_low, number_apart}
+use Rattle.core_rule.proofs.Idle.{idle_none, nameless_idle, section_of, number_low, number_apart}
 
 -- putting an item at its own place
 pub set_same : {X : Type 0} (xs : List X) (i : ℕ) (x : X) → IsItem xs i x → set xs i x ≡ xs
@@ -112,9 +111,9 @@ module _ (z : Layout) (m : Memory) (vs : List View) (g : Meaning) where
       let row : All (GraceRight HoldsNode (HoldsEntry g.bundles) v) vs = at_item (λ u. All (GraceRight HoldsNode (HoldsEntry g.bundles) u) vs) vs i v at rule.slots.grace in
       subst (All None') (set_same vs i v at)
       (all_moved (GraceRight HoldsNode (HoldsEntry g.bundles) v) None' vs i v v at row (idle_none g.bundles v.batch v idle)
-        (λ u beside known. all_passed_none z (linked_by g) HoldsNode (HoldsEntry g.bundles) z.passes v u known done
-          (λ nameless. idle_none g.bundles v.batch u (nameless_idle (λ n. m (Section n)) (λ n. m (Announced n)) u (at_item Sections vs beside.place u beside.at rule.sections) nameless))
-          (λ n is. (number_low z vs beside.place u n rule.numbers beside.at is, number_apart z vs i v u n rule.numbers at beside is))))
+      (λ u beside known. all_passed_none z (linked_by g) HoldsNode (HoldsEntry g.bundles) z.passes v u known done
+      (λ nameless. idle_none g.bundles v.batch u (nameless_idle (λ n. m (Section n)) (λ n. m (Announced n)) u (at_item Sections vs beside.place u beside.at rule.sections) nameless))
+      (λ n is. (number_low z vs beside.place u n rule.numbers beside.at is, number_apart z vs i v u n rule.numbers at beside is))))
 
   settled_by : (i : ℕ) (v : View) (b : Bool) → all_passed z.passes v.number v.grace.passed ≡ b → IsItem vs i v → Rule z m vs g → IsIdle v
       → Rule z m (set vs i (cond b (batch_freed v) v)) g
@@ -143,8 +142,8 @@ module _ (z : Layout) (m : Memory) (vs : List View) (g : Meaning) where
       let a : ℕ → ℕ = λ n. m (Announced n) in
       moved_slots i v w at rule moves
       (quiet z (linked_by g) HoldsNode (HoldsEntry g.bundles) vs i v w at rule.slots refl refl refl (holds_same v w refl refl) (keeps_same v w moves)
-        (λ known. look_row z (linked_by g) HoldsNode (HoldsEntry g.bundles) v w pass (m (Section pass)) (λ is. absurd (not_both pass v.number is other)) (λ is even. absurd (not_both pass v.number is other)) known)
-        (λ u beside known.
-          let right : SectionRight s a u = at_item Sections vs beside.place u beside.at rule.sections in
-          look_row z (linked_by g) HoldsNode (HoldsEntry g.bundles) v u pass (m (Section pass)) (λ is. sym (section_of s a u pass right is))
-          (λ is even. idle_none g.bundles v.batch u (right.outside (ap is_even (sym (section_of s a u pass right is)) ∙ even))) known))
+      (λ known. look_row z (linked_by g) HoldsNode (HoldsEntry g.bundles) v w pass (m (Section pass)) (λ is. absurd (not_both pass v.number is other)) (λ is even. absurd (not_both pass v.number is other)) known)
+      (λ u beside known.
+      let right : SectionRight s a u = at_item Sections vs beside.place u beside.at rule.sections in
+      look_row z (linked_by g) HoldsNode (HoldsEntry g.bundles) v u pass (m (Section pass)) (λ is. sym (section_of s a u pass right is))
+      (λ is even. idle_none g.bundles v.batch u (right.outside (ap is_even (sym (section_of s a u pass right is)) ∙ even))) known))

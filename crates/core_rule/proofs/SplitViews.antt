@@ -1,5 +1,5 @@
 -- The views after a split, as the code makes them: the new view is put behind the others first.
-use Rattle.std.proofs.Common.{◌≡◌, ℕ, ◌<◌, List, [], ◌∷◌, ◌++◌, length, set, get_or, arith, refl, ap, ◌∙◌, sym, subst, Some}
+use Rattle.std.proofs.Common.{◌≡◌, ℕ, ◌<◌, List, [], ◌∷◌, ◌++◌, length, set, get_or, ap, ◌∙◌, Some}
 use Rattle.std.specs.List.{slice_get}
 use Rattle.std.proofs.lemmas.List.{set-append_left, get_or_append_left}
 use Rattle.std.proofs.lemmas.Option.{get_or_from_slice_get}

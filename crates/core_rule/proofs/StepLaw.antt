@@ -1,12 +1,12 @@
 -- An event that is allowed keeps the rule.
-use Rattle.std.proofs.Common.{◌≡◌, ℕ, ◌+◌, cond, List, [], ◌∷◌, ◌++◌, length, Bool, true, false, not, eqb, ◌&&◌, ◌||◌, set, arith, refl, ap, ◌∙◌, sym, subst, Option, Some, None, is_none, length-set}
+use Rattle.std.proofs.Common.{◌≡◌, ℕ, ◌+◌, List, [], ◌∷◌, ◌++◌, length, Bool, true, false, not, eqb, ◌&&◌, set, refl, ◌∙◌, sym, subst, Option, Some, None, is_none, length-set}
 use Rattle.std.specs.List.{slice_get}
-use Rattle.std.proofs.lemmas.Bool.{and_parts, eqb-true, eq-eqb}
+use Rattle.std.proofs.lemmas.Bool.{and_parts, eq-eqb}
 use Rattle.index_words.specs.declared.layout.Layout.{Layout}
 use Rattle.index_words.specs.declared.view.View.{View}
 use Rattle.index_words.specs.declared.word.Word.{Word}
 use Rattle.index_words.specs.declared.word.Word.TheVariants.{Stamp, Section, Announced, Node, Entry}
-use Rattle.index_words.specs.Words.{Memory, memory, written, word_at, word_count}
+use Rattle.index_words.specs.Words.{Memory, memory, written, word_at}
 use Rattle.index_words.specs.Lists.{IsItem}
 use Rattle.index_words.proofs.Store.{stored_at}
 use Rattle.index_words.specs.Views.{spent_view}
@@ -15,12 +15,12 @@ use Rattle.core_grace.specs.Batches.{is_number, is_empty, looked}
 use Rattle.core_rule.specs.declared.event.Event.{Event}
 use Rattle.core_rule.specs.declared.event.Kind.{Kind}
 use Rattle.core_rule.specs.declared.event.Kind.TheVariants.{MakeSeat, SplitSeat, JoinSeat, Enter, Leave, LookSec, Fill}
-use Rattle.core_rule.specs.Needs.{is_outside, is_own_section, may_enter, may_leave, may_look, may_look_at, may_fill, may_split, may_join, may_join_found, nothing_pending, is_stamp}
+use Rattle.core_rule.specs.Needs.{is_outside, is_own_section, may_enter, may_leave, may_look, may_fill, may_join, may_join_found, nothing_pending, is_stamp}
 use Rattle.core_rule.specs.Moves.{entered, left, split_left, split_right, joined_with}
 use Rattle.core_rule.specs.Tables.{Table, held_by}
 use Rattle.core_rule.specs.Rule.{Rule, InRule, IsRight}
-use Rattle.core_rule.specs.Steps.{needs, allowed, allowed_at, after, after_at, views_after, words_after, join_found, KeepsLaw}
-use Rattle.core_rule.proofs.EachKind.{item_from_get, OwnSection, own_section, enter_kept, leave_kept, look_kept}
+use Rattle.core_rule.specs.Steps.{needs, allowed_at, after_at, views_after, words_after, join_found, KeepsLaw}
+use Rattle.core_rule.proofs.EachKind.{item_from_get, own_section, enter_kept, leave_kept, look_kept}
 use Rattle.core_rule.proofs.Stores.{node_stored, entry_stored}
 use Rattle.core_rule.proofs.TwoViews.{split_kept, join_kept}
 
@@ -51,7 +51,7 @@ module _ (z : Layout) (words : List ℕ) (vs : List View) (right : InRule z word
       let own = own_section v.number w first.0 in
       store_right z words vs n value w right (set vs i (entered z.passes v value)) found
       (subst (λ u. Rule z (written (memory z words) u value) (set vs i (entered z.passes v value)) right.meaning) (sym own.word)
-        (enter_kept z (memory z words) vs right.meaning i own.n value v at right.rule own.named first.1))
+      (enter_kept z (memory z words) vs right.meaning i own.n value v at right.rule own.named first.1))
 
   leave_right : may_leave (memory z words) v w value ≡ true → InRule z (set words n value) (views_after Leave z (memory z words) vs i v w value)
   leave_right met =
@@ -66,7 +66,7 @@ module _ (z : Layout) (words : List ℕ) (vs : List View) (right : InRule z word
       let own = own_section v.number w (and_parts a b three.0).0 in
       store_right z words vs n value w right (set vs i (left v value)) found
       (subst (λ u. Rule z (written m u value) (set vs i (left v value)) right.meaning) (sym own.word)
-        (leave_kept z m vs right.meaning i own.n value v at right.rule own.named three.1))
+      (leave_kept z m vs right.meaning i own.n value v at right.rule own.named three.1))
 
   look_found : (u : Word) → may_look v u value ≡ true → InRule z words (views_after LookSec z (memory z words) vs i v u value)
   look_found (Section pass) met =

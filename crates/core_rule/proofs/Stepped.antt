@@ -4,11 +4,11 @@ use Rattle.std.specs.List.{slice_get}
 use Rattle.index_words.specs.declared.layout.Layout.{Layout}
 use Rattle.index_words.specs.declared.view.View.{View}
 use Rattle.index_words.specs.declared.word.Word.{Word}
-use Rattle.index_words.specs.Words.{word_at, memory}
+use Rattle.index_words.specs.Words.{word_at}
 use Rattle.core_rule.specs.declared.event.Event.{Event}
 use Rattle.core_rule.specs.Tables.{Table}
 use Rattle.core_rule.specs.Rule.{InRule, IsRight}
-use Rattle.core_rule.specs.Steps.{allowed, allowed_at, after, after_at, words_after, views_after, IsChange}
+use Rattle.core_rule.specs.Steps.{allowed, allowed_at, after, after_at, words_after, IsChange}
 use Rattle.core_rule.proofs.Allowed.{needed}
 use Rattle.core_rule.proofs.StepLaw.{keeps}
 
@@ -48,8 +48,8 @@ pub finished : {T E : Type 0} (z : Layout) (words ws us : List ℕ) (views vs : 
 finished z words ws us views vs e w met bad (Err x) stored changed right found same_words same_views is_met held same is_bad good is is_stored = cc
 finished z words ws us views vs e w met bad (Ok x) stored changed right found same_words same_views is_met held same is_bad good is is_stored =
     let allowed_now : allowed_at (record { layout = z; words = words; views = views }) e (slice_get views e.seat) (Some w) ≡ true =
-        subst (λ (xs : List View). allowed_at (record { layout = z; words = words; views = xs }) e (slice_get xs e.seat) (Some w) ≡ true) same_views
-        (subst (λ (xs : List ℕ). allowed_at (record { layout = z; words = xs; views = vs }) e (slice_get vs e.seat) (Some w) ≡ true) same_words (sym is_met ∙ held)) in
+    subst (λ (xs : List View). allowed_at (record { layout = z; words = words; views = xs }) e (slice_get xs e.seat) (Some w) ≡ true) same_views
+    (subst (λ (xs : List ℕ). allowed_at (record { layout = z; words = xs; views = vs }) e (slice_get vs e.seat) (Some w) ≡ true) same_words (sym is_met ∙ held)) in
     let change_now : IsChange z words views e w changed = subst (λ (xs : List ℕ). IsChange z xs views e w changed) same is in
     subst (λ (xs : List ℕ). InRule z xs changed) (sym is_stored)
     (step_right (record { layout = z; words = words; views = views }) e w changed right (sym found) allowed_now change_now)

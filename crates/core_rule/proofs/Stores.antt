@@ -1,6 +1,5 @@
 -- Stores that keep the rule: to the own section word, and to words of free slots.
-use Rattle.std.proofs.Common.{◌≡◌, ◌≢◌, ℕ, ◌+◌, ◌<◌, ◌≤◌, ◌⊎◌, cond, List, [], ◌∷◌, Bool, true, false, eqb, set, arith, refl, ap, ◌∙◌, sym, subst, inl, inr, Option, Some, None}
-use Rattle.std.specs.List.{All, sum_by}
+use Rattle.std.proofs.Common.{◌≡◌, ℕ, cond, List, false, eqb, set, arith, refl, ap, ◌∙◌, subst, inr, Option, Some, None}
 use Rattle.std.proofs.lemmas.Bool.{eq-eqb}
 use Rattle.std.proofs.lemmas.Bool.Decides.{nat_tests}
 use Rattle.index_words.specs.declared.layout.Layout.{Layout}
@@ -11,10 +10,10 @@ use Rattle.index_words.specs.declared.word.Field.{Field}
 use Rattle.index_words.specs.declared.word.Part.{Part}
 use Rattle.index_words.specs.Words.{Memory, written}
 use Rattle.index_words.specs.Lists.{count, IsItem}
-use Rattle.index_words.proofs.Seats.{Beside, sum_kept, at_item, all_moved}
+use Rattle.index_words.proofs.Seats.{sum_kept, at_item, all_moved}
 use Rattle.core_grace.specs.Batches.{is_number}
 use Rattle.core_grace.specs.Holds.{HoldsNode, HoldsEntry}
-use Rattle.core_grace.proofs.RuleMoves.{HoldsFrom, HoldsLinked, KeepsSection, quiet, same_looks}
+use Rattle.core_grace.proofs.RuleMoves.{HoldsFrom, HoldsLinked, quiet, same_looks}
 use Rattle.core_rule.specs.Numbers.{number_count}
 use Rattle.core_rule.specs.SectionRule.{IsIdle, IsOwnWord, SectionRight}
 use Rattle.core_rule.specs.Rule.{Meaning, linked_by, HasLayout, Rule}

@@ -1,6 +1,5 @@
 -- A seat that is split in two, and a seat that is joined into another one: the rule is kept.
-use Rattle.std.proofs.Common.{◌≡◌, ℕ, ◌+◌, ◌<◌, ◌≤◌, List, [], ◌∷◌, ◌++◌, true, false, take, drop, set, arith, refl, ap, ◌∙◌, sym, Option, Some, None}
-use Rattle.std.specs.List.{All, sum_by}
+use Rattle.std.proofs.Common.{◌≡◌, ℕ, ◌+◌, List, [], ◌∷◌, ◌++◌, false, take, drop, set, arith, refl, ap, ◌∙◌, None}
 use Rattle.std.proofs.lemmas.List.{take-append-drop}
 use Rattle.std.proofs.lemmas.List.Elements.{All-set, All-push}
 use Rattle.index_words.specs.declared.layout.Layout.{Layout}
@@ -9,10 +8,10 @@ use Rattle.index_words.specs.declared.word.Word.TheVariants.{Section, Announced}
 use Rattle.index_words.specs.Words.{Memory}
 use Rattle.index_words.specs.Views.{spent_view}
 use Rattle.index_words.specs.Lists.{count, IsItem}
-use Rattle.index_words.proofs.Seats.{Beside, at_item, all_moved, sum_split, sum_joined}
+use Rattle.index_words.proofs.Seats.{at_item, all_moved, sum_split, sum_joined}
 use Rattle.index_words.proofs.Counting.{count-append}
 use Rattle.core_grace.specs.Holds.{HoldsNode, HoldsEntry}
-use Rattle.core_grace.proofs.TwoSeats.{Stays, IsBare, split_slots, join_slots}
+use Rattle.core_grace.proofs.TwoSeats.{IsBare, split_slots, join_slots}
 use Rattle.core_rule.specs.Moves.{split_left, split_right, joined_with, own_number}
 use Rattle.core_rule.specs.Numbers.{number_count}
 use Rattle.core_rule.specs.SectionRule.{IsIdle, SectionRight}

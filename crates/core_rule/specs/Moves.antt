@@ -1,7 +1,6 @@
 -- The view of a seat after each kind of event.
 use Rattle.std.specs.Prelude.{ℕ, List, [], ◌∷◌, ◌++◌, take, drop, length, nat_lt, cond, Option, Some, None, map}
 use Rattle.index_words.specs.declared.view.View.{View}
-use Rattle.index_words.specs.declared.view.slots.Slots.{Slots}
 use Rattle.index_words.specs.declared.view.history.SeenHistory.{SeenHistory}
 use Rattle.index_words.specs.declared.view.history.EndedPlace.{EndedPlace}
 use Rattle.index_words.specs.declared.view.reading.Reading.{Reading}

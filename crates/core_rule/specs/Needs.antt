@@ -1,7 +1,6 @@
 -- The needs of each kind of event: what has to be true of the table for it, as a computed truth value.
 use Rattle.std.specs.Prelude.{ℕ, ◌+◌, List, length, Bool, true, false, not, ◌==◌, ◌&&◌, ◌||◌, Option, Some, None, is_none}
 use Rattle.std.specs.List.{list_all, slice_get}
-use Rattle.index_words.specs.declared.layout.Layout.{Layout}
 use Rattle.index_words.specs.declared.view.View.{View}
 use Rattle.index_words.specs.declared.word.Field.TheVariants.{Lock, Mark}
 use Rattle.index_words.specs.declared.word.Field.{Field}

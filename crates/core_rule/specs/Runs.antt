@@ -1,6 +1,8 @@
 -- Runs: the events one after another, up to the first that is not allowed.
-use Rattle.std.specs.Prelude.{ℕ, ◌+◌, List, [], ◌∷◌, Bool, cond, Option, Some, None}
+use Rattle.std.specs.Prelude.{◌≡◌, ℕ, ◌+◌, List, [], ◌∷◌, cond, Option, Some, None}
 use Rattle.core_rule.specs.declared.event.Event.{Event}
+use Rattle.core_rule.specs.declared.run.RunError.{RunError}
+use Rattle.core_rule.specs.declared.run.RunError.TheVariants.{NotAllowed, NoMemory}
 use Rattle.core_rule.specs.Tables.{Table}
 use Rattle.core_rule.specs.Steps.{allowed, after}
 
@@ -16,3 +18,8 @@ refused_from place t (e ∷ es) = cond (allowed t e) (refused_from (place + 1) (
 
 abbrev pub first_refused : Table → List Event → Option ℕ
 first_refused t events = refused_from 0 t events
+
+-- a run is refused at the first event that is not allowed, or for want of memory
+abbrev pub IsRefusal : Option ℕ → RunError → Type 0
+IsRefusal refused (NotAllowed place) = refused ≡ Some place
+IsRefusal refused NoMemory = Unit {0}

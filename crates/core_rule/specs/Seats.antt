@@ -1,5 +1,5 @@
 -- What a step needs to know of the seat that makes it.
-use Rattle.std.specs.Prelude.{◌≡◌, ℕ, ◌<◌, ◌≤◌, List, length, Some, slice_index_or}
+use Rattle.std.specs.Prelude.{ℕ, ◌<◌, ◌≤◌, List, length, slice_index_or}
 use Rattle.index_words.specs.declared.view.View.{View}
 
 -- the seat has at least so many free nodes

@@ -1,6 +1,6 @@
 -- The rule on section words: a view holds what its own words are, and outside a section it has read nothing
 -- and locked nothing.
-use Rattle.std.specs.Prelude.{◌≡◌, ℕ, List, [], true, Option, Some, None}
+use Rattle.std.specs.Prelude.{◌≡◌, ℕ, [], true, Option, Some, None}
 use Rattle.index_words.specs.declared.view.View.{View}
 use Rattle.index_words.specs.Views.{no_reading}
 use Rattle.core_grace.specs.Sections.{is_even}

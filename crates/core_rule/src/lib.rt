@@ -6,9 +6,12 @@
 mod event;
 mod moves;
 mod needs;
+mod opening;
+mod run;
 mod seats;
 mod state;
 mod step;
 
 pub use event::{Event, Kind};
+pub use run::{RunError, run_of};
 pub use state::{State, StepError};

@@ -34,7 +34,13 @@ pub(crate) fn leave(alloc: Global, view: &mut View, word: u64)
 
 /// The view after a look that found `word` as the section word of `pass`. After a refusal the view is
 /// unchanged.
-pub(crate) fn look(alloc: Global, view: &mut View, passes: u32, pass: u32, word: u64) -> Result<(), NoMemory>
+pub(crate) fn look(
+    alloc: Global,
+    view: &mut View,
+    passes: u32,
+    pass: u32,
+    word: u64,
+) -> Result<(), NoMemory>
     ensures ok { OnOk result (view.new ≡ looked passes view.old pass word) }
     ensures err { OnErr result (view.new ≡ view.old) }
 {
@@ -77,7 +83,11 @@ pub(crate) fn keep_rest(view: &mut View, nodes: u64)
     }
 }
 
-fn longer_of(alloc: Global, seen: &Items<Update>, other: &Items<Update>) -> Result<Items<Update>, NoMemory>
+fn longer_of(
+    alloc: Global,
+    seen: &Items<Update>,
+    other: &Items<Update>,
+) -> Result<Items<Update>, NoMemory>
     ensures { IfOk result (λ both. both ≡ longer seen.now other.now) }
 {
     if seen.len() < other.len() {
@@ -132,7 +142,12 @@ pub(crate) struct Gained {
     retired: Slots,
 }
 
-fn all_ended(alloc: Global, own: &Items<u32>, number: Option<u32>, other: &Items<u32>) -> Result<Items<u32>, NoMemory>
+fn all_ended(
+    alloc: Global,
+    own: &Items<u32>,
+    number: Option<u32>,
+    other: &Items<u32>,
+) -> Result<Items<u32>, NoMemory>
     ensures { IfOk result (λ ended. ended ≡ own.now ++ (other.now ++ own_number number)) }
 {
     let last = number_list(alloc, number)?;
@@ -140,7 +155,12 @@ fn all_ended(alloc: Global, own: &Items<u32>, number: Option<u32>, other: &Items
     Items::concat(alloc, own.as_slice(), more.as_slice())
 }
 
-fn all_places(alloc: Global, own: &Items<EndedPlace>, number: Option<u32>, other: &SeenHistory) -> Result<Items<EndedPlace>, NoMemory>
+fn all_places(
+    alloc: Global,
+    own: &Items<EndedPlace>,
+    number: Option<u32>,
+    other: &SeenHistory,
+) -> Result<Items<EndedPlace>, NoMemory>
     ensures { IfOk result (λ places. places ≡ own.now ++ (other.now.ended_places ++ own_ended number other.now.mine)) }
 {
     let last = ended_of(alloc, number, other.mine.as_slice())?;
@@ -161,8 +181,18 @@ pub(crate) fn gain(alloc: Global, view: &View, other: &View) -> Result<Gained, N
 {
     let seen = longer_of(alloc, &view.history.seen, &other.history.seen)?;
     let told = other.history.seen.copy(alloc)?;
-    let ended = all_ended(alloc, &view.history.ended, other.number, &other.history.ended)?;
-    let ended_places = all_places(alloc, &view.history.ended_places, other.number, &other.history)?;
+    let ended = all_ended(
+        alloc,
+        &view.history.ended,
+        other.number,
+        &other.history.ended,
+    )?;
+    let ended_places = all_places(
+        alloc,
+        &view.history.ended_places,
+        other.number,
+        &other.history,
+    )?;
     let to_give = Items::concat(alloc, view.to_give.as_slice(), other.to_give.as_slice())?;
     let free = Slots::concat(alloc, &view.free, &other.free)?;
     let retired = all_retired(alloc, &view.retired, other)?;

@@ -6,10 +6,9 @@ ghost use Rattle.index_words.specs.Lists.{has};
 ghost use Rattle.core_rule.specs.Needs.{is_outside as outside_of, is_marked_node, nothing_pending, is_own_section, is_stamp, may_enter as enter_needs, may_leave as leave_needs, may_look as look_needs, is_lock, may_fill as fill_needs, may_split as split_needs, may_join as join_needs, may_join_view};
 ghost use Rattle.core_rule.specs.Steps.{needs};
 
+use crate::event::{Event, Kind};
 use core_grace::{is_own, left_word};
 use index_words::{Field, Layout, View, Word};
-
-use crate::event::{Event, Kind};
 
 /// What a word holds, and 0 for a word that is not there.
 pub(crate) fn held(layout: &Layout, words: &[u64], word: Word) -> u64
@@ -146,7 +145,14 @@ fn may_join(views: &[View], seat: u32, view: &View, word: Word, value: u64) -> b
 }
 
 /// Whether the needs of an event's kind are met, for a seat with this view and a word by name.
-pub(crate) fn are_met(layout: &Layout, words: &[u64], views: &[View], view: &View, word: Word, event: &Event) -> bool
+pub(crate) fn are_met(
+    layout: &Layout,
+    words: &[u64],
+    views: &[View],
+    view: &View,
+    word: Word,
+    event: &Event,
+) -> bool
     ensures { result ≡ needs event.now.kind (memory layout.now words.now) views.now event.now.seat view.now word event.now.value }
 {
     let value = event.value;

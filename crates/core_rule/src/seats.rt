@@ -7,12 +7,17 @@ ghost use Rattle.core_grace.specs.Batches.{looked};
 ghost use Rattle.core_rule.specs.Seats.{HasFree};
 ghost use Rattle.core_rule.specs.Moves.{entered, left, split_left, split_right, joined_with};
 
+use crate::moves::{enter, gain, keep_rest, leave, look, split_off, take_gain};
 use index_words::{NoMemory, View};
 use std::alloc::Global;
 
-use crate::moves::{enter, gain, keep_rest, leave, look, split_off, take_gain};
-
-pub(crate) fn enter_seat(alloc: Global, views: &mut [View], seat: usize, passes: u32, word: u64) -> Result<(), NoMemory>
+pub(crate) fn enter_seat(
+    alloc: Global,
+    views: &mut [View],
+    seat: usize,
+    passes: u32,
+    word: u64,
+) -> Result<(), NoMemory>
     requires { seat < length views.old }
     ensures ok { OnOk result ((v : SeatView) → slice_get views.old seat ≡ Some v → views.new ≡ slice_set views.old seat (entered passes v word)) }
     ensures err { OnErr result (views.new ≡ views.old) }
@@ -29,7 +34,14 @@ pub(crate) fn leave_seat(alloc: Global, views: &mut [View], seat: usize, word: u
     leave(alloc, view, word);
 }
 
-pub(crate) fn look_seat(alloc: Global, views: &mut [View], seat: usize, passes: u32, pass: u32, word: u64) -> Result<(), NoMemory>
+pub(crate) fn look_seat(
+    alloc: Global,
+    views: &mut [View],
+    seat: usize,
+    passes: u32,
+    pass: u32,
+    word: u64,
+) -> Result<(), NoMemory>
     requires { seat < length views.old }
     ensures ok { OnOk result ((v : SeatView) → slice_get views.old seat ≡ Some v → views.new ≡ slice_set views.old seat (looked passes v pass word)) }
     ensures err { OnErr result (views.new ≡ views.old) }
@@ -38,7 +50,12 @@ pub(crate) fn look_seat(alloc: Global, views: &mut [View], seat: usize, passes: 
     look(alloc, view, passes, pass, word)
 }
 
-pub(crate) fn split_seat(alloc: Global, views: &mut Vec<View>, seat: usize, nodes: u64) -> Result<(), NoMemory>
+pub(crate) fn split_seat(
+    alloc: Global,
+    views: &mut Vec<View>,
+    seat: usize,
+    nodes: u64,
+) -> Result<(), NoMemory>
     requires few { nodes ≤ 1 }
     requires there { HasFree views.old.items seat nodes }
     ensures ok { OnOk result ((v : SeatView) → slice_get views.old.items seat ≡ Some v → views.new.items ≡ slice_set views.old.items seat (split_left v nodes) ++ split_right v nodes ∷ []) }
@@ -51,7 +68,12 @@ pub(crate) fn split_seat(alloc: Global, views: &mut Vec<View>, seat: usize, node
     Ok(())
 }
 
-pub(crate) fn join_seats(alloc: Global, views: &mut [View], seat: usize, other: usize) -> Result<(), NoMemory>
+pub(crate) fn join_seats(
+    alloc: Global,
+    views: &mut [View],
+    seat: usize,
+    other: usize,
+) -> Result<(), NoMemory>
     requires seat { seat < length views.old }
     requires other { other < length views.old }
     requires apart { other ≢ seat }

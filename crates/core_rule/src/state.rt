@@ -1,16 +1,18 @@
-ghost use Rattle.std.specs.Prelude.{◌≡◌, ◌↔◌, ◌≤◌, OnOk, OnErr, IsNone, IfSome, true, false, slice_index};
+ghost use Rattle.std.specs.Prelude.{◌≡◌, ◌↔◌, ◌≤◌, OnOk, OnErr, IfOk, IsNone, IfSome, true, false, slice_index};
 ghost use Rattle.std.specs.List.{slice_get};
 ghost use Rattle.std.specs.Option.{option_copied};
+ghost use Rattle.index_words.specs.Sizes.{FitTable, layout_of};
 ghost use Rattle.index_words.specs.Words.{word_count};
 ghost use Rattle.core_rule.specs.Steps.{allowed, after};
 ghost use Rattle.core_rule.specs.Rule.{IsRight};
-
-use index_words::{Layout, View};
-use std::alloc::Global;
-use std::marker::Model;
+ghost use Rattle.core_rule.specs.Openings.{opening};
 
 use crate::event::Event;
+use crate::opening::{opening_views, zeros};
 use crate::step::{change, is_allowed, store};
+use index_words::{Layout, NoMemory, PassSize, View};
+use std::alloc::Global;
+use std::marker::Model;
 
 /// A table as plain data, which meets the rule at every moment.
 #[derive(Drop)]
@@ -56,6 +58,23 @@ impl State {
         self.views.get(seat as usize)
     }
 
+    /// The state at the start: all words are 0, and there is one view per pass, with that pass's slots free
+    /// and its calls left, and behind them the emptied first view.
+    pub fn start(alloc: Global, layout: &Layout, sizes: &[PassSize]) -> Result<State, NoMemory>
+        requires fit { FitTable sizes.now }
+        requires sums { layout.now ≡ layout_of sizes.now }
+        ensures state { IfOk result (λ s. s ≡ opening layout.now sizes.now) }
+        ensures rule { IfOk result IsRight }
+    {
+        let words = zeros(alloc, layout.word_count() as usize)?;
+        let views = opening_views(alloc, layout, sizes)?;
+        Ok(State {
+            layout: *layout,
+            words,
+            views,
+        })
+    }
+
     /// Makes one step. It is refused exactly where the event's needs are not met, or for want of memory; the
     /// state is then unchanged.
     pub fn step(&mut self, alloc: Global, event: &Event) -> Result<(), StepError>
@@ -67,10 +86,25 @@ impl State {
         let Some(word) = self.layout.word_at(event.word) else {
             return Err(StepError::NotAllowed);
         };
-        if !is_allowed(&self.layout, self.words.as_slice(), self.views.as_slice(), word, event) {
+        if !is_allowed(
+            &self.layout,
+            self.words.as_slice(),
+            self.views.as_slice(),
+            word,
+            event,
+        ) {
             return Err(StepError::NotAllowed);
         }
-        if change(alloc, &self.layout, self.words.as_slice(), &mut self.views, word, event).is_err() {
+        if change(
+            alloc,
+            &self.layout,
+            self.words.as_slice(),
+            &mut self.views,
+            word,
+            event,
+        )
+        .is_err()
+        {
             return Err(StepError::NoMemory);
         }
         store(&mut self.words, event);

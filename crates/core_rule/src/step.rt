@@ -6,21 +6,28 @@ ghost use Rattle.core_rule.specs.Tables.{Table};
 ghost use Rattle.core_rule.specs.declared.event.Kind.TheVariants.{SplitSeat};
 ghost use Rattle.core_rule.specs.Steps.{allowed_at, words_after, IsChange};
 
-use index_words::{Layout, NoMemory, View, Word};
-use std::alloc::Global;
-
 use crate::event::{Event, Kind};
 use crate::needs::{are_met, held};
 use crate::seats::{enter_seat, join_seats, leave_seat, look_seat, split_seat};
+use index_words::{Layout, NoMemory, View, Word};
+use std::alloc::Global;
 
 /// Whether an event is allowed whose word has this name.
-pub(crate) fn is_allowed(layout: &Layout, words: &[u64], views: &[View], word: Word, event: &Event) -> bool
+pub(crate) fn is_allowed(
+    layout: &Layout,
+    words: &[u64],
+    views: &[View],
+    word: Word,
+    event: &Event,
+) -> bool
     ensures { result ≡ allowed_at (record { layout = layout.now; words = words.now; views = views.now }) event.now (slice_get views.now event.now.seat) (Some word) }
 {
     match views.get(event.seat as usize) {
         None => false,
         Some(view) => {
-            event.update.is_none() && !view.joined && are_met(layout, words, views, view, word, event)
+            event.update.is_none()
+                && !view.joined
+                && are_met(layout, words, views, view, word, event)
         }
     }
 }
@@ -38,7 +45,14 @@ pub(crate) fn store(words: &mut Vec<u64>, event: &Event)
 
 /// The views after an allowed event of a kind that makes no seat. After a refusal they are unchanged.
 #[tactic(none)]
-fn change_in_place(alloc: Global, layout: &Layout, words: &[u64], views: &mut [View], word: Word, event: &Event) -> Result<(), NoMemory>
+fn change_in_place(
+    alloc: Global,
+    layout: &Layout,
+    words: &[u64],
+    views: &mut [View],
+    word: Word,
+    event: &Event,
+) -> Result<(), NoMemory>
     requires met { allowed_at (record { layout = layout.now; words = words.now; views = views.old }) event.now (slice_get views.old event.now.seat) (Some word) ≡ true }
     requires in_place { event.now.kind ≢ SplitSeat }
     ensures ok { OnOk result (IsChange layout.now words.now views.old event.now word views.new) }
@@ -58,7 +72,14 @@ fn change_in_place(alloc: Global, layout: &Layout, words: &[u64], views: &mut [V
         }
         Kind::LookSec => match word {
             Word::Section(pass) => {
-                look_seat(alloc, views, seat, layout.passes, pass, held(layout, words, word))
+                look_seat(
+                    alloc,
+                    views,
+                    seat,
+                    layout.passes,
+                    pass,
+                    held(layout, words, word),
+                )
             }
             _ => unreachable!(),
         },
@@ -66,7 +87,14 @@ fn change_in_place(alloc: Global, layout: &Layout, words: &[u64], views: &mut [V
 }
 
 /// The views after an allowed event. After a refusal they are unchanged.
-pub(crate) fn change(alloc: Global, layout: &Layout, words: &[u64], views: &mut Vec<View>, word: Word, event: &Event) -> Result<(), NoMemory>
+pub(crate) fn change(
+    alloc: Global,
+    layout: &Layout,
+    words: &[u64],
+    views: &mut Vec<View>,
+    word: Word,
+    event: &Event,
+) -> Result<(), NoMemory>
     requires { allowed_at (record { layout = layout.now; words = words.now; views = views.old.items }) event.now (slice_get views.old.items event.now.seat) (Some word) ≡ true }
     ensures ok { OnOk result (IsChange layout.now words.now views.old.items event.now word views.new.items) }
     ensures err { OnErr result (views.new.items ≡ views.old.items) }

@@ -1,6 +1,4 @@
-use Rattle.std.proofs.Common.{◌≡◌, ℕ, List, refl, ap, ◌∙◌, sym, subst, Some}
 use Rattle.core_rule.specs.declared.event.Kind.TheVariants.{SplitSeat}
-use Rattle.core_rule.specs.Tables.{Table}
 use Rattle.core_rule.proofs.Allowed.{split_few, split_there}
 use Rattle.core_rule.proofs.Changes.{on_ok, change_of}
 use Rattle.core_rule.proofs.step.change.Goals as goal

@@ -1,13 +1,6 @@
-use Rattle.std.proofs.Common.{◌≡◌, ℕ, List, refl, ap, ◌∙◌, sym, subst, Some}
-use Rattle.index_words.specs.declared.view.View.{View}
-use Rattle.index_words.specs.declared.word.Word.{Word}
-use Rattle.index_words.specs.declared.word.Word.TheVariants.{Section}
-use Rattle.index_words.specs.Words.{memory}
-use Rattle.core_rule.specs.declared.event.Event.{Event}
-use Rattle.core_rule.specs.declared.event.Kind.TheVariants.{MakeSeat, SplitSeat, JoinSeat, Enter, Leave, LookSec, Fill}
-use Rattle.core_rule.specs.Tables.{Table}
-use Rattle.core_rule.specs.Steps.{IsChange, look_from, views_after}
-use Rattle.core_rule.proofs.Allowed.{seat_within, join_other, Other, look_at_section}
+use Rattle.std.proofs.Common.{refl}
+use Rattle.core_rule.specs.declared.event.Kind.TheVariants.{MakeSeat, Enter, Leave, Fill}
+use Rattle.core_rule.proofs.Allowed.{seat_within, join_other, look_at_section}
 use Rattle.core_rule.proofs.Changes.{on_ok, change_of, join_change, look_change}
 use Rattle.core_rule.proofs.step.change_in_place.Goals as goal
 

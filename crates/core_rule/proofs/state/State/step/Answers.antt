@@ -1,4 +1,3 @@
-use Rattle.std.proofs.Common.{◌≡◌, refl, sym, true, false}
 use Rattle.core_rule.proofs.Stepped.{finished}
 use Rattle.core_rule.proofs.state.State.step.Goals as goal
 

@@ -1,0 +1,179 @@
+-- The table at the start meets the rule.
+use Rattle.std.proofs.Common.{◌≡◌, ℕ, ◌+◌, zero, suc, cond, List, [], ◌∷◌, ◌++◌, length, Bool, true, false, eqb, ltb, leb, ◌&&◌, get_or, arith, refl, ap, ◌∙◌, sym, subst, Option, Some, None, replicate, slice_index}
+use Rattle.std.specs.List.{All, sum_by}
+use Rattle.std.proofs.lemmas.Bool.Decides.{nat_tests}
+use Rattle.std.proofs.lemmas.List.{length-replicate}
+use Rattle.std.proofs.lemmas.List.Elements.{All-nil, All-cons, All-append, All-weaker}
+use Rattle.std.proofs.lemmas.List.Sums.{sum_by-cons, sum_by_push}
+use Rattle.index_words.specs.declared.layout.Layout.{Layout}
+use Rattle.index_words.specs.declared.pass.PassSize.{PassSize}
+use Rattle.index_words.specs.declared.view.View.{View}
+use Rattle.index_words.specs.declared.view.slots.Slots.{Slots}
+use Rattle.index_words.specs.declared.word.Word.{Word}
+use Rattle.index_words.specs.declared.word.Word.TheVariants.{Section, Announced}
+use Rattle.index_words.specs.Sizes.{all_nodes, all_entries, layout_of}
+use Rattle.index_words.specs.Views.{empty_view, no_slots, no_looks}
+use Rattle.index_words.specs.Words.{memory, word_count, is_there, address}
+use Rattle.index_words.specs.Lists.{count}
+use Rattle.index_words.proofs.Counting.{count-push}
+use Rattle.core_grace.specs.Holds.{HoldsNode, HoldsEntry}
+use Rattle.core_grace.specs.Slots.{nodes_of, entries_in, own, own_free, is_slot, GraceRight, KeepsEntries}
+use Rattle.core_grace.proofs.RuleMoves.{no_looks_right}
+use Rattle.core_rule.specs.Numbers.{number_count}
+use Rattle.core_rule.specs.SectionRule.{IsIdle, SectionRight, IsOwnWord}
+use Rattle.core_rule.specs.Rule.{Meaning, linked_by, HasLayout, InRule, IsRight}
+use Rattle.core_rule.specs.Openings.{from_up, pass_view, pass_views, opening}
+use Rattle.core_rule.proofs.Idle.{idle_nodes, idle_entries}
+
+-- 1 for a number from `first` on, and 0 for another one
+abbrev pub between : ℕ → ℕ → ℕ → ℕ
+between x first n = cond (leb first x && ltb x (first + n)) 1 0
+
+between_none : (x first : ℕ) → between x first 0 ≡ 0
+between_none x first = grind (arith, nat_tests)
+
+between_more : (x first n : ℕ) → between x first n + cond (eqb (first + n) x) 1 0 ≡ between x first (suc n)
+between_more x first n = grind (arith, nat_tests)
+
+between_both : (x first m n : ℕ) → between x first m + between x (first + m) n ≡ between x first (m + n)
+between_both x first m n = grind (arith, nat_tests)
+
+pub count-from_up : (x first n : ℕ) → count x (from_up first n) ≡ between x first n
+count-from_up x first zero = sym (between_none x first)
+count-from_up x first (suc n) = count-push x (from_up first n) (first + n) ∙ ap (λ k. k + cond (eqb (first + n) x) 1 0) (count-from_up x first n) ∙ between_more x first n
+
+-- a view that has just been made
+record IsFresh (z : Layout) (v : View) : Type 0 where
+  layout : v.layout ≡ z
+  idle : IsIdle v
+  grace : v.grace ≡ no_looks
+  retired : v.retired ≡ no_slots
+  batch : v.batch ≡ no_slots
+  section_word : v.section_word ≡ 0
+  announced : v.announced ≡ 0
+
+pass_fresh : (z : Layout) (k a b : ℕ) (size : PassSize) → IsFresh z (pass_view z k a b size)
+pass_fresh z k a b size = record { layout = refl; idle = record { reading = refl; held = refl }; grace = refl; retired = refl; batch = refl; section_word = refl; announced = refl }
+
+empty_fresh : (z : Layout) → IsFresh z (empty_view z)
+empty_fresh z = record { layout = refl; idle = record { reading = refl; held = refl }; grace = refl; retired = refl; batch = refl; section_word = refl; announced = refl }
+
+passes_fresh : (z : Layout) (k a b : ℕ) (sizes : List PassSize) → All (IsFresh z) (pass_views z k a b sizes)
+passes_fresh z k a b [] = All-nil (IsFresh z)
+passes_fresh z k a b (size ∷ sizes) =
+    All-cons (IsFresh z) (pass_view z k a b size) (pass_views z (k + 1) (a + size.nodes) (b + size.entries) sizes) (pass_fresh z k a b size) (passes_fresh z (k + 1) (a + size.nodes) (b + size.entries) sizes)
+
+all_fresh : (z : Layout) (sizes : List PassSize) → All (IsFresh z) (opening z sizes).views
+all_fresh z sizes =
+    All-append (IsFresh z) (pass_views z 0 1 1 sizes) (empty_view z ∷ []) (passes_fresh z 0 1 1 sizes) (All-cons (IsFresh z) (empty_view z) [] (empty_fresh z) (All-nil (IsFresh z)))
+
+one_number : (x k : ℕ) → count x (k ∷ []) ≡ between x k 1
+one_number x k = grind (arith, nat_tests)
+
+sum_numbers : (x : ℕ) (z : Layout) (k a b : ℕ) (sizes : List PassSize) → sum_by (number_count x) (pass_views z k a b sizes) ≡ between x k (length sizes)
+sum_numbers x z k a b [] = sym (between_none x k)
+sum_numbers x z k a b (size ∷ sizes) =
+    let head = sum_by-cons (number_count x) (pass_view z k a b size) (pass_views z (k + 1) (a + size.nodes) (b + size.entries) sizes) in
+    let step : number_count x (pass_view z k a b size) + sum_by (number_count x) (pass_views z (k + 1) (a + size.nodes) (b + size.entries) sizes) ≡ between x k (1 + length sizes) =
+    omega (arith, sum_numbers x z (k + 1) (a + size.nodes) (b + size.entries) sizes, between_both x k 1 (length sizes), one_number x k) in
+    let long : 1 + length sizes ≡ length (size ∷ sizes) = omega arith in
+    head ∙ step ∙ ap (between x k) long
+
+sum_nodes : (x : ℕ) (z : Layout) (k a b : ℕ) (sizes : List PassSize) → sum_by (own nodes_of x) (pass_views z k a b sizes) ≡ between x a (all_nodes sizes)
+sum_nodes x z k a b [] = sym (between_none x a)
+sum_nodes x z k a b (size ∷ sizes) =
+    let head = sum_by-cons (own nodes_of x) (pass_view z k a b size) (pass_views z (k + 1) (a + size.nodes) (b + size.entries) sizes) in
+    let step : own nodes_of x (pass_view z k a b size) + sum_by (own nodes_of x) (pass_views z (k + 1) (a + size.nodes) (b + size.entries) sizes) ≡ between x a (size.nodes + all_nodes sizes) =
+    omega (arith, sum_nodes x z (k + 1) (a + size.nodes) (b + size.entries) sizes, between_both x a size.nodes (all_nodes sizes), count-from_up x a size.nodes) in
+    head ∙ step ∙ ap (between x a) (sym (sum_by-cons (λ (s : PassSize). s.nodes) size sizes))
+
+sum_entries : (x : ℕ) (z : Layout) (k a b : ℕ) (sizes : List PassSize) → sum_by (own entries_in x) (pass_views z k a b sizes) ≡ between x b (all_entries sizes)
+sum_entries x z k a b [] = sym (between_none x b)
+sum_entries x z k a b (size ∷ sizes) =
+    let head = sum_by-cons (own entries_in x) (pass_view z k a b size) (pass_views z (k + 1) (a + size.nodes) (b + size.entries) sizes) in
+    let step : own entries_in x (pass_view z k a b size) + sum_by (own entries_in x) (pass_views z (k + 1) (a + size.nodes) (b + size.entries) sizes) ≡ between x b (size.entries + all_entries sizes) =
+    omega (arith, sum_entries x z (k + 1) (a + size.nodes) (b + size.entries) sizes, between_both x b size.entries (all_entries sizes), count-from_up x b size.entries) in
+    head ∙ step ∙ ap (between x b) (sym (sum_by-cons (λ (s : PassSize). s.entries) size sizes))
+
+between_slot : (x n : ℕ) → between x 1 n ≡ is_slot n x
+between_slot x n = grind (arith, nat_tests)
+
+between_number : (x n : ℕ) → between x 0 n ≡ cond (ltb x n) 1 0
+between_number x n = grind (arith, nat_tests)
+
+-- all words are 0
+zero_at : (n i : ℕ) → slice_index (replicate n 0) i ≡ 0
+zero_at zero i = refl
+zero_at (suc n) zero = refl
+zero_at (suc n) (suc i) = zero_at n i
+
+cond_zero : (b : Bool) (x : ℕ) → x ≡ 0 → cond b x 0 ≡ 0
+cond_zero true x none = none
+cond_zero false x none = refl
+
+pub zero_memory : (z : Layout) (n : ℕ) (w : Word) → memory z (replicate n 0) w ≡ 0
+zero_memory z n w = cond_zero (is_there z w) (slice_index (replicate n 0) (address z w)) (zero_at n (address z w))
+
+zero_word : (word : ℕ → ℕ) (number : Option ℕ) (held : ℕ) → ((n : ℕ) → word n ≡ 0) → held ≡ 0 → IsOwnWord word number held
+zero_word word None held zeros none = none
+zero_word word (Some n) held zeros none = zeros n ∙ sym none
+
+-- what the words mean at the start: there is no bundle, and nothing is linked
+abbrev pub nothing_linked : Meaning
+nothing_linked = record { bundles = record { bundle = λ side k. []; number = λ e. 0 }; linked_nodes = λ k. 0; linked_entries = λ e. 0 }
+
+module _ (z : Layout) (sizes : List PassSize) where
+  abbrev ws : List ℕ
+  ws = (opening z sizes).words
+
+  abbrev vs : List View
+  vs = (opening z sizes).views
+
+  sections_right : (v : View) → IsFresh z v → SectionRight (λ n. memory z ws (Section n)) (λ n. memory z ws (Announced n)) v
+  sections_right v fresh = record {
+    section = zero_word (λ n. memory z ws (Section n)) v.number v.section_word (λ n. zero_memory z (word_count z) (Section n)) fresh.section_word;
+    announced = zero_word (λ n. memory z ws (Announced n)) v.number v.announced (λ n. zero_memory z (word_count z) (Announced n)) fresh.announced;
+    outside = λ even. fresh.idle;
+  }
+
+  no_node : (v : View) → IsFresh z v → (k : ℕ) → HoldsNode v k → ⊥
+  no_node v fresh k holds = omega (arith, holds, ap (count k) (idle_nodes v fresh.idle))
+
+  no_entry : (v : View) → IsFresh z v → (e : ℕ) → HoldsEntry nothing_linked.bundles v e → ⊥
+  no_entry v fresh e holds = omega (arith, holds, ap (count e) (idle_entries nothing_linked.bundles v fresh.idle))
+
+  no_slots_kept : (s : Slots) → s ≡ no_slots → KeepsEntries (linked_by nothing_linked).entries_of s
+  no_slots_kept s none = subst (KeepsEntries (linked_by nothing_linked).entries_of) (sym none) (λ k e some of. absurd (omega arith))
+
+  pub opening_right : z ≡ layout_of sizes → IsRight (opening z sizes)
+  opening_right is = record {
+    size = length-replicate (word_count z) 0;
+    meaning = nothing_linked;
+    rule = record {
+      layouts = All-weaker (IsFresh z) (HasLayout z) (λ v fresh live. fresh.layout) vs (all_fresh z sizes);
+      numbers = λ n. sum_by_push (number_count n) (pass_views z 0 1 1 sizes) (empty_view z) ∙ omega (arith, sum_numbers n z 0 1 1 sizes) ∙ between_number n (length sizes) ∙ ap (λ (y : Layout). cond (ltb n y.passes) 1 0) (sym is);
+      sections = All-weaker (IsFresh z) (SectionRight (λ n. memory z ws (Section n)) (λ n. memory z ws (Announced n))) sections_right vs (all_fresh z sizes);
+      slots = record {
+        nodes = record {
+          one = λ k. ap (λ n. n + 0) (sum_by_push (own nodes_of k) (pass_views z 0 1 1 sizes) (empty_view z)) ∙ omega (arith, sum_nodes k z 0 1 1 sizes) ∙ between_slot k (all_nodes sizes) ∙ ap (λ (y : Layout). is_slot y.nodes k) (sym is);
+          unheld = All-weaker (IsFresh z) (λ v. (k : ℕ) → HoldsNode v k → sum_by (own_free nodes_of k) vs ≡ 0) (λ v fresh k holds. absurd (no_node v fresh k holds)) vs (all_fresh z sizes);
+        };
+        entries = record {
+          one = λ e. ap (λ n. n + 0) (sum_by_push (own entries_in e) (pass_views z 0 1 1 sizes) (empty_view z)) ∙ omega (arith, sum_entries e z 0 1 1 sizes) ∙ between_slot e (all_entries sizes) ∙ ap (λ (y : Layout). is_slot y.entries e) (sym is);
+          unheld = All-weaker (IsFresh z) (λ v. (e : ℕ) → HoldsEntry nothing_linked.bundles v e → sum_by (own_free entries_in e) vs ≡ 0) (λ v fresh e holds. absurd (no_entry v fresh e holds)) vs (all_fresh z sizes);
+        };
+        grace = All-weaker (IsFresh z) (λ v. All (GraceRight HoldsNode (HoldsEntry nothing_linked.bundles) v) vs)
+            (λ v fresh k d within. no_looks_right z (linked_by nothing_linked) HoldsNode (HoldsEntry nothing_linked.bundles) v (get_or vs k d) fresh.grace) vs (all_fresh z sizes);
+        retired = All-weaker (IsFresh z) (λ v. KeepsEntries (linked_by nothing_linked).entries_of v.retired × KeepsEntries (linked_by nothing_linked).entries_of v.batch)
+            (λ v fresh. (no_slots_kept v.retired fresh.retired, no_slots_kept v.batch fresh.batch)) vs (all_fresh z sizes);
+      };
+    };
+  }
+
+-- the same for what the code makes
+pub started : (z : Layout) (sizes : List PassSize) (words : List ℕ) (views : List View) (n : ℕ) → z ≡ layout_of sizes → n ≡ word_count z → words ≡ replicate n 0
+    → views ≡ pass_views z 0 1 1 sizes ++ empty_view z ∷ [] → InRule z words views
+started z sizes words views n is count_is words_are views_are =
+    let words_now : words ≡ replicate (word_count z) 0 = words_are ∙ ap (λ k. replicate k 0) count_is in
+    subst (λ (xs : List ℕ). InRule z xs views) (sym words_now)
+    (subst (λ (xs : List View). InRule z (replicate (word_count z) 0) xs) (sym views_are) (opening_right z sizes is))

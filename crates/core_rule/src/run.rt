@@ -1,0 +1,45 @@
+ghost use Rattle.std.specs.Prelude.{◌≡◌, IfOk, IfErr, Some, None};
+ghost use Rattle.index_words.specs.Sizes.{FitTable, layout_of};
+ghost use Rattle.core_rule.specs.Openings.{opening};
+ghost use Rattle.core_rule.specs.Rule.{IsRight};
+ghost use Rattle.core_rule.specs.Runs.{after_all, first_refused, IsRefusal};
+
+use crate::event::Event;
+use crate::state::{State, StepError};
+use index_words::{Layout, PassSize};
+use std::alloc::Global;
+
+/// Why a run was refused.
+#[derive(Clone, Copy, Debug, PartialEq, Eq)]
+pub enum RunError {
+    /// The event at this place is the first one that is not allowed. Places are counted from 0.
+    NotAllowed(usize),
+    NoMemory,
+}
+
+/// The state that the start and then the step of every event give, in order to the last.
+pub fn run_of(
+    alloc: Global,
+    layout: &Layout,
+    sizes: &[PassSize],
+    events: &[Event],
+) -> Result<State, RunError>
+    requires fit { FitTable sizes.now }
+    requires sums { layout.now ≡ layout_of sizes.now }
+    ensures allowed { IfOk result (λ s. first_refused (opening layout.now sizes.now) events.now ≡ None) }
+    ensures state { IfOk result (λ s. s ≡ after_all (opening layout.now sizes.now) events.now) }
+    ensures rule { IfOk result IsRight }
+    ensures refused { IfErr result (IsRefusal (first_refused (opening layout.now sizes.now) events.now)) }
+{
+    let Ok(mut state) = State::start(alloc, layout, sizes) else {
+        return Err(RunError::NoMemory);
+    };
+    for (place, event) in events.iter().enumerate() {
+        match state.step(alloc, event) {
+            Ok(()) => {}
+            Err(StepError::NotAllowed) => return Err(RunError::NotAllowed(place)),
+            Err(StepError::NoMemory) => return Err(RunError::NoMemory),
+        }
+    }
+    Ok(state)
+}
