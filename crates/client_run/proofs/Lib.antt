@@ -5,3 +5,5 @@ pub mod Longer
 pub mod Growing
 pub mod OneMore
 pub mod Turn
+pub mod Walk
+pub mod Listings

@@ -128,7 +128,7 @@ looked_closed old new at looked = record {
 }
 
 -- a count that rose by one rose by at least one
-rose_by_one : (old new : ℕ) → RoseByOne old new → RoseBy 1 old new
+pub rose_by_one : (old new : ℕ) → RoseByOne old new → RoseBy 1 old new
 rose_by_one old new (inl e) = inl (omega arith)
 rose_by_one old new (inr e) = inr e
 

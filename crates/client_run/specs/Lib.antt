@@ -1,1 +1,3 @@
 pub mod ClientRun
+pub mod Listing
+pub mod Starts

@@ -4,6 +4,12 @@
 #![tactic(auto)]
 
 mod gate;
+mod listing;
+mod pages;
+mod run;
 mod updates;
 
 pub use gate::{Gate, OpenGate};
+pub use listing::list;
+pub use pages::next_query;
+pub use run::run_client;

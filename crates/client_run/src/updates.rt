@@ -6,6 +6,7 @@ ghost use Rattle.bucket_terms.specs.declared.request.Request.TheVariants.{Put, D
 ghost use Rattle.bucket_terms.specs.declared.reply.Reply.{Reply};
 ghost use Rattle.bucket_terms.specs.Answer.{head_by};
 ghost use Rattle.client_run.specs.ClientRun.{answered, Answers, IsLaterLine};
+ghost use Rattle.client_run.specs.Listing.{HasPageInRange};
 
 use bucket_terms::{KeyPass, Placed, Reply};
 use index_words::{Pair, PassError};
@@ -25,6 +26,7 @@ pub(crate) fn put<P: KeyPass, Rt: Wait>(
     requires left { 0 < (P.view pass.old).left }
     requires known { Contains dir.now name.now }
     ensures answers { (last : Option Reply) → Answers dir.now (P.view pass.old) (P.view pass.new) last (answered line (Put name.now val) result) }
+    ensures in_range { HasPageInRange dir.now result.reply }
     ensures home { P.home pass.new ≡ P.home pass.old }
 {
     let client = pass.client();
@@ -54,6 +56,7 @@ pub(crate) fn delete<P: KeyPass, Rt: Wait>(
     requires later { IsLaterLine (P.view pass.old) line }
     requires known { Contains dir.now name.now }
     ensures answers { (last : Option Reply) → Answers dir.now (P.view pass.old) (P.view pass.new) last (answered line (Delete name.now) result) }
+    ensures in_range { HasPageInRange dir.now result.reply }
     ensures home { P.home pass.new ≡ P.home pass.old }
 {
     let client = pass.client();
@@ -81,6 +84,7 @@ pub(crate) fn head<P: KeyPass, Rt: Wait>(
     requires closed { (P.view pass.old).opened ≡ None }
     requires known { Contains dir.now name.now }
     ensures answers { (last : Option Reply) → Answers dir.now (P.view pass.old) (P.view pass.new) last (answered line (Head name.now) result) }
+    ensures in_range { HasPageInRange dir.now result.reply }
     ensures home { P.home pass.new ≡ P.home pass.old }
 {
     let client = pass.client();
@@ -118,7 +122,7 @@ fn rank_of(dir: &Directory, name: &Text) -> u64
 }
 
 // A refused request has no place.
-fn refused(client: u32, line: u32, reply: Reply) -> Placed
+pub(crate) fn refused(client: u32, line: u32, reply: Reply) -> Placed
     ensures { result ≡ record { client = client; line = line; at = None; reply = reply } }
 {
     Placed {

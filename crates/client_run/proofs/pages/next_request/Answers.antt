@@ -1,0 +1,20 @@
+use Rattle.std.proofs.Common.{◌≡◌, Option, None, Some, subst, sym, ap, ◌∙◌}
+use Rattle.std.specs.Option.{option_copied, option_map}
+use Rattle.std.proofs.lemmas.Result.{IfOk-weaker}
+use Rattle.bucket_terms.specs.declared.request.Request.TheVariants.{Next}
+use Rattle.bucket_terms.specs.LegalRun.{Resumed, next_of}
+use Rattle.client_run.specs.declared.pages.Resumption.{Resumption}
+use Rattle.client_run.specs.Starts.{resumed}
+use Rattle.client_run.proofs.Listings.{next_answers, bad_answers}
+use Rattle.client_run.proofs.pages.next_request.Goals as goal
+
+pub returns-in-Some-clause-answers : goal.returns-in-Some-clause-answers
+returns-in-Some-clause-answers g c =
+    let view = g.P.KeyPass.view in
+    IfOk-weaker c.listed.result _ _
+    (λ placed is. next_answers c.args.dir.now (record { query = c.in-Some.next.query; point = c.in-Some.next.point }) c.args.line (view c.args.pass.now) (view c.listed.new.pass) (option_copied c.args.last) placed (sym c.in_ok-next.ensures ∙ ap (λ (o : Option Resumption). option_map resumed o) c.in-Some.is) is)
+    c.listed.ensures.answer
+
+pub returns-in-None-clause-answers : goal.returns-in-None-clause-answers
+returns-in-None-clause-answers g c =
+    rw (c.refused.ensures, c.client.ensures.number) (bad_answers c.args.dir.now (g.P.KeyPass.view c.args.pass.now) (option_copied c.args.last) c.args.line Next c.client.ensures.mine c.requires.closed (λ slots. sym c.in_ok-next.ensures ∙ ap (λ (o : Option Resumption). option_map resumed o) c.in-None.is))

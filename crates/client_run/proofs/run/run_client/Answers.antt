@@ -1,0 +1,91 @@
+use Rattle.std.proofs.Common.{◌≡◌, ℕ, List, ◌<◌, ◌≤◌, ◌+◌, ◌++◌, ◌∷◌, [], Option, Some, All, length, get_or, take, map, sym, subst, ap, ◌∙◌, refl, arith, if◌then◌else◌}
+use Rattle.std.specs.Option.{option_copied, ForSome}
+use Rattle.std.proofs.lemmas.Option.{none-some}
+use Rattle.std.proofs.lemmas.List.{get_or-map, length-map, length_push, take_all}
+use Rattle.bucket_terms.specs.declared.reply.Reply.{Reply}
+use Rattle.bucket_terms.specs.declared.reply.Placed.{Placed}
+use Rattle.bucket_terms.specs.LegalRun.{RequestLine, Answered, is_listing, last_listing, answered_lines, updates_in}
+use Rattle.request_lines.specs.declared.session.Asked.{Asked}
+use Rattle.request_lines.specs.Session.{request_line, request_lines}
+use Rattle.client_run.specs.ClientRun.{Answers, IsAskable, IsLaterLine, RanClient}
+use Rattle.std.proofs.lemmas.List.Elements.{All-push}
+use Rattle.client_run.specs.Listing.{HasPageInRange}
+use Rattle.client_run.proofs.Growing.{start}
+use Rattle.client_run.proofs.Turn.{later_at, call_at, turn, last_turn, place_turn, reply_at}
+use Rattle.client_run.proofs.run.run_client.Invariants.{IsTurn}
+use Rattle.client_run.proofs.run.run_client.Goals as goal
+
+pub loop-asked-init : goal.loop-asked-init
+loop-asked-init g c =
+    let view = g.P.KeyPass.view c.args.pass.now in (
+      rw c.new-replies.ensures.items (record {
+        running = start c.args.dir.now view c.client-client.ensures.mine c.requires.closed;
+        listing = refl;
+        place = λ k e. absurd (none-some k e);
+        in_range = λ k d below. absurd (omega arith);
+      }),
+      refl,
+    )
+
+-- the line that this turn answers
+line_here : (asked : List Asked) (shown : List Asked) (i : ℕ) (d : Asked) → shown ≡ asked → i < length shown → d ≡ get_or shown i d
+    → (i < length (map request_line asked)) × (get_or (map request_line asked) i (request_line d) ≡ request_line d)
+line_here asked shown i d same below is =
+    let within : i < length asked = omega (arith, ap length same) in (
+      omega (arith, length-map asked request_line),
+      get_or-map request_line asked i d (request_line d) within ∙ ap request_line (ap (λ (xs : List Asked). get_or xs i d) (sym same) ∙ sym is),
+    )
+
+pub answer-requires-clause-askable : goal.answer-requires-clause-askable
+answer-requires-clause-askable g c =
+    let d = c.asked-item.result in
+    let here = line_here c.args.part.now.requests c.as_slice-asked-items.result.now c.loop-asked.asked-index d c.as_slice-asked-items.ensures c.loop-asked-test.true c.asked-item.is in
+    subst (λ (l : RequestLine). IsAskable c.args.dir.now l) here.1 (c.requires.askable c.loop-asked.asked-index (request_line d) here.0)
+
+pub answer-requires-clause-calls : goal.answer-requires-clause-calls
+answer-requires-clause-calls g c =
+    let d = c.asked-item.result in
+    let here = line_here c.args.part.now.requests c.as_slice-asked-items.result.now c.loop-asked.asked-index d c.as_slice-asked-items.ensures c.loop-asked-test.true c.asked-item.is in
+    subst (λ (l : RequestLine). updates_in (l ∷ []) ≤ (g.P.KeyPass.view c.loop-asked.pass).left) here.1
+    (call_at c.args.dir.now (request_lines c.args.part.now) c.loop-asked.asked-index (request_line d) (g.P.KeyPass.view c.args.pass.now) (g.P.KeyPass.view c.loop-asked.pass) c.loop-asked.replies.items here.0 c.loop-asked.invariant.0.running c.requires.calls)
+
+pub answer-requires-clause-later : goal.answer-requires-clause-later
+answer-requires-clause-later g c =
+    let d = c.asked-item.result in
+    let here = line_here c.args.part.now.requests c.as_slice-asked-items.result.now c.loop-asked.asked-index d c.as_slice-asked-items.ensures c.loop-asked-test.true c.asked-item.is in
+    subst (λ (l : RequestLine). IsLaterLine (g.P.KeyPass.view c.loop-asked.pass) l.line) here.1
+    (later_at c.args.dir.now (request_lines c.args.part.now) c.loop-asked.asked-index (request_line d) (g.P.KeyPass.view c.args.pass.now) (g.P.KeyPass.view c.loop-asked.pass) c.loop-asked.replies.items here.0 c.loop-asked.invariant.0.running c.requires.later c.requires.rising)
+
+pub loop-asked-preserved : goal.loop-asked-preserved
+loop-asked-preserved g c =
+    let lines = request_lines c.args.part.now in
+    let i = c.loop-asked.asked-index in
+    let d = c.asked-item.result in
+    let old = g.P.KeyPass.view c.args.pass.now in
+    let mid = g.P.KeyPass.view c.loop-asked.pass in
+    let now = g.P.KeyPass.view c.answer.new.pass in
+    let replies = c.loop-asked.replies.items in
+    let p = c.in_ok-placed.placed in
+    let here = line_here c.args.part.now.requests c.as_slice-asked-items.result.now i d c.as_slice-asked-items.ensures c.loop-asked-test.true c.asked-item.is in
+    let before = c.loop-asked.invariant.0 in
+    let last = c.loop-asked.last in
+    let last_is : option_copied c.reply_at.result ≡ last_listing (answered_lines (take i lines) replies) =
+    c.reply_at.ensures ∙ ap (λ (rs : List Placed). reply_at rs last) c.deref.ensures.value ∙ before.listing in
+    let long : c.len.result ≡ length replies = omega arith in
+    let later_is : c.later_listing-last.result ≡ (if is_listing (get_or lines i (request_line d)).request then Some (length replies) else last) =
+    c.later_listing-last.ensures
+    ∙ ap (λ (n : ℕ). if is_listing d.request then Some n else last) long
+    ∙ ap (λ (l : RequestLine). if is_listing l.request then Some (length replies) else last) (sym here.1) in
+    let pushed : c.push.new.self.items ≡ replies ++ p ∷ [] = c.in_ok-push.ensures.items in
+    let answered : Answers c.args.dir.now mid now (last_listing (answered_lines (take i lines) replies)) (record { asked = get_or lines i (request_line d); placed = p }) =
+    subst (λ (l : RequestLine). Answers c.args.dir.now mid now (last_listing (answered_lines (take i lines) replies)) (record { asked = l; placed = p })) (sym here.1)
+    (subst (λ (o : Option Reply). Answers c.args.dir.now mid now o (record { asked = request_line d; placed = p })) last_is c.in_ok-placed.ensures.answers) in (
+      rw pushed (record {
+        running = turn c.args.dir.now lines i (request_line d) old mid now replies p here.0 before.running c.requires.later c.requires.rising answered;
+        listing = ap (λ (o : Option ℕ). reply_at (replies ++ p ∷ []) o) later_is ∙ last_turn lines i (request_line d) replies p last here.0 before.running.same_length before.listing before.place;
+        place = subst (λ (o : Option ℕ). ForSome o (λ k. k < length (replies ++ p ∷ []))) (sym later_is)
+            (place_turn (is_listing (get_or lines i (request_line d)).request) (length replies) (length (replies ++ p ∷ [])) last (length_push replies p) before.place);
+        in_range = All-push (λ (q : Placed). HasPageInRange c.args.dir.now q.reply) replies p before.in_range c.in_ok-placed.ensures.in_range;
+      }),
+      c.in_ok-placed.ensures.home ∙ c.loop-asked.invariant.1,
+    )

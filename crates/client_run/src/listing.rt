@@ -1,0 +1,62 @@
+// A listing: one snapshot for its whole page.
+ghost use Rattle.std.specs.Prelude.{◌≡◌, ℕ, None, Some, Option, IsSome, IfOk};
+ghost use Rattle.std.specs.Option.{option_copied};
+ghost use Rattle.index_words.specs.History.{after};
+ghost use Rattle.bucket_terms.specs.Page.{page_of, IsInRange};
+ghost use Rattle.client_run.specs.Listing.{ListedAt, LookedOnly};
+
+use bucket_terms::{KeyPass, ListQuery, Page, TokenPoint};
+use key_names::{Directory, NoMemory};
+use page_rules::PageCursor;
+use std::alloc::Global;
+use std::sync::Wait;
+
+/// The page of a query, from a point on, in one snapshot, and the place of the snapshot. After both answers
+/// no snapshot is open.
+pub fn list<P: KeyPass, Rt: Wait>(
+    rt: &Rt,
+    alloc: Global,
+    pass: &mut P,
+    dir: &Directory,
+    query: &ListQuery,
+    point: Option<&TokenPoint>,
+) -> Result<(u64, Page), NoMemory>
+    requires { (P.view pass.old).opened ≡ None }
+    ensures listed { IfOk result (λ answer. ListedAt dir.now query.now (option_copied point.entry) (P.view pass.old) (P.view pass.new) answer.0 answer.1) }
+    ensures kept { LookedOnly (P.view pass.old) (P.view pass.new) }
+    ensures home { P.home pass.new ≡ P.home pass.old }
+{
+    let at = pass.begin();
+    let page = page_in(rt, alloc, pass, dir, query, point);
+    pass.end();
+    match page {
+        Ok(page) => Ok((at, page)),
+        Err(e) => Err(e),
+    }
+}
+
+// The page of a query in the open snapshot. Each look-up goes on behind the entry before it.
+fn page_in<P: KeyPass, Rt: Wait>(
+    rt: &Rt,
+    alloc: Global,
+    pass: &mut P,
+    dir: &Directory,
+    query: &ListQuery,
+    point: Option<&TokenPoint>,
+) -> Result<Page, NoMemory>
+    requires { IsSome (P.view pass.old).opened }
+    ensures page { IfOk result (λ page. (at : ℕ) → (P.view pass.old).opened ≡ Some at
+        → page ≡ page_of dir.now query.now (option_copied point.entry) (after (P.view pass.old).seen at)) }
+    ensures in_range { IfOk result (IsInRange dir.now) }
+    ensures same { P.view pass.new ≡ P.view pass.old }
+    ensures home { P.home pass.new ≡ P.home pass.old }
+{
+    let mut cursor = PageCursor::new(alloc, dir, query, point);
+    while let Some(rank) = cursor.next_rank() {
+        match pass.next_from(rt, rank) {
+            Some(pair) => cursor.take(alloc, pair)?,
+            None => return Ok(cursor.finish()),
+        }
+    }
+    Ok(cursor.finish())
+}

@@ -1,0 +1,185 @@
+// LIST and NEXT: which query is asked, from which point on, and its page.
+ghost use Rattle.std.specs.Prelude.{◌≡◌, None, Some, Option, IfOk};
+ghost use Rattle.std.specs.Option.{option_copied, option_map, ForSome};
+ghost use Rattle.bucket_terms.specs.declared.request.Request.TheVariants.{List as ListRequest, Next};
+ghost use Rattle.bucket_terms.specs.declared.reply.Reply.{Reply};
+ghost use Rattle.bucket_terms.specs.Page.{IsInRange, page_point};
+ghost use Rattle.bucket_terms.specs.LegalRun.{Resumed, next_of, resumed_from, resumed_at};
+ghost use Rattle.client_run.specs.ClientRun.{answered, Answers};
+ghost use Rattle.client_run.specs.Listing.{HasPageInRange, ListedAs};
+ghost use Rattle.client_run.specs.Starts.{IsStartOf, resumed};
+
+use crate::list;
+use crate::updates::refused;
+use bucket_terms::{KeyPass, ListQuery, Page, Placed, Reply, TokenPoint};
+use key_names::{Directory, NoMemory};
+use page_token::TokenError;
+use std::alloc::Global;
+use std::sync::Wait;
+
+/// The query of the next page behind a reply: None exactly where there is no reply, or it is no listing, or
+/// its page is not truncated. Else it is the query of the reply, with the token of its page.
+pub fn next_query(
+    alloc: Global,
+    dir: &Directory,
+    last: Option<&Reply>,
+) -> Result<Option<ListQuery>, NoMemory>
+    requires { ForSome (option_copied last) (HasPageInRange dir.now) }
+    ensures { IfOk result (λ next. next ≡ option_map (λ (r : Resumed). r.query) (next_of dir.now (option_copied last.entry))) }
+{
+    match resume(alloc, dir, last)? {
+        Some(next) => {
+            let Resumption { query, point: _ } = next;
+            Ok(Some(query))
+        }
+        None => Ok(None),
+    }
+}
+
+// Where a listing goes on: its query, and the point behind the page before.
+#[derive(Drop)]
+pub(crate) struct Resumption {
+    query: ListQuery,
+    point: TokenPoint,
+}
+
+// Where the page behind a reply begins, where there is one.
+fn resume(
+    alloc: Global,
+    dir: &Directory,
+    last: Option<&Reply>,
+) -> Result<Option<Resumption>, NoMemory>
+    requires { ForSome (option_copied last) (HasPageInRange dir.now) }
+    ensures { IfOk result (λ next. option_map resumed next ≡ next_of dir.now (option_copied last.entry)) }
+{
+    match last {
+        Some(reply) => behind_reply(alloc, dir, reply),
+        None => Ok(None),
+    }
+}
+
+fn behind_reply(
+    alloc: Global,
+    dir: &Directory,
+    reply: &Reply,
+) -> Result<Option<Resumption>, NoMemory>
+    requires { HasPageInRange dir.now reply.now }
+    ensures { IfOk result (λ next. option_map resumed next ≡ resumed_from dir.now reply.now) }
+{
+    match reply {
+        Reply::Listed { query, page } => behind(alloc, dir, query, page),
+        _ => Ok(None),
+    }
+}
+
+fn behind(
+    alloc: Global,
+    dir: &Directory,
+    query: &ListQuery,
+    page: &Page,
+) -> Result<Option<Resumption>, NoMemory>
+    requires { IsInRange dir.now page.now }
+    ensures { IfOk result (λ next. option_map resumed next ≡ resumed_at query.now (page_point dir.now page.now)) }
+{
+    match page.point(alloc, dir)? {
+        Some(point) => {
+            let token = page_token::write(alloc, &point)?;
+            let mut query = query.copy(alloc)?;
+            query.token = token;
+            Ok(Some(Resumption { query, point }))
+        }
+        None => Ok(None),
+    }
+}
+
+// Where a LIST begins.
+#[derive(Drop)]
+pub(crate) enum Start {
+    // At the first admitted key.
+    First,
+    Behind(TokenPoint),
+    // Nowhere: the token is that of no point.
+    Bad,
+}
+
+fn start_of(alloc: Global, query: &ListQuery) -> Result<Start, NoMemory>
+    ensures { IfOk result (IsStartOf query.now) }
+{
+    if query.token.bytes().is_empty() {
+        return Ok(Start::First);
+    }
+    match page_token::read(alloc, query.token.bytes()) {
+        Ok(point) => Ok(Start::Behind(point)),
+        Err(TokenError::Bad) => Ok(Start::Bad),
+        Err(TokenError::NoMemory) => Err(NoMemory),
+    }
+}
+
+// Answers a LIST.
+pub(crate) fn list_request<P: KeyPass, Rt: Wait>(
+    rt: &Rt,
+    alloc: Global,
+    pass: &mut P,
+    dir: &Directory,
+    line: u32,
+    query: &ListQuery,
+) -> Result<Placed, NoMemory>
+    requires closed { (P.view pass.old).opened ≡ None }
+    ensures answers { IfOk result (λ placed. (last : Option Reply) → Answers dir.now (P.view pass.old) (P.view pass.new) last (answered line (ListRequest query.now) placed)) }
+    ensures in_range { IfOk result (λ placed. HasPageInRange dir.now placed.reply) }
+    ensures home { P.home pass.new ≡ P.home pass.old }
+{
+    match start_of(alloc, query)? {
+        Start::First => listed(rt, alloc, pass, dir, line, query.copy(alloc)?, None),
+        Start::Behind(point) => listed(rt, alloc, pass, dir, line, query.copy(alloc)?, Some(point)),
+        Start::Bad => Ok(refused(pass.client(), line, Reply::BadToken)),
+    }
+}
+
+// Answers a NEXT; `last` is the reply of the client's last listing.
+pub(crate) fn next_request<P: KeyPass, Rt: Wait>(
+    rt: &Rt,
+    alloc: Global,
+    pass: &mut P,
+    dir: &Directory,
+    line: u32,
+    last: Option<&Reply>,
+) -> Result<Placed, NoMemory>
+    requires closed { (P.view pass.old).opened ≡ None }
+    requires in_range { ForSome (option_copied last) (HasPageInRange dir.now) }
+    ensures answers { IfOk result (λ placed. Answers dir.now (P.view pass.old) (P.view pass.new) (option_copied last.entry) (answered line Next placed)) }
+    ensures in_range { IfOk result (λ placed. HasPageInRange dir.now placed.reply) }
+    ensures home { P.home pass.new ≡ P.home pass.old }
+{
+    match resume(alloc, dir, last)? {
+        Some(next) => {
+            let Resumption { query, point } = next;
+            listed(rt, alloc, pass, dir, line, query, Some(point))
+        }
+        None => Ok(refused(pass.client(), line, Reply::BadToken)),
+    }
+}
+
+// The reply with the page of a query, from a point on.
+fn listed<P: KeyPass, Rt: Wait>(
+    rt: &Rt,
+    alloc: Global,
+    pass: &mut P,
+    dir: &Directory,
+    line: u32,
+    query: ListQuery,
+    point: Option<TokenPoint>,
+) -> Result<Placed, NoMemory>
+    requires closed { (P.view pass.old).opened ≡ None }
+    ensures answer { IfOk result (ListedAs dir.now query point line (P.view pass.old) (P.view pass.new)) }
+    ensures home { P.home pass.new ≡ P.home pass.old }
+{
+    let client = pass.client();
+    let (at, page) = list(rt, alloc, pass, dir, &query, point.as_ref())?;
+    Ok(Placed {
+        client,
+        line,
+        at: Some(at),
+        reply: Reply::Listed { query, page },
+    })
+}

@@ -1,0 +1,95 @@
+// A client's requests, one after another.
+ghost use Rattle.std.specs.Prelude.{◌≡◌, ◌<◌, ◌≤◌, [], ◌∷◌, None, Some, All, IfOk, length, if◌then◌else◌, slice_get};
+ghost use Rattle.std.specs.Option.{ForSome, option_copied, option_map, option_and_then};
+ghost use Rattle.bucket_terms.specs.LegalRun.{RequestLine, is_listing, updates_in};
+ghost use Rattle.bucket_terms.specs.declared.reply.Placed.{Placed};
+ghost use Rattle.request_lines.specs.Session.{request_line, request_lines};
+ghost use Rattle.client_run.specs.Listing.{HasPageInRange};
+ghost use Rattle.client_run.specs.ClientRun.{Answers, RanClient, IsAskable, IsLaterLine, Rise};
+
+use crate::{Gate, pages, updates};
+use bucket_terms::{KeyPass, Placed, Reply, Request};
+use key_names::{Directory, NoMemory};
+use request_lines::{Asked, ClientPart};
+use std::alloc::Global;
+use std::sync::Wait;
+
+/// Answers the client's requests, in order, over a pass. The gate is told before and after each.
+/// The replies are those of a legal run over the history that the pass knows in the end. After `NoMemory`
+/// updates may have been made.
+pub fn run_client<P: KeyPass, G: Gate, Rt: Wait>(
+    rt: &Rt,
+    alloc: Global,
+    pass: &mut P,
+    part: &ClientPart,
+    dir: &Directory,
+    gate: &G,
+) -> Result<Vec<Placed>, NoMemory>
+    requires closed { (P.view pass.old).opened ≡ None }
+    requires askable { All (IsAskable dir.now) (request_lines part.now) }
+    requires calls { updates_in (request_lines part.now) ≤ (P.view pass.old).left }
+    requires rising { Rise (request_lines part.now) }
+    requires later { All (λ (l : RequestLine). IsLaterLine (P.view pass.old) l.line) (request_lines part.now) }
+    ensures ran { IfOk result (λ replies. RanClient dir.now (request_lines part.now) (P.view pass.old) (P.view pass.new) replies.items) }
+    ensures in_range { IfOk result (λ replies. All (λ (p : Placed). HasPageInRange dir.now p.reply) replies.items) }
+    ensures home { P.home pass.new ≡ P.home pass.old }
+{
+    let client = pass.client();
+    let mut replies: Vec<Placed> = Vec::new(alloc);
+    let mut last = None;
+    for asked in part.requests.as_slice() {
+        gate.before(client, asked.line);
+        let placed = answer(rt, alloc, pass, dir, asked, reply_at(&replies, last))?;
+        gate.after(client, asked.line);
+        last = later_listing(last, &asked.request, replies.len());
+        replies.push(placed)?;
+    }
+    Ok(replies)
+}
+
+// Answers one request; `last` is the reply of the client's last listing.
+fn answer<P: KeyPass, Rt: Wait>(
+    rt: &Rt,
+    alloc: Global,
+    pass: &mut P,
+    dir: &Directory,
+    asked: &Asked,
+    last: Option<&Reply>,
+) -> Result<Placed, NoMemory>
+    requires closed { (P.view pass.old).opened ≡ None }
+    requires askable { IsAskable dir.now (request_line asked.now) }
+    requires calls { updates_in (request_line asked.now ∷ []) ≤ (P.view pass.old).left }
+    requires later { IsLaterLine (P.view pass.old) asked.now.line }
+    requires in_range { ForSome (option_copied last) (HasPageInRange dir.now) }
+    ensures answers { IfOk result (λ placed. Answers dir.now (P.view pass.old) (P.view pass.new) (option_copied last.entry) (record { asked = request_line asked.now; placed = placed })) }
+    ensures in_range { IfOk result (λ placed. HasPageInRange dir.now placed.reply) }
+    ensures home { P.home pass.new ≡ P.home pass.old }
+{
+    match &asked.request {
+        Request::Put { name, val } => Ok(updates::put(rt, pass, dir, asked.line, name, *val)),
+        Request::Delete { name } => Ok(updates::delete(rt, pass, dir, asked.line, name)),
+        Request::Head { name } => Ok(updates::head(rt, pass, dir, asked.line, name)),
+        Request::List(query) => pages::list_request(rt, alloc, pass, dir, asked.line, query),
+        Request::Next => pages::next_request(rt, alloc, pass, dir, asked.line, last),
+    }
+}
+
+// The place of the last listing: this request's, or else the one so far.
+fn later_listing(last: Option<usize>, request: &Request, place: usize) -> Option<usize>
+    ensures { result ≡ (if is_listing request.now then Some place else last) }
+{
+    match request {
+        Request::List(_) | Request::Next => Some(place),
+        _ => last,
+    }
+}
+
+fn reply_at(replies: &[Placed], place: Option<usize>) -> Option<&Reply>
+    requires { ForSome place (λ k. k < length replies.now) }
+    ensures { option_copied result ≡ option_and_then (λ k. option_map (λ (p : Placed). p.reply) (slice_get replies.now k)) place }
+{
+    match place {
+        Some(place) => Some(&replies[place].reply),
+        None => None,
+    }
+}
