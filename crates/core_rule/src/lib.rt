@@ -15,3 +15,6 @@ mod step;
 pub use event::{Event, Kind};
 pub use run::{RunError, run_of};
 pub use state::{State, StepError};
+
+#[cfg(test)]
+mod tests;
