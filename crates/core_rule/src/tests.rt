@@ -67,36 +67,36 @@ fn refuses_each_event_whose_need_fails(rt: HostRuntime) -> Result<(), Fail> {
     let enter = event(0, Kind::Enter, 1, 1);
     let split = event(0, Kind::SplitSeat, 0, 1);
     let join = event(1, Kind::JoinSeat, 0, 2);
-    let rows: [([Event; 2], usize); 19] = [
+    let rows: [(&[Event], usize); 19] = [
         // a seat is made at opening alone
-        ([event(0, Kind::MakeSeat, 0, 0), enter], 0),
+        (&[event(0, Kind::MakeSeat, 0, 0), enter], 0),
         // enter: twice, another's word, a wrong value, a view without a number, no such seat
-        ([enter, event(0, Kind::Enter, 1, 2)], 1),
-        ([event(0, Kind::Enter, 2, 1), enter], 0),
-        ([event(0, Kind::Enter, 1, 2), enter], 0),
-        ([event(2, Kind::Enter, 1, 1), enter], 0),
-        ([event(3, Kind::Enter, 1, 1), enter], 0),
+        (&[enter, event(0, Kind::Enter, 1, 2)], 1),
+        (&[event(0, Kind::Enter, 2, 1), enter], 0),
+        (&[event(0, Kind::Enter, 1, 2), enter], 0),
+        (&[event(2, Kind::Enter, 1, 1), enter], 0),
+        (&[event(3, Kind::Enter, 1, 1), enter], 0),
         // leave: outside, a wrong value
-        ([event(0, Kind::Leave, 1, 1), enter], 0),
-        ([enter, event(0, Kind::Leave, 1, 3)], 1),
+        (&[event(0, Kind::Leave, 1, 1), enter], 0),
+        (&[enter, event(0, Kind::Leave, 1, 3)], 1),
         // look: nothing is retired
-        ([event(0, Kind::LookSec, 2, 0), enter], 0),
+        (&[event(0, Kind::LookSec, 2, 0), enter], 0),
         // fill: a lock word, another's slot, the root, a word of no slot, no word
-        ([event(0, Kind::Fill, 17, 1), enter], 0),
-        ([event(0, Kind::Fill, 25, 1), enter], 0),
-        ([event(0, Kind::Fill, 5, 1), enter], 0),
-        ([event(0, Kind::Fill, 3, 1), enter], 0),
-        ([event(0, Kind::Fill, 59, 1), enter], 0),
+        (&[event(0, Kind::Fill, 17, 1), enter], 0),
+        (&[event(0, Kind::Fill, 25, 1), enter], 0),
+        (&[event(0, Kind::Fill, 5, 1), enter], 0),
+        (&[event(0, Kind::Fill, 3, 1), enter], 0),
+        (&[event(0, Kind::Fill, 59, 1), enter], 0),
         // split: with a node but none free, with two nodes
-        ([split, split], 1),
-        ([event(0, Kind::SplitSeat, 0, 2), enter], 0),
+        (&[split, split], 1),
+        (&[event(0, Kind::SplitSeat, 0, 2), enter], 0),
         // join: oneself, a seat that was joined already, a seat inside a section
-        ([event(0, Kind::JoinSeat, 0, 0), enter], 0),
-        ([join, join], 1),
-        ([enter, event(1, Kind::JoinSeat, 0, 0)], 1),
+        (&[event(0, Kind::JoinSeat, 0, 0), enter], 0),
+        (&[join, join], 1),
+        (&[enter, event(1, Kind::JoinSeat, 0, 0)], 1),
     ];
     for (events, place) in rows {
-        assert_eq!(rt; place_of(rt.alloc(), &[SIZE, SIZE], &events), Some(place));
+        assert_eq!(rt; place_of(rt.alloc(), &[SIZE, SIZE], events), Some(place));
     }
     Ok(())
 }
