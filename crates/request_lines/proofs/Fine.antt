@@ -1,8 +1,7 @@
 -- What is read has a name that an object may have, or a query that a listing takes.
-use Rattle.std.proofs.Common.{◌≡◌, ℕ, ◌+◌, ◌<◌, ◌≤◌, Bool, true, false, ◌&&◌, List, [], ◌∷◌, length, Option, Some, None, Result, Ok, Err, IfOk, subst, refl, arith, rules}
-use Rattle.std.specs.Prelude.{if◌then◌else◌, ◌==◌, nat_lt, nat_le, min}
+use Rattle.std.proofs.Common.{◌≡◌, ℕ, Bool, true, false, ◌&&◌, List, [], ◌∷◌, length, Option, Some, None, Result, Ok, Err, IfOk, subst, refl, arith, rules}
+use Rattle.std.specs.Prelude.{if◌then◌else◌, ◌==◌, nat_lt, nat_le}
 use Rattle.std.specs.Str.{IsUtf8, is_utf8}
-use Rattle.std.specs.Str.Parse.{digits_value}
 use Rattle.std.proofs.lemmas.Str.{IsUtf8-from_is_utf8, IsUtf8-nil}
 use Rattle.std.proofs.lemmas.Bool.Decides.{nat_tests}
 use Rattle.percent_encoding.specs.Percent.{percent_decode}
@@ -10,7 +9,6 @@ use Rattle.key_names.specs.Names.{IsFine}
 use Rattle.bucket_terms.specs.declared.list_query.ListQuery.{ListQuery}
 use Rattle.request_lines.specs.declared.cause.Cause.{Cause}
 use Rattle.request_lines.specs.declared.command.Command.{Command}
-use Rattle.request_lines.specs.declared.command.Command.TheVariants as says
 use Rattle.request_lines.specs.declared.line_error.LineError.{LineError}
 use Rattle.request_lines.specs.declared.parameter.Name.{Name}
 use Rattle.request_lines.specs.declared.parameter.Name.TheVariants as names
@@ -23,7 +21,7 @@ use Rattle.request_lines.specs.Causes.{earliest, place_of}
 use Rattle.request_lines.specs.declared.cause.Cause.TheVariants.{KeyTooLong}
 use Rattle.request_lines.specs.Queries as q
 use Rattle.request_lines.specs.Queries.{asking_with, with_parameter, parameter_cause, is_too_long, parameter_read, parameters_read, query_read}
-use Rattle.request_lines.specs.Grammar.{IsFineCommand, put_read, delete_read, head_read, list_read, is_paged, read_fields, read_verb, verb_of, read_line, reading_of}
+use Rattle.request_lines.specs.Grammar.{IsFineCommand, put_read, delete_read, head_read, list_read, read_fields, read_verb, verb_of, read_line, reading_of}
 
 -- what is read has this property
 abbrev Gives : {A : Type 0} → (A → Type 0) → Result A Cause → Type 0

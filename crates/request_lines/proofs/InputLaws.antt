@@ -123,7 +123,7 @@ clients_counted before (Ok says.Client) = grind (arith, nat_tests)
 clients_counted before (Ok (says.Put name fields)) = refl
 clients_counted before (Ok (says.Delete name)) = refl
 clients_counted before (Ok (says.Head name)) = refl
-clients_counted before (Ok (says.List query paged)) = refl
+clients_counted before (Ok (says.List query)) = refl
 clients_counted before (Ok says.Next) = refl
 clients_counted before (Err cause) = refl
 

@@ -1,6 +1,6 @@
 -- What holds of what is kept of the lines so far.
 use Rattle.std.proofs.Common.{◌≡◌, ℕ, zero, suc, ◌+◌, ◌^◌, ◌<◌, ◌≤◌, Bool, true, false, List, [], ◌∷◌, ◌++◌, length, map, Option, Some, None, Result, Ok, Err, refl, ap, sym, ◌∙◌, append_assoc, inl, inr, arith, length-append, add-zero, add-one, zero-add}
-use Rattle.std.specs.Prelude.{nat_lt, nat_le, ◌&&◌, All, Contains, IfSome, IfOk, ◌==◌, if◌then◌else◌}
+use Rattle.std.specs.Prelude.{All, Contains, IfSome, IfOk, ◌==◌, if◌then◌else◌}
 use Rattle.std.specs.List.{filter_map, cons_option, range_with_len}
 use Rattle.std.specs.Option.{option_to_list}
 use Rattle.std.proofs.lemmas.Bool.{cases_Bool}
@@ -269,10 +269,10 @@ sound_kept p number (says.Head name) fine right positive small sound =
       placed = refl;
       query = tt;
     }) positive sound
-sound_kept p number (says.List query paged) fine right positive small sound =
-    sound_asked p number (counted p.counts (says.List query paged)) None None (asks.List query)
+sound_kept p number (says.List query) fine right positive small sound =
+    sound_asked p number (counted p.counts (says.List query)) None None (asks.List query)
     (record {
-      begun = begun_before (counted p.counts (says.List query paged)) (says.List query paged) refl right;
+      begun = begun_before (counted p.counts (says.List query)) (says.List query) refl right;
       clients = refl;
       requests = refl;
       puts = omega arith;

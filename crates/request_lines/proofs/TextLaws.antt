@@ -14,11 +14,10 @@ use Rattle.std.specs.Str.Parse.{ParsesUnsigned, digits_value}
 use Rattle.std.proofs.lemmas.Str.Parse.{IsNumeralModel, numerals_by_value, tells_all_ascii_digits, parse_digits}
 use Rattle.std.proofs.lemmas.Bool.Decides.{nat_tests}
 use Rattle.request_lines.specs.Lines.{texts_of}
-use Rattle.request_lines.specs.declared.cause.Cause.{Cause}
 use Rattle.request_lines.specs.declared.cause.Cause.TheVariants.{BadEscape}
 use Rattle.request_lines.specs.Texts.{escapes_are_whole, unescaped, is_number, is_small, is_tag, is_tag_byte}
 use Rattle.request_lines.specs.Queries.{without_mark}
-use Rattle.percent_encoding.specs.Percent.{percent_decode, is_escape}
+use Rattle.percent_encoding.specs.Percent.{percent_decode}
 
 -- a text that is cut at its first byte of a kind
 pub cut_at_first : (p : ℕ → Bool) (text front back : List ℕ) → position_or_len p text < length text → front ≡ before_first p text → back ≡ after_first p text

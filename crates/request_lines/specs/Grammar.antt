@@ -1,6 +1,5 @@
 -- What a line says, by cases on its verb and its fields, and when it is refused.
-use Rattle.std.specs.Prelude.{◌≡◌, ℕ, ◌+◌, ◌≤◌, ◌==◌, ◌&&◌, not, nat_lt, nat_le, Bool, true, false, List, [], ◌∷◌, length, Option, Some, None, Result, Ok, Err, codes, if◌then◌else◌}
-use Rattle.std.specs.List.{list_any}
+use Rattle.std.specs.Prelude.{ℕ, ◌+◌, ◌≤◌, ◌==◌, ◌&&◌, not, nat_lt, Bool, true, false, List, [], ◌∷◌, Option, Some, None, Result, Ok, Err, codes, if◌then◌else◌}
 use Rattle.std.specs.Str.{is_utf8, bytes_eq}
 use Rattle.key_names.specs.Names.{IsFine}
 use Rattle.request_lines.specs.declared.cause.Cause.{Cause}
@@ -8,12 +7,10 @@ use Rattle.request_lines.specs.declared.cause.Cause.TheVariants.{NotUtf8, Unknow
 use Rattle.request_lines.specs.declared.command.Command.{Command}
 use Rattle.request_lines.specs.declared.command.Command.TheVariants as says
 use Rattle.request_lines.specs.declared.counts.Counts.{Counts}
-use Rattle.request_lines.specs.declared.parameter.Name.{Name}
-use Rattle.request_lines.specs.declared.parameter.Name.TheVariants.{MaxKeys, ContinuationToken, EncodingType}
 use Rattle.request_lines.specs.declared.verb.Verb.{Verb}
 use Rattle.request_lines.specs.declared.verb.Verb.TheVariants as verbs
 use Rattle.request_lines.specs.Lines.{fields_of}
-use Rattle.request_lines.specs.Queries.{IsFineQuery, plain_query, query_read, pieces_of, name_written, name_of_piece}
+use Rattle.request_lines.specs.Queries.{IsFineQuery, plain_query, query_read}
 use Rattle.request_lines.specs.Reads.{◌>>=◌}
 use Rattle.request_lines.specs.Texts.{key_read, numbers_read, etag_read}
 
@@ -46,20 +43,10 @@ head_read key = do
   name ← key_read key
   Ok (says.Head name)
 
--- whether a query writes a parameter that is not built yet
-abbrev pub is_paging : Option Name → Bool
-is_paging (Some MaxKeys) = true
-is_paging (Some ContinuationToken) = true
-is_paging (Some EncodingType) = true
-is_paging name = false
-
-unfoldable pub is_paged : List ℕ → Bool
-is_paged query = list_any (λ piece. is_paging (name_written (name_of_piece piece))) (pieces_of query)
-
 unfoldable pub list_read : List ℕ → Result Command Cause
 list_read text = do
   query ← query_read text
-  Ok (says.List query (is_paged text))
+  Ok (says.List query)
 
 -- a line of this verb, with these fields behind it
 unfoldable pub read_fields : Verb → List (List ℕ) → Result Command Cause
@@ -67,7 +54,7 @@ read_fields verbs.Client [] = Ok says.Client
 read_fields verbs.Put (key ∷ size ∷ etag ∷ modified ∷ []) = put_read key size etag modified
 read_fields verbs.Delete (key ∷ []) = delete_read key
 read_fields verbs.Head (key ∷ []) = head_read key
-read_fields verbs.List [] = Ok (says.List plain_query false)
+read_fields verbs.List [] = Ok (says.List plain_query)
 read_fields verbs.List (query ∷ []) = list_read query
 read_fields verbs.Next [] = Ok says.Next
 read_fields verb fields = Err WrongFields
@@ -91,7 +78,7 @@ IsFineCommand says.Client = Unit {0}
 IsFineCommand (says.Put name fields) = IsFine name
 IsFineCommand (says.Delete name) = IsFine name
 IsFineCommand (says.Head name) = IsFine name
-IsFineCommand (says.List query paged) = IsFineQuery query
+IsFineCommand (says.List query) = IsFineQuery query
 IsFineCommand says.Next = Unit {0}
 
 -- ---- what the lines so far have asked
@@ -107,7 +94,7 @@ counted so_far says.Client = record so_far { clients = so_far.clients + 1; last 
 counted so_far (says.Put name fields) = record so_far { requests = so_far.requests + 1; puts = so_far.puts + 1 }
 counted so_far (says.Delete name) = record so_far { requests = so_far.requests + 1 }
 counted so_far (says.Head name) = record so_far { requests = so_far.requests + 1 }
-counted so_far (says.List query paged) = record so_far { requests = so_far.requests + 1; entries = so_far.entries + query.max_keys; last = query.max_keys }
+counted so_far (says.List query) = record so_far { requests = so_far.requests + 1; entries = so_far.entries + query.max_keys; last = query.max_keys }
 counted so_far says.Next = record so_far { requests = so_far.requests + 1; entries = so_far.entries + so_far.last }
 
 -- the counts of lines that keep the limits
@@ -122,15 +109,6 @@ abbrev pub is_client : Command → Bool
 is_client says.Client = true
 is_client command = false
 
--- what is built: one client, 1,000 PUT lines, and listings that write no parameter of paging
-abbrev pub is_built : Counts → Command → Bool
-is_built so_far says.Client = nat_le so_far.clients 1
-is_built so_far (says.Put name fields) = nat_le so_far.puts 1000
-is_built so_far (says.Delete name) = true
-is_built so_far (says.Head name) = true
-is_built so_far (says.List query paged) = not paged
-is_built so_far says.Next = false
-
 -- the first cause that a line has after the lines before it. The counts are those up to and with the line.
 unfoldable pub limit_cause : Counts → Command → Option Cause
 limit_cause so_far command =
@@ -138,5 +116,5 @@ limit_cause so_far command =
     else if is_client command && nat_lt 32 so_far.clients then Some TooManyClients
     else if nat_lt 200000 so_far.requests then Some TooManyLines
     else if nat_lt 4000000 so_far.entries then Some TooManyEntries
-    else if is_built so_far command then None
-    else Some NotBuilt
+    else if is_client command && nat_lt 1 so_far.clients then Some NotBuilt
+    else None

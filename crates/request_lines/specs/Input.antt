@@ -1,5 +1,5 @@
 -- The session of a whole input, and its refusal.
-use Rattle.std.specs.Prelude.{◌≡◌, ℕ, ◌+◌, ◌==◌, Bool, true, false, List, [], ◌∷◌, length, map, drop, Option, Some, None, Result, Ok, Err, slice_get, if◌then◌else◌}
+use Rattle.std.specs.Prelude.{◌≡◌, ℕ, ◌+◌, ◌==◌, Bool, false, List, [], ◌∷◌, length, map, drop, Option, Some, None, Result, Ok, Err, slice_get, if◌then◌else◌}
 use Rattle.std.specs.List.{slice_split, filter_map}
 use Rattle.bucket_terms.specs.declared.record.Record.{Record}
 use Rattle.bucket_terms.specs.declared.request.Request.{Request}
@@ -75,7 +75,7 @@ abbrev pub request_by : Counts → Result Command Cause → Option Request
 request_by before (Ok (says.Put name fields)) = Some (asks.Put name before.puts)
 request_by before (Ok (says.Delete name)) = Some (asks.Delete name)
 request_by before (Ok (says.Head name)) = Some (asks.Head name)
-request_by before (Ok (says.List query paged)) = Some (asks.List query)
+request_by before (Ok (says.List query)) = Some (asks.List query)
 request_by before (Ok says.Next) = Some asks.Next
 request_by before reading = None
 

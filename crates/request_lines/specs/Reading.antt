@@ -1,6 +1,5 @@
 -- How far a reader has come: what it keeps of the lines so far.
-use Rattle.std.specs.Prelude.{◌≡◌, ℕ, ◌+◌, ◌==◌, Bool, true, false, List, [], ◌∷◌, ◌++◌, length, Option, Some, None, Result, Ok, Err, if◌then◌else◌}
-use Rattle.std.specs.Borrow.{Bor}
+use Rattle.std.specs.Prelude.{◌≡◌, ℕ, ◌==◌, Bool, true, false, List, [], ◌∷◌, ◌++◌, length, Option, Some, None, Result, Ok, Err, if◌then◌else◌}
 use Rattle.std.specs.Option.{option_to_list}
 use Rattle.bucket_terms.specs.declared.record.Record.{Record}
 use Rattle.request_lines.specs.declared.cause.Cause.{Cause}
@@ -14,7 +13,6 @@ use Rattle.request_lines.specs.declared.session.ClientPart.{ClientPart}
 use Rattle.request_lines.specs.declared.session_error.InputError.{InputError}
 use Rattle.request_lines.specs.declared.session_error.SessionError.{SessionError}
 use Rattle.request_lines.specs.declared.session_error.SessionError.TheVariants as errors
-use Rattle.request_lines.specs.Lines.{texts_of}
 use Rattle.request_lines.specs.Grammar.{reading_of, none_counted}
 use Rattle.request_lines.specs.Input.{counted_with, cause_after, error_at, begins_client, request_by, asked_at, name_by, record_by}
 

@@ -45,7 +45,7 @@ pub enum Cause {
     TooManyLines,
     /// The pages of the LIST and NEXT lines so far can have more than 4,000,000 entries together.
     TooManyEntries,
-    /// The line is one that is not built yet.
+    /// The second `CLIENT` line, which is not built yet.
     NotBuilt,
 }
 

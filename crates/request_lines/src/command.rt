@@ -10,7 +10,7 @@ use crate::Cause;
 use crate::line_error::LineError;
 use crate::parts::{first_part, next_part};
 use crate::put::{put_fields, put_of};
-use crate::query::{plain_query, query_of, writes_paging};
+use crate::query::{plain_query, query_of};
 use crate::texts::key_of;
 use crate::verb::Verb;
 use bucket_terms::{ListQuery, Record};
@@ -26,8 +26,7 @@ pub enum Command {
     Put { name: Text, record: Record },
     Delete { name: Text },
     Head { name: Text },
-    /// `paged` tells whether the line writes a parameter of paging.
-    List { query: ListQuery, paged: bool },
+    List(ListQuery),
     /// The next page of the client's last listing.
     Next,
 }
@@ -138,10 +137,7 @@ fn list(alloc: Global, left: Option<&str>) -> Result<Command, LineError>
     ensures { Reads result (read_fields verbs.List (parts_left 32 left.entry)) }
 {
     let Some((text, left)) = next_part(left, ' ') else {
-        return Ok(Command::List {
-            query: plain_query(alloc),
-            paged: false,
-        });
+        return Ok(Command::List(plain_query(alloc)));
     };
     match next_part(left, ' ') {
         None => list_of(alloc, text),
@@ -155,8 +151,5 @@ fn list_of(alloc: Global, text: &str) -> Result<Command, LineError>
     ensures { Reads result (list_read text.now) }
 {
     let query = query_of(alloc, text)?;
-    Ok(Command::List {
-        query,
-        paged: writes_paging(text),
-    })
+    Ok(Command::List(query))
 }

@@ -1,6 +1,6 @@
 // What the lines so far have asked, against the limits of a session.
 ghost use Rattle.std.specs.Prelude.{◌≡◌, None, Some, IfOk, MatchResult};
-ghost use Rattle.request_lines.specs.Grammar.{IsWithin, IsFineCommand, counted, limit_cause, is_built, none_counted};
+ghost use Rattle.request_lines.specs.Grammar.{IsWithin, IsFineCommand, counted, limit_cause, none_counted};
 
 use crate::Cause;
 use crate::command::Command;
@@ -59,23 +59,10 @@ impl Counts {
         if so_far.entries > 4_000_000 {
             return Err(Cause::TooManyEntries);
         }
-        if !so_far.is_built(command) {
+        if is_client && so_far.clients > 1 {
             return Err(Cause::NotBuilt);
         }
         Ok(so_far)
-    }
-
-    // Whether a line with these counts is built.
-    fn is_built(self, command: &Command) -> bool
-        ensures { result ≡ is_built self command.now }
-    {
-        match command {
-            Command::Client => self.clients <= 1,
-            Command::Put { .. } => self.puts <= 1000,
-            Command::Delete { .. } | Command::Head { .. } => true,
-            Command::List { paged, .. } => !*paged,
-            Command::Next => false,
-        }
     }
 
     // The counts with this line.
@@ -93,7 +80,7 @@ impl Counts {
             }
             Command::Put { .. } => so_far.puts += 1,
             Command::Delete { .. } | Command::Head { .. } => {}
-            Command::List { query, .. } => {
+            Command::List(query) => {
                 so_far.entries += query.max_keys;
                 so_far.last = query.max_keys;
             }

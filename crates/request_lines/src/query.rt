@@ -2,7 +2,6 @@
 ghost use Rattle.std.specs.Prelude.{◌≡◌, [], true, false, min, OnOk, IsOkUnless, MatchOption};
 ghost use Rattle.std.specs.Str.Parse.{digits_value};
 ghost use Rattle.request_lines.specs.declared.line_error.LineError.TheVariants.{NoMemory as OutOfMemory};
-ghost use Rattle.request_lines.specs.Grammar.{is_paged, is_paging};
 ghost use Rattle.request_lines.specs.Queries as spec;
 ghost use Rattle.request_lines.specs.Pieces.{asking, parameter as as_parameter, TakesPiece};
 ghost use Rattle.request_lines.specs.Reads.{Reads, ReadsAs};
@@ -231,30 +230,4 @@ fn set(query: &mut ListQuery, name: Option<Name>, value: Text)
         Some(Name::EncodingType) => query.url = value.as_str() == "url",
         Some(Name::ListType | Name::FetchOwner) | None => {}
     }
-}
-
-/// Whether a query writes a parameter of paging, which is not built yet.
-#[tactic(auto, unfolding(crate::specs::Grammar::is_paged, crate::specs::Queries::pieces_of))]
-pub fn writes_paging(text: &str) -> bool
-    ensures { result ≡ is_paged text.now }
-{
-    let mut left = Some(without_mark(text));
-    while let Some(pieces) = left {
-        let (piece, rest) = first_part(pieces, '&');
-        let (name, _) = cut(piece);
-        if is_paging_name(Name::written(name)) {
-            return true;
-        }
-        left = rest;
-    }
-    false
-}
-
-fn is_paging_name(name: Option<Name>) -> bool
-    ensures { result ≡ is_paging name }
-{
-    matches!(
-        name,
-        Some(Name::MaxKeys | Name::ContinuationToken | Name::EncodingType)
-    )
 }

@@ -112,7 +112,7 @@ impl Reader {
                 self.name(alloc, &name)?;
                 self.ask(number, Request::Head { name })
             }
-            Command::List { query, .. } => {
+            Command::List(query) => {
                 self.counts = counts;
                 self.ask(number, Request::List(query))
             }

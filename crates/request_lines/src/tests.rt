@@ -175,6 +175,10 @@ fn takes_forms_that_are_right(rt: HostRuntime) -> Result<(), Fail> {
         "HEAD é",
         "LIST",
         "LIST ",
+        "NEXT",
+        "LIST max-keys=0002147483647",
+        "LIST max-keys=%31&continuation-token=&encoding-type=",
+        "LIST encoding-type=url",
         "LIST ?list-type=2&&prefix=a%2Fb&delimiter=/&start-after=a&fetch-owner=true&",
     ] {
         assert_eq!(rt; cause(rt.alloc(), line)?, None, "in {line:?}");
@@ -224,19 +228,24 @@ fn limits_the_length_of_a_name(rt: HostRuntime) -> Result<(), Fail> {
 }
 
 #[test]
-fn refuses_what_is_not_built(rt: HostRuntime) -> Result<(), Fail> {
-    for line in [
-        "CLIENT",
-        "NEXT",
-        "LIST max-keys=1",
-        "LIST continuation-token=",
-        "LIST encoding-type=url",
-    ] {
-        assert_eq!(rt;
-            cause(rt.alloc(), line)?,
-            Some(Cause::NotBuilt),
-            "in {line:?}"
-        );
+fn limits_the_entries_of_all_pages(rt: HostRuntime) -> Result<(), Fail> {
+    let alloc = rt.alloc();
+    let mut text = String::from_str(alloc, "CLIENT\nNEXT\nLIST max-keys=0\nLIST max-keys=1001\n")?;
+    for _ in 0..3998 {
+        text.push_str("NEXT\n")?;
     }
+    text.push_str("LIST max-keys=1000\n")?;
+    assert_eq!(rt; refusal(alloc, text.as_str()), None);
+    text.push_str("LIST max-keys=1\n")?;
+    assert_eq!(rt;
+        refusal(alloc, text.as_str()),
+        input(4004, Cause::TooManyEntries)
+    );
+    Ok(())
+}
+
+#[test]
+fn takes_one_client_alone(rt: HostRuntime) -> Result<(), Fail> {
+    assert_eq!(rt; cause(rt.alloc(), "CLIENT")?, Some(Cause::NotBuilt));
     Ok(())
 }
