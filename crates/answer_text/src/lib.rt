@@ -14,3 +14,6 @@ mod rows;
 
 pub use journal::{journal_line, last_line};
 pub use replies::reply_line;
+
+#[cfg(test)]
+mod tests;
