@@ -10,11 +10,11 @@ loop-entry-preserved c =
     let facts = c.if-not-is_entry_of.ensures in
     record {
       in_range =
-      All-more (IsEntryInRange c.args.dir.now) c.args.entries.now c.loop-entry.entry-index _ c.loop-entry-test.true
-      c.loop-entry.invariant.in_range (facts.in_range refl);
+          All-more (IsEntryInRange c.args.dir.now) c.args.entries.now c.loop-entry.entry-index _ c.loop-entry-test.true
+          c.loop-entry.invariant.in_range (facts.in_range refl);
       recorded =
-      All-more (HasRecord c.args.records.now) c.args.entries.now c.loop-entry.entry-index _ c.loop-entry-test.true
-      c.loop-entry.invariant.recorded (facts.recorded refl);
+          All-more (HasRecord c.args.records.now) c.args.entries.now c.loop-entry.entry-index _ c.loop-entry-test.true
+          c.loop-entry.invariant.recorded (facts.recorded refl);
     }
 
 pub returns-clause-in_range : goal.returns-clause-in_range
