@@ -1,0 +1,4 @@
+pub mod Values
+pub mod Runs
+pub mod Lines
+pub mod Sessions

@@ -1,0 +1,64 @@
+-- From the run of the one client, or of none, to the run of the session.
+use Rattle.std.proofs.Common.{◌≡◌, ℕ, ◌<◌, ◌≤◌, All, length, map, List, [], ◌∷◌, Option, Some, None, Bool, true, refl, sym, ap, ◌∙◌, subst, arith, nat_eq}
+use Rattle.std.specs.List.{slice_get, slice_index_or}
+use Rattle.std.specs.Cmp.Lexicographic.{pointwise, bytes_decides}
+use Rattle.std.proofs.lemmas.Option.{slice_get_within, get_or_from_slice_get, none-some}
+use Rattle.key_names.specs.Names.{HoldsEachOnce}
+use Rattle.outside_io.specs.Sink.{IsTaken}
+use Rattle.bucket_terms.specs.LegalRun.{IsLegal}
+use Rattle.request_lines.specs.declared.session.ClientPart.{ClientPart}
+use Rattle.request_lines.specs.declared.session.Session.{Session}
+use Rattle.request_lines.specs.Session.{request_lines, IsServed}
+use Rattle.bucketidx.specs.Served.{WroteRun, WroteLegalText, slots_of, client_text}
+
+pub served_first : (names : List (List ℕ)) (count : ℕ) (clients : List ClientPart) (part : ClientPart) → slice_get clients 0 ≡ Some part
+    → All (λ (p : ClientPart). All (IsServed names count) p.requests) clients → All (IsServed names count) part.requests
+served_first names count clients part is served =
+    subst (λ (p : ClientPart). All (IsServed names count) p.requests) (get_or_from_slice_get clients 0 part part is) (served 0 part (slice_get_within clients 0 part is))
+
+one_client : (clients : List ClientPart) (part : ClientPart) → slice_get clients 0 ≡ Some part → length clients ≤ 1 → clients ≡ part ∷ []
+one_client [] part is le = absurd (none-some part is)
+one_client (p ∷ []) part is le = ap (λ (q : ClientPart). q ∷ []) (get_or_from_slice_get (p ∷ []) 0 part p is)
+one_client (p ∷ q ∷ ps) part is le = absurd (omega arith)
+
+no_client : (clients : List ClientPart) → slice_get clients 0 ≡ None → clients ≡ []
+no_client [] is = refl
+no_client (p ∷ ps) is = absurd (none-some p (sym is))
+
+pub one_wrote : (session : Session) (part : ClientPart) (dir : List (List ℕ)) (before after : Option (List ℕ)) → slice_get session.clients 0 ≡ Some part → length session.clients ≤ 1
+    → HoldsEachOnce session.names dir → WroteLegalText dir session.records (request_lines part ∷ []) before after → WroteRun session before after
+one_wrote session part dir before after is le names text = record {
+  dir = dir;
+  names = names;
+  text = subst (λ (cs : List ClientPart). WroteLegalText dir session.records (map request_lines cs) before after) (sym (one_client session.clients part is le)) text;
+}
+
+legal_none : (dir : List (List ℕ)) → IsLegal dir [] (slots_of []) (record { updates = []; replies = [] })
+legal_none dir = record {
+  clients = refl;
+  answered = λ c lt. absurd (omega (arith, lt));
+  made = λ i u is. let no : i < 0 = slice_get_within [] i u is in absurd (omega (arith, no));
+}
+
+pub none_wrote : (session : Session) (dir : List (List ℕ)) (before after : Option (List ℕ)) → slice_get session.clients 0 ≡ None
+    → HoldsEachOnce session.names dir → IsTaken before after (client_text dir session.records [] []) → WroteRun session before after
+none_wrote session dir before after is names taken = record {
+  dir = dir;
+  names = names;
+  text = subst (λ (cs : List ClientPart). WroteLegalText dir session.records (map request_lines cs) before after) (sym (no_client session.clients is))
+      (record { run = record { updates = []; replies = [] }; legal = legal_none dir; taken = taken });
+}
+
+-- ---- the words
+
+one_word : (words : List (List ℕ)) (word : List ℕ) → 1 ≤ length words → length words < 2 → word ≡ slice_index_or words 0 word → words ≡ word ∷ []
+one_word [] word low high is = absurd (omega arith)
+one_word (w ∷ []) word low high is = ap (λ (v : List ℕ). v ∷ []) (sym is)
+one_word (w ∷ v ∷ vs) word low high is = absurd (omega arith)
+
+pub run_word : (words : List (List ℕ)) (word run : List ℕ) (same : Bool) → 1 ≤ length words → length words < 2 → word ≡ slice_index_or words 0 word
+    → same ≡ pointwise nat_eq word run → (same ≡ true → words ≡ run ∷ []) × (words ≡ run ∷ [] → same ≡ true)
+run_word words word run same low high is by = (
+  λ yes. one_word words word low high is ∙ ap (λ (v : List ℕ). v ∷ []) ((bytes_decides word run).0 (sym by ∙ yes)),
+  λ all. by ∙ (bytes_decides word run).1 (is ∙ ap (λ (vs : List (List ℕ)). slice_index_or vs 0 word) all),
+)

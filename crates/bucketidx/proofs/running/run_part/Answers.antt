@@ -1,0 +1,37 @@
+use Rattle.std.proofs.Common.{List, [], ◌∷◌, All, ◌^◌, sym, subst}
+use Rattle.std.proofs.lemmas.Result.{IfOk-weaker}
+use Rattle.outside_io.specs.Sink.{IsTaken}
+use Rattle.bucket_terms.specs.declared.reply.Placed.{Placed}
+use Rattle.answer_text.specs.InRange.{IsReplyOf}
+use Rattle.request_lines.specs.Session.{request_lines}
+use Rattle.bucketidx.specs.Served.{client_text}
+use Rattle.bucketidx.proofs.Runs.{rise_of, legal, keys, recorded}
+use Rattle.bucketidx.proofs.running.run_part.Goals as goal
+
+pub run_client-requires-clause-rising : goal.run_client-requires-clause-rising
+run_client-requires-clause-rising g c = rise_of 0 (2 ^ 32) (request_lines c.args.part.now) c.requires.rising
+
+pub write_run-requires-clause-replies : goal.write_run-requires-clause-replies
+write_run-requires-clause-replies g c =
+    subst (λ (rs : List Placed). All (λ (p : Placed). IsReplyOf c.args.dir.now c.args.records.now p.reply) rs) (sym c.deref.ensures.value)
+    (recorded c.args.dir.now (request_lines c.args.part.now) c.writes-writes.result c.in_ok-pass.pass c.run_client.new.pass c.in_ok-replies.replies.items c.updates.result.now
+    c.writes-writes.ensures c.in_ok-pass.ensures.fresh c.in_ok-replies.ensures.ran c.updates.ensures.seen c.updates.ensures.own c.args.records.now c.requires.recorded c.in_ok-replies.ensures.in_range)
+
+pub write_run-requires-clause-keys : goal.write_run-requires-clause-keys
+write_run-requires-clause-keys g c =
+    keys c.args.dir.now (request_lines c.args.part.now) c.writes-writes.result c.in_ok-pass.pass c.run_client.new.pass c.in_ok-replies.replies.items c.updates.result.now
+    c.writes-writes.ensures c.in_ok-pass.ensures.fresh c.in_ok-replies.ensures.ran c.updates.ensures.seen c.updates.ensures.own c.args.records.now c.requires.recorded
+
+pub returns-clause-wrote : goal.returns-clause-wrote
+returns-clause-wrote g c =
+    IfOk-weaker c.write_run.result _ _
+    (λ done taken. record {
+      run = record { updates = c.updates.result.now; replies = c.in_ok-replies.replies.items ∷ [] };
+      legal =
+          legal c.args.dir.now (request_lines c.args.part.now) c.writes-writes.result c.in_ok-pass.pass c.run_client.new.pass c.in_ok-replies.replies.items c.updates.result.now
+          c.writes-writes.ensures c.in_ok-pass.ensures.fresh c.in_ok-replies.ensures.ran c.updates.ensures.seen c.updates.ensures.own;
+      taken =
+          subst (λ (rs : List Placed). IsTaken (g.K.Sink.taken c.args.sink.now) (g.K.Sink.taken c.write_run.new.sink) (client_text c.args.dir.now c.args.records.now rs c.updates.result.now))
+          c.deref.ensures.value taken;
+    })
+    c.write_run.ensures.taken

@@ -1,0 +1,30 @@
+use Rattle.std.proofs.Common.{List, ◌∙◌, ap, subst, sym, length, All}
+use Rattle.std.specs.List.{slice_get}
+use Rattle.std.proofs.lemmas.Result.{IfOk-weaker}
+use Rattle.bucket_terms.specs.declared.record.Record.{Record}
+use Rattle.request_lines.specs.declared.session.ClientPart.{ClientPart}
+use Rattle.request_lines.specs.Session.{request_lines}
+use Rattle.bucketidx.specs.Places.{HasRecordBelow}
+use Rattle.bucketidx.proofs.Runs.{askable, recorded_below}
+use Rattle.bucketidx.proofs.Sessions.{served_first, none_wrote}
+use Rattle.bucketidx.proofs.running.run_session.Goals as goal
+
+pub run_part-requires-clause-askable : goal.run_part-requires-clause-askable
+run_part-requires-clause-askable g c =
+    askable c.in_ok-dir.dir c.args.session.names (length c.args.session.records) c.in-Some.part.now.requests c.in_ok-dir.ensures
+    (served_first c.args.session.names (length c.args.session.records) c.args.session.clients c.in-Some.part.now
+    (ap (λ (cs : List ClientPart). slice_get cs 0) (sym c.as_slice.ensures) ∙ sym c.in-Some.ensures.value) c.requires.requests.served)
+
+pub run_part-requires-clause-recorded : goal.run_part-requires-clause-recorded
+run_part-requires-clause-recorded g c =
+    subst (λ (rs : List Record). All (HasRecordBelow (length rs)) (request_lines c.in-Some.part.now)) (sym c.as_slice-in-Some.ensures)
+    (recorded_below c.args.session.names (length c.args.session.records) c.in-Some.part.now.requests
+    (served_first c.args.session.names (length c.args.session.records) c.args.session.clients c.in-Some.part.now
+    (ap (λ (cs : List ClientPart). slice_get cs 0) (sym c.as_slice.ensures) ∙ sym c.in-Some.ensures.value) c.requires.requests.served))
+
+pub returns-clause-wrote : goal.returns-clause-wrote
+returns-clause-wrote g c =
+    IfOk-weaker c.write_run.result _ _
+    (λ done taken. none_wrote c.args.session c.in_ok-dir.dir _ _
+    (ap (λ (cs : List ClientPart). slice_get cs 0) (sym c.as_slice.ensures) ∙ sym c.in-None.ensures.value) c.in_ok-dir.ensures taken)
+    c.write_run.ensures.taken

@@ -1,0 +1,37 @@
+use Rattle.std.proofs.Common.{List, refl, ◌∙◌, subst, arith}
+use Rattle.std.proofs.lemmas.List.{take_all}
+use Rattle.outside_io.specs.Sink.{IsTaken}
+use Rattle.index_words.specs.declared.update.Update.{Update}
+use Rattle.index_words.specs.declared.update.Change.TheVariants.{Put}
+use Rattle.answer_text.specs.Lines.{journal_lines}
+use Rattle.bucketidx.proofs.Lines.{taken_nothing, rose_later, journal_taken}
+use Rattle.bucketidx.proofs.writing.write_journal.Goals as goal
+
+pub loop-update-init : goal.loop-update-init
+loop-update-init g c = record { taken = taken_nothing _; counted = omega arith; place = refl }
+
+pub returns-in_err-line-clause-counted : goal.returns-in_err-line-clause-counted
+returns-in_err-line-clause-counted g c = c.loop-update.invariant.counted
+
+pub returns-in_err-write_all-clause-fault : goal.returns-in_err-write_all-clause-fault
+returns-in_err-write_all-clause-fault g c = λ is. rose_later _ _ _ c.loop-update.invariant.counted c.in_err-write_all.ensures.fault_only_where_faulted
+
+pub returns-in_err-write_all-clause-counted : goal.returns-in_err-write_all-clause-counted
+returns-in_err-write_all-clause-counted g c = omega (arith, c.loop-update.invariant.counted, c.write_all.ensures.counted)
+
+pub loop-update-preserved : goal.loop-update-preserved
+loop-update-preserved g c = record {
+  taken =
+      journal_taken c.args.dir.now c.args.updates.now c.loop-update.update-index _ (record { client = 0; line = 0; key = 0; change = Put 0 }) _ c.bytes.result.now _ _ _ c.loop-update-test.true
+      refl (omega (arith, c.loop-update.invariant.place)) (c.bytes.ensures.value ∙ c.in_ok-line.ensures) c.loop-update.invariant.taken c.in_ok-write_all.ensures.all;
+  counted = omega (arith, c.loop-update.invariant.counted, c.write_all.ensures.counted);
+  place = omega (arith, c.loop-update.invariant.place);
+}
+
+pub returns-clause-taken : goal.returns-clause-taken
+returns-clause-taken g c =
+    subst (λ (us : List Update). IsTaken (g.K.Sink.taken c.args.sink.now) (g.K.Sink.taken c.loop-update.sink) (journal_lines c.args.dir.now 1 us))
+    (take_all c.loop-update.update-index c.args.updates.now (omega (arith, c.loop-update-test.false))) c.loop-update.invariant.taken
+
+pub returns-clause-counted : goal.returns-clause-counted
+returns-clause-counted g c = c.loop-update.invariant.counted

@@ -1,0 +1,35 @@
+use Rattle.std.proofs.Common.{List, ◌∙◌, subst, arith}
+use Rattle.std.proofs.lemmas.List.{take_all}
+use Rattle.outside_io.specs.Sink.{IsTaken}
+use Rattle.bucket_terms.specs.declared.reply.Placed.{Placed}
+use Rattle.answer_text.specs.Lines.{reply_lines}
+use Rattle.bucketidx.proofs.Lines.{taken_nothing, rose_later, reply_taken}
+use Rattle.bucketidx.proofs.writing.write_replies.Goals as goal
+
+pub loop-placed-init : goal.loop-placed-init
+loop-placed-init g c = record { taken = taken_nothing _; counted = omega arith }
+
+pub returns-in_err-line-clause-counted : goal.returns-in_err-line-clause-counted
+returns-in_err-line-clause-counted g c = c.loop-placed.invariant.counted
+
+pub returns-in_err-write_all-clause-fault : goal.returns-in_err-write_all-clause-fault
+returns-in_err-write_all-clause-fault g c = λ is. rose_later _ _ _ c.loop-placed.invariant.counted c.in_err-write_all.ensures.fault_only_where_faulted
+
+pub returns-in_err-write_all-clause-counted : goal.returns-in_err-write_all-clause-counted
+returns-in_err-write_all-clause-counted g c = omega (arith, c.loop-placed.invariant.counted, c.write_all.ensures.counted)
+
+pub loop-placed-preserved : goal.loop-placed-preserved
+loop-placed-preserved g c = record {
+  taken =
+      reply_taken c.args.dir.now c.args.records.now c.args.replies.now c.loop-placed.placed-index c.placed-item.result c.bytes.result.now _ _ _ c.loop-placed-test.true
+      c.placed-item.is (c.bytes.ensures.value ∙ c.in_ok-line.ensures) c.loop-placed.invariant.taken c.in_ok-write_all.ensures.all;
+  counted = omega (arith, c.loop-placed.invariant.counted, c.write_all.ensures.counted);
+}
+
+pub returns-clause-taken : goal.returns-clause-taken
+returns-clause-taken g c =
+    subst (λ (rs : List Placed). IsTaken (g.K.Sink.taken c.args.sink.now) (g.K.Sink.taken c.loop-placed.sink) (reply_lines c.args.dir.now c.args.records.now rs))
+    (take_all c.loop-placed.placed-index c.args.replies.now (omega (arith, c.loop-placed-test.false))) c.loop-placed.invariant.taken
+
+pub returns-clause-counted : goal.returns-clause-counted
+returns-clause-counted g c = c.loop-placed.invariant.counted

@@ -1,0 +1,4 @@
+pub mod Words
+pub mod Statuses
+pub mod Places
+pub mod Served

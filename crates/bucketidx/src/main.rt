@@ -1,0 +1,52 @@
+//! The program: reads a session on standard input, answers it, and writes the answers, the journal of
+//! updates and their number as lines of JSON. `serve` is the whole of it but for the real input and
+//! output, and its clauses say what a run has read and written.
+#![tactic(auto)]
+
+mod command;
+mod naming;
+mod running;
+mod serving;
+mod status;
+mod stop;
+mod writing;
+
+use client_run::OpenGate;
+use key_names::Text;
+use outside_io::{StdSink, StdSource};
+pub use serving::serve;
+pub use status::Status;
+use std::alloc::Global;
+use std::process::ExitCode;
+use std::rt::Env;
+use std::{env, io};
+
+fn main(rt: HostRuntime) -> ExitCode {
+    let mut source = StdSource::new(&rt);
+    let mut sink = StdSink::new(&rt);
+    let status = match words(&rt) {
+        Ok(words) => serve(&rt, rt.alloc(), &words, &mut source, &mut sink, &OpenGate),
+        Err(status) => status,
+    };
+    if !status.is_done() {
+        // Nobody is left to be told where this fails.
+        let _ = eprintln!(rt; "bucketidx: {status}");
+    }
+    ExitCode::from(status.exit_code())
+}
+
+// The words after the program's name. One that is no text is no form's.
+fn words<R: Env + AllocGlobal>(rt: &R) -> Result<Vec<Text>, Status> {
+    let args = match env::args(rt) {
+        Ok(args) => args,
+        Err(e) if e.kind() == io::ErrorKind::InvalidData => return Err(Status::BadWords),
+        Err(_) => return Err(Status::NoMemory),
+    };
+    let mut words = Vec::new(rt.alloc());
+    for arg in args.skip(1) {
+        if words.push(Text::from_string(arg)).is_err() {
+            return Err(Status::NoMemory);
+        }
+    }
+    Ok(words)
+}

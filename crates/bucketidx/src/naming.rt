@@ -1,0 +1,14 @@
+// The directory of a session's names.
+ghost use Rattle.std.specs.Prelude.{All, IfOk};
+ghost use Rattle.key_names.specs.Names.{IsFine, HoldsEachOnce};
+
+use key_names::{Directory, Names, NoMemory};
+use std::alloc::Global;
+
+/// The directory of the names. Fine names are refused only for want of memory.
+pub(crate) fn directory_of(alloc: Global, names: Names) -> Result<Directory, NoMemory>
+    requires { All IsFine names }
+    ensures { IfOk result (HoldsEachOnce names) }
+{
+    Directory::new(alloc, names.into_vec()).map_err(|_| NoMemory)
+}

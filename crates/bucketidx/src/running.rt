@@ -1,0 +1,76 @@
+// The run of a session: its one client over a plain pass.
+ghost use Rattle.std.specs.Prelude.{◌≤◌, ◌^◌, [], ◌∷◌, All, length, OnOk, IsErrOf};
+ghost use Rattle.outside_io.specs.Faults.{Rose};
+ghost use Rattle.request_lines.specs.Session.{LinesRise, request_lines, HasNames, HasRequests, HasLines, IsSmall};
+ghost use Rattle.client_run.specs.ClientRun.{IsAskable};
+ghost use Rattle.bucketidx.specs.Served.{WroteRun, WroteLegalText};
+ghost use Rattle.bucketidx.specs.Places.{HasRecordBelow};
+
+use crate::naming::directory_of;
+use crate::stop::Stop;
+use crate::writing::write_run;
+use bucket_terms::{PlainPass, Record};
+use client_run::{Gate, run_client};
+use index_words::PassSize;
+use key_names::Directory;
+use outside_io::Sink;
+use request_lines::{ClientPart, Session};
+use std::alloc::Global;
+use std::sync::Wait;
+
+/// Runs the session and writes its text.
+pub(crate) fn run_session<K: Sink, G: Gate, Rt: Wait>(
+    rt: &Rt,
+    alloc: Global,
+    session: Session,
+    sink: &mut K,
+    gate: &G,
+) -> Result<(), Stop>
+    requires names { HasNames session }
+    requires requests { HasRequests session }
+    requires lines { HasLines session }
+    requires small { IsSmall session }
+    ensures wrote { OnOk result (WroteRun session (K.taken sink.old) (K.taken sink.new)) }
+    ensures fault { IsErrOf result Stop.Fault → Rose (K.faults sink.old) (K.faults sink.new) }
+    ensures counted { K.faults sink.old ≤ K.faults sink.new }
+{
+    let Session {
+        clients,
+        names,
+        records,
+    } = session;
+    let dir = directory_of(alloc, names)?;
+    match clients.as_slice().first() {
+        Some(part) => run_part(rt, alloc, part, &dir, records.as_slice(), sink, gate),
+        None => write_run(alloc, sink, &dir, records.as_slice(), &[], &[]),
+    }
+}
+
+// Runs the one client and writes the text.
+fn run_part<K: Sink, G: Gate, Rt: Wait>(
+    rt: &Rt,
+    alloc: Global,
+    part: &ClientPart,
+    dir: &Directory,
+    records: &[Record],
+    sink: &mut K,
+    gate: &G,
+) -> Result<(), Stop>
+    requires askable { All (IsAskable dir.now) (request_lines part.now) }
+    requires recorded { All (HasRecordBelow (length records.now)) (request_lines part.now) }
+    requires rising { LinesRise 0 (2 ^ 32) (request_lines part.now) }
+    requires few { length part.now.requests ≤ 200000 }
+    ensures wrote { OnOk result (WroteLegalText dir.now records.now (request_lines part.now ∷ []) (K.taken sink.old) (K.taken sink.new)) }
+    ensures fault { IsErrOf result Stop.Fault → Rose (K.faults sink.old) (K.faults sink.new) }
+    ensures counted { K.faults sink.old ≤ K.faults sink.new }
+{
+    let writes = part.writes();
+    let size = PassSize {
+        nodes: writes + 1,
+        entries: 4 * (writes + 1),
+        calls: writes,
+    };
+    let mut pass = PlainPass::new(alloc, 0, size)?;
+    let replies = run_client(rt, alloc, &mut pass, part, dir, gate)?;
+    write_run(alloc, sink, dir, records, &replies, pass.updates())
+}
