@@ -1,15 +1,14 @@
 -- From the run of the one client, or of none, to the run of the session.
-use Rattle.std.proofs.Common.{◌≡◌, ℕ, ◌<◌, ◌≤◌, All, length, map, List, [], ◌∷◌, Option, Some, None, Bool, true, refl, sym, ap, ◌∙◌, subst, arith, nat_eq}
+use Rattle.std.proofs.Common.{◌≡◌, ℕ, ◌<◌, ◌≤◌, All, length, map, List, [], ◌∷◌, Some, None, Bool, true, refl, sym, ap, ◌∙◌, subst, arith, nat_eq}
 use Rattle.std.specs.List.{slice_get, slice_index_or}
 use Rattle.std.specs.Cmp.Lexicographic.{pointwise, bytes_decides}
 use Rattle.std.proofs.lemmas.Option.{slice_get_within, get_or_from_slice_get, none-some}
 use Rattle.key_names.specs.Names.{HoldsEachOnce}
-use Rattle.outside_io.specs.Sink.{IsTaken}
 use Rattle.bucket_terms.specs.LegalRun.{IsLegal}
 use Rattle.request_lines.specs.declared.session.ClientPart.{ClientPart}
 use Rattle.request_lines.specs.declared.session.Session.{Session}
 use Rattle.request_lines.specs.Session.{request_lines, IsServed}
-use Rattle.bucketidx.specs.Served.{WroteRun, WroteLegalText, slots_of, client_text}
+use Rattle.bucketidx.specs.Served.{HoldsOfSession, HoldsOfRun, slots_of, client_text}
 
 pub served_first : (names : List (List ℕ)) (count : ℕ) (clients : List ClientPart) (part : ClientPart) → slice_get clients 0 ≡ Some part
     → All (λ (p : ClientPart). All (IsServed names count) p.requests) clients → All (IsServed names count) part.requests
@@ -25,12 +24,12 @@ no_client : (clients : List ClientPart) → slice_get clients 0 ≡ None → cli
 no_client [] is = refl
 no_client (p ∷ ps) is = absurd (none-some p (sym is))
 
-pub one_wrote : (session : Session) (part : ClientPart) (dir : List (List ℕ)) (before after : Option (List ℕ)) → slice_get session.clients 0 ≡ Some part → length session.clients ≤ 1
-    → HoldsEachOnce session.names dir → WroteLegalText dir session.records (request_lines part ∷ []) before after → WroteRun session before after
-one_wrote session part dir before after is le names text = record {
+pub one_holds : (session : Session) (part : ClientPart) (dir : List (List ℕ)) (P : List ℕ → Type 0) → slice_get session.clients 0 ≡ Some part → length session.clients ≤ 1
+    → HoldsEachOnce session.names dir → HoldsOfRun dir session.records (request_lines part ∷ []) P → HoldsOfSession session P
+one_holds session part dir P is le names text = record {
   dir = dir;
   names = names;
-  text = subst (λ (cs : List ClientPart). WroteLegalText dir session.records (map request_lines cs) before after) (sym (one_client session.clients part is le)) text;
+  text = subst (λ (cs : List ClientPart). HoldsOfRun dir session.records (map request_lines cs) P) (sym (one_client session.clients part is le)) text;
 }
 
 legal_none : (dir : List (List ℕ)) → IsLegal dir [] (slots_of []) (record { updates = []; replies = [] })
@@ -40,13 +39,13 @@ legal_none dir = record {
   made = λ i u is. let no : i < 0 = slice_get_within [] i u is in absurd (omega (arith, no));
 }
 
-pub none_wrote : (session : Session) (dir : List (List ℕ)) (before after : Option (List ℕ)) → slice_get session.clients 0 ≡ None
-    → HoldsEachOnce session.names dir → IsTaken before after (client_text dir session.records [] []) → WroteRun session before after
-none_wrote session dir before after is names taken = record {
+pub none_holds : (session : Session) (dir : List (List ℕ)) (P : List ℕ → Type 0) → slice_get session.clients 0 ≡ None
+    → HoldsEachOnce session.names dir → P (client_text dir session.records [] []) → HoldsOfSession session P
+none_holds session dir P is names holds = record {
   dir = dir;
   names = names;
-  text = subst (λ (cs : List ClientPart). WroteLegalText dir session.records (map request_lines cs) before after) (sym (no_client session.clients is))
-      (record { run = record { updates = []; replies = [] }; legal = legal_none dir; taken = taken });
+  text = subst (λ (cs : List ClientPart). HoldsOfRun dir session.records (map request_lines cs) P) (sym (no_client session.clients is))
+      (record { run = record { updates = []; replies = [] }; legal = legal_none dir; holds = holds });
 }
 
 -- ---- the words

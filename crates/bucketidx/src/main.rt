@@ -9,6 +9,8 @@ mod running;
 mod serving;
 mod status;
 mod stop;
+#[cfg(test)]
+mod tests;
 mod writing;
 
 use client_run::OpenGate;

@@ -1,9 +1,10 @@
 // The run of a session: its one client over a plain pass.
-ghost use Rattle.std.specs.Prelude.{◌≤◌, ◌^◌, [], ◌∷◌, All, length, OnOk, IsErrOf};
+ghost use Rattle.std.specs.Prelude.{◌≡◌, ◌⊎◌, ◌≤◌, ◌^◌, [], ◌∷◌, All, length, OnOk, IsErrOf};
 ghost use Rattle.outside_io.specs.Faults.{Rose};
+ghost use Rattle.outside_io.specs.Sink.{IsTaken, TakesStart};
 ghost use Rattle.request_lines.specs.Session.{LinesRise, request_lines, HasNames, HasRequests, HasLines, IsSmall};
 ghost use Rattle.client_run.specs.ClientRun.{IsAskable};
-ghost use Rattle.bucketidx.specs.Served.{WroteRun, WroteLegalText};
+ghost use Rattle.bucketidx.specs.Served.{HoldsOfSession, HoldsOfRun};
 ghost use Rattle.bucketidx.specs.Places.{HasRecordBelow};
 
 use crate::naming::directory_of;
@@ -30,7 +31,9 @@ pub(crate) fn run_session<K: Sink, G: Gate, Rt: Wait>(
     requires requests { HasRequests session }
     requires lines { HasLines session }
     requires small { IsSmall session }
-    ensures wrote { OnOk result (WroteRun session (K.taken sink.old) (K.taken sink.new)) }
+    ensures wrote { OnOk result (HoldsOfSession session (IsTaken (K.taken sink.old) (K.taken sink.new))) }
+    ensures start { IsErrOf result Stop.Fault → HoldsOfSession session (TakesStart (K.taken sink.old) (K.taken sink.new)) }
+    ensures no_memory { IsErrOf result Stop.NoMemory → (sink.new ≡ sink.old) ⊎ HoldsOfSession session (TakesStart (K.taken sink.old) (K.taken sink.new)) }
     ensures fault { IsErrOf result Stop.Fault → Rose (K.faults sink.old) (K.faults sink.new) }
     ensures counted { K.faults sink.old ≤ K.faults sink.new }
 {
@@ -60,7 +63,9 @@ fn run_part<K: Sink, G: Gate, Rt: Wait>(
     requires recorded { All (HasRecordBelow (length records.now)) (request_lines part.now) }
     requires rising { LinesRise 0 (2 ^ 32) (request_lines part.now) }
     requires few { length part.now.requests ≤ 200000 }
-    ensures wrote { OnOk result (WroteLegalText dir.now records.now (request_lines part.now ∷ []) (K.taken sink.old) (K.taken sink.new)) }
+    ensures wrote { OnOk result (HoldsOfRun dir.now records.now (request_lines part.now ∷ []) (IsTaken (K.taken sink.old) (K.taken sink.new))) }
+    ensures start { IsErrOf result Stop.Fault → HoldsOfRun dir.now records.now (request_lines part.now ∷ []) (TakesStart (K.taken sink.old) (K.taken sink.new)) }
+    ensures no_memory { IsErrOf result Stop.NoMemory → (sink.new ≡ sink.old) ⊎ HoldsOfRun dir.now records.now (request_lines part.now ∷ []) (TakesStart (K.taken sink.old) (K.taken sink.new)) }
     ensures fault { IsErrOf result Stop.Fault → Rose (K.faults sink.old) (K.faults sink.new) }
     ensures counted { K.faults sink.old ≤ K.faults sink.new }
 {

@@ -1,8 +1,12 @@
 // The whole of the program but for the real input and output.
-ghost use Rattle.std.specs.Prelude.{◌≡◌, ◌↔◌};
+ghost use Rattle.std.specs.Prelude.{◌≡◌, ◌↔◌, ◌⊎◌, ◌<◌, ◌≤◌};
+ghost use Rattle.outside_io.specs.Faults.{Rose};
+ghost use Rattle.outside_io.specs.Reading.{Gave};
+ghost use Rattle.outside_io.specs.Sink.{IsTaken, TakesStart};
+ghost use Rattle.request_lines.specs.declared.session_error.InputError.{InputError};
 ghost use Rattle.bucketidx.specs.declared.status.Status.TheVariants.{Done as IsDone, BadWords as HasBadWords};
 ghost use Rattle.bucketidx.specs.Words.{IsRun};
-ghost use Rattle.bucketidx.specs.Served.{WroteLegalRun, EndsRun, Untouched};
+ghost use Rattle.bucketidx.specs.Served.{HoldsOfInput, RefusedInput, EndsUnwritten, most_bytes};
 
 use crate::Status;
 use crate::command::is_run;
@@ -20,6 +24,8 @@ const MOST_BYTES: usize = 67_108_864;
 
 /// Reads a session, runs it and writes its text. The words are those behind the program's name; the one
 /// form is `run`. The gate is told of each request before and after it is answered.
+/// After `Done` the text of one legal run of the input's session was written; after `WriteFault` a start of
+/// such a text; after `NoMemory` nothing or a start of one. Each other end comes before anything is written.
 pub fn serve<S: Source, K: Sink, G: Gate, Rt: Wait>(
     rt: &Rt,
     alloc: Global,
@@ -28,10 +34,17 @@ pub fn serve<S: Source, K: Sink, G: Gate, Rt: Wait>(
     sink: &mut K,
     gate: &G,
 ) -> Status
-    ensures headline { result ≡ IsDone → WroteLegalRun (record { rest_before = S.rest source.old; rest_after = S.rest source.new; read_faults_before = S.faults source.old; read_faults_after = S.faults source.new; taken_before = K.taken sink.old; taken_after = K.taken sink.new; write_faults_before = K.faults sink.old; write_faults_after = K.faults sink.new }) }
+    ensures headline { result ≡ IsDone → HoldsOfInput (S.rest source.old) (S.rest source.new) (IsTaken (K.taken sink.old) (K.taken sink.new)) }
     ensures bad_words { (result ≡ HasBadWords) ↔ ¬ (IsRun words.now) }
-    ensures untouched { result ≡ HasBadWords → Untouched (record { rest_before = S.rest source.old; rest_after = S.rest source.new; read_faults_before = S.faults source.old; read_faults_after = S.faults source.new; taken_before = K.taken sink.old; taken_after = K.taken sink.new; write_faults_before = K.faults sink.old; write_faults_after = K.faults sink.new }) }
-    ensures ends { IsRun words.now → EndsRun (record { rest_before = S.rest source.old; rest_after = S.rest source.new; read_faults_before = S.faults source.old; read_faults_after = S.faults source.new; taken_before = K.taken sink.old; taken_after = K.taken sink.new; write_faults_before = K.faults sink.old; write_faults_after = K.faults sink.new }) result }
+    ensures nothing_read { result ≡ HasBadWords → source.new ≡ source.old }
+    ensures nothing_written { EndsUnwritten result → sink.new ≡ sink.old }
+    ensures bad_input { (e : InputError) → result ≡ Status.BadInput e → RefusedInput (S.rest source.old) (S.rest source.new) e }
+    ensures too_long { result ≡ Status.TooLong → Gave (S.rest source.old) (S.rest source.new) (λ n. most_bytes < n) }
+    ensures read_fault { result ≡ Status.ReadFault → Gave (S.rest source.old) (S.rest source.new) (λ n. n ≤ most_bytes) }
+    ensures read_fault_only_where_faulted { result ≡ Status.ReadFault → Rose (S.faults source.old) (S.faults source.new) }
+    ensures write_fault { result ≡ Status.WriteFault → HoldsOfInput (S.rest source.old) (S.rest source.new) (TakesStart (K.taken sink.old) (K.taken sink.new)) }
+    ensures write_fault_only_where_faulted { result ≡ Status.WriteFault → Rose (K.faults sink.old) (K.faults sink.new) }
+    ensures no_memory { result ≡ Status.NoMemory → (sink.new ≡ sink.old) ⊎ HoldsOfInput (S.rest source.old) (S.rest source.new) (TakesStart (K.taken sink.old) (K.taken sink.new)) }
 {
     if !is_run(words) {
         return Status::BadWords;

@@ -2,8 +2,7 @@
 ghost use Rattle.std.specs.Prelude.{◌≡◌, ◌↔◌, IsTrue};
 ghost use Rattle.bucketidx.specs.Statuses.{exit_code};
 
-use outside_io::ReadError;
-use request_lines::{InputError, SessionError};
+use request_lines::InputError;
 use std::fmt;
 
 /// How a call of `serve` ended.

@@ -1,11 +1,12 @@
 // The text of a run, one write a line.
-ghost use Rattle.std.specs.Prelude.{◌<◌, ◌≤◌, ◌^◌, All, length, OnOk, IsErrOf};
+ghost use Rattle.std.specs.Prelude.{◌<◌, ◌≤◌, All, length, OnOk, IsErrOf};
 ghost use Rattle.index_words.specs.declared.update.Update.{Update};
 ghost use Rattle.bucket_terms.specs.declared.reply.Placed.{Placed};
 ghost use Rattle.outside_io.specs.Faults.{Rose};
-ghost use Rattle.outside_io.specs.Sink.{IsTaken};
+ghost use Rattle.outside_io.specs.Sink.{IsTaken, TakesStart};
 ghost use Rattle.answer_text.specs.Lines.{reply_lines, journal_lines};
 ghost use Rattle.answer_text.specs.InRange.{IsReplyOf};
+ghost use Rattle.bucketidx.specs.declared.stop.Stop.{Stop};
 ghost use Rattle.bucketidx.specs.Served.{client_text};
 
 use crate::stop::Stop;
@@ -28,6 +29,7 @@ pub(crate) fn write_run<K: Sink>(
     requires replies { All (λ (p : Placed). IsReplyOf dir.now records.now p.reply) replies.now }
     requires keys { All (λ (u : Update). u.key < length dir.now) updates.now }
     ensures taken { OnOk result (IsTaken (K.taken sink.old) (K.taken sink.new) (client_text dir.now records.now replies.now updates.now)) }
+    ensures start { (stop : Stop) → IsErrOf result stop → TakesStart (K.taken sink.old) (K.taken sink.new) (client_text dir.now records.now replies.now updates.now) }
     ensures fault { IsErrOf result Stop.Fault → Rose (K.faults sink.old) (K.faults sink.new) }
     ensures counted { K.faults sink.old ≤ K.faults sink.new }
 {
@@ -48,6 +50,7 @@ fn write_replies<K: Sink>(
 ) -> Result<(), Stop>
     requires { All (λ (p : Placed). IsReplyOf dir.now records.now p.reply) replies.now }
     ensures taken { OnOk result (IsTaken (K.taken sink.old) (K.taken sink.new) (reply_lines dir.now records.now replies.now)) }
+    ensures start { (stop : Stop) → IsErrOf result stop → TakesStart (K.taken sink.old) (K.taken sink.new) (reply_lines dir.now records.now replies.now) }
     ensures fault { IsErrOf result Stop.Fault → Rose (K.faults sink.old) (K.faults sink.new) }
     ensures counted { K.faults sink.old ≤ K.faults sink.new }
 {
@@ -67,6 +70,7 @@ fn write_journal<K: Sink>(
 ) -> Result<(), Stop>
     requires { All (λ (u : Update). u.key < length dir.now) updates.now }
     ensures taken { OnOk result (IsTaken (K.taken sink.old) (K.taken sink.new) (journal_lines dir.now 1 updates.now)) }
+    ensures start { (stop : Stop) → IsErrOf result stop → TakesStart (K.taken sink.old) (K.taken sink.new) (journal_lines dir.now 1 updates.now) }
     ensures fault { IsErrOf result Stop.Fault → Rose (K.faults sink.old) (K.faults sink.new) }
     ensures counted { K.faults sink.old ≤ K.faults sink.new }
 {

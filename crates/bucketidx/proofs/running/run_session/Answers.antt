@@ -1,4 +1,5 @@
-use Rattle.std.proofs.Common.{List, ◌∙◌, ap, subst, sym, length, All}
+use Rattle.bucketidx.specs.declared.stop.Stop.TheVariants.{Fault, NoMemory}
+use Rattle.std.proofs.Common.{inr, List, ◌∙◌, ap, subst, sym, length, All}
 use Rattle.std.specs.List.{slice_get}
 use Rattle.std.proofs.lemmas.Result.{IfOk-weaker}
 use Rattle.bucket_terms.specs.declared.record.Record.{Record}
@@ -6,7 +7,7 @@ use Rattle.request_lines.specs.declared.session.ClientPart.{ClientPart}
 use Rattle.request_lines.specs.Session.{request_lines}
 use Rattle.bucketidx.specs.Places.{HasRecordBelow}
 use Rattle.bucketidx.proofs.Runs.{askable, recorded_below}
-use Rattle.bucketidx.proofs.Sessions.{served_first, none_wrote}
+use Rattle.bucketidx.proofs.Sessions.{served_first, none_holds}
 use Rattle.bucketidx.proofs.running.run_session.Goals as goal
 
 pub run_part-requires-clause-askable : goal.run_part-requires-clause-askable
@@ -25,6 +26,16 @@ run_part-requires-clause-recorded g c =
 pub returns-clause-wrote : goal.returns-clause-wrote
 returns-clause-wrote g c =
     IfOk-weaker c.write_run.result _ _
-    (λ done taken. none_wrote c.args.session c.in_ok-dir.dir _ _
+    (λ done taken. none_holds c.args.session c.in_ok-dir.dir _
     (ap (λ (cs : List ClientPart). slice_get cs 0) (sym c.as_slice.ensures) ∙ sym c.in-None.ensures.value) c.in_ok-dir.ensures taken)
     c.write_run.ensures.taken
+
+pub returns-clause-start : goal.returns-clause-start
+returns-clause-start g c = λ is.
+    none_holds c.args.session c.in_ok-dir.dir _
+    (ap (λ (cs : List ClientPart). slice_get cs 0) (sym c.as_slice.ensures) ∙ sym c.in-None.ensures.value) c.in_ok-dir.ensures (c.write_run.ensures.start Fault is)
+
+pub returns-clause-no_memory : goal.returns-clause-no_memory
+returns-clause-no_memory g c = λ is.
+    inr (none_holds c.args.session c.in_ok-dir.dir _
+    (ap (λ (cs : List ClientPart). slice_get cs 0) (sym c.as_slice.ensures) ∙ sym c.in-None.ensures.value) c.in_ok-dir.ensures (c.write_run.ensures.start NoMemory is))

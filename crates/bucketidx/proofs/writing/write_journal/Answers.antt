@@ -4,7 +4,7 @@ use Rattle.outside_io.specs.Sink.{IsTaken}
 use Rattle.index_words.specs.declared.update.Update.{Update}
 use Rattle.index_words.specs.declared.update.Change.TheVariants.{Put}
 use Rattle.answer_text.specs.Lines.{journal_lines}
-use Rattle.bucketidx.proofs.Lines.{taken_nothing, rose_later, journal_taken}
+use Rattle.bucketidx.proofs.Lines.{all_started, first_updates, taken_nothing, rose_later, journal_taken, journal_started}
 use Rattle.bucketidx.proofs.writing.write_journal.Goals as goal
 
 pub loop-update-init : goal.loop-update-init
@@ -13,8 +13,18 @@ loop-update-init g c = record { taken = taken_nothing _; counted = omega arith; 
 pub returns-in_err-line-clause-counted : goal.returns-in_err-line-clause-counted
 returns-in_err-line-clause-counted g c = c.loop-update.invariant.counted
 
+pub returns-in_err-line-clause-start : goal.returns-in_err-line-clause-start
+returns-in_err-line-clause-start g c = λ stop is.
+    first_updates c.args.dir.now c.args.updates.now c.loop-update.update-index _ _ (all_started _ _ _ c.loop-update.invariant.taken)
+
 pub returns-in_err-write_all-clause-fault : goal.returns-in_err-write_all-clause-fault
 returns-in_err-write_all-clause-fault g c = λ is. rose_later _ _ _ c.loop-update.invariant.counted c.in_err-write_all.ensures.fault_only_where_faulted
+
+pub returns-in_err-write_all-clause-start : goal.returns-in_err-write_all-clause-start
+returns-in_err-write_all-clause-start g c = λ stop is.
+    journal_started c.args.dir.now c.args.updates.now c.loop-update.update-index _ (record { client = 0; line = 0; key = 0; change = Put 0 }) _ c.bytes.result.now _ _ _
+    c.loop-update-test.true refl (omega (arith, c.loop-update.invariant.place)) (c.bytes.ensures.value ∙ c.in_ok-line.ensures) c.loop-update.invariant.taken
+    c.in_err-write_all.ensures.start
 
 pub returns-in_err-write_all-clause-counted : goal.returns-in_err-write_all-clause-counted
 returns-in_err-write_all-clause-counted g c = omega (arith, c.loop-update.invariant.counted, c.write_all.ensures.counted)

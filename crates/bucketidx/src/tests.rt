@@ -1,0 +1,77 @@
+// Sessions through the whole program: what is written, and how the call ends.
+use super::*;
+use outside_io::{FailingSource, MemSink, MemSource, Source, read_all};
+use request_lines::{Cause, InputError};
+use std::process::Abort;
+use std::sync::Wait;
+use std::test::Fail;
+
+mod ends;
+mod refusals;
+mod rows;
+
+// The session of one client that puts three times and lists, and its text.
+const ONE_CLIENT: &str = "CLIENT\nPUT b 2 e2 20\nPUT a 1 e1 10\nPUT b 3 e3 30\nLIST\n";
+
+const ONE_CLIENT_TEXT: &str = "\
+{\"At\":1,\"Client\":0,\"Line\":2,\"Replaced\":false,\"Status\":200}
+{\"At\":2,\"Client\":0,\"Line\":3,\"Replaced\":false,\"Status\":200}
+{\"At\":3,\"Client\":0,\"Line\":4,\"Replaced\":true,\"Status\":200}
+{\"At\":3,\"Client\":0,\"CommonPrefixes\":[],\"Contents\":[{\"ETag\":\"e1\",\"Key\":\"a\",\"LastModified\":10,\"Size\":1},{\"ETag\":\"e3\",\"Key\":\"b\",\"LastModified\":30,\"Size\":3}],\"IsTruncated\":false,\"KeyCount\":2,\"Line\":5,\"MaxKeys\":1000,\"Prefix\":\"\",\"Status\":200}
+{\"At\":1,\"Client\":0,\"Key\":\"b\",\"Line\":2,\"Verb\":\"PUT\"}
+{\"At\":2,\"Client\":0,\"Key\":\"a\",\"Line\":3,\"Verb\":\"PUT\"}
+{\"At\":3,\"Client\":0,\"Key\":\"b\",\"Line\":4,\"Verb\":\"PUT\"}
+{\"Updates\":3}
+";
+
+const AMPLE: usize = 1_000_000;
+
+// How a call ended, and its sink.
+#[derive(Drop)]
+struct Ended {
+    status: Status,
+    sink: MemSink,
+}
+
+fn words(alloc: Global, texts: &[&str]) -> Result<Vec<Text>, Fail> {
+    let mut words = Vec::new(alloc);
+    for text in texts {
+        words.push(Text::of(alloc, text)?)?;
+    }
+    Ok(words)
+}
+
+// Serves `run` over this source, with room for so many bytes of output.
+fn serve_run<Rt: Wait, S: Source>(
+    rt: &Rt,
+    alloc: Global,
+    source: &mut S,
+    room: usize,
+) -> Result<Ended, Fail> {
+    let words = words(alloc, &["run"])?;
+    let mut sink = MemSink::with_room(alloc, room)?;
+    let status = serve(rt, alloc, &words, source, &mut sink, &OpenGate);
+    Ok(Ended { status, sink })
+}
+
+fn serve_bytes<Rt: Wait>(rt: &Rt, alloc: Global, input: &[u8]) -> Result<Ended, Fail> {
+    let mut source = MemSource::new(input.to_vec(alloc)?);
+    serve_run(rt, alloc, &mut source, AMPLE)
+}
+
+// The session is served, and this is its whole text.
+fn writes<Rt: Wait + Abort>(rt: &Rt, alloc: Global, input: &str, text: &str) -> Result<(), Fail> {
+    let ended = serve_bytes(rt, alloc, input.as_bytes())?;
+    assert_eq!(rt; ended.status, Status::Done);
+    assert_eq!(rt; std::str::from_utf8(ended.sink.taken())?, text);
+    Ok(())
+}
+
+// A line of these bytes so many times behind a head.
+fn repeated(alloc: Global, head: &str, line: &str, count: usize) -> Result<Vec<u8>, Fail> {
+    let mut input = head.as_bytes().to_vec(alloc)?;
+    for _ in 0..count {
+        input.extend_from_slice(line.as_bytes())?;
+    }
+    Ok(input)
+}

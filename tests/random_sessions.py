@@ -1,0 +1,252 @@
+#!/usr/bin/env python3
+"""Compares the program with a model of the definitions on random sessions of one client.
+
+    tests/random_sessions.py PROGRAM [--sessions N] [--seed N]
+
+The model below is written from docs/DEFINITIONS.md and shares no code with the program. It prints the
+first session that the program answers otherwise, and ends with status 1 then.
+"""
+import argparse
+import base64
+import json
+import random
+import subprocess
+import sys
+from urllib.parse import quote
+
+LETTERS = ["a", "b", "/", "/", "é", "€", "+", '"', "\\", "😀", "\x01", "\x7f", " ", "&", "%", "="]
+
+
+# ---- the model
+
+
+def base64url(raw):
+    return base64.urlsafe_b64encode(raw).decode().rstrip("=")
+
+
+def point_of(token):
+    """The point of a continuation token as (kind, text), or None where it is the token of no point."""
+    padded = token.replace("-", "+").replace("_", "/") + "=" * (-len(token) % 4)
+    try:
+        raw = base64.b64decode(padded, validate=True)
+        raw.decode()
+    except ValueError:
+        return None
+    if base64url(raw) != token or raw[:1] not in (b"K", b"P") or not 2 <= len(raw) <= 1025:
+        return None
+    return raw[:1], raw[1:]
+
+
+def is_behind(key, query, point):
+    """Whether a listing that begins at this point, or behind `start-after`, comes to the key."""
+    if point is None:
+        after = query["start_after"].encode()
+        return not after or key > after
+    kind, text = point
+    return key > text and not (kind == b"P" and key.startswith(text))
+
+
+def page_of(keys, query, point):
+    """The entries of the page as (kind, text), and whether it is truncated."""
+    prefix, delimiter = query["prefix"].encode(), query["delimiter"].encode()
+    entries = []
+    for key in sorted(keys):
+        if not key.startswith(prefix) or not is_behind(key, query, point):
+            continue
+        end = key.find(delimiter, len(prefix)) if delimiter else -1
+        entry = (b"K", key) if end < 0 else (b"P", key[: end + len(delimiter)])
+        if entries[-1:] == [entry]:
+            continue
+        if len(entries) == query["max_keys"]:
+            return entries, query["max_keys"] > 0
+        entries.append(entry)
+    return entries, False
+
+
+class Model:
+    """One client's bucket, the answers so far, and the journal."""
+
+    def __init__(self):
+        self.records, self.journal, self.answers = {}, [], []
+        self.last_query, self.next_token = None, None
+
+    def answer(self, line, status, **members):
+        at = None if status == 400 else len(self.journal)
+        self.answers.append(dict(At=at, Client=0, Line=line, Status=status, **members))
+
+    def put(self, line, name, size, etag, modified):
+        replaced = name.encode() in self.records
+        self.records[name.encode()] = dict(Size=size, ETag=etag, LastModified=modified)
+        self.journal.append((line, name, "PUT"))
+        self.answer(line, 200, Replaced=replaced)
+
+    def delete(self, line, name):
+        if self.records.pop(name.encode(), None):
+            self.journal.append((line, name, "DELETE"))
+        self.answer(line, 204)
+
+    def head(self, line, name):
+        record = self.records.get(name.encode())
+        self.answer(line, 200, **record) if record else self.answer(line, 404)
+
+    def list(self, line, query):
+        self.last_query, self.next_token = query, None
+        point = point_of(query["token"]) if query["token"] else None
+        if query["token"] and point is None:
+            return self.answer(line, 400)
+        entries, truncated = page_of(self.records, query, point)
+        shown = (lambda text: quote(text, safe="-._~/")) if query["url"] else (lambda text: text)
+        members = dict(
+            CommonPrefixes=[{"Prefix": shown(t.decode())} for kind, t in entries if kind == b"P"],
+            Contents=[dict(self.records[t], Key=shown(t.decode())) for kind, t in entries if kind == b"K"],
+            IsTruncated=truncated,
+            KeyCount=len(entries),
+            MaxKeys=query["max_keys"],
+            Prefix=shown(query["prefix"]),
+        )
+        if query["token"]:
+            members["ContinuationToken"] = query["token"]
+        if query["delimiter"]:
+            members["Delimiter"] = shown(query["delimiter"])
+        if query["url"]:
+            members["EncodingType"] = "url"
+        if query["start_after"]:
+            members["StartAfter"] = shown(query["start_after"])
+        if truncated:
+            self.next_token = members["NextContinuationToken"] = base64url(b"".join(entries[-1]))
+        self.answer(line, 200, **members)
+
+    def next(self, line):
+        if self.next_token is None:
+            self.answer(line, 400)
+        else:
+            self.list(line, dict(self.last_query, token=self.next_token))
+
+    def text(self):
+        lines = list(self.answers)
+        for at, (line, name, verb) in enumerate(self.journal, 1):
+            lines.append(dict(At=at, Client=0, Key=name, Line=line, Verb=verb))
+        lines.append(dict(Updates=len(self.journal)))
+        form = dict(separators=(",", ":"), ensure_ascii=False, sort_keys=True)
+        return "".join(json.dumps(line, **form) + "\n" for line in lines)
+
+
+# ---- random sessions
+
+
+class Session:
+    """A random session: its text, and the model that was told of each request."""
+
+    def __init__(self, rng):
+        self.rng, self.model, self.lines = rng, Model(), ["CLIENT"]
+        self.names = [self.word(1, 5) for _ in range(rng.randint(1, 25))]
+        asks = [self.put] * 40 + [self.delete] * 10 + [self.head] * 8 + [self.list] * 22 + [self.next] * 20
+        for _ in range(rng.randint(1, 60)):
+            rng.choice(asks)()
+
+    def word(self, low, high):
+        return "".join(self.rng.choice(LETTERS) for _ in range(self.rng.randint(low, high)))
+
+    def name(self):
+        return self.rng.choice(self.names) if self.rng.random() < 0.9 else self.word(1, 4)
+
+    def escaped(self, text):
+        """The text with some of its characters escaped, and those that a line cannot have as they are."""
+        form = self.rng.choice(["%%%02x", "%%%02X"])
+        return "".join(
+            c if c not in " %&" and self.rng.random() < 0.5 else "".join(form % byte for byte in c.encode())
+            for c in text
+        )
+
+    def ask(self, text):
+        self.lines.append(text)
+        return len(self.lines)
+
+    def put(self):
+        name, etag = self.name(), "e%d" % self.rng.randint(0, 9)
+        size, modified = self.rng.choice([0, self.rng.randint(0, 99), 2**64 - 1]), self.rng.randint(0, 99)
+        shown = etag if self.rng.random() < 0.7 else '"%s"' % etag
+        line = self.ask("PUT %s %d %s %d" % (self.escaped(name), size, shown, modified))
+        self.model.put(line, name, size, etag, modified)
+
+    def delete(self):
+        name = self.name()
+        self.model.delete(self.ask("DELETE " + self.escaped(name)), name)
+
+    def head(self):
+        name = self.name()
+        self.model.head(self.ask("HEAD " + self.escaped(name)), name)
+
+    def next(self):
+        self.model.next(self.ask("NEXT"))
+
+    def token(self):
+        name = self.name().encode()
+        group = self.word(1, 2).encode()
+        good = [b"K" + name, b"P" + name, b"P" + group]
+        bad = [base64url(b"X" + name), base64url(b"K\xff"), "UA", "S2F", "UGEv=", "S", "*", ""]
+        return self.rng.choice([base64url(raw) for raw in good] + bad)
+
+    def list(self):
+        rng = self.rng
+        query = dict(prefix="", delimiter="", start_after="", token="", max_keys=1000, url=False)
+        written = []
+        if rng.random() < 0.4:
+            query["prefix"] = rng.choice([self.word(0, 2), self.name()[:1]])
+            written.append("prefix=" + self.escaped(query["prefix"]))
+        if rng.random() < 0.6:
+            query["delimiter"] = rng.choice(["/", "/", self.word(0, 2)])
+            written.append("delimiter=" + self.escaped(query["delimiter"]))
+        if rng.random() < 0.3:
+            query["start_after"] = rng.choice([self.name(), self.word(0, 3)])
+            written.append("start-after=" + self.escaped(query["start_after"]))
+        if rng.random() < 0.25:
+            query["token"] = self.token()
+            written.append("continuation-token=" + query["token"])
+        if rng.random() < 0.75:
+            most = rng.choice([0, 1, 1, 1, 2, 2, 3, 5, 2000])
+            query["max_keys"] = min(most, 1000)
+            written.append("max-keys=%d" % most)
+        if rng.random() < 0.3:
+            query["url"] = True
+            written.append("encoding-type=url")
+        if rng.random() < 0.1:
+            written.append("fetch-owner=true")
+        rng.shuffle(written)
+        mark = rng.choice(["", "?"])
+        self.model.list(self.ask("LIST " + mark + "&".join(written) if written else "LIST"), query)
+
+    def input(self):
+        return "".join(line + "\n" for line in self.lines)
+
+
+def first_difference(got, wanted):
+    for place, (here, there) in enumerate(zip(got.split("\n"), wanted.split("\n")), 1):
+        if here != there:
+            return "line %d of the output\n  got    %s\n  wanted %s" % (place, here, there)
+    return "one text is longer"
+
+
+def main():
+    parser = argparse.ArgumentParser(description=__doc__.split("\n")[0])
+    parser.add_argument("program")
+    parser.add_argument("--sessions", type=int, default=1000)
+    parser.add_argument("--seed", type=int, default=7)
+    options = parser.parse_args()
+    rng = random.Random(options.seed)
+    requests = 0
+    for _ in range(options.sessions):
+        session = Session(rng)
+        requests += len(session.lines) - 1
+        run = subprocess.run([options.program, "run"], input=session.input().encode(), capture_output=True)
+        got, wanted = run.stdout.decode(), session.model.text()
+        if run.returncode != 0 or run.stderr or got != wanted:
+            print(session.input())
+            print("status %d, standard error %r" % (run.returncode, run.stderr))
+            print(first_difference(got, wanted))
+            sys.exit(1)
+    print("%d sessions, %d requests: all answered as the model does" % (options.sessions, requests), file=sys.stderr)
+
+
+if __name__ == "__main__":
+    main()
