@@ -1,11 +1,11 @@
 -- Members and items that were sent one after the other make the object and the array.
-use Rattle.std.proofs.Common.{◌≡◌, ℕ, List, [], ◌∷◌, ◌++◌, suc, length, map, Option, Some, None, refl, sym, ap, subst}
+use Rattle.std.proofs.Common.{◌≡◌, ℕ, List, [], ◌∷◌, ◌++◌, suc, length, map, Option, Some, None, refl, ap, subst}
 use Rattle.serde.specs.Event.{Log, Logs, map_begins, map_ends, seq_begins, seq_ends, WritesEach, WritesSeq}
 use Rattle.serde_json.specs.Data.{Data}
 use Rattle.serde_json.specs.Events.{items_len, members_len, SendsValue, SendsItems, SendsMembers}
 use Rattle.serde_json.specs.View.{items_of}
 use Rattle.answer_text.specs.Objects.{Member, members_there, object_of, array_of}
-use Rattle.answer_text.specs.Sending.{SendsMember, SendsAll}
+use Rattle.answer_text.specs.Sending.{SendsAll}
 
 pub members_sent : (ms : List (Option Member)) (old last new : Log) → SendsAll ms old last → Logs last new map_ends → SendsMembers (members_there ms) old new
 members_sent [] old last new sent ended = subst (λ l. Logs l new map_ends) sent ended

@@ -1,9 +1,9 @@
 -- No line has a float.
 use Rattle.std.proofs.Common.{◌≡◌, ℕ, Bool, true, false, ◌||◌, List, [], ◌∷◌, Option, Some, None, refl, map}
 use Rattle.serde_json.specs.Data.{Data, string}
-use Rattle.serde_json.specs.Written.{has_float, items_have_float, members_have_float}
+use Rattle.serde_json.specs.Written.{has_float, items_have_float}
 use Rattle.serde_json.specs.View.{items_of}
-use Rattle.answer_text.specs.Objects.{Member, members_there, object_of, only_if}
+use Rattle.answer_text.specs.Objects.{Member, object_of, only_if}
 use Rattle.answer_text.specs.Lines.{place_data, replaced_member}
 
 -- a member that is there has no float

@@ -1,5 +1,5 @@
 -- The text of a run: one JSON object a line, whose members stand in the byte order of their names.
-use Rattle.std.specs.Prelude.{ℕ, ◌+◌, ◌==◌, not, Bool, true, false, List, [], ◌∷◌, ◌++◌, length, codes, Option, Some, None, slice_index_or}
+use Rattle.std.specs.Prelude.{ℕ, ◌+◌, ◌==◌, not, Bool, List, [], ◌∷◌, ◌++◌, length, codes, Option, Some, None, slice_index_or}
 use Rattle.std.specs.List.{filter_map, flat_map}
 use Rattle.serde_json.specs.Data.{Data, null, boolean, string}
 use Rattle.key_names.specs.Names.{name_at}
@@ -164,15 +164,19 @@ abbrev pub verb_of : Change → List ℕ
 verb_of (PutVal val) = codes "PUT"
 verb_of Remove = codes "DELETE"
 
--- one update of the history, with its place. Its key is never escaped.
+-- the line of an update: its place, who made it for which request line, its key, which is never escaped, and its verb
+abbrev pub journal_members : ℕ → ℕ → List ℕ → ℕ → List ℕ → List (Option Member)
+journal_members place client key line verb =
+    at_member (Some place)
+    ∷ client_member client
+    ∷ always (codes "Key") (string key)
+    ∷ line_member line
+    ∷ always (codes "Verb") (string verb)
+    ∷ []
+
+-- one update of the history, with its place
 abbrev pub journal_data : List (List ℕ) → ℕ → Update → Data
-journal_data dir place u =
-    object_of (at_member (Some place)
-    ∷ client_member u.client
-    ∷ always (codes "Key") (string (name_at dir u.key))
-    ∷ line_member u.line
-    ∷ always (codes "Verb") (string (verb_of u.change))
-    ∷ [])
+journal_data dir place u = object_of (journal_members place u.client (name_at dir u.key) u.line (verb_of u.change))
 
 -- how many updates the history has
 abbrev pub last_data : ℕ → Data

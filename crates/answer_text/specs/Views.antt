@@ -1,17 +1,16 @@
 -- What each value that is written stands for.
-use Rattle.std.specs.Prelude.{List, [], ◌∷◌, map, codes, Option, Some, None}
+use Rattle.std.specs.Prelude.{List, map, Option}
 use Rattle.std.specs.Cow.{cow_str_bytes}
-use Rattle.serde_json.specs.Data.{Data, string}
+use Rattle.serde_json.specs.Data.{Data}
 use Rattle.answer_text.specs.declared.rows.ContentRow.{ContentRow}
 use Rattle.answer_text.specs.declared.rows.PrefixRow.{PrefixRow}
-use Rattle.answer_text.specs.declared.rows.Rows.{Rows}
 use Rattle.answer_text.specs.declared.journal.JournalEntry.{JournalEntry}
 use Rattle.answer_text.specs.declared.journal.UpdatesCount.{UpdatesCount}
 use Rattle.answer_text.specs.declared.replies.ShortLine.{ShortLine}
 use Rattle.answer_text.specs.declared.replies.FoundLine.{FoundLine}
 use Rattle.answer_text.specs.declared.listing.ListedLine.{ListedLine}
-use Rattle.answer_text.specs.Objects.{Member, always, object_of, whole}
-use Rattle.answer_text.specs.Lines.{content_data, prefix_data, at_member, client_member, line_member, short_members, found_members, listed_members, last_data}
+use Rattle.answer_text.specs.Objects.{Member, object_of}
+use Rattle.answer_text.specs.Lines.{content_data, prefix_data, short_members, found_members, listed_members, journal_members, last_data}
 
 abbrev pub content_row : ContentRow → Data
 content_row row = content_data (cow_str_bytes row.key) row.stored.now
@@ -42,13 +41,7 @@ abbrev pub listed_line : ListedLine → Data
 listed_line l = object_of (listed_view l)
 
 abbrev pub journal_entry : JournalEntry → Data
-journal_entry e =
-    object_of (at_member (Some e.place)
-    ∷ client_member e.client
-    ∷ always (codes "Key") (string e.key.now)
-    ∷ line_member e.line
-    ∷ always (codes "Verb") (string e.verb.now)
-    ∷ [])
+journal_entry e = object_of (journal_members e.place e.client e.key.now e.line e.verb.now)
 
 abbrev pub updates_count : UpdatesCount → Data
 updates_count c = last_data c.updates

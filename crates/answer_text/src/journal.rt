@@ -82,7 +82,7 @@ impl Serialize for UpdatesCount {
     }
 }
 
-// The method that the update answers.
+// The verb of the request line that the update answers.
 fn verb_of(change: Change) -> &'static str
     ensures { result.now ≡ verb_of change }
 {

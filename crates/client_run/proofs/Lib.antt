@@ -7,3 +7,5 @@ pub mod OneMore
 pub mod Turn
 pub mod Walk
 pub mod Listings
+pub mod Stopping
+pub mod Sessions

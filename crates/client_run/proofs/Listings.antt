@@ -9,7 +9,7 @@ use Rattle.bucket_terms.specs.declared.reply.Reply.TheVariants.{Listed, BadToken
 use Rattle.bucket_terms.specs.declared.reply.Placed.{Placed}
 use Rattle.bucket_terms.specs.Page.{page_of}
 use Rattle.bucket_terms.specs.PassView.{PassView, KnowsOwn}
-use Rattle.bucket_terms.specs.LegalRun.{Resumed, IsPointOf, IsBadToken, IsRight, next_of}
+use Rattle.bucket_terms.specs.LegalRun.{Resumed, IsPointOf, IsRight, next_of}
 use Rattle.index_words.specs.History.{after}
 use Rattle.client_run.specs.ClientRun.{setting, answered, Answers}
 use Rattle.client_run.specs.Listing.{ListedAs, HasPageInRange}

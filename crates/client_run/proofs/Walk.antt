@@ -1,13 +1,12 @@
 -- A cursor's walk over the map of a snapshot.
-use Rattle.std.proofs.Common.{◌≡◌, ℕ, suc, ◌+◌, ◌-◌, ◌<◌, ◌≤◌, Bool, true, false, cond, List, [], ◌∷◌, length, Option, Some, None, MatchOption, IfSome, IsSome, nat_le, sym, ap, ◌∙◌, subst, refl, arith}
+use Rattle.std.proofs.Common.{◌≡◌, ℕ, suc, ◌+◌, ◌-◌, ◌<◌, ◌≤◌, List, [], ◌∷◌, length, Option, Some, None, MatchOption, IfSome, IsSome, sym, ap, ◌∙◌, subst, refl, arith}
 use Rattle.std.proofs.lemmas.Bool.{false≢true}
 use Rattle.std.proofs.lemmas.Bool.Decides.{nat_tests}
 use Rattle.index_words.specs.declared.pair.Pair.{Pair}
-use Rattle.index_words.specs.Map.{IsMap, first_from}
-use Rattle.bucket_terms.specs.declared.token_point.TokenPoint.{TokenPoint}
+use Rattle.index_words.specs.Map.{first_from}
 use Rattle.index_words.specs.History.{after}
 use Rattle.bucket_terms.specs.PassView.{PassView}
-use Rattle.page_rules.specs.Cursor.{CursorView, IsNext, IsOver, Took, adds, GoesOnAt}
+use Rattle.page_rules.specs.Cursor.{CursorView, IsNext, IsOver, Took}
 
 -- how many ranks are left to look at, with the one behind the last of `n - 1`
 abbrev pub left_at : ℕ → Option ℕ → ℕ

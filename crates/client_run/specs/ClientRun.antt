@@ -1,12 +1,12 @@
 -- What running one client over a pass has done, by what the pass knows before and after.
-use Rattle.std.specs.Prelude.{◌≡◌, ℕ, ◌+◌, ◌*◌, ◌<◌, ◌≤◌, ◌⊎◌, ⊤, ◌==◌, ◌&&◌, Bool, true, false, not, if◌then◌else◌, List, [], ◌∷◌, ◌++◌, length, count_by, All, Any, AllPairs, Contains, Option, Some, None, MatchOption, slice_get}
+use Rattle.std.specs.Prelude.{◌≡◌, ℕ, ◌+◌, ◌*◌, ◌<◌, ◌≤◌, ⊤, ◌==◌, ◌&&◌, Bool, true, false, not, if◌then◌else◌, List, [], ◌∷◌, ◌++◌, length, count_by, All, Any, AllPairs, Contains, Option, Some, None, MatchOption, slice_get}
 use Rattle.index_words.specs.declared.update.Update.{Update}
 use Rattle.bucket_terms.specs.declared.request.Request.{Request}
 use Rattle.bucket_terms.specs.declared.request.Request.TheVariants.{Put as PutRequest, Delete, Head, List as ListRequest, Next}
 use Rattle.bucket_terms.specs.declared.reply.Reply.{Reply}
 use Rattle.bucket_terms.specs.declared.reply.Reply.TheVariants.{Deleted, Found, Missing, Listed, NoSlot}
 use Rattle.bucket_terms.specs.declared.reply.Placed.{Placed}
-use Rattle.bucket_terms.specs.PassView.{PassView, Continues, KnowsOwn, RoseBy, IsShort}
+use Rattle.bucket_terms.specs.PassView.{PassView, Continues, Extends, KnowsOwn, RoseBy, IsShort}
 use Rattle.bucket_terms.specs.LegalRun.{RequestLine, Setting, Answered, AreAnswered, IsRight, IsMadeBy, answered_lines, update_at, is_earlier_of, is_update}
 
 -- the line is later than those of the pass's updates so far
@@ -100,3 +100,10 @@ pub record RanClient (dir : List (List ℕ)) (lines : List RequestLine) (old new
   pub places : All (λ (p : Placed). MatchOption p.at ⊤ (λ at. length old.seen ≤ at)) replies
   pub looks : RoseBy (count_by (is_looked_up (setting dir new 0)) (answered_lines lines replies)) old.looks new.looks
   pub ended : (front : List Answered) (a : Answered) → answered_lines lines replies ≡ front ++ a ∷ [] → Ended (setting dir new 0) new a
+
+-- after want of memory: updates may have been made, what the pass knew it still knows, and no snapshot is open
+pub record Stopped (old new : PassView) : Type 0 where
+  pub closed : new.opened ≡ None
+  pub number : new.number ≡ old.number
+  pub seen : Extends old.seen new.seen
+  pub looks : old.looks ≤ new.looks

@@ -1,5 +1,5 @@
 -- What a listing over a pass has done, by what the pass knows before and after.
-use Rattle.std.specs.Prelude.{◌≡◌, ℕ, List, Option, None, Some}
+use Rattle.std.specs.Prelude.{◌≡◌, ℕ, ◌≤◌, List, Option, None, Some}
 use Rattle.index_words.specs.History.{after}
 use Rattle.bucket_terms.specs.declared.list_query.ListQuery.{ListQuery}
 use Rattle.bucket_terms.specs.declared.token_point.TokenPoint.{TokenPoint}
@@ -22,6 +22,7 @@ pub record LookedOnly (old new : PassView) : Type 0 where
   pub closed : new.opened ≡ None
   pub number : new.number ≡ old.number
   pub seen : Extends old.seen new.seen
+  pub looks : old.looks ≤ new.looks
   pub mine : new.mine ≡ old.mine
   pub left : new.left ≡ old.left
   pub nodes : new.nodes ≡ old.nodes

@@ -1,5 +1,5 @@
 -- Where a listing begins.
-use Rattle.std.specs.Prelude.{◌≡◌, [], Some, None}
+use Rattle.std.specs.Prelude.{Some, None}
 use Rattle.bucket_terms.specs.declared.list_query.ListQuery.{ListQuery}
 use Rattle.bucket_terms.specs.LegalRun.{Resumed, IsPointOf, IsBadToken}
 use Rattle.client_run.specs.declared.pages.Resumption.{Resumption}

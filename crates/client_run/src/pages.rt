@@ -1,11 +1,11 @@
 // LIST and NEXT: which query is asked, from which point on, and its page.
-ghost use Rattle.std.specs.Prelude.{◌≡◌, None, Some, Option, IfOk};
+ghost use Rattle.std.specs.Prelude.{◌≡◌, None, Some, Option, IfOk, OnErr};
 ghost use Rattle.std.specs.Option.{option_copied, option_map, ForSome};
 ghost use Rattle.bucket_terms.specs.declared.request.Request.TheVariants.{List as ListRequest, Next};
 ghost use Rattle.bucket_terms.specs.declared.reply.Reply.{Reply};
 ghost use Rattle.bucket_terms.specs.Page.{IsInRange, page_point};
 ghost use Rattle.bucket_terms.specs.LegalRun.{Resumed, next_of, resumed_from, resumed_at};
-ghost use Rattle.client_run.specs.ClientRun.{answered, Answers};
+ghost use Rattle.client_run.specs.ClientRun.{answered, Answers, Stopped};
 ghost use Rattle.client_run.specs.Listing.{HasPageInRange, ListedAs};
 ghost use Rattle.client_run.specs.Starts.{IsStartOf, resumed};
 
@@ -127,6 +127,7 @@ pub(crate) fn list_request<P: KeyPass, Rt: Wait>(
     requires closed { (P.view pass.old).opened ≡ None }
     ensures answers { IfOk result (λ placed. (last : Option Reply) → Answers dir.now (P.view pass.old) (P.view pass.new) last (answered line (ListRequest query.now) placed)) }
     ensures in_range { IfOk result (λ placed. HasPageInRange dir.now placed.reply) }
+    ensures stopped { OnErr result (Stopped (P.view pass.old) (P.view pass.new)) }
     ensures home { P.home pass.new ≡ P.home pass.old }
 {
     match start_of(alloc, query)? {
@@ -149,6 +150,7 @@ pub(crate) fn next_request<P: KeyPass, Rt: Wait>(
     requires in_range { ForSome (option_copied last) (HasPageInRange dir.now) }
     ensures answers { IfOk result (λ placed. Answers dir.now (P.view pass.old) (P.view pass.new) (option_copied last.entry) (answered line Next placed)) }
     ensures in_range { IfOk result (λ placed. HasPageInRange dir.now placed.reply) }
+    ensures stopped { OnErr result (Stopped (P.view pass.old) (P.view pass.new)) }
     ensures home { P.home pass.new ≡ P.home pass.old }
 {
     match resume(alloc, dir, last)? {
@@ -172,6 +174,7 @@ fn listed<P: KeyPass, Rt: Wait>(
 ) -> Result<Placed, NoMemory>
     requires closed { (P.view pass.old).opened ≡ None }
     ensures answer { IfOk result (ListedAs dir.now query point line (P.view pass.old) (P.view pass.new)) }
+    ensures stopped { OnErr result (Stopped (P.view pass.old) (P.view pass.new)) }
     ensures home { P.home pass.new ≡ P.home pass.old }
 {
     let client = pass.client();

@@ -1,11 +1,11 @@
 // A client's requests, one after another.
-ghost use Rattle.std.specs.Prelude.{◌≡◌, ◌<◌, ◌≤◌, [], ◌∷◌, None, Some, All, IfOk, length, if◌then◌else◌, slice_get};
+ghost use Rattle.std.specs.Prelude.{◌≡◌, ◌<◌, ◌≤◌, [], ◌∷◌, None, Some, All, IfOk, OnErr, length, if◌then◌else◌, slice_get};
 ghost use Rattle.std.specs.Option.{ForSome, option_copied, option_map, option_and_then};
 ghost use Rattle.bucket_terms.specs.LegalRun.{RequestLine, is_listing, updates_in};
 ghost use Rattle.bucket_terms.specs.declared.reply.Placed.{Placed};
 ghost use Rattle.request_lines.specs.Session.{request_line, request_lines};
 ghost use Rattle.client_run.specs.Listing.{HasPageInRange};
-ghost use Rattle.client_run.specs.ClientRun.{Answers, RanClient, IsAskable, IsLaterLine, Rise};
+ghost use Rattle.client_run.specs.ClientRun.{Answers, RanClient, IsAskable, IsLaterLine, Rise, Stopped};
 
 use crate::{Gate, pages, updates};
 use bucket_terms::{KeyPass, Placed, Reply, Request};
@@ -32,6 +32,7 @@ pub fn run_client<P: KeyPass, G: Gate, Rt: Wait>(
     requires later { All (λ (l : RequestLine). IsLaterLine (P.view pass.old) l.line) (request_lines part.now) }
     ensures ran { IfOk result (λ replies. RanClient dir.now (request_lines part.now) (P.view pass.old) (P.view pass.new) replies.items) }
     ensures in_range { IfOk result (λ replies. All (λ (p : Placed). HasPageInRange dir.now p.reply) replies.items) }
+    ensures stopped { OnErr result (Stopped (P.view pass.old) (P.view pass.new)) }
     ensures home { P.home pass.new ≡ P.home pass.old }
 {
     let client = pass.client();
@@ -63,6 +64,7 @@ fn answer<P: KeyPass, Rt: Wait>(
     requires in_range { ForSome (option_copied last) (HasPageInRange dir.now) }
     ensures answers { IfOk result (λ placed. Answers dir.now (P.view pass.old) (P.view pass.new) (option_copied last.entry) (record { asked = request_line asked.now; placed = placed })) }
     ensures in_range { IfOk result (λ placed. HasPageInRange dir.now placed.reply) }
+    ensures stopped { OnErr result (Stopped (P.view pass.old) (P.view pass.new)) }
     ensures home { P.home pass.new ≡ P.home pass.old }
 {
     match &asked.request {

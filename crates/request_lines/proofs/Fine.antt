@@ -1,5 +1,5 @@
 -- What is read has a name that an object may have, or a query that a listing takes.
-use Rattle.std.proofs.Common.{◌≡◌, ℕ, Bool, true, false, ◌&&◌, List, [], ◌∷◌, length, Option, Some, None, Result, Ok, Err, IfOk, subst, refl, arith, rules}
+use Rattle.std.proofs.Common.{◌≤◌, ◌≡◌, ℕ, Bool, true, false, ◌&&◌, List, [], ◌∷◌, length, Option, Some, None, Result, Ok, Err, IfOk, subst, refl, arith, rules, min, sym}
 use Rattle.std.specs.Prelude.{if◌then◌else◌, ◌==◌, nat_lt, nat_le}
 use Rattle.std.specs.Str.{IsUtf8, is_utf8}
 use Rattle.std.proofs.lemmas.Str.{IsUtf8-from_is_utf8, IsUtf8-nil}
@@ -20,7 +20,11 @@ use Rattle.request_lines.specs.Texts.{unescaped, escapes_are_whole, name_of, key
 use Rattle.request_lines.specs.Causes.{earliest, place_of}
 use Rattle.request_lines.specs.declared.cause.Cause.TheVariants.{KeyTooLong}
 use Rattle.request_lines.specs.Queries as q
-use Rattle.request_lines.specs.Queries.{asking_with, with_parameter, parameter_cause, is_too_long, parameter_read, parameters_read, query_read}
+use Rattle.std.specs.Str.Parse.{digits_value}
+use Rattle.request_lines.specs.Asking as k
+use Rattle.request_lines.specs.Asking.{asking_with, with_parameter, parameter_cause, is_long_for}
+use Rattle.request_lines.specs.Queries.{parameter_read, parameters_read, query_read}
+use Rattle.request_lines.proofs.QueryLaws.{query_read_by}
 use Rattle.request_lines.specs.Grammar.{IsFineCommand, put_read, delete_read, head_read, list_read, read_fields, read_verb, verb_of, read_line, reading_of}
 
 -- what is read has this property
@@ -88,7 +92,7 @@ plain_query_fine = record {
 }
 
 -- where no cause has come the query so far is fine
-abbrev IsFineAsking : q.Asking → Type 0
+abbrev IsFineAsking : k.Asking → Type 0
 IsFineAsking a = a.cause ≡ None → q.IsFineQuery a.query
 
 no_earlier : (cause other : Option Cause) → earliest cause other ≡ None → (cause ≡ None) × (other ≡ None)
@@ -104,21 +108,21 @@ no_earlier (Some cause) (Some other) none = absurd (one (nat_le (place_of cause)
     one true is = cc
     one false is = cc
 
-not_long : (seen : List Name) (name : Name) (value : List ℕ) → parameter_cause seen (Some name) value ≡ None → q.is_too_long name value ≡ false
+not_long : (seen : List Name) (name : Name) (value : List ℕ) → parameter_cause seen (Some name) value ≡ None → k.is_long_for name value ≡ false
 unfolding parameter_cause
-not_long seen name value none = by_test (q.is_too_long name value) _ none
+not_long seen name value none = by_test (k.is_long_for name value) _ none
   where
     by_test : (b : Bool) (other : Option Cause) → (if b then Some KeyTooLong else other) ≡ None → b ≡ false
     by_test true other is = cc
     by_test false other is = refl
 
-chosen_fine : (b : Bool) (x y : ListQuery) → q.IsFineQuery x → q.IsFineQuery y → q.IsFineQuery (if b then x else y)
-chosen_fine true x y one other = one
-chosen_fine false x y one other = other
+most_small : (b : Bool) (n : ℕ) → (if b then min n 1000 else 1000) ≤ 1000
+most_small true n = omega arith
+most_small false n = omega arith
 
 fine_with : (query : ListQuery) (seen : List Name) (name : Option Name) (value : List ℕ) → IsUtf8 value → parameter_cause seen name value ≡ None
     → q.IsFineQuery query → q.IsFineQuery (with_parameter query name value)
-unfolding with_parameter is_too_long
+unfolding with_parameter is_long_for
 fine_with query seen None value utf8 none fine = fine
 fine_with query seen (Some names.ListType) value utf8 none fine = fine
 fine_with query seen (Some names.FetchOwner) value utf8 none fine = fine
@@ -180,8 +184,8 @@ fine_with query seen (Some names.EncodingType) value utf8 none fine =
       token = fine.token;
       entries = fine.entries;
     }
-fine_with query seen (Some names.MaxKeys) value utf8 none fine = chosen_fine (q.is_max_keys value) _ _
-    (record {
+fine_with query seen (Some names.MaxKeys) value utf8 none fine =
+    record {
       short_prefix = fine.short_prefix;
       short_delimiter = fine.short_delimiter;
       short_start_after = fine.short_start_after;
@@ -189,11 +193,10 @@ fine_with query seen (Some names.MaxKeys) value utf8 none fine = chosen_fine (q.
       delimiter = fine.delimiter;
       start_after = fine.start_after;
       token = fine.token;
-      entries = omega arith;
-    })
-    fine
+      entries = most_small (q.is_max_keys value) (digits_value 10 value);
+    }
 
-asking_fine : (a : q.Asking) (p : q.Parameter) → IsUtf8 p.value → IsFineAsking a → IsFineAsking (asking_with a p)
+asking_fine : (a : k.Asking) (p : q.Parameter) → IsUtf8 p.value → IsFineAsking a → IsFineAsking (asking_with a p)
 unfolding asking_with
 asking_fine a p utf8 fine none =
     let each = no_earlier a.cause (parameter_cause a.names p.name p.value) none in
@@ -215,14 +218,13 @@ query_or_fine : (cause : Option Cause) (query : ListQuery) → (cause ≡ None �
 query_or_fine None query fine = fine refl
 query_or_fine (Some cause) query fine = tt
 
-query_by_fine : (a : q.Asking) (ps : List q.Parameter) → AreTexts ps → IsFineAsking a → Gives q.IsFineQuery (q.query_by a ps)
+query_by_fine : (a : k.Asking) (ps : List q.Parameter) → AreTexts ps → IsFineAsking a → Gives q.IsFineQuery (k.query_by a ps)
 query_by_fine a [] texts fine = query_or_fine a.cause a.query fine
 query_by_fine a (p ∷ ps) texts fine = query_by_fine (asking_with a p) ps texts.1 (asking_fine a p texts.0 fine)
 
 query_fine : (text : List ℕ) → Gives q.IsFineQuery (q.query_read text)
-unfolding query_read
-query_fine text = then_gives AreTexts q.IsFineQuery (q.parameters_read (q.pieces_of text)) _ (parameters_texts (q.pieces_of text))
-    (λ ps texts. query_by_fine q.nothing_asked ps texts (λ none. plain_query_fine))
+query_fine text = subst (Gives q.IsFineQuery) (sym (query_read_by text)) (then_gives AreTexts q.IsFineQuery (q.parameters_read (q.pieces_of text)) _ (parameters_texts (q.pieces_of text))
+    (λ ps texts. query_by_fine k.nothing_asked ps texts (λ none. plain_query_fine)))
 
 list_fine : (text : List ℕ) → IsFineReading (list_read text)
 unfolding list_read

@@ -1,3 +1,4 @@
+pub mod QueryLaws
 pub mod TextLaws
 pub mod Fine
 pub mod InputLaws

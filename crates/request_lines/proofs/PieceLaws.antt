@@ -7,7 +7,9 @@ use Rattle.request_lines.specs.declared.line_error.LineError.{LineError}
 use Rattle.request_lines.specs.declared.line_error.LineError.TheVariants as errors
 use Rattle.std.specs.List.{slice_split}
 use Rattle.request_lines.specs.Pieces.{piece_asked, pieces_asked, TakesPiece}
-use Rattle.request_lines.specs.Queries.{Asking, Parameter, parameter_read, parameters_read, asking_with, query_by, query_read, query_or, pieces_of, without_mark, nothing_asked}
+use Rattle.request_lines.specs.Asking.{Asking, asking_with, query_by, nothing_asked}
+use Rattle.request_lines.specs.Queries.{Parameter, parameter_read, parameters_read, query_read, query_or, pieces_of, without_mark}
+use Rattle.request_lines.proofs.QueryLaws.{query_read_by}
 use Rattle.request_lines.specs.Reads.{◌>>=◌, Fails}
 
 -- a first piece, and those behind it
@@ -51,5 +53,5 @@ unfolding parameters_read
 pieces_end so_far = refl
 
 pub pieces_start : (text query : List ℕ) → query ≡ without_mark text → pieces_asked nothing_asked (slice_split (λ b. b == 38) query) ≡ query_read text
-unfolding query_read pieces_of
-pieces_start text query is = rw is refl
+unfolding pieces_of
+pieces_start text query is = rw is (sym (query_read_by text))

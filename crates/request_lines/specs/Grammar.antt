@@ -87,8 +87,8 @@ IsFineCommand says.Next = Unit {0}
 abbrev pub none_counted : Counts
 none_counted = record { clients = 0; requests = 0; puts = 0; entries = 0; last = 0 }
 
--- with one line more. A LIST line acts with the most entries that its page can have, and a NEXT line with
--- those of its client's last LIST line.
+-- with one line more. A LIST line counts with its `max_keys`, the most entries that its page can have, and a
+-- NEXT line with that of its client's last LIST line, or 0 where there is none.
 abbrev pub counted : Counts → Command → Counts
 counted so_far says.Client = record so_far { clients = so_far.clients + 1; last = 0 }
 counted so_far (says.Put name fields) = record so_far { requests = so_far.requests + 1; puts = so_far.puts + 1 }

@@ -6,7 +6,8 @@ use Rattle.request_lines.specs.declared.line_error.LineError.{LineError}
 use Rattle.request_lines.specs.declared.line_error.LineError.TheVariants as errors
 use Rattle.request_lines.specs.declared.query as code
 use Rattle.request_lines.specs.Reads.{◌>>=◌}
-use Rattle.request_lines.specs.Queries.{Asking, Parameter, parameter_read, parameters_read, asking_with, query_by}
+use Rattle.request_lines.specs.Asking.{Asking, asking_with, query_by}
+use Rattle.request_lines.specs.Queries.{Parameter, parameter_read, parameters_read}
 
 -- what is kept of the parameters so far
 abbrev pub asking : code.Asking.Asking → Asking

@@ -1,5 +1,5 @@
 -- The query of a LIST line (Amazon S3 API reference, ListObjectsV2: URI request parameters).
-use Rattle.std.specs.Prelude.{ℕ, ◌≤◌, ◌==◌, ◌&&◌, ◌||◌, nat_lt, nat_le, min, Bool, false, List, [], ◌∷◌, ◌++◌, length, Option, Some, None, Result, Ok, Err, codes, if◌then◌else◌}
+use Rattle.std.specs.Prelude.{ℕ, ◌≤◌, ◌==◌, ◌&&◌, ◌||◌, not, nat_lt, nat_le, min, Bool, true, false, List, [], ◌∷◌, length, Option, Some, None, Result, Ok, Err, codes, if◌then◌else◌}
 use Rattle.std.specs.List.{slice_split, before_first, after_first, list_any}
 use Rattle.std.specs.Str.{IsUtf8, bytes_eq}
 use Rattle.std.specs.Str.Parse.{digits_value}
@@ -8,7 +8,6 @@ use Rattle.request_lines.specs.declared.cause.Cause.{Cause}
 use Rattle.request_lines.specs.declared.cause.Cause.TheVariants.{KeyTooLong, UnknownParameter, RepeatedParameter, BadListType, BadMaxKeys, BadEncoding, BadFetchOwner}
 use Rattle.request_lines.specs.declared.parameter.Name.{Name}
 use Rattle.request_lines.specs.declared.parameter.Name.TheVariants.{ListType, Prefix, Delimiter, MaxKeys, StartAfter, ContinuationToken, EncodingType, FetchOwner}
-use Rattle.request_lines.specs.Causes.{earliest}
 use Rattle.request_lines.specs.Reads.{◌>>=◌}
 use Rattle.request_lines.specs.Texts.{unescaped, is_number}
 
@@ -88,81 +87,98 @@ place_of_name ContinuationToken = 5
 place_of_name EncodingType = 6
 place_of_name FetchOwner = 7
 
--- whether the name is among these
-abbrev pub stands_in : List Name → Name → Bool
-stands_in names name = list_any (λ other. place_of_name other == place_of_name name) names
+abbrev pub is_name : Name → Option Name → Bool
+is_name name None = false
+is_name name (Some other) = place_of_name other == place_of_name name
+
+abbrev pub is_same_name : Option Name → Option Name → Bool
+is_same_name None other = false
+is_same_name (Some name) other = is_name name other
+
+abbrev pub is_unknown : Option Name → Bool
+is_unknown None = true
+is_unknown (Some name) = false
+
+-- a text of more than 1,024 bytes, where it is one of the three that are compared with names
+abbrev pub is_too_long : Parameter → Bool
+is_too_long p = (is_name Prefix p.name || is_name Delimiter p.name || is_name StartAfter p.name) && nat_lt 1024 (length p.value)
 
 -- one or more digits, with a number of at most 2,147,483,647
 unfoldable pub is_max_keys : List ℕ → Bool
 is_max_keys value = is_number value && nat_le (digits_value 10 value) 2147483647
 
--- a text of more than 1,024 bytes, where it is one of the three that are compared with names
-unfoldable pub is_too_long : Name → List ℕ → Bool
-is_too_long Prefix value = nat_lt 1024 (length value)
-is_too_long Delimiter value = nat_lt 1024 (length value)
-is_too_long StartAfter value = nat_lt 1024 (length value)
-is_too_long name value = false
+abbrev pub is_list_type : List ℕ → Bool
+is_list_type value = bytes_eq value (codes "2")
 
--- the cause of a value that its parameter does not take
-unfoldable pub value_cause : Name → List ℕ → Option Cause
-value_cause ListType value = if bytes_eq value (codes "2") then None else Some BadListType
-value_cause MaxKeys value = if is_max_keys value then None else Some BadMaxKeys
-value_cause EncodingType value = if length value == 0 || bytes_eq value (codes "url") then None else Some BadEncoding
-value_cause FetchOwner value = if length value == 0 || bytes_eq value (codes "true") || bytes_eq value (codes "false") then None else Some BadFetchOwner
-value_cause name value = None
+abbrev pub is_encoding : List ℕ → Bool
+is_encoding value = length value == 0 || bytes_eq value (codes "url")
 
--- the first cause of a parameter behind these names
-unfoldable pub parameter_cause : List Name → Option Name → List ℕ → Option Cause
-parameter_cause names None value = Some UnknownParameter
-parameter_cause names (Some name) value =
-    if is_too_long name value then Some KeyTooLong
-    else if stands_in names name then Some RepeatedParameter
-    else value_cause name value
+abbrev pub is_fetch_owner : List ℕ → Bool
+is_fetch_owner value = length value == 0 || bytes_eq value (codes "true") || bytes_eq value (codes "false")
 
--- the names, each once, with this one
-unfoldable pub with_name : List Name → Option Name → List Name
-with_name names None = names
-with_name names (Some name) = if stands_in names name then names else names ++ name ∷ []
+-- a parameter of this name has a value that it does not take
+abbrev pub has_other : Name → (List ℕ → Bool) → List Parameter → Bool
+has_other name is_value ps = list_any (λ p. is_name name p.name && not (is_value p.value)) ps
+
+-- a name stands twice
+abbrev pub repeats : List Parameter → Bool
+repeats [] = false
+repeats (p ∷ ps) = list_any (λ q. is_same_name p.name q.name) ps || repeats ps
+
+-- where parameters have a cause
+abbrev pub have : List Parameter → Cause → Bool
+have ps KeyTooLong = list_any is_too_long ps
+have ps UnknownParameter = list_any (λ p. is_unknown p.name) ps
+have ps RepeatedParameter = repeats ps
+have ps BadListType = has_other ListType is_list_type ps
+have ps BadMaxKeys = has_other MaxKeys is_max_keys ps
+have ps BadEncoding = has_other EncodingType is_encoding ps
+have ps BadFetchOwner = has_other FetchOwner is_fetch_owner ps
+have ps cause = false
+
+-- the causes of parameters, in the order in which they are tested
+abbrev pub parameter_causes : List Cause
+parameter_causes = KeyTooLong ∷ UnknownParameter ∷ RepeatedParameter ∷ BadListType ∷ BadMaxKeys ∷ BadEncoding ∷ BadFetchOwner ∷ []
+
+-- the first of these causes that holds
+abbrev pub first_that : (Cause → Bool) → List Cause → Option Cause
+first_that holds [] = None
+first_that holds (cause ∷ causes) = if holds cause then Some cause else first_that holds causes
 
 -- ---- meaning
 
--- a query with this parameter
-unfoldable pub with_parameter : ListQuery → Option Name → List ℕ → ListQuery
-with_parameter query (Some Prefix) value = record query { prefix = value }
-with_parameter query (Some Delimiter) value = record query { delimiter = value }
-with_parameter query (Some StartAfter) value = record query { start_after = value }
-with_parameter query (Some ContinuationToken) value = record query { token = value }
-with_parameter query (Some MaxKeys) value = if is_max_keys value then record query { max_keys = min (digits_value 10 value) 1000 } else query
-with_parameter query (Some EncodingType) value = record query { url = bytes_eq value (codes "url") }
-with_parameter query name value = query
+-- what the last parameter of this name says, or else this
+abbrev pub given : {A : Type 0} → Name → (List ℕ → A) → A → List Parameter → A
+given name says other [] = other
+given name says other (p ∷ ps) = given name says (if is_name name p.name then says p.value else other) ps
 
--- what the parameters so far ask: the query, their names, and the earliest of their causes
-pub record Asking : Type 0 where
-  pub query : ListQuery
-  pub names : List Name
-  pub cause : Option Cause
+-- the most entries of a page: the number, or 1,000 where that is less or there is no number
+abbrev pub most_entries : List ℕ → ℕ
+most_entries value = if is_max_keys value then min (digits_value 10 value) 1000 else 1000
 
-abbrev pub nothing_asked : Asking
-nothing_asked = record { query = plain_query; names = []; cause = None }
+abbrev pub as_it_is : List ℕ → List ℕ
+as_it_is value = value
 
--- with one parameter more
-unfoldable pub asking_with : Asking → Parameter → Asking
-asking_with so_far p = record {
-  query = with_parameter so_far.query p.name p.value;
-  names = with_name so_far.names p.name;
-  cause = earliest so_far.cause (parameter_cause so_far.names p.name p.value);
+-- what these parameters ask; what none of them gives is as in the other query
+abbrev pub asked_of : ListQuery → List Parameter → ListQuery
+asked_of other ps = record {
+  prefix = given Prefix as_it_is other.prefix ps;
+  delimiter = given Delimiter as_it_is other.delimiter ps;
+  start_after = given StartAfter as_it_is other.start_after ps;
+  token = given ContinuationToken as_it_is other.token ps;
+  max_keys = given MaxKeys most_entries other.max_keys ps;
+  url = given EncodingType (λ value. bytes_eq value (codes "url")) other.url ps;
 }
 
 abbrev pub query_or : Option Cause → ListQuery → Result ListQuery Cause
 query_or None query = Ok query
 query_or (Some cause) query = Err cause
 
--- the query of these parameters, or the earliest cause that one of them has
-abbrev pub query_by : Asking → List Parameter → Result ListQuery Cause
-query_by so_far [] = query_or so_far.cause so_far.query
-query_by so_far (p ∷ parameters) = query_by (asking_with so_far p) parameters
+-- the query of these parameters, or the first cause that they have
+abbrev pub query_of : List Parameter → Result ListQuery Cause
+query_of ps = query_or (first_that (have ps) parameter_causes) (asked_of plain_query ps)
 
 unfoldable pub query_read : List ℕ → Result ListQuery Cause
 query_read query = do
   parameters ← parameters_read (pieces_of query)
-  query_by nothing_asked parameters
+  query_of parameters

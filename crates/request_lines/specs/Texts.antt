@@ -1,6 +1,6 @@
 -- What a field says: a key, a number, an entity tag.
 use Rattle.std.specs.Prelude.{ℕ, ◌-◌, ◌==◌, ◌&&◌, ◌||◌, not, nat_lt, nat_le, Bool, true, false, List, [], ◌∷◌, length, take, drop, slice_index, Result, Ok, Err, if◌then◌else◌}
-use Rattle.std.specs.Char.{is_digit, is_ascii_digit}
+use Rattle.std.specs.Char.{is_ascii_alphanumeric, is_ascii_hexdigit}
 use Rattle.std.specs.List.{list_all}
 use Rattle.std.specs.Str.{is_utf8, all_ascii_digits}
 use Rattle.std.specs.Str.Parse.{digits_value}
@@ -10,14 +10,14 @@ use Rattle.request_lines.specs.declared.cause.Cause.TheVariants.{BadEscape, Empt
 use Rattle.request_lines.specs.Reads.{◌>>=◌}
 
 -- two hexadecimal digits of either case stand at the front
-abbrev pub begins_with_digits : List ℕ → Bool
-begins_with_digits (high ∷ low ∷ bytes) = is_digit high 16 && is_digit low 16
-begins_with_digits bytes = false
+abbrev pub begins_with_hex_digits : List ℕ → Bool
+begins_with_hex_digits (high ∷ low ∷ bytes) = is_ascii_hexdigit high && is_ascii_hexdigit low
+begins_with_hex_digits bytes = false
 
 -- each `%` is followed by two hexadecimal digits
 unfoldable pub escapes_are_whole : List ℕ → Bool
 escapes_are_whole [] = true
-escapes_are_whole (b ∷ bytes) = (not (b == 37) || begins_with_digits bytes) && escapes_are_whole bytes
+escapes_are_whole (b ∷ bytes) = (not (b == 37) || begins_with_hex_digits bytes) && escapes_are_whole bytes
 
 -- the text unescaped, where its escapes are whole and stand for UTF-8: `%` and two hexadecimal digits are one
 -- byte, every other byte stands for itself, `+` too (URL Standard, percent-decode)
@@ -38,7 +38,7 @@ key_read key = do
 unfoldable pub is_number : List ℕ → Bool
 is_number text = not (length text == 0) && all_ascii_digits text
 
--- the number has 64 bits
+-- the number is at most 2 ^ 64 - 1
 unfoldable pub is_small : List ℕ → Bool
 is_small text = nat_le (digits_value 10 text) 18446744073709551615
 
@@ -51,9 +51,9 @@ numbers_read size modified =
 
 -- an ASCII letter or digit, or `-`
 unfoldable pub is_tag_byte : ℕ → Bool
-is_tag_byte b = is_ascii_digit b || (nat_le 65 b && nat_le b 90) || (nat_le 97 b && nat_le b 122) || b == 45
+is_tag_byte b = is_ascii_alphanumeric b || b == 45
 
--- 1 to 64 of these
+-- 1 to 64 such bytes
 unfoldable pub is_tag : List ℕ → Bool
 is_tag text = nat_lt 0 (length text) && nat_le (length text) 64 && list_all is_tag_byte text
 

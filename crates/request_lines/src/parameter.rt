@@ -1,5 +1,6 @@
 // The parameters of a query (Amazon S3 API reference, ListObjectsV2: URI request parameters).
 ghost use Rattle.std.specs.Prelude.{◌≡◌};
+ghost use Rattle.request_lines.specs.Asking as kept;
 ghost use Rattle.request_lines.specs.Queries as spec;
 
 /// The name of a parameter.
@@ -42,7 +43,7 @@ fn place_of(name: Name) -> u8
 
 /// Whether the name is among these.
 pub fn stands_in(names: &[Name], name: Name) -> bool
-    ensures { result ≡ spec.stands_in names.now name }
+    ensures { result ≡ kept.stands_in names.now name }
 {
     let place = place_of(name);
     names.iter().any(|other| place_of(*other) == place)

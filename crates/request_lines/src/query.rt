@@ -2,6 +2,7 @@
 ghost use Rattle.std.specs.Prelude.{◌≡◌, [], true, false, min, OnOk, IsOkUnless, MatchOption};
 ghost use Rattle.std.specs.Str.Parse.{digits_value};
 ghost use Rattle.request_lines.specs.declared.line_error.LineError.TheVariants.{NoMemory as OutOfMemory};
+ghost use Rattle.request_lines.specs.Asking as kept;
 ghost use Rattle.request_lines.specs.Queries as spec;
 ghost use Rattle.request_lines.specs.Pieces.{asking, parameter as as_parameter, TakesPiece};
 ghost use Rattle.request_lines.specs.Reads.{Reads, ReadsAs};
@@ -11,7 +12,7 @@ use crate::cause::earliest;
 use crate::line_error::LineError;
 use crate::parameter::{Name, stands_in};
 use crate::parts::first_part;
-use crate::texts::{is_number, number, unescaped};
+use crate::texts::{MAX_NAME_BYTES, is_number, number, unescaped};
 use bucket_terms::ListQuery;
 use key_names::Text;
 use std::alloc::Global;
@@ -83,9 +84,9 @@ impl Asking {
     }
 
     // Takes the next parameter.
-    #[tactic(auto, unfolding(crate::specs::Queries::asking_with))]
+    #[tactic(auto, unfolding(crate::specs::Asking::asking_with))]
     fn take(&mut self, parameter: Parameter) -> Result<(), LineError>
-        ensures asked { OnOk result (asking self.new ≡ spec.asking_with (asking self.old) (as_parameter parameter)) }
+        ensures asked { OnOk result (asking self.new ≡ kept.asking_with (asking self.old) (as_parameter parameter)) }
         ensures memory { IsOkUnless result OutOfMemory }
     {
         let Parameter { name, value } = parameter;
@@ -96,9 +97,9 @@ impl Asking {
         Ok(())
     }
 
-    #[tactic(auto, unfolding(crate::specs::Queries::with_name))]
+    #[tactic(auto, unfolding(crate::specs::Asking::with_name))]
     fn keep_name(&mut self, name: Option<Name>) -> Result<(), LineError>
-        ensures kept { OnOk result (asking self.new ≡ record (asking self.old) { names = spec.with_name (asking self.old).names name }) }
+        ensures kept { OnOk result (asking self.new ≡ record (asking self.old) { names = kept.with_name (asking self.old).names name }) }
         ensures memory { IsOkUnless result OutOfMemory }
     {
         match name {
@@ -155,9 +156,9 @@ fn cut(piece: &str) -> (&str, &str)
 }
 
 // The first cause of a parameter behind these names.
-#[tactic(auto, unfolding(crate::specs::Queries::parameter_cause))]
+#[tactic(auto, unfolding(crate::specs::Asking::parameter_cause))]
 fn parameter_cause(names: &[Name], name: Option<Name>, value: &str) -> Option<Cause>
-    ensures { result ≡ spec.parameter_cause names.now name value.now }
+    ensures { result ≡ kept.parameter_cause names.now name value.now }
 {
     let Some(name) = name else {
         return Some(Cause::UnknownParameter);
@@ -171,20 +172,20 @@ fn parameter_cause(names: &[Name], name: Option<Name>, value: &str) -> Option<Ca
     value_cause(name, value)
 }
 
-#[tactic(auto, unfolding(crate::specs::Queries::is_too_long))]
+#[tactic(auto, unfolding(crate::specs::Asking::is_long_for))]
 fn is_too_long(name: Name, value: &str) -> bool
-    ensures { result ≡ spec.is_too_long name value.now }
+    ensures { result ≡ kept.is_long_for name value.now }
 {
     match name {
-        Name::Prefix | Name::Delimiter | Name::StartAfter => value.len() > 1024,
+        Name::Prefix | Name::Delimiter | Name::StartAfter => value.len() > MAX_NAME_BYTES,
         _ => false,
     }
 }
 
 // The cause of a value that its parameter does not take.
-#[tactic(auto, unfolding(crate::specs::Queries::value_cause))]
+#[tactic(auto, unfolding(crate::specs::Asking::value_cause))]
 fn value_cause(name: Name, value: &str) -> Option<Cause>
-    ensures { result ≡ spec.value_cause name value.now }
+    ensures { result ≡ kept.value_cause name value.now }
 {
     match name {
         Name::ListType if value != "2" => Some(Cause::BadListType),
@@ -213,20 +214,16 @@ fn max_keys(value: &str) -> Option<u32>
 }
 
 // The query with this parameter.
-#[tactic(auto, unfolding(crate::specs::Queries::with_parameter))]
+#[tactic(auto, unfolding(crate::specs::Asking::with_parameter))]
 fn set(query: &mut ListQuery, name: Option<Name>, value: Text)
-    ensures { query.new ≡ spec.with_parameter query.old name value }
+    ensures { query.new ≡ kept.with_parameter query.old name value }
 {
     match name {
         Some(Name::Prefix) => query.prefix = value,
         Some(Name::Delimiter) => query.delimiter = value,
         Some(Name::StartAfter) => query.start_after = value,
         Some(Name::ContinuationToken) => query.token = value,
-        Some(Name::MaxKeys) => {
-            if let Some(most) = max_keys(value.as_str()) {
-                query.max_keys = most;
-            }
-        }
+        Some(Name::MaxKeys) => query.max_keys = max_keys(value.as_str()).unwrap_or(1000),
         Some(Name::EncodingType) => query.url = value.as_str() == "url",
         Some(Name::ListType | Name::FetchOwner) | None => {}
     }

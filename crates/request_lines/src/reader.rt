@@ -72,10 +72,7 @@ impl Reader {
         ensures within { OnOk result (IsWithin self.new.counts) }
     {
         let command = command_of(alloc, text)?;
-        let counts = match self.counts.admitted(&command) {
-            Ok(counts) => counts,
-            Err(cause) => return Err(LineError::Faulty(cause)),
-        };
+        let counts = self.counts.admitted(&command)?;
         self.keep(alloc, number, command, counts)
     }
 

@@ -1,6 +1,6 @@
 // What a field says: a key, a number, an entity tag.
 ghost use Rattle.std.specs.Prelude.{◌≡◌, ◌==◌, true, false, MatchOption};
-ghost use Rattle.std.specs.Char.{is_ascii_digit, is_digit};
+ghost use Rattle.std.specs.Char.{is_ascii_digit};
 ghost use Rattle.std.specs.List.{list_all, list_any};
 ghost use Rattle.std.specs.Str.Parse.{digits_value};
 ghost use Rattle.request_lines.specs.Reads.{Reads};
@@ -13,6 +13,9 @@ use percent_encoding::{DecodeError, percent_decode};
 use std::alloc::Global;
 use std::str;
 
+/// The most bytes of a key, and of a text that is compared with keys: Amazon S3's limit for an object key.
+pub const MAX_NAME_BYTES: usize = 1024;
+
 /// The name of a key.
 #[tactic(auto, unfolding(crate::specs::Texts::key_read, crate::specs::Texts::name_of))]
 pub fn key_of(alloc: Global, key: &str) -> Result<Text, LineError>
@@ -23,7 +26,7 @@ pub fn key_of(alloc: Global, key: &str) -> Result<Text, LineError>
     if len == 0 {
         return Err(LineError::Faulty(Cause::EmptyKey));
     }
-    if len > 1024 {
+    if len > MAX_NAME_BYTES {
         return Err(LineError::Faulty(Cause::KeyTooLong));
     }
     Ok(name)
@@ -68,7 +71,7 @@ fn escapes_are_whole(text: &[u8]) -> bool
 {
     let mut left = text;
     while let [byte, rest @ ..] = left {
-        if *byte == b'%' && !begins_with_digits(rest) {
+        if *byte == b'%' && !begins_with_hex_digits(rest) {
             return false;
         }
         left = rest;
@@ -76,19 +79,13 @@ fn escapes_are_whole(text: &[u8]) -> bool
     true
 }
 
-fn begins_with_digits(bytes: &[u8]) -> bool
-    ensures { result ≡ spec.begins_with_digits bytes.now }
+fn begins_with_hex_digits(bytes: &[u8]) -> bool
+    ensures { result ≡ spec.begins_with_hex_digits bytes.now }
 {
     match bytes {
-        [high, low, ..] => is_hex_digit(*high) && is_hex_digit(*low),
+        [high, low, ..] => high.is_ascii_hexdigit() && low.is_ascii_hexdigit(),
         _ => false,
     }
-}
-
-fn is_hex_digit(b: u8) -> bool
-    ensures { result ≡ is_digit b 16 }
-{
-    char::from(b).is_digit(16)
 }
 
 /// A record's size and time.
@@ -167,7 +164,7 @@ fn is_all_tag(text: &[u8]) -> bool
 fn is_tag_byte(b: u8) -> bool
     ensures { result ≡ spec.is_tag_byte b }
 {
-    b.is_ascii_digit() || (b'A' <= b && b <= b'Z') || (b'a' <= b && b <= b'z') || b == b'-'
+    b.is_ascii_alphanumeric() || b == b'-'
 }
 
 // The bytes of a tag, which are ASCII, as text.

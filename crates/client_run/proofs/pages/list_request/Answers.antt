@@ -1,10 +1,6 @@
-use Rattle.std.proofs.Common.{◌≡◌, Option, None, Some, subst}
+use Rattle.std.proofs.Common.{None, Some, subst}
 use Rattle.std.proofs.lemmas.Result.{IfOk-weaker}
-use Rattle.bucket_terms.specs.declared.reply.Reply.{Reply}
-use Rattle.bucket_terms.specs.declared.reply.Placed.{Placed}
 use Rattle.bucket_terms.specs.declared.request.Request.TheVariants.{List as ListRequest}
-use Rattle.client_run.specs.ClientRun.{answered, Answers}
-use Rattle.client_run.specs.Listing.{ListedAs}
 use Rattle.client_run.specs.Starts.{IsStartOf}
 use Rattle.client_run.specs.declared.pages.Start.{Start}
 use Rattle.client_run.proofs.Listings.{list_answers, bad_answers}

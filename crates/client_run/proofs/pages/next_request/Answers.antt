@@ -1,8 +1,7 @@
-use Rattle.std.proofs.Common.{◌≡◌, Option, None, Some, subst, sym, ap, ◌∙◌}
+use Rattle.std.proofs.Common.{Option, sym, ap, ◌∙◌}
 use Rattle.std.specs.Option.{option_copied, option_map}
 use Rattle.std.proofs.lemmas.Result.{IfOk-weaker}
 use Rattle.bucket_terms.specs.declared.request.Request.TheVariants.{Next}
-use Rattle.bucket_terms.specs.LegalRun.{Resumed, next_of}
 use Rattle.client_run.specs.declared.pages.Resumption.{Resumption}
 use Rattle.client_run.specs.Starts.{resumed}
 use Rattle.client_run.proofs.Listings.{next_answers, bad_answers}

@@ -1,18 +1,18 @@
-use Rattle.std.proofs.Common.{◌≡◌, ℕ, List, ◌<◌, ◌≤◌, ◌+◌, ◌++◌, ◌∷◌, [], Option, Some, All, length, get_or, take, map, sym, subst, ap, ◌∙◌, refl, arith, if◌then◌else◌}
+use Rattle.std.proofs.Common.{◌≡◌, ℕ, List, ◌<◌, ◌≤◌, ◌++◌, ◌∷◌, [], Option, Some, length, get_or, take, map, sym, subst, ap, ◌∙◌, refl, arith, if◌then◌else◌}
 use Rattle.std.specs.Option.{option_copied, ForSome}
 use Rattle.std.proofs.lemmas.Option.{none-some}
-use Rattle.std.proofs.lemmas.List.{get_or-map, length-map, length_push, take_all}
+use Rattle.std.proofs.lemmas.List.{get_or-map, length-map, length_push}
 use Rattle.bucket_terms.specs.declared.reply.Reply.{Reply}
 use Rattle.bucket_terms.specs.declared.reply.Placed.{Placed}
-use Rattle.bucket_terms.specs.LegalRun.{RequestLine, Answered, is_listing, last_listing, answered_lines, updates_in}
+use Rattle.bucket_terms.specs.LegalRun.{RequestLine, is_listing, last_listing, answered_lines, updates_in}
 use Rattle.request_lines.specs.declared.session.Asked.{Asked}
 use Rattle.request_lines.specs.Session.{request_line, request_lines}
-use Rattle.client_run.specs.ClientRun.{Answers, IsAskable, IsLaterLine, RanClient}
+use Rattle.client_run.specs.ClientRun.{Answers, IsAskable, IsLaterLine}
 use Rattle.std.proofs.lemmas.List.Elements.{All-push}
 use Rattle.client_run.specs.Listing.{HasPageInRange}
 use Rattle.client_run.proofs.Growing.{start}
 use Rattle.client_run.proofs.Turn.{later_at, call_at, turn, last_turn, place_turn, reply_at}
-use Rattle.client_run.proofs.run.run_client.Invariants.{IsTurn}
+use Rattle.client_run.proofs.Stopping.{after_error, stopped_later, stopped_behind}
 use Rattle.client_run.proofs.run.run_client.Goals as goal
 
 pub loop-asked-init : goal.loop-asked-init
@@ -89,3 +89,15 @@ loop-asked-preserved g c =
       }),
       c.in_ok-placed.ensures.home ∙ c.loop-asked.invariant.1,
     )
+
+pub returns-in_err-placed-clause-stopped : goal.returns-in_err-placed-clause-stopped
+returns-in_err-placed-clause-stopped g c =
+    let view = g.P.KeyPass.view in
+    after_error c.from_residual.result (stopped_later (view c.args.pass.now) (view c.loop-asked.pass) (view c.answer.new.pass) c.loop-asked.invariant.0.running.ran.continues c.in_err-placed.ensures.stopped)
+
+pub returns-in_err-push-clause-stopped : goal.returns-in_err-push-clause-stopped
+returns-in_err-push-clause-stopped g c =
+    let view = g.P.KeyPass.view in
+    after_error c.from_residual-in_err-push.result
+    (stopped_behind c.args.dir.now (view c.args.pass.now) (view c.loop-asked.pass) (view c.answer.new.pass) (option_copied c.reply_at.result) (record { asked = request_line c.asked-item.result; placed = c.in_ok-placed.placed })
+    c.loop-asked.invariant.0.running.ran.continues c.in_ok-placed.ensures.answers)

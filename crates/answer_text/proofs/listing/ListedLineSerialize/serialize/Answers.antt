@@ -1,4 +1,4 @@
-use Rattle.std.proofs.Common.{take, drop, refl}
+use Rattle.std.proofs.Common.{take, drop}
 use Rattle.std.proofs.lemmas.Result.{on_ok_weaker}
 use Rattle.answer_text.specs.Views.{listed_view}
 use Rattle.answer_text.proofs.Sent.{object_sent, all_sent-append}

@@ -1,0 +1,42 @@
+-- What a session that was read gives for the run of its clients.
+use Rattle.std.proofs.Common.{◌≡◌, ℕ, ◌<◌, All, Contains, IfSome, map, List, [], ◌∷◌, Some, subst, arith}
+use Rattle.std.specs.List.{slice_get}
+use Rattle.std.proofs.lemmas.Option.{slice_get_within, get_or_from_slice_get}
+use Rattle.std.proofs.lemmas.List.Elements.{All-nil, All-cons, All-map, All-weaker}
+use Rattle.std.proofs.lemmas.List.Kept.{AllPairs-cons}
+use Rattle.key_names.specs.Names.{HoldsEachOnce}
+use Rattle.bucket_terms.specs.declared.request.Request.{Request}
+use Rattle.bucket_terms.specs.declared.request.Request.TheVariants.{Put, Delete, Head, List as ListRequest, Next}
+use Rattle.bucket_terms.specs.LegalRun.{RequestLine}
+use Rattle.request_lines.specs.declared.session.Asked.{Asked}
+use Rattle.request_lines.specs.declared.session.ClientPart.{ClientPart}
+use Rattle.request_lines.specs.Session.{request_line, IsServed, LinesRise, requested_name}
+use Rattle.client_run.specs.ClientRun.{IsAskable, Rise}
+
+above_all : (low high : ℕ) (lines : List RequestLine) → LinesRise low high lines → All (λ (m : RequestLine). low < m.line) lines
+above_all low high [] rise = All-nil (λ (m : RequestLine). low < m.line)
+above_all low high (l ∷ lines) rise =
+    All-cons (λ (m : RequestLine). low < m.line) l lines rise.0
+    (All-weaker (λ (m : RequestLine). l.line < m.line) (λ (m : RequestLine). low < m.line) (λ m lt. omega (arith, lt, rise.0)) lines (above_all l.line high lines rise.2))
+
+pub rise_of : (low high : ℕ) (lines : List RequestLine) → LinesRise low high lines → Rise lines
+rise_of low high [] rise = λ i j d lt below. absurd (omega arith)
+rise_of low high (l ∷ lines) rise = AllPairs-cons (λ (k m : RequestLine). k.line < m.line) l lines (above_all l.line high lines rise.2) (rise_of l.line high lines rise.2)
+
+askable_by : (dir names : List (List ℕ)) (request : Request) (line : ℕ) → HoldsEachOnce names dir → IfSome (requested_name request) (Contains names)
+    → IsAskable dir (record { line = line; request = request })
+askable_by dir names (Put name val) line holds is = holds.all name is
+askable_by dir names (Delete name) line holds is = holds.all name is
+askable_by dir names (Head name) line holds is = holds.all name is
+askable_by dir names (ListRequest query) line holds is = tt
+askable_by dir names Next line holds is = tt
+
+pub askable : (dir names : List (List ℕ)) (count : ℕ) (asked : List Asked) → HoldsEachOnce names dir → All (IsServed names count) asked → All (IsAskable dir) (map request_line asked)
+askable dir names count asked holds served =
+    All-map (IsAskable dir) request_line asked
+    (All-weaker (IsServed names count) (λ (a : Asked). IsAskable dir (request_line a)) (λ a is. askable_by dir names a.request a.line holds is.name) asked served)
+
+pub served_first : (names : List (List ℕ)) (count : ℕ) (clients : List ClientPart) (part : ClientPart) → slice_get clients 0 ≡ Some part
+    → All (λ (p : ClientPart). All (IsServed names count) p.requests) clients → All (IsServed names count) part.requests
+served_first names count clients part is served =
+    subst (λ (p : ClientPart). All (IsServed names count) p.requests) (get_or_from_slice_get clients 0 part part is) (served 0 part (slice_get_within clients 0 part is))

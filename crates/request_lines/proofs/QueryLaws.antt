@@ -1,0 +1,321 @@
+-- What a reader of a query keeps is what its parameters ask.
+use Rattle.std.proofs.Common.{◌≡◌, ℕ, Bool, true, false, List, [], ◌∷◌, ◌++◌, Option, Some, None, Result, Ok, Err, refl, ap, sym, ◌∙◌, arith}
+use Rattle.std.proofs.lemmas.Bool.Decides.{nat_tests}
+use Rattle.std.specs.Prelude.{◌==◌, ◌&&◌, ◌||◌, ◌<◌, ◌≤◌, nat_le, not, if◌then◌else◌}
+use Rattle.std.specs.List.{list_any}
+use Rattle.bucket_terms.specs.declared.list_query.ListQuery.{ListQuery}
+use Rattle.request_lines.specs.declared.cause.Cause.{Cause}
+use Rattle.request_lines.specs.declared.cause.Cause.TheVariants.{KeyTooLong, UnknownParameter, RepeatedParameter, BadListType, BadMaxKeys, BadEncoding, BadFetchOwner}
+use Rattle.request_lines.specs.declared.cause.Cause.TheVariants as causes
+use Rattle.request_lines.specs.declared.parameter.Name.{Name}
+use Rattle.request_lines.specs.declared.parameter.Name.TheVariants as names
+use Rattle.request_lines.specs.Asking.{Asking, nothing_asked, asking_with, query_by, with_name, with_parameter, parameter_cause, stands_in, is_long_for, value_cause}
+use Rattle.request_lines.specs.Causes.{place_of, earliest}
+use Rattle.request_lines.specs.Queries.{Parameter, place_of_name, is_name, is_same_name, is_unknown, is_too_long, is_list_type, is_max_keys, is_encoding, is_fetch_owner, repeats, have, parameter_causes, first_that, asked_of, plain_query, parameters_read, pieces_of, query_or, query_of, query_read}
+use Rattle.request_lines.specs.Reads.{◌>>=◌}
+
+-- ---- tests of lists
+
+any_same : {A : Type 0} (f g : A → Bool) (xs : List A) → ((x : A) → f x ≡ g x) → list_any f xs ≡ list_any g xs
+any_same f g [] same = refl
+any_same f g (x ∷ xs) same = ap (λ b. b || list_any f xs) (same x) ∙ ap (λ b. g x || b) (any_same f g xs same)
+
+or_false : (b : Bool) → (b || false) ≡ b
+or_false true = refl
+or_false false = refl
+
+or_mixed : (a b c d : Bool) → ((a || b) || (c || d)) ≡ ((a || c) || (b || d))
+or_mixed true b c d = refl
+or_mixed false true true d = refl
+or_mixed false true false d = refl
+or_mixed false false c d = refl
+
+any_or : {A : Type 0} (f g : A → Bool) (xs : List A) → list_any (λ x. f x || g x) xs ≡ (list_any f xs || list_any g xs)
+any_or f g [] = refl
+any_or f g (x ∷ xs) = ap (λ b. (f x || g x) || b) (any_or f g xs) ∙ or_mixed (f x) (g x) (list_any f xs) (list_any g xs)
+
+any_none : {A : Type 0} (xs : List A) → list_any (λ x. false) xs ≡ false
+any_none [] = refl
+any_none (x ∷ xs) = any_none xs
+
+any_append : {A : Type 0} (f : A → Bool) (xs : List A) (y : A) → list_any f (xs ++ y ∷ []) ≡ (list_any f xs || f y)
+any_append f [] y = or_false (f y)
+any_append f (x ∷ xs) y = ap (λ b. f x || b) (any_append f xs y) ∙ or_split (f x) (list_any f xs) (f y)
+  where
+    or_split : (a b c : Bool) → (a || (b || c)) ≡ ((a || b) || c)
+    or_split true b c = refl
+    or_split false b c = refl
+
+-- ---- names that stand behind others
+
+abbrev behind : List Name → Option Name → Bool
+behind seen None = false
+behind seen (Some name) = stands_in seen name
+
+behind_more : (seen : List Name) (name : Name) (other : Option Name) → behind (seen ++ name ∷ []) other ≡ (behind seen other || is_name name other)
+behind_more seen name None = refl
+behind_more seen name (Some other) = any_append (λ (n : Name). place_of_name n == place_of_name other) seen name ∙ ap (λ b. stands_in seen other || b) (turned (place_of_name name) (place_of_name other))
+  where
+    turned : (a b : ℕ) → (a == b) ≡ (b == a)
+    turned a b = grind (arith, nat_tests)
+
+or_not : (b : Bool) → b ≡ true → (c : Bool) → (b || c) ≡ true
+or_not true is c = refl
+or_not false is c = absurd (false-true is)
+  where
+    false-true : false ≡ true → ⊥
+    false-true is = cc
+
+-- a name that stands there already changes no test
+behind_known : (seen : List Name) (name : Name) (other : Option Name) → stands_in seen name ≡ true → behind seen other ≡ (behind seen other || is_name name other)
+behind_known seen name None is = refl
+behind_known seen name (Some other) is = by_test (place_of_name other == place_of_name name) refl
+  where
+    same : (place_of_name other == place_of_name name) ≡ true → stands_in seen other ≡ true
+    same eq = ap (λ k. list_any (λ n. place_of_name n == k) seen) (places eq) ∙ is
+      where
+        places : (place_of_name other == place_of_name name) ≡ true → place_of_name other ≡ place_of_name name
+        places eq = grind (arith, nat_tests)
+
+    by_test : (b : Bool) → (place_of_name other == place_of_name name) ≡ b → stands_in seen other ≡ (stands_in seen other || b)
+    by_test true eq = same eq ∙ sym (or_not (stands_in seen other) (same eq) true)
+    by_test false eq = sym (or_false (stands_in seen other))
+
+behind_with : (seen : List Name) (name other : Option Name) → behind (with_name seen name) other ≡ (behind seen other || is_same_name name other)
+unfolding with_name
+behind_with seen None other = sym (or_false (behind seen other))
+behind_with seen (Some name) other = by_test (stands_in seen name) refl
+  where
+    by_test : (b : Bool) → stands_in seen name ≡ b → behind (if b then seen else seen ++ name ∷ []) other ≡ (behind seen other || is_name name other)
+    by_test true is = behind_known seen name other is
+    by_test false is = behind_more seen name other
+
+-- ---- causes of parameters behind some names
+
+abbrev holds_behind : List Name → List Parameter → Cause → Bool
+holds_behind seen ps RepeatedParameter = list_any (λ (q : Parameter). behind seen q.name) ps || repeats ps
+holds_behind seen ps cause = have ps cause
+
+abbrev own : List Name → Parameter → Cause → Bool
+own seen p KeyTooLong = is_too_long p
+own seen p UnknownParameter = is_unknown p.name
+own seen p RepeatedParameter = behind seen p.name
+own seen p BadListType = is_name names.ListType p.name && not (is_list_type p.value)
+own seen p BadMaxKeys = is_name names.MaxKeys p.name && not (is_max_keys p.value)
+own seen p BadEncoding = is_name names.EncodingType p.name && not (is_encoding p.value)
+own seen p BadFetchOwner = is_name names.FetchOwner p.name && not (is_fetch_owner p.value)
+own seen p cause = false
+
+repeats_behind : (o a s r t : Bool) → t ≡ (a || s) → ((o || a) || (s || r)) ≡ (o || (t || r))
+repeats_behind true a s r t is = refl
+repeats_behind false true s r t is = ap (λ b. b || r) (sym is)
+repeats_behind false false s r t is = ap (λ b. b || r) (sym is)
+
+-- a parameter in front of others
+holds_more : (seen : List Name) (p : Parameter) (ps : List Parameter) (c : Cause) → holds_behind seen (p ∷ ps) c ≡ (own seen p c || holds_behind (with_name seen p.name) ps c)
+holds_more seen p ps RepeatedParameter =
+    repeats_behind (behind seen p.name) (list_any (λ (q : Parameter). behind seen q.name) ps) (list_any (λ (q : Parameter). is_same_name p.name q.name) ps) (repeats ps)
+    (list_any (λ (q : Parameter). behind (with_name seen p.name) q.name) ps)
+    (any_same (λ (q : Parameter). behind (with_name seen p.name) q.name) (λ (q : Parameter). behind seen q.name || is_same_name p.name q.name) ps
+    (λ q. behind_with seen p.name q.name)
+    ∙ any_or (λ (q : Parameter). behind seen q.name) (λ (q : Parameter). is_same_name p.name q.name) ps)
+holds_more seen p ps causes.NotUtf8 = refl
+holds_more seen p ps causes.UnknownVerb = refl
+holds_more seen p ps causes.WrongFields = refl
+holds_more seen p ps causes.BadEscape = refl
+holds_more seen p ps causes.EmptyKey = refl
+holds_more seen p ps causes.KeyTooLong = refl
+holds_more seen p ps causes.BadNumber = refl
+holds_more seen p ps causes.NumberTooLarge = refl
+holds_more seen p ps causes.BadEtag = refl
+holds_more seen p ps causes.UnknownParameter = refl
+holds_more seen p ps causes.BadListType = refl
+holds_more seen p ps causes.BadMaxKeys = refl
+holds_more seen p ps causes.BadEncoding = refl
+holds_more seen p ps causes.BadFetchOwner = refl
+holds_more seen p ps causes.NoClient = refl
+holds_more seen p ps causes.TooManyClients = refl
+holds_more seen p ps causes.TooManyLines = refl
+holds_more seen p ps causes.TooManyEntries = refl
+holds_more seen p ps causes.NotBuilt = refl
+
+holds_none : (seen : List Name) (c : Cause) → holds_behind seen [] c ≡ false
+holds_none seen causes.NotUtf8 = refl
+holds_none seen causes.UnknownVerb = refl
+holds_none seen causes.WrongFields = refl
+holds_none seen causes.BadEscape = refl
+holds_none seen causes.EmptyKey = refl
+holds_none seen causes.KeyTooLong = refl
+holds_none seen causes.BadNumber = refl
+holds_none seen causes.NumberTooLarge = refl
+holds_none seen causes.BadEtag = refl
+holds_none seen causes.UnknownParameter = refl
+holds_none seen causes.RepeatedParameter = refl
+holds_none seen causes.BadListType = refl
+holds_none seen causes.BadMaxKeys = refl
+holds_none seen causes.BadEncoding = refl
+holds_none seen causes.BadFetchOwner = refl
+holds_none seen causes.NoClient = refl
+holds_none seen causes.TooManyClients = refl
+holds_none seen causes.TooManyLines = refl
+holds_none seen causes.TooManyEntries = refl
+holds_none seen causes.NotBuilt = refl
+
+turned : (b : Bool) (cause : Cause) → (if b then None else Some cause) ≡ (if not b then Some cause else None)
+turned true cause = refl
+turned false cause = refl
+
+abbrev behind_repeats : Bool → Option Cause → Option Cause
+behind_repeats b other = if b then Some RepeatedParameter else other
+
+-- the first cause of one parameter
+parameter_cause_is : (seen : List Name) (name : Option Name) (value : List ℕ)
+    → parameter_cause seen name value ≡ first_that (own seen (record { name = name; value = value })) parameter_causes
+unfolding parameter_cause is_long_for value_cause
+parameter_cause_is seen None value = refl
+parameter_cause_is seen (Some names.Prefix) value = refl
+parameter_cause_is seen (Some names.Delimiter) value = refl
+parameter_cause_is seen (Some names.StartAfter) value = refl
+parameter_cause_is seen (Some names.ContinuationToken) value = refl
+parameter_cause_is seen (Some names.ListType) value = ap (behind_repeats (stands_in seen names.ListType)) (turned (is_list_type value) BadListType)
+parameter_cause_is seen (Some names.MaxKeys) value = ap (behind_repeats (stands_in seen names.MaxKeys)) (turned (is_max_keys value) BadMaxKeys)
+parameter_cause_is seen (Some names.EncodingType) value = ap (behind_repeats (stands_in seen names.EncodingType)) (turned (is_encoding value) BadEncoding)
+parameter_cause_is seen (Some names.FetchOwner) value = ap (behind_repeats (stands_in seen names.FetchOwner)) (turned (is_fetch_owner value) BadFetchOwner)
+
+-- ---- the first of some causes
+
+-- the causes stand in their order, behind this place
+abbrev Above : ℕ → List Cause → Type 0
+Above place [] = Unit {0}
+Above place (c ∷ cs) = (place < place_of c) × Above (place_of c) cs
+
+kept_left : (c : Cause) (place : ℕ) (g : Cause → Bool) (cs : List Cause) → place_of c ≤ place → Above place cs → earliest (Some c) (first_that g cs) ≡ Some c
+unfolding earliest
+kept_left c place g [] le above = refl
+kept_left c place g (d ∷ cs) le above =
+    let lt : place < place_of d = above.0 in
+    by_test (kept_left c (place_of d) g cs (omega (arith, lt, le)) above.1) (g d)
+  where
+    first : nat_le (place_of c) (place_of d) ≡ true
+    first = let lt : place < place_of d = above.0 in grind (arith, nat_tests)
+
+    by_test : earliest (Some c) (first_that g cs) ≡ Some c → (b : Bool) → earliest (Some c) (if b then Some d else first_that g cs) ≡ Some c
+    by_test behind true = ap (λ b. if b then Some c else Some d) first
+    by_test behind false = behind
+
+kept_right : (c : Cause) (place : ℕ) (f : Cause → Bool) (cs : List Cause) → place_of c ≤ place → Above place cs → earliest (first_that f cs) (Some c) ≡ Some c
+unfolding earliest
+kept_right c place f [] le above = refl
+kept_right c place f (d ∷ cs) le above =
+    let lt : place < place_of d = above.0 in
+    by_test (kept_right c (place_of d) f cs (omega (arith, lt, le)) above.1) (f d)
+  where
+    later : nat_le (place_of d) (place_of c) ≡ false
+    later = let lt : place < place_of d = above.0 in grind (arith, nat_tests)
+
+    by_test : earliest (first_that f cs) (Some c) ≡ Some c → (b : Bool) → earliest (if b then Some d else first_that f cs) (Some c) ≡ Some c
+    by_test behind true = ap (λ b. if b then Some d else Some c) later
+    by_test behind false = behind
+
+-- the earlier of two first causes is the first that holds in one way or the other
+earliest_first : (place : ℕ) (f g : Cause → Bool) (cs : List Cause) → Above place cs → earliest (first_that f cs) (first_that g cs) ≡ first_that (λ c. f c || g c) cs
+unfolding earliest
+earliest_first place f g [] above = refl
+earliest_first place f g (c ∷ cs) above = by_tests (earliest_first (place_of c) f g cs above.1) (f c) (g c)
+  where
+    either : (b : Bool) → (if b then Some c else Some c) ≡ Some c
+    either true = refl
+    either false = refl
+
+    by_tests : earliest (first_that f cs) (first_that g cs) ≡ first_that (λ d. f d || g d) cs → (a b : Bool) → earliest (if a then Some c else first_that f cs) (if b then Some c else first_that g cs) ≡ (if a || b then Some c else first_that (λ d. f d || g d) cs)
+    by_tests behind true true = either (nat_le (place_of c) (place_of c))
+    by_tests behind true false = kept_left c (place_of c) g cs (omega arith) above.1
+    by_tests behind false true = kept_right c (place_of c) f cs (omega arith) above.1
+    by_tests behind false false = behind
+
+first_same : (f g : Cause → Bool) (cs : List Cause) → ((c : Cause) → f c ≡ g c) → first_that f cs ≡ first_that g cs
+first_same f g [] same = refl
+first_same f g (c ∷ cs) same = ap (λ b. if b then Some c else first_that f cs) (same c) ∙ ap (λ o. if g c then Some c else o) (first_same f g cs same)
+
+in_order : Above 0 parameter_causes
+unfolding place_of
+in_order = (omega arith, (omega arith, (omega arith, (omega arith, (omega arith, (omega arith, (omega arith, tt)))))))
+
+-- ---- the query
+
+asked_step : (query : ListQuery) (name : Option Name) (value : List ℕ) (ps : List Parameter)
+    → asked_of (with_parameter query name value) ps ≡ asked_of query (record { name = name; value = value } ∷ ps)
+unfolding with_parameter
+asked_step query None value ps = refl
+asked_step query (Some names.ListType) value ps = refl
+asked_step query (Some names.Prefix) value ps = refl
+asked_step query (Some names.Delimiter) value ps = refl
+asked_step query (Some names.MaxKeys) value ps = refl
+asked_step query (Some names.StartAfter) value ps = refl
+asked_step query (Some names.ContinuationToken) value ps = refl
+asked_step query (Some names.EncodingType) value ps = refl
+asked_step query (Some names.FetchOwner) value ps = refl
+
+or_thrice : (a b c : Bool) → ((a || b) || c) ≡ (a || (b || c))
+or_thrice true b c = refl
+or_thrice false b c = refl
+
+kept_query : (a : Asking) (held : Cause → Bool) (ps : List Parameter) → a.cause ≡ first_that held parameter_causes
+    → query_by a ps ≡ query_or (first_that (λ c. held c || holds_behind a.names ps c) parameter_causes) (asked_of a.query ps)
+unfolding asking_with
+kept_query a held [] is =
+    ap (λ o. query_or o a.query)
+    (is ∙ first_same held (λ c. held c || holds_behind a.names [] c) parameter_causes
+    (λ c. sym (ap (λ b. held c || b) (holds_none a.names c) ∙ or_false (held c))))
+kept_query a held (p ∷ ps) is =
+    let more : Cause → Bool = λ c. held c || own a.names p c in
+    let cause : earliest a.cause (parameter_cause a.names p.name p.value) ≡ first_that more parameter_causes =
+    ap (λ o. earliest o (parameter_cause a.names p.name p.value)) is
+    ∙ ap (earliest (first_that held parameter_causes)) (parameter_cause_is a.names p.name p.value)
+    ∙ earliest_first 0 held (own a.names p) parameter_causes in_order in
+    kept_query (asking_with a p) more ps cause
+    ∙ ap (λ o. query_or o (asked_of (with_parameter a.query p.name p.value) ps))
+    (first_same (λ c. more c || holds_behind (with_name a.names p.name) ps c) (λ c. held c || holds_behind a.names (p ∷ ps) c) parameter_causes
+    (λ c. or_thrice (held c) (own a.names p c) (holds_behind (with_name a.names p.name) ps c) ∙ ap (λ b. held c || b) (sym (holds_more a.names p ps c))))
+    ∙ ap (query_or (first_that (λ c. held c || holds_behind a.names (p ∷ ps) c) parameter_causes)) (asked_step a.query p.name p.value ps)
+
+-- behind no name
+have_is : (ps : List Parameter) (c : Cause) → holds_behind [] ps c ≡ have ps c
+have_is ps RepeatedParameter = ap (λ b. b || repeats ps) (any_same (λ (q : Parameter). behind [] q.name) (λ q. false) ps (λ q. no_name q.name) ∙ any_none ps)
+  where
+    no_name : (name : Option Name) → behind [] name ≡ false
+    no_name None = refl
+    no_name (Some name) = refl
+have_is ps causes.NotUtf8 = refl
+have_is ps causes.UnknownVerb = refl
+have_is ps causes.WrongFields = refl
+have_is ps causes.BadEscape = refl
+have_is ps causes.EmptyKey = refl
+have_is ps causes.KeyTooLong = refl
+have_is ps causes.BadNumber = refl
+have_is ps causes.NumberTooLarge = refl
+have_is ps causes.BadEtag = refl
+have_is ps causes.UnknownParameter = refl
+have_is ps causes.BadListType = refl
+have_is ps causes.BadMaxKeys = refl
+have_is ps causes.BadEncoding = refl
+have_is ps causes.BadFetchOwner = refl
+have_is ps causes.NoClient = refl
+have_is ps causes.TooManyClients = refl
+have_is ps causes.TooManyLines = refl
+have_is ps causes.TooManyEntries = refl
+have_is ps causes.NotBuilt = refl
+
+query_by_is : (ps : List Parameter) → query_by nothing_asked ps ≡ query_of ps
+query_by_is ps =
+    kept_query nothing_asked (λ c. false) ps refl
+    ∙ ap (λ o. query_or o (asked_of plain_query ps)) (first_same (holds_behind [] ps) (have ps) parameter_causes (have_is ps))
+
+-- reading a query gives what a reader keeps of its parameters
+pub query_read_by : (text : List ℕ) → query_read text ≡ (parameters_read (pieces_of text) >>= query_by nothing_asked)
+unfolding query_read
+query_read_by text = by_parameters (parameters_read (pieces_of text))
+  where
+    by_parameters : (read : Result (List Parameter) Cause) → (read >>= query_of) ≡ (read >>= query_by nothing_asked)
+    by_parameters (Ok ps) = sym (query_by_is ps)
+    by_parameters (Err cause) = refl

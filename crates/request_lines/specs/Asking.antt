@@ -1,0 +1,74 @@
+-- How a reader of a query keeps the parameters so far.
+use Rattle.std.specs.Prelude.{ℕ, ◌==◌, nat_lt, Bool, false, List, [], ◌∷◌, ◌++◌, length, Option, Some, None, Result, codes, if◌then◌else◌}
+use Rattle.std.specs.List.{list_any}
+use Rattle.std.specs.Str.{bytes_eq}
+use Rattle.bucket_terms.specs.declared.list_query.ListQuery.{ListQuery}
+use Rattle.request_lines.specs.declared.cause.Cause.{Cause}
+use Rattle.request_lines.specs.declared.cause.Cause.TheVariants.{KeyTooLong, UnknownParameter, RepeatedParameter, BadListType, BadMaxKeys, BadEncoding, BadFetchOwner}
+use Rattle.request_lines.specs.declared.parameter.Name.{Name}
+use Rattle.request_lines.specs.declared.parameter.Name.TheVariants.{ListType, Prefix, Delimiter, MaxKeys, StartAfter, ContinuationToken, EncodingType, FetchOwner}
+use Rattle.request_lines.specs.Causes.{earliest}
+use Rattle.request_lines.specs.Queries.{Parameter, place_of_name, is_list_type, is_max_keys, is_encoding, is_fetch_owner, most_entries, plain_query, query_or}
+
+-- whether the name is among these
+abbrev pub stands_in : List Name → Name → Bool
+stands_in names name = list_any (λ other. place_of_name other == place_of_name name) names
+
+unfoldable pub is_long_for : Name → List ℕ → Bool
+is_long_for Prefix value = nat_lt 1024 (length value)
+is_long_for Delimiter value = nat_lt 1024 (length value)
+is_long_for StartAfter value = nat_lt 1024 (length value)
+is_long_for name value = false
+
+-- the cause of a value that its parameter does not take
+unfoldable pub value_cause : Name → List ℕ → Option Cause
+value_cause ListType value = if is_list_type value then None else Some BadListType
+value_cause MaxKeys value = if is_max_keys value then None else Some BadMaxKeys
+value_cause EncodingType value = if is_encoding value then None else Some BadEncoding
+value_cause FetchOwner value = if is_fetch_owner value then None else Some BadFetchOwner
+value_cause name value = None
+
+-- the first cause of a parameter behind these names
+unfoldable pub parameter_cause : List Name → Option Name → List ℕ → Option Cause
+parameter_cause names None value = Some UnknownParameter
+parameter_cause names (Some name) value =
+    if is_long_for name value then Some KeyTooLong
+    else if stands_in names name then Some RepeatedParameter
+    else value_cause name value
+
+-- the names, each once, with this one
+unfoldable pub with_name : List Name → Option Name → List Name
+with_name names None = names
+with_name names (Some name) = if stands_in names name then names else names ++ name ∷ []
+
+-- a query with this parameter
+unfoldable pub with_parameter : ListQuery → Option Name → List ℕ → ListQuery
+with_parameter query (Some Prefix) value = record query { prefix = value }
+with_parameter query (Some Delimiter) value = record query { delimiter = value }
+with_parameter query (Some StartAfter) value = record query { start_after = value }
+with_parameter query (Some ContinuationToken) value = record query { token = value }
+with_parameter query (Some MaxKeys) value = record query { max_keys = most_entries value }
+with_parameter query (Some EncodingType) value = record query { url = bytes_eq value (codes "url") }
+with_parameter query name value = query
+
+-- what the parameters so far ask: the query, their names, and the earliest of their causes
+pub record Asking : Type 0 where
+  pub query : ListQuery
+  pub names : List Name
+  pub cause : Option Cause
+
+abbrev pub nothing_asked : Asking
+nothing_asked = record { query = plain_query; names = []; cause = None }
+
+-- with one parameter more
+unfoldable pub asking_with : Asking → Parameter → Asking
+asking_with so_far p = record {
+  query = with_parameter so_far.query p.name p.value;
+  names = with_name so_far.names p.name;
+  cause = earliest so_far.cause (parameter_cause so_far.names p.name p.value);
+}
+
+-- the query, with the parameters that are left
+abbrev pub query_by : Asking → List Parameter → Result ListQuery Cause
+query_by so_far [] = query_or so_far.cause so_far.query
+query_by so_far (p ∷ parameters) = query_by (asking_with so_far p) parameters
