@@ -1,7 +1,8 @@
--- The plain pass as its caller sees it at the start.
-use Rattle.std.specs.Prelude.{ℕ, [], None}
+-- The plain pass as its caller sees it at the start, and where it looks.
+use Rattle.std.specs.Prelude.{◌≡◌, ℕ, MatchBool, [], None}
+use Rattle.index_words.specs.declared.pass.Done.{Done}
 use Rattle.index_words.specs.declared.pass.PassSize.{PassSize}
-use Rattle.bucket_terms.specs.PassView.{PassView}
+use Rattle.bucket_terms.specs.PassView.{PassView, RoseByOne}
 
 -- nothing was done yet, and all slots and calls are left
 abbrev pub fresh : ℕ → PassSize → PassView
@@ -16,3 +17,12 @@ fresh number size = record {
   left = size.calls;
   opened = None;
 }
+
+-- no load of the stamp has fixed a place
+pub record KeepsLooks (old new : PassView) : Type 0 where
+  pub looks : new.looks ≡ old.looks
+  pub found : new.found ≡ old.found
+
+-- a removal looks once where the key is not there, and not where it is
+abbrev pub LooksOnceIfAbsent : PassView → PassView → Done → Type 0
+LooksOnceIfAbsent old new done = MatchBool done.was (KeepsLooks old new) (RoseByOne old.looks new.looks)

@@ -22,3 +22,6 @@ pub use record::Record;
 pub use reply::{Placed, Reply};
 pub use request::Request;
 pub use token_point::TokenPoint;
+
+#[cfg(test)]
+mod tests;

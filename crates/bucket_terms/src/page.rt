@@ -28,6 +28,7 @@ impl PageEntry {
         ensures point { IfOk result (λ point. point ≡ entry_point dir.now self.now) }
         ensures fine { IfOk result (λ point. IsFine (point_text point)) }
     {
+        // the call's clauses tell the proof that the names are fine
         let _names = dir.len();
         match *self {
             PageEntry::Key { rank, .. } => Ok(TokenPoint::Key(dir.name(rank).copy(alloc)?)),

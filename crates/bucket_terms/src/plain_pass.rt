@@ -1,8 +1,8 @@
 // A pass over one sorted list: the trait's meaning made a program, for one caller.
-ghost use Rattle.std.specs.Prelude.{◌≡◌, ◌<◌, ◌≤◌, ◌↔◌, [], None, All, IfOk, OnErr, IsErrOf, IsTrue};
+ghost use Rattle.std.specs.Prelude.{◌≡◌, ◌<◌, ◌≤◌, ◌↔◌, [], None, All, IfOk, OnOk, OnErr, IsErrOf, IsTrue};
 ghost use Rattle.index_words.specs.declared.update.Update.{Update};
 ghost use Rattle.bucket_terms.specs.PassView.{MadePut, AnsweredRemoval, IsOutOfSlots};
-ghost use Rattle.bucket_terms.specs.PlainPass.{fresh};
+ghost use Rattle.bucket_terms.specs.PlainPass.{fresh, KeepsLooks, LooksOnceIfAbsent};
 
 use crate::KeyPass;
 use index_words::{Change, Done, Pair, PassError, PassSize, PlainMap, Update};
@@ -82,6 +82,7 @@ impl KeyPass for PlainPass {
         ensures no_slot { IsErrOf result PassError.NoSlot ↔ IsOutOfSlots self.old }
         ensures unchanged { OnErr result (self.new ≡ self.old) }
         ensures entries { self.new.entries ≡ self.old.entries }
+        ensures looks { OnOk result (KeepsLooks self.old self.new) }
     {
         if self.left == 0 {
             return Err(PassError::Spent);
@@ -111,6 +112,7 @@ impl KeyPass for PlainPass {
         ensures no_slot { IsErrOf result PassError.NoSlot ↔ IsOutOfSlots self.old }
         ensures unchanged { OnErr result (self.new ≡ self.old) }
         ensures entries { self.new.entries ≡ self.old.entries }
+        ensures looks { IfOk result (LooksOnceIfAbsent self.old self.new) }
     {
         if self.left == 0 {
             return Err(PassError::Spent);

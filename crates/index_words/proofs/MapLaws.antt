@@ -1,5 +1,5 @@
 -- The map's updates at the place of a key in the sorted list.
-use Rattle.std.proofs.Common.{◌≡◌, ℕ, zero, suc, ◌+◌, ◌<◌, ◌≤◌, Bool, true, false, cond, find, Option, Some, None, List, [], ◌∷◌, length, get_or, set, insert, remove, nat_lt, ◌==◌, refl, arith}
+use Rattle.std.proofs.Common.{◌≡◌, ℕ, zero, suc, ◌+◌, ◌<◌, ◌≤◌, Bool, true, false, find, None, List, [], ◌∷◌, length, get_or, set, insert, remove, nat_lt, ◌==◌, refl, arith}
 use Rattle.std.specs.List.{prefix_len, slice_get}
 use Rattle.std.proofs.lemmas.Bool.Decides.{nat_tests}
 use Rattle.index_words.specs.declared.pair.Pair.{Pair}

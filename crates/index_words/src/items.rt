@@ -1,10 +1,10 @@
-ghost use Rattle.std.specs.Prelude.{◌≡◌, ◌<◌, ◌+◌, ◌≤◌, ◌++◌, ◌∷◌, [], length, take, drop, IfOk, OnOk, OnErr, ◌==◌};
+ghost use Rattle.std.specs.Prelude.{◌≡◌, ◌<◌, ◌++◌, ◌∷◌, [], length, take, IfOk, OnOk, OnErr, ◌==◌};
 
 use crate::no_memory::NoMemory;
-use std::alloc::{AllocFailed, Global};
+use std::alloc::Global;
 use std::marker::Model;
 
-/// A list whose memory can be reserved before it is needed. Contracts see the list of its items.
+/// A list with its `Vec` hidden. Contracts see the list of its items.
 #[derive(Drop)]
 pub struct Items<T> {
     items: Vec<T>,
@@ -35,13 +35,6 @@ impl<T> Items<T> {
         Items { items }
     }
 
-    pub fn into_vec(self) -> Vec<T>
-        ensures { result.items ≡ self }
-    {
-        let Items { items } = self;
-        items
-    }
-
     pub fn len(&self) -> usize
         ensures { result ≡ length self.now }
     {
@@ -60,16 +53,6 @@ impl<T> Items<T> {
         self.items.as_slice()
     }
 
-    /// Makes room for so many more items. The list stays as it is.
-    pub fn reserve(&mut self, more: usize) -> Result<(), NoMemory>
-        ensures { self.new ≡ self.old }
-    {
-        self.items.reserve(more)?;
-        Ok(())
-    }
-}
-
-impl<T> Items<T> {
     /// Takes the first item out.
     pub fn remove_first(&mut self) -> T
         requires { 0 < length self.old }

@@ -1,4 +1,4 @@
-ghost use Rattle.std.specs.Prelude.{◌≡◌, ℕ, ◌≤◌, ◌<◌, ◌*◌, ◌^◌, ◌↔◌, IsSome, IfSome, IsTrue, length};
+ghost use Rattle.std.specs.Prelude.{◌≡◌, ◌≤◌, ◌↔◌, IsSome, IfSome, IsTrue, length};
 ghost use Rattle.index_words.specs.Sizes.{FitTable, IsPassSize, layout_of, all_nodes, all_entries, all_calls};
 
 use crate::pass::PassSize;

@@ -20,7 +20,7 @@ pub use layout::Layout;
 pub use no_memory::NoMemory;
 pub use pair::Pair;
 pub use pass::{Done, PassError, PassSize};
-pub use plain_map::PlainMap;
+pub use plain_map::{PlainMap, first_from};
 pub use side::Side;
 pub use update::{Change, Update};
 pub use view::{
@@ -29,3 +29,6 @@ pub use view::{
     View,
 };
 pub use word::{Field, Part, Word};
+
+#[cfg(test)]
+mod tests;

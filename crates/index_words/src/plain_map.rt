@@ -1,9 +1,8 @@
-ghost use Rattle.std.specs.Prelude.{◌≡◌, ℕ, ◌+◌, ◌<◌, ◌≤◌, List, [], length, take, vec_len, vec_capacity, insert, remove, slice_get, IsTrue, IfOk, MatchResult, true, false, nat_lt};
+ghost use Rattle.std.specs.Prelude.{◌≡◌, ◌+◌, ◌<◌, ◌≤◌, [], length, vec_len, vec_capacity, insert, slice_get, IfOk, MatchResult, true, false, nat_lt};
 ghost use Rattle.std.specs.List.{prefix_len};
 ghost use Rattle.index_words.specs.Map.{IsMap, pair, map_has, map_put, map_remove, first_from};
 ghost use Rattle.index_words.specs.History.{after, updated};
 ghost use Rattle.index_words.specs.PlainMap.{roomy};
-ghost use Rattle.index_words.specs.declared.pair.Pair.{Pair};
 
 use crate::{Change, NoMemory, Pair, Update};
 use std::alloc::Global;
@@ -58,18 +57,11 @@ impl PlainMap {
         &self.pairs
     }
 
-    /// Whether the key is in the map.
-    pub fn has(&self, key: u64) -> bool
-        ensures member { result ≡ map_has key self.now.pairs }
-    {
-        look_up(&self.pairs, key).is_ok()
-    }
-
     /// The first pair whose key is at least `key`.
     pub fn first_from(&self, key: u64) -> Option<Pair>
         ensures first { result ≡ first_from key self.now.pairs }
     {
-        pair_at(&self.pairs, place_of(&self.pairs, key))
+        first_from(&self.pairs, key)
     }
 
     /// Inserts the pair, or replaces the key's value. Tells whether the key was there.
@@ -102,6 +94,14 @@ impl PlainMap {
             Change::Remove => self.remove(update.key),
         };
     }
+}
+
+/// The first pair of a sorted list whose key is at least `key`.
+pub fn first_from(pairs: &[Pair], key: u64) -> Option<Pair>
+    requires { IsMap pairs.now }
+    ensures first { result ≡ first_from key pairs.now }
+{
+    pair_at(pairs, place_of(pairs, key))
 }
 
 fn put_in_room(pairs: &mut Vec<Pair>, pair: Pair) -> bool

@@ -1,5 +1,5 @@
 // The sorted list of a session's names. A name's rank stands for it everywhere above.
-ghost use Rattle.std.specs.Prelude.{◌≡◌, ◌<◌, length, All, Contains, count_by, IfOk, IfErr, OnErr, MatchOption};
+ghost use Rattle.std.specs.Prelude.{◌≡◌, ◌<◌, length, All, Contains, count_by, IfOk, IfErr, OnErr, IsErrOf, MatchOption};
 ghost use Rattle.key_names.specs.Names.{byte_order, IsFine, Rises, HoldsEachOnce, IsRank, name_at, is_before, is_upto, is_upto_prefix, StandFirst, StandTogether};
 ghost use Rattle.key_names.specs.Refusal.{IsRefusal};
 
@@ -29,11 +29,13 @@ impl Model for Directory {
 }
 
 impl Directory {
-    /// The directory of these names, each of which may be given more than once. They are sorted in place.
+    /// The directory of these names, each of which may be given more than once. They are sorted in place, so
+    /// the allocator is not asked for memory, and `NoMemory` does not come.
     pub fn new(_alloc: Global, names: Vec<Text>) -> Result<Directory, NamesError>
         ensures names { IfOk result (HoldsEachOnce names.items) }
         ensures fine { IfOk result (λ _. All IsFine names.items) }
         ensures refused { IfErr result (IsRefusal names.items) }
+        ensures in_place { ¬ (IsErrOf result NamesError.NoMemory) }
     {
         check_names(&names)?;
         Ok(Directory {
@@ -141,6 +143,7 @@ fn sorted_once(mut names: Vec<Text>) -> Vec<Text>
 fn check_names(names: &[Text]) -> Result<(), NamesError>
     ensures ok { IfOk result (λ _. All IsFine names.now) }
     ensures refused { IfErr result (IsRefusal names.now) }
+    ensures in_place { ¬ (IsErrOf result NamesError.NoMemory) }
 {
     for (place, name) in names.iter().enumerate() {
         let bytes = name.bytes();

@@ -5,5 +5,6 @@ pub enum NamesError {
     Empty(usize),
     /// The name has more than 1,024 bytes, the most that Amazon S3 takes for an object key.
     TooLong(usize),
+    /// The allocator refused. `Directory::new`, which sorts in place, never answers it.
     NoMemory,
 }

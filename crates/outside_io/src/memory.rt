@@ -1,8 +1,7 @@
 // A source and a sink in memory.
-ghost use Rattle.std.specs.Prelude.{◌≡◌, ◌<◌, ◌≤◌, ◌↔◌, Some, Ok, [], ◌++◌, length, take, drop, min, IfOk, IsOk, OnErr};
-ghost use Rattle.outside_io.specs.Faults.{Rose, one_more};
-ghost use Rattle.outside_io.specs.Source.{IsRead, EndsExactly};
-ghost use Rattle.outside_io.specs.Sink.{IsTaken, Store, store, after_write};
+ghost use Rattle.std.specs.Prelude.{◌≡◌, ◌≤◌, ◌↔◌, Some, Ok, [], ◌++◌, length, take, drop, min, IfOk, IsOk};
+ghost use Rattle.outside_io.specs.Source.{EndsExactly};
+ghost use Rattle.outside_io.specs.Sink.{Store, store, after_write};
 
 use crate::{Failed, Sink, Source};
 use key_names::NoMemory;

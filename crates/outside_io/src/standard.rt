@@ -1,6 +1,6 @@
 // The standard input and output of the process: the edge where nothing is known of the bytes.
-ghost use Rattle.std.specs.Prelude.{◌≡◌, ◌<◌, ◌≤◌, None, length, IfOk, OnErr};
-ghost use Rattle.outside_io.specs.Faults.{Rose, count_after};
+ghost use Rattle.std.specs.Prelude.{◌≡◌, ◌<◌, ◌≤◌, None, length, IfOk};
+ghost use Rattle.outside_io.specs.Faults.{count_after};
 
 use crate::{Failed, Sink, Source};
 use std::io::{Read, Stdin, Stdout, Write};

@@ -73,12 +73,14 @@ impl<'a> PageCursor<'a> {
     }
 
     /// Takes the first pair from `next_rank` on: adds its entry, or settles that the page is truncated or
-    /// ended. A pair whose key is no rank ends the page.
+    /// ended. A pair whose key is no rank ends the page. The entries grow with the allocator that `new` was
+    /// given: the one here is not used.
     pub fn take(&mut self, _alloc: Global, pair: Pair) -> Result<(), NoMemory>
         requires { IsSome self.old.next }
         ensures took { OnOk result (Took self.old self.new pair) }
         ensures unchanged { OnErr result (self.new ≡ self.old) }
     {
+        // the call's clauses tell the proof that the names rise and are UTF-8
         let _names = self.dir.len();
         if !is_under(self.dir, self.query, &pair) {
             self.next = None;

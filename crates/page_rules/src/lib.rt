@@ -1,7 +1,8 @@
 //! The rules of a listing: which names are listed, how keys are rolled up into common prefixes, and where
-//! a page ends. It stands on `bucket_terms`, and reaches no map: the layer above hands it pairs.
-//! The layers above use `page_of_list`, the page of a whole list, which is the definition of a page made a
-//! program.
+//! a page ends. It stands on `bucket_terms` and on the crate `memchr`, and reaches no map: the layer above
+//! hands it pairs. That layer makes its pages by `PageCursor`, from one look-up for each entry.
+//! Two more ways to the same page are there to compare with: `page_of_list`, the definition of a page made a
+//! program, and `page_by_look_ups`, the cursor over a sorted list.
 #![tactic(auto)]
 
 mod cursor;

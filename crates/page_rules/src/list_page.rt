@@ -29,6 +29,7 @@ pub fn page_of_list(
     ensures chained { IfOk result (λ page. IsMap list.now → BeginsAll dir.now query.now (option_copied point.entry) list.now page) }
     ensures each_once { IfOk result (λ page. IsMap list.now → RiseByText dir.now page.entries) }
 {
+    // the calls' clauses tell the proof that the names rise, and that names and delimiter are UTF-8
     let (_names, _delimiter) = (dir.len(), query.delimiter.bytes());
     let entries = entries_of(alloc, dir, list, query, point)?;
     Ok(cut_at(query.max_keys, entries))

@@ -1,12 +1,12 @@
 // The cursor over a sorted list. A caller with another kind of map writes the same loop.
-ghost use Rattle.std.specs.Prelude.{◌≡◌, slice_get, IfOk};
+ghost use Rattle.std.specs.Prelude.{◌≡◌, IfOk};
 ghost use Rattle.std.specs.Option.{option_copied};
-ghost use Rattle.index_words.specs.Map.{IsMap, first_from};
+ghost use Rattle.index_words.specs.Map.{IsMap};
 ghost use Rattle.bucket_terms.specs.Page.{page_of, IsInRange};
 
 use crate::PageCursor;
 use bucket_terms::{ListQuery, Page, TokenPoint};
-use index_words::Pair;
+use index_words::{Pair, first_from};
 use key_names::{Directory, NoMemory};
 use std::alloc::Global;
 
@@ -31,18 +31,4 @@ pub fn page_by_look_ups(
         }
     }
     Ok(cursor.finish())
-}
-
-// The first pair whose key is at least `key`.
-fn first_from(list: &[Pair], key: u64) -> Option<Pair>
-    requires { IsMap list.now }
-    ensures { result ≡ first_from key list.now }
-{
-    pair_at(list, list.partition_point(|pair| pair.key < key))
-}
-
-fn pair_at(list: &[Pair], place: usize) -> Option<Pair>
-    ensures { result ≡ slice_get list.now place }
-{
-    list.get(place).copied()
 }

@@ -25,6 +25,7 @@ pub(crate) fn rank_behind(dir: &Directory, query: &ListQuery, entry: &PageEntry)
     requires listed { is_before (entry_text dir.now entry.now) query.now.prefix ≡ false }
     ensures { GoesOnAt dir.now query.now (Some (entry_point dir.now entry.now)) result }
 {
+    // the call's clauses tell the proof that the names rise
     let _names = dir.len();
     match *entry {
         PageEntry::Key { rank, .. } => rank + 1,

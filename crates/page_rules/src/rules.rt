@@ -1,14 +1,15 @@
 // The rules for one name, one pair and two neighbouring entries. A number that is no rank has the empty
 // name, as in the definitions.
-ghost use Rattle.std.specs.Prelude.{◌≡◌, ◌<◌, ◌≤◌, Some, None, IfSome, length, take, drop};
+ghost use Rattle.std.specs.Prelude.{◌≡◌, ◌<◌, length, take};
 ghost use Rattle.std.specs.Option.{option_copied};
 ghost use Rattle.key_names.specs.Names.{name_at};
 ghost use Rattle.bucket_terms.specs.Page.{IsEntryInRange};
-ghost use Rattle.bucket_terms.specs.Entries.{begins_with, is_above, is_admitted, is_under, first_end, group_len, entry_of, is_same_group};
+ghost use Rattle.bucket_terms.specs.Entries.{is_above, is_admitted, is_under, group_len, entry_of, is_same_group};
 
 use bucket_terms::{ListQuery, PageEntry, TokenPoint};
 use index_words::Pair;
-use key_names::{Directory, Text};
+use key_names::Directory;
+use memchr::memmem;
 
 /// The bytes of the name at a rank.
 pub(crate) fn name_at(dir: &Directory, rank: u64) -> &[u8]
@@ -46,6 +47,7 @@ pub(crate) fn entry_of(dir: &Directory, query: &ListQuery, pair: &Pair) -> PageE
     ensures entry { result ≡ entry_of dir.now query.now pair.now }
     ensures in_range { pair.now.key < length dir.now → IsEntryInRange dir.now result }
 {
+    // the calls' clauses tell the proof that names and delimiter are UTF-8, so a group ends a character
     let _names = dir.len();
     let _delimiter = query.delimiter.bytes();
     match group_len(query, name_at(dir, pair.key)) {
@@ -93,24 +95,17 @@ pub(crate) fn group_text(dir: &Directory, rank: u64, len: u64) -> &[u8]
 
 // The length of the common prefix into which the name is rolled up: it ends with the first delimiter at
 // or after the prefix's length.
-#[tactic(auto, unfolding(bucket_terms::specs::Entries::group_len))]
 fn group_len(query: &ListQuery, name: &[u8]) -> Option<u64>
     ensures { result ≡ group_len query.now name.now }
 {
-    if query.delimiter.bytes().is_empty() {
+    let delimiter = query.delimiter.bytes();
+    if delimiter.is_empty() {
         return None;
     }
-    first_end(query.delimiter.bytes(), query.prefix.bytes().len(), name)
-}
-
-// Where the first delimiter from place `from` on ends.
-fn first_end(delimiter: &[u8], from: usize, name: &[u8]) -> Option<u64>
-    ensures { result ≡ first_end delimiter.now from (drop from name.now) }
-{
-    for at in from..name.len() {
-        if name[at..].starts_with(delimiter) {
-            return Some((at + delimiter.len()) as u64);
-        }
+    let start = query.prefix.bytes().len();
+    if start > name.len() {
+        return None;
     }
-    None
+    let at = memmem::find(&name[start..], delimiter)?;
+    Some((start + at + delimiter.len()) as u64)
 }

@@ -69,15 +69,6 @@ impl Slots {
         let entries = Items::concat(alloc, first.entries.as_slice(), second.entries.as_slice())?;
         Ok(Slots { nodes, entries })
     }
-
-    /// A copy of the slots.
-    pub fn copy(&self, alloc: Global) -> Result<Slots, NoMemory>
-        ensures { IfOk result (λ c. c ≡ self.now) }
-    {
-        let nodes = self.nodes.copy(alloc)?;
-        let entries = self.entries.copy(alloc)?;
-        Ok(Slots { nodes, entries })
-    }
 }
 
 impl Looks {
