@@ -79,31 +79,8 @@ module _ (dir : List (List ℕ)) (lines : List RequestLine) (writes : ℕ) (pass
 
 -- ---- what a session gives for the run
 
-above_all : (low high : ℕ) (lines : List RequestLine) → LinesRise low high lines → All (λ (m : RequestLine). low < m.line) lines
-above_all low high [] rise = All-nil (λ (m : RequestLine). low < m.line)
-above_all low high (l ∷ lines) rise =
-    All-cons (λ (m : RequestLine). low < m.line) l lines rise.0
-    (All-weaker (λ (m : RequestLine). l.line < m.line) (λ (m : RequestLine). low < m.line) (λ m lt. omega (arith, lt, rise.0)) lines (above_all l.line high lines rise.2))
-
-pub rise_of : (low high : ℕ) (lines : List RequestLine) → LinesRise low high lines → Rise lines
-rise_of low high [] rise = λ i j d lt below. absurd (omega arith)
-rise_of low high (l ∷ lines) rise = AllPairs-cons (λ (k m : RequestLine). k.line < m.line) l lines (above_all l.line high lines rise.2) (rise_of l.line high lines rise.2)
-
 pub none_earlier : (size : PassSize) (lines : List RequestLine) → All (λ (l : RequestLine). IsLaterLine (fresh 0 size) l.line) lines
 none_earlier size lines = λ i d lt. All-nil (λ (u : Update). u.client ≡ 0 → u.line < (get_or lines i d).line)
-
-askable_by : (dir names : List (List ℕ)) (request : Request) (line : ℕ) → HoldsEachOnce names dir → IfSome (requested_name request) (Contains names)
-    → IsAskable dir (record { line = line; request = request })
-askable_by dir names (Put name val) line holds is = holds.all name is
-askable_by dir names (Delete name) line holds is = holds.all name is
-askable_by dir names (Head name) line holds is = holds.all name is
-askable_by dir names (ListRequest query) line holds is = tt
-askable_by dir names Next line holds is = tt
-
-pub askable : (dir names : List (List ℕ)) (count : ℕ) (asked : List Asked) → HoldsEachOnce names dir → All (IsServed names count) asked → All (IsAskable dir) (map request_line asked)
-askable dir names count asked holds served =
-    All-map (IsAskable dir) request_line asked
-    (All-weaker (IsServed names count) (λ (a : Asked). IsAskable dir (request_line a)) (λ a is. askable_by dir names a.request a.line holds is.name) asked served)
 
 pub recorded_below : (names : List (List ℕ)) (count : ℕ) (asked : List Asked) → All (IsServed names count) asked → All (HasRecordBelow count) (map request_line asked)
 recorded_below names count asked served =

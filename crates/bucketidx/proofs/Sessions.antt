@@ -10,11 +10,6 @@ use Rattle.request_lines.specs.declared.session.Session.{Session}
 use Rattle.request_lines.specs.Session.{request_lines, IsServed}
 use Rattle.bucketidx.specs.Served.{HoldsOfSession, HoldsOfRun, slots_of, client_text}
 
-pub served_first : (names : List (List ℕ)) (count : ℕ) (clients : List ClientPart) (part : ClientPart) → slice_get clients 0 ≡ Some part
-    → All (λ (p : ClientPart). All (IsServed names count) p.requests) clients → All (IsServed names count) part.requests
-served_first names count clients part is served =
-    subst (λ (p : ClientPart). All (IsServed names count) p.requests) (get_or_from_slice_get clients 0 part part is) (served 0 part (slice_get_within clients 0 part is))
-
 one_client : (clients : List ClientPart) (part : ClientPart) → slice_get clients 0 ≡ Some part → length clients ≤ 1 → clients ≡ part ∷ []
 one_client [] part is le = absurd (none-some part is)
 one_client (p ∷ []) part is le = ap (λ (q : ClientPart). q ∷ []) (get_or_from_slice_get (p ∷ []) 0 part p is)

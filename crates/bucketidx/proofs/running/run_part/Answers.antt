@@ -6,7 +6,8 @@ use Rattle.bucket_terms.specs.declared.reply.Placed.{Placed}
 use Rattle.answer_text.specs.InRange.{IsReplyOf}
 use Rattle.request_lines.specs.Session.{request_lines}
 use Rattle.bucketidx.specs.Served.{client_text}
-use Rattle.bucketidx.proofs.Runs.{rise_of, legal, keys, recorded}
+use Rattle.client_run.proofs.Sessions.{rise_of}
+use Rattle.bucketidx.proofs.Runs.{legal, keys, recorded}
 use Rattle.bucketidx.proofs.running.run_part.Goals as goal
 
 pub run_client-requires-clause-rising : goal.run_client-requires-clause-rising

@@ -6,8 +6,9 @@ use Rattle.bucket_terms.specs.declared.record.Record.{Record}
 use Rattle.request_lines.specs.declared.session.ClientPart.{ClientPart}
 use Rattle.request_lines.specs.Session.{request_lines}
 use Rattle.bucketidx.specs.Places.{HasRecordBelow}
-use Rattle.bucketidx.proofs.Runs.{askable, recorded_below}
-use Rattle.bucketidx.proofs.Sessions.{served_first, none_holds}
+use Rattle.client_run.proofs.Sessions.{askable, served_first}
+use Rattle.bucketidx.proofs.Runs.{recorded_below}
+use Rattle.bucketidx.proofs.Sessions.{none_holds}
 use Rattle.bucketidx.proofs.running.run_session.Goals as goal
 
 pub run_part-requires-clause-askable : goal.run_part-requires-clause-askable
