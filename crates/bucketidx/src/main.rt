@@ -37,7 +37,7 @@ fn main(rt: HostRuntime) -> ExitCode {
     ExitCode::from(status.exit_code())
 }
 
-// The words after the program's name. One that is no text is no form's.
+// The words after the program's name. A word that is not UTF-8 makes bad words.
 fn words<R: Env + AllocGlobal>(rt: &R) -> Result<Vec<Text>, Status> {
     let args = match env::args(rt) {
         Ok(args) => args,

@@ -5,7 +5,7 @@ ghost use Rattle.key_names.specs.Names.{IsFine, HoldsEachOnce};
 use key_names::{Directory, Names, NoMemory};
 use std::alloc::Global;
 
-/// The directory of the names. Fine names are refused only for want of memory.
+/// The directory of the names. `Directory::new` refuses no fine name, so an error does not come.
 pub(crate) fn directory_of(alloc: Global, names: Names) -> Result<Directory, NoMemory>
     requires { All IsFine names }
     ensures { IfOk result (HoldsEachOnce names) }

@@ -33,12 +33,12 @@ struct Ended {
     sink: MemSink,
 }
 
-fn words(alloc: Global, texts: &[&str]) -> Result<Vec<Text>, Fail> {
-    let mut words = Vec::new(alloc);
-    for text in texts {
-        words.push(Text::of(alloc, text)?)?;
+fn texts(alloc: Global, words: &[&str]) -> Result<Vec<Text>, Fail> {
+    let mut texts = Vec::new(alloc);
+    for word in words {
+        texts.push(Text::of(alloc, word)?)?;
     }
-    Ok(words)
+    Ok(texts)
 }
 
 // Serves `run` over this source, with room for so many bytes of output.
@@ -48,7 +48,7 @@ fn serve_run<Rt: Wait, S: Source>(
     source: &mut S,
     room: usize,
 ) -> Result<Ended, Fail> {
-    let words = words(alloc, &["run"])?;
+    let words = texts(alloc, &["run"])?;
     let mut sink = MemSink::with_room(alloc, room)?;
     let status = serve(rt, alloc, &words, source, &mut sink, &OpenGate);
     Ok(Ended { status, sink })

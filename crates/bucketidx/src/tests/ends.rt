@@ -52,7 +52,7 @@ fn bad_words(rt: HostRuntime) -> Result<(), Fail> {
         &["ru"],
     ];
     for list in lists {
-        let words = words(alloc, list)?;
+        let words = texts(alloc, list)?;
         let mut source = MemSource::new(ONE_CLIENT.as_bytes().to_vec(alloc)?);
         let mut sink = MemSink::with_room(alloc, AMPLE)?;
         let status = serve(&rt, alloc, &words, &mut source, &mut sink, &OpenGate);
@@ -64,11 +64,11 @@ fn bad_words(rt: HostRuntime) -> Result<(), Fail> {
     Ok(())
 }
 
-// The second, and each other, call of the source fails: nothing is written.
+// Each call of the source fails in turn: nothing is written.
 #[test]
 fn read_faults(rt: HostRuntime) -> Result<(), Fail> {
     let alloc = rt.alloc();
-    for call in [1u64, 2, 3, 6, 7] {
+    for call in 1u64..=7 {
         let bytes = ONE_CLIENT.as_bytes().to_vec(alloc)?;
         let mut fails = Vec::new(alloc);
         fails.push(call)?;
@@ -80,7 +80,7 @@ fn read_faults(rt: HostRuntime) -> Result<(), Fail> {
     Ok(())
 }
 
-// The sink has room for whole lines alone: as many as fit were taken.
+// The sink takes whole lines alone: as many as fit its room were taken.
 #[test]
 fn write_faults(rt: HostRuntime) -> Result<(), Fail> {
     let alloc = rt.alloc();
@@ -102,6 +102,8 @@ fn write_faults(rt: HostRuntime) -> Result<(), Fail> {
     Ok(())
 }
 
+const SIXTEEN_LINES: &str = "\n\n\n\n\n\n\n\n\n\n\n\n\n\n\n\n";
+
 // 64 MiB of empty lines are read; one byte more is too long.
 #[test]
 fn inputs_of_the_most_bytes(rt: HostRuntime) -> Result<(), Fail> {
@@ -109,7 +111,7 @@ fn inputs_of_the_most_bytes(rt: HostRuntime) -> Result<(), Fail> {
     let most = repeated(
         alloc,
         "",
-        "\n\n\n\n\n\n\n\n\n\n\n\n\n\n\n\n",
+        SIXTEEN_LINES,
         67_108_864 / 16,
     )?;
     let mut source = MemSource::new(most);
@@ -119,7 +121,7 @@ fn inputs_of_the_most_bytes(rt: HostRuntime) -> Result<(), Fail> {
     let more = repeated(
         alloc,
         "\n",
-        "\n\n\n\n\n\n\n\n\n\n\n\n\n\n\n\n",
+        SIXTEEN_LINES,
         67_108_864 / 16,
     )?;
     let mut source = MemSource::new(more);
@@ -129,7 +131,7 @@ fn inputs_of_the_most_bytes(rt: HostRuntime) -> Result<(), Fail> {
     Ok(())
 }
 
-// 1,000 PUT lines and 20 whole listings of their keys: each line is written, in order.
+// 1,000 PUT lines and 20 whole listings of their keys: 2,021 lines are written, 20 of them whole pages.
 #[test]
 fn a_thousand_keys_listed(rt: HostRuntime) -> Result<(), Fail> {
     let alloc = rt.alloc();
