@@ -20,7 +20,9 @@ use Rattle.request_lines.specs.declared.session.Session.{Session}
 use Rattle.request_lines.specs.declared.session_error.InputError.{InputError}
 use Rattle.request_lines.specs.Lines.{texts_of}
 use Rattle.request_lines.specs.Grammar.{reading_of}
-use Rattle.request_lines.specs.Input.{Line, counted_with, lines_from, lines_of, cause_after, error_at, error_of, refusal_of, begins_client, asked_of, name_by, record_by, part_of, parts_of, names_of, records_of, IsSessionOf, IsRefused}
+use Rattle.request_lines.specs.Counting.{counted_with, cause_after}
+use Rattle.request_lines.specs.Input.{error_at, begins_client, name_by, record_by}
+use Rattle.request_lines.proofs.CountedLines.{Line, lines_from, lines_of, error_of, refusal_of, asked_of, part_of, parts_of, names_of, records_of, IsSessionOf, IsRefused}
 use Rattle.request_lines.specs.Left.{texts_left}
 use Rattle.request_lines.specs.Reading.{Progress, Takes, no_progress, all_ended, ended_by, current_by, kept, taken, error_of_text}
 

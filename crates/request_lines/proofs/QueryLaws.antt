@@ -9,9 +9,9 @@ use Rattle.request_lines.specs.declared.cause.Cause.TheVariants.{KeyTooLong, Unk
 use Rattle.request_lines.specs.declared.cause.Cause.TheVariants as causes
 use Rattle.request_lines.specs.declared.parameter.Name.{Name}
 use Rattle.request_lines.specs.declared.parameter.Name.TheVariants as names
-use Rattle.request_lines.specs.Asking.{Asking, nothing_asked, asking_with, query_by, with_name, with_parameter, parameter_cause, stands_in, is_long_for, value_cause}
+use Rattle.request_lines.specs.Asking.{Asking, nothing_asked, asking_with, query_by, with_name, with_parameter, parameter_cause, stands_in, is_long_for, value_cause, given, with_all}
 use Rattle.request_lines.specs.Causes.{place_of, earliest}
-use Rattle.request_lines.specs.Queries.{Parameter, place_of_name, is_name, is_same_name, is_unknown, is_too_long, is_list_type, is_max_keys, is_encoding, is_fetch_owner, repeats, have, parameter_causes, first_that, asked_of, plain_query, parameters_read, pieces_of, query_or, query_of, query_read}
+use Rattle.request_lines.specs.Queries.{Parameter, place_of_name, is_name, is_same_name, is_unknown, is_too_long, is_list_type, is_max_keys, is_encoding, is_fetch_owner, repeats, have, parameter_causes, first_that, plain_query, parameters_read, pieces_of, query_or, query_of, query_read, asked_of, value_of, or_else, as_it_is, is_url, most_entries}
 use Rattle.request_lines.specs.Reads.{◌>>=◌}
 
 -- ---- tests of lists
@@ -23,6 +23,10 @@ any_same f g (x ∷ xs) same = ap (λ b. b || list_any f xs) (same x) ∙ ap (λ
 or_false : (b : Bool) → (b || false) ≡ b
 or_false true = refl
 or_false false = refl
+
+neither : (a b : Bool) → (a || b) ≡ false → (a ≡ false) × (b ≡ false)
+neither true b none = cc
+neither false b none = (refl, none)
 
 or_mixed : (a b c d : Bool) → ((a || b) || (c || d)) ≡ ((a || c) || (b || d))
 or_mixed true b c d = refl
@@ -244,7 +248,7 @@ in_order = (omega arith, (omega arith, (omega arith, (omega arith, (omega arith,
 -- ---- the query
 
 asked_step : (query : ListQuery) (name : Option Name) (value : List ℕ) (ps : List Parameter)
-    → asked_of (with_parameter query name value) ps ≡ asked_of query (record { name = name; value = value } ∷ ps)
+    → with_all (with_parameter query name value) ps ≡ with_all query (record { name = name; value = value } ∷ ps)
 unfolding with_parameter
 asked_step query None value ps = refl
 asked_step query (Some names.ListType) value ps = refl
@@ -261,7 +265,7 @@ or_thrice true b c = refl
 or_thrice false b c = refl
 
 kept_query : (a : Asking) (held : Cause → Bool) (ps : List Parameter) → a.cause ≡ first_that held parameter_causes
-    → query_by a ps ≡ query_or (first_that (λ c. held c || holds_behind a.names ps c) parameter_causes) (asked_of a.query ps)
+    → query_by a ps ≡ query_or (first_that (λ c. held c || holds_behind a.names ps c) parameter_causes) (with_all a.query ps)
 unfolding asking_with
 kept_query a held [] is =
     ap (λ o. query_or o a.query)
@@ -274,7 +278,7 @@ kept_query a held (p ∷ ps) is =
     ∙ ap (earliest (first_that held parameter_causes)) (parameter_cause_is a.names p.name p.value)
     ∙ earliest_first 0 held (own a.names p) parameter_causes in_order in
     kept_query (asking_with a p) more ps cause
-    ∙ ap (λ o. query_or o (asked_of (with_parameter a.query p.name p.value) ps))
+    ∙ ap (λ o. query_or o (with_all (with_parameter a.query p.name p.value) ps))
     (first_same (λ c. more c || holds_behind (with_name a.names p.name) ps c) (λ c. held c || holds_behind a.names (p ∷ ps) c) parameter_causes
     (λ c. or_thrice (held c) (own a.names p c) (holds_behind (with_name a.names p.name) ps c) ∙ ap (λ b. held c || b) (sym (holds_more a.names p ps c))))
     ∙ ap (query_or (first_that (λ c. held c || holds_behind a.names (p ∷ ps) c) parameter_causes)) (asked_step a.query p.name p.value ps)
@@ -306,10 +310,71 @@ have_is ps causes.TooManyLines = refl
 have_is ps causes.TooManyEntries = refl
 have_is ps causes.NotBuilt = refl
 
+-- ---- where no name stands twice
+
+given_none : {A : Type 0} (name : Name) (says : List ℕ → A) (other : A) (ps : List Parameter) → list_any (λ (p : Parameter). is_name name p.name) ps ≡ false → given name says other ps ≡ other
+given_none name says other [] none = refl
+given_none name says other (p ∷ ps) none =
+    let each = neither (is_name name p.name) (list_any (λ (q : Parameter). is_name name q.name) ps) none in
+    given_none name says (if is_name name p.name then says p.value else other) ps each.1 ∙ ap (λ b. if b then says p.value else other) each.0
+
+-- a name is the one of a parameter, so no parameter behind it has that name
+others_none : (name : Name) (first : Option Name) (ps : List Parameter) → is_name name first ≡ true → list_any (λ (q : Parameter). is_same_name first q.name) ps ≡ false
+    → list_any (λ (q : Parameter). is_name name q.name) ps ≡ false
+others_none name None ps is none = cc
+others_none name (Some n) ps is none = any_same (λ (q : Parameter). is_name name q.name) (λ (q : Parameter). is_name n q.name) ps (λ q. same_test q.name) ∙ none
+  where
+    places : place_of_name n ≡ place_of_name name
+    places = grind (arith, nat_tests)
+
+    same_test : (other : Option Name) → is_name name other ≡ is_name n other
+    same_test None = refl
+    same_test (Some other) = ap (λ k. place_of_name other == k) (sym places)
+
+first_given : {A : Type 0} (name : Name) (says : List ℕ → A) (other : A) (ps : List Parameter) → repeats ps ≡ false → given name says other ps ≡ or_else says other (value_of name ps)
+first_given name says other [] none = refl
+first_given name says other (p ∷ ps) none =
+    let each = neither (list_any (λ (q : Parameter). is_same_name p.name q.name) ps) (repeats ps) none in
+    by_test (λ is. given_none name says (says p.value) ps (others_none name p.name ps is each.0)) (first_given name says other ps each.1) (is_name name p.name) refl
+  where
+    by_test : (is_name name p.name ≡ true → given name says (says p.value) ps ≡ says p.value) → given name says other ps ≡ or_else says other (value_of name ps)
+        → (b : Bool) → is_name name p.name ≡ b
+        → given name says (if b then says p.value else other) ps ≡ or_else says other (if b then Some p.value else value_of name ps)
+    by_test here behind true is = here is
+    by_test here behind false is = behind
+
+query_are : (a b : ListQuery) → a.prefix ≡ b.prefix → a.delimiter ≡ b.delimiter → a.start_after ≡ b.start_after → a.token ≡ b.token → a.max_keys ≡ b.max_keys → a.url ≡ b.url → a ≡ b
+query_are a b prefix delimiter start_after token max_keys url =
+    ap (λ x. record { prefix = x; delimiter = a.delimiter; start_after = a.start_after; token = a.token; max_keys = a.max_keys; url = a.url }) prefix
+    ∙ ap (λ x. record { prefix = b.prefix; delimiter = x; start_after = a.start_after; token = a.token; max_keys = a.max_keys; url = a.url }) delimiter
+    ∙ ap (λ x. record { prefix = b.prefix; delimiter = b.delimiter; start_after = x; token = a.token; max_keys = a.max_keys; url = a.url }) start_after
+    ∙ ap (λ x. record { prefix = b.prefix; delimiter = b.delimiter; start_after = b.start_after; token = x; max_keys = a.max_keys; url = a.url }) token
+    ∙ ap (λ x. record { prefix = b.prefix; delimiter = b.delimiter; start_after = b.start_after; token = b.token; max_keys = x; url = a.url }) max_keys
+    ∙ ap (λ x. record { prefix = b.prefix; delimiter = b.delimiter; start_after = b.start_after; token = b.token; max_keys = b.max_keys; url = x }) url
+
+asked_is : (ps : List Parameter) → repeats ps ≡ false → with_all plain_query ps ≡ asked_of ps
+asked_is ps none =
+    query_are (with_all plain_query ps) (asked_of ps) (first_given names.Prefix as_it_is [] ps none) (first_given names.Delimiter as_it_is [] ps none) (first_given names.StartAfter as_it_is [] ps none)
+    (first_given names.ContinuationToken as_it_is [] ps none) (first_given names.MaxKeys most_entries 1000 ps none) (first_given names.EncodingType is_url false ps none)
+
+none_repeats : (ps : List Parameter) → first_that (have ps) parameter_causes ≡ None → repeats ps ≡ false
+none_repeats ps none = third (list_any is_too_long ps) (list_any (λ p. is_unknown p.name) ps) (repeats ps) _ none
+  where
+    third : (a b c : Bool) (rest : Option Cause) → (if a then Some KeyTooLong else if b then Some UnknownParameter else if c then Some RepeatedParameter else rest) ≡ None → c ≡ false
+    third true b c rest none = cc
+    third false true c rest none = cc
+    third false false true rest none = cc
+    third false false false rest none = refl
+
+or_same : (o : Option Cause) (a b : ListQuery) → (o ≡ None → a ≡ b) → query_or o a ≡ query_or o b
+or_same None a b same = ap Ok (same refl)
+or_same (Some cause) a b same = refl
+
 query_by_is : (ps : List Parameter) → query_by nothing_asked ps ≡ query_of ps
 query_by_is ps =
     kept_query nothing_asked (λ c. false) ps refl
-    ∙ ap (λ o. query_or o (asked_of plain_query ps)) (first_same (holds_behind [] ps) (have ps) parameter_causes (have_is ps))
+    ∙ ap (λ o. query_or o (with_all plain_query ps)) (first_same (holds_behind [] ps) (have ps) parameter_causes (have_is ps))
+    ∙ or_same (first_that (have ps) parameter_causes) (with_all plain_query ps) (asked_of ps) (λ none. asked_is ps (none_repeats ps none))
 
 -- reading a query gives what a reader keeps of its parameters
 pub query_read_by : (text : List ℕ) → query_read text ≡ (parameters_read (pieces_of text) >>= query_by nothing_asked)

@@ -22,8 +22,9 @@ use Rattle.request_lines.specs.declared.session.ClientPart.{ClientPart}
 use Rattle.request_lines.specs.declared.session.Session.{Session}
 use Rattle.request_lines.specs.declared.session_error.SessionError.{SessionError}
 use Rattle.request_lines.specs.declared.cause.Cause.TheVariants.{NoClient}
-use Rattle.request_lines.specs.Grammar.{IsWithin, IsFineCommand, is_client, counted, limit_cause, reading_of}
-use Rattle.request_lines.specs.Input.{cause_after, error_at}
+use Rattle.request_lines.specs.Grammar.{IsFineCommand, is_client, reading_of}
+use Rattle.request_lines.specs.Counting.{IsWithin, counted, limit_cause, cause_after}
+use Rattle.request_lines.specs.Input.{error_at}
 use Rattle.request_lines.specs.Reading.{Progress, no_progress, all_ended, kept, taken, error_of_text}
 use Rattle.request_lines.specs.Session.{request_line, request_lines, all_requests, requested_name, record_place, asked_name, asked_place, HasNames, HasRecords, IsFineRequest, IsServed, HasRequests, LinesRise, HasLines, IsSmall}
 use Rattle.request_lines.proofs.Fine.{IsFineReading, reading_fine}

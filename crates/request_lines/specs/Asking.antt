@@ -1,14 +1,13 @@
 -- How a reader of a query keeps the parameters so far.
-use Rattle.std.specs.Prelude.{ℕ, ◌==◌, nat_lt, Bool, false, List, [], ◌∷◌, ◌++◌, length, Option, Some, None, Result, codes, if◌then◌else◌}
+use Rattle.std.specs.Prelude.{ℕ, ◌==◌, nat_lt, Bool, false, List, [], ◌∷◌, ◌++◌, length, Option, Some, None, Result, if◌then◌else◌}
 use Rattle.std.specs.List.{list_any}
-use Rattle.std.specs.Str.{bytes_eq}
 use Rattle.bucket_terms.specs.declared.list_query.ListQuery.{ListQuery}
 use Rattle.request_lines.specs.declared.cause.Cause.{Cause}
 use Rattle.request_lines.specs.declared.cause.Cause.TheVariants.{KeyTooLong, UnknownParameter, RepeatedParameter, BadListType, BadMaxKeys, BadEncoding, BadFetchOwner}
 use Rattle.request_lines.specs.declared.parameter.Name.{Name}
 use Rattle.request_lines.specs.declared.parameter.Name.TheVariants.{ListType, Prefix, Delimiter, MaxKeys, StartAfter, ContinuationToken, EncodingType, FetchOwner}
 use Rattle.request_lines.specs.Causes.{earliest}
-use Rattle.request_lines.specs.Queries.{Parameter, place_of_name, is_list_type, is_max_keys, is_encoding, is_fetch_owner, most_entries, plain_query, query_or}
+use Rattle.request_lines.specs.Queries.{Parameter, place_of_name, is_list_type, is_max_keys, is_encoding, is_fetch_owner, is_name, is_url, as_it_is, most_entries, plain_query, query_or}
 
 -- whether the name is among these
 abbrev pub stands_in : List Name → Name → Bool
@@ -48,7 +47,7 @@ with_parameter query (Some Delimiter) value = record query { delimiter = value }
 with_parameter query (Some StartAfter) value = record query { start_after = value }
 with_parameter query (Some ContinuationToken) value = record query { token = value }
 with_parameter query (Some MaxKeys) value = record query { max_keys = most_entries value }
-with_parameter query (Some EncodingType) value = record query { url = bytes_eq value (codes "url") }
+with_parameter query (Some EncodingType) value = record query { url = is_url value }
 with_parameter query name value = query
 
 -- what the parameters so far ask: the query, their names, and the earliest of their causes
@@ -72,3 +71,19 @@ asking_with so_far p = record {
 abbrev pub query_by : Asking → List Parameter → Result ListQuery Cause
 query_by so_far [] = query_or so_far.cause so_far.query
 query_by so_far (p ∷ parameters) = query_by (asking_with so_far p) parameters
+
+-- what the last parameter of this name says, or else this
+abbrev pub given : {A : Type 0} → Name → (List ℕ → A) → A → List Parameter → A
+given name says other [] = other
+given name says other (p ∷ ps) = given name says (if is_name name p.name then says p.value else other) ps
+
+-- a query with these parameters, of which the last of a name counts
+abbrev pub with_all : ListQuery → List Parameter → ListQuery
+with_all other ps = record {
+  prefix = given Prefix as_it_is other.prefix ps;
+  delimiter = given Delimiter as_it_is other.delimiter ps;
+  start_after = given StartAfter as_it_is other.start_after ps;
+  token = given ContinuationToken as_it_is other.token ps;
+  max_keys = given MaxKeys most_entries other.max_keys ps;
+  url = given EncodingType is_url other.url ps;
+}

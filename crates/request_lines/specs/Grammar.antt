@@ -1,12 +1,11 @@
 -- What a line says, by cases on its verb and its fields, and when it is refused.
-use Rattle.std.specs.Prelude.{ℕ, ◌+◌, ◌≤◌, ◌==◌, ◌&&◌, not, nat_lt, Bool, true, false, List, [], ◌∷◌, Option, Some, None, Result, Ok, Err, codes, if◌then◌else◌}
+use Rattle.std.specs.Prelude.{ℕ, ◌+◌, ◌==◌, ◌&&◌, not, nat_lt, Bool, true, false, List, [], ◌∷◌, Option, Some, None, Result, Ok, Err, codes, count_by, if◌then◌else◌}
 use Rattle.std.specs.Str.{is_utf8, bytes_eq}
 use Rattle.key_names.specs.Names.{IsFine}
 use Rattle.request_lines.specs.declared.cause.Cause.{Cause}
 use Rattle.request_lines.specs.declared.cause.Cause.TheVariants.{NotUtf8, UnknownVerb, WrongFields, NoClient, TooManyClients, TooManyLines, TooManyEntries, NotBuilt}
 use Rattle.request_lines.specs.declared.command.Command.{Command}
 use Rattle.request_lines.specs.declared.command.Command.TheVariants as says
-use Rattle.request_lines.specs.declared.counts.Counts.{Counts}
 use Rattle.request_lines.specs.declared.verb.Verb.{Verb}
 use Rattle.request_lines.specs.declared.verb.Verb.TheVariants as verbs
 use Rattle.request_lines.specs.Lines.{fields_of}
@@ -81,40 +80,43 @@ IsFineCommand (says.Head name) = IsFine name
 IsFineCommand (says.List query) = IsFineQuery query
 IsFineCommand says.Next = Unit {0}
 
--- ---- what the lines so far have asked
-
--- before the first line
-abbrev pub none_counted : Counts
-none_counted = record { clients = 0; requests = 0; puts = 0; entries = 0; last = 0 }
-
--- with one line more. A LIST line counts with its `max_keys`, the most entries that its page can have, and a
--- NEXT line with that of its client's last LIST line, or 0 where there is none.
-abbrev pub counted : Counts → Command → Counts
-counted so_far says.Client = record so_far { clients = so_far.clients + 1; last = 0 }
-counted so_far (says.Put name fields) = record so_far { requests = so_far.requests + 1; puts = so_far.puts + 1 }
-counted so_far (says.Delete name) = record so_far { requests = so_far.requests + 1 }
-counted so_far (says.Head name) = record so_far { requests = so_far.requests + 1 }
-counted so_far (says.List query) = record so_far { requests = so_far.requests + 1; entries = so_far.entries + query.max_keys; last = query.max_keys }
-counted so_far says.Next = record so_far { requests = so_far.requests + 1; entries = so_far.entries + so_far.last }
-
--- the counts of lines that keep the limits
-pub record IsWithin (so_far : Counts) : Type 0 where
-  pub clients : so_far.clients ≤ 1
-  pub requests : so_far.requests ≤ 200000
-  pub puts : so_far.puts ≤ so_far.requests
-  pub entries : so_far.entries ≤ 4000000
-  pub last : so_far.last ≤ 1000
+-- ---- limits
 
 abbrev pub is_client : Command → Bool
 is_client says.Client = true
 is_client command = false
 
--- the first cause that a line has after the lines before it. The counts are those up to and with the line.
-unfoldable pub limit_cause : Counts → Command → Option Cause
-limit_cause so_far command =
-    if not (is_client command) && so_far.clients == 0 then Some NoClient
-    else if is_client command && nat_lt 32 so_far.clients then Some TooManyClients
-    else if nat_lt 200000 so_far.requests then Some TooManyLines
-    else if nat_lt 4000000 so_far.entries then Some TooManyEntries
-    else if is_client command && nat_lt 1 so_far.clients then Some NotBuilt
+abbrev pub is_put : Command → Bool
+is_put (says.Put name fields) = true
+is_put command = false
+
+-- how many of these lines begin a client, how many ask something, and how many of these are PUT lines
+abbrev pub clients_in : List Command → ℕ
+clients_in commands = count_by is_client commands
+
+abbrev pub requests_in : List Command → ℕ
+requests_in commands = count_by (λ command. not (is_client command)) commands
+
+abbrev pub puts_in : List Command → ℕ
+puts_in commands = count_by is_put commands
+
+-- the entries that the pages of these lines can have, together. A LIST line can have as many as its page, a
+-- NEXT line as many as its client's last LIST line; `last` is that of the lines before these, or 0.
+abbrev pub entries_behind : (last : ℕ) → List Command → ℕ
+entries_behind last [] = 0
+entries_behind last (says.List query ∷ commands) = query.max_keys + entries_behind query.max_keys commands
+entries_behind last (says.Next ∷ commands) = last + entries_behind last commands
+entries_behind last (says.Client ∷ commands) = entries_behind 0 commands
+entries_behind last (says.Put name fields ∷ commands) = entries_behind last commands
+entries_behind last (says.Delete name ∷ commands) = entries_behind last commands
+entries_behind last (says.Head name ∷ commands) = entries_behind last commands
+
+-- the first cause that the last of these lines has after the others
+unfoldable pub limit_cause : List Command → Command → Option Cause
+limit_cause commands last =
+    if not (is_client last) && clients_in commands == 0 then Some NoClient
+    else if is_client last && nat_lt 32 (clients_in commands) then Some TooManyClients
+    else if nat_lt 200000 (requests_in commands) then Some TooManyLines
+    else if nat_lt 4000000 (entries_behind 0 commands) then Some TooManyEntries
+    else if is_client last && nat_lt 1 (clients_in commands) then Some NotBuilt
     else None

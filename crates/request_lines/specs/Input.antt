@@ -1,5 +1,5 @@
 -- The session of a whole input, and its refusal.
-use Rattle.std.specs.Prelude.{◌≡◌, ℕ, ◌+◌, ◌==◌, Bool, false, List, [], ◌∷◌, length, map, drop, Option, Some, None, Result, Ok, Err, slice_get, if◌then◌else◌}
+use Rattle.std.specs.Prelude.{◌≡◌, ℕ, ◌+◌, ◌==◌, Bool, false, List, [], ◌∷◌, ◌++◌, length, map, drop, Option, Some, None, Result, Ok, Err, slice_get, if◌then◌else◌}
 use Rattle.std.specs.List.{slice_split, filter_map}
 use Rattle.bucket_terms.specs.declared.record.Record.{Record}
 use Rattle.bucket_terms.specs.declared.request.Request.{Request}
@@ -7,7 +7,6 @@ use Rattle.bucket_terms.specs.declared.request.Request.TheVariants as asks
 use Rattle.request_lines.specs.declared.cause.Cause.{Cause}
 use Rattle.request_lines.specs.declared.command.Command.{Command}
 use Rattle.request_lines.specs.declared.command.Command.TheVariants as says
-use Rattle.request_lines.specs.declared.counts.Counts.{Counts}
 use Rattle.request_lines.specs.declared.session.Asked.{Asked}
 use Rattle.request_lines.specs.declared.session.ClientPart.{ClientPart}
 use Rattle.request_lines.specs.declared.session.Session.{Session}
@@ -15,36 +14,36 @@ use Rattle.request_lines.specs.declared.session_error.InputError.{InputError}
 use Rattle.request_lines.specs.declared.session_error.SessionError.{SessionError}
 use Rattle.request_lines.specs.declared.session_error.SessionError.TheVariants as errors
 use Rattle.request_lines.specs.Lines.{texts_of}
-use Rattle.request_lines.specs.Grammar.{reading_of, is_client, none_counted, counted, limit_cause}
+use Rattle.request_lines.specs.Grammar.{reading_of, is_client, puts_in, limit_cause}
 
 -- a line that is not empty: its number, counted from 1 over all lines, what it says or its own cause, and
--- what the lines before it have asked
+-- what the lines before it say
 pub record Line : Type 0 where
   pub number : ℕ
   pub reading : Result Command Cause
-  pub before : Counts
+  pub before : List Command
 
-abbrev pub counted_with : Counts → Result Command Cause → Counts
-counted_with before (Ok command) = counted before command
-counted_with before (Err cause) = before
+abbrev pub said : Result Command Cause → List Command
+said (Ok command) = command ∷ []
+said (Err cause) = []
 
 -- the lines that are not empty, of these texts, of which the first has this number
-unfoldable pub lines_from : ℕ → Counts → List (List ℕ) → List Line
+unfoldable pub lines_from : ℕ → List Command → List (List ℕ) → List Line
 lines_from number before [] = []
 lines_from number before (text ∷ texts) =
     if length text == 0 then lines_from (number + 1) before texts
     else record { number = number; reading = reading_of text; before = before }
-    ∷ lines_from (number + 1) (counted_with before (reading_of text)) texts
+    ∷ lines_from (number + 1) (before ++ said (reading_of text)) texts
 
 unfoldable pub lines_of : List ℕ → List Line
-lines_of bytes = lines_from 1 none_counted (texts_of bytes)
+lines_of bytes = lines_from 1 [] (texts_of bytes)
 
 -- ---- refusal
 
 -- the first cause of a line: its own, or else the one that it has after the lines before it
-abbrev pub cause_after : Counts → Result Command Cause → Option Cause
+abbrev pub cause_after : List Command → Result Command Cause → Option Cause
 cause_after before (Err cause) = Some cause
-cause_after before (Ok command) = limit_cause (counted before command) command
+cause_after before (Ok command) = limit_cause (before ++ command ∷ []) command
 
 abbrev pub error_at : ℕ → Option Cause → Option InputError
 error_at number None = None
@@ -71,8 +70,8 @@ begins_client (Ok command) = is_client command
 begins_client (Err cause) = false
 
 -- the request of a line. The record of a PUT line has as many records before it as there are PUT lines.
-abbrev pub request_by : Counts → Result Command Cause → Option Request
-request_by before (Ok (says.Put name fields)) = Some (asks.Put name before.puts)
+abbrev pub request_by : List Command → Result Command Cause → Option Request
+request_by before (Ok (says.Put name fields)) = Some (asks.Put name (puts_in before))
 request_by before (Ok (says.Delete name)) = Some (asks.Delete name)
 request_by before (Ok (says.Head name)) = Some (asks.Head name)
 request_by before (Ok (says.List query)) = Some (asks.List query)

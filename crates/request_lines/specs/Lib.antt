@@ -5,6 +5,7 @@ pub mod Reads
 pub mod Texts
 pub mod Queries
 pub mod Grammar
+pub mod Counting
 pub mod Input
 pub mod Session
 pub mod Left

@@ -147,27 +147,35 @@ first_that holds (cause ∷ causes) = if holds cause then Some cause else first_
 
 -- ---- meaning
 
--- what the last parameter of this name says, or else this
-abbrev pub given : {A : Type 0} → Name → (List ℕ → A) → A → List Parameter → A
-given name says other [] = other
-given name says other (p ∷ ps) = given name says (if is_name name p.name then says p.value else other) ps
+-- the value of the parameter of this name, where there is one
+abbrev pub value_of : Name → List Parameter → Option (List ℕ)
+value_of name [] = None
+value_of name (p ∷ ps) = if is_name name p.name then Some p.value else value_of name ps
+
+-- what a value says, or what no value says
+abbrev pub or_else : {A : Type 0} → (List ℕ → A) → A → Option (List ℕ) → A
+or_else says nothing None = nothing
+or_else says nothing (Some value) = says value
 
 -- the most entries of a page: the number, or 1,000 where that is less or there is no number
 abbrev pub most_entries : List ℕ → ℕ
 most_entries value = if is_max_keys value then min (digits_value 10 value) 1000 else 1000
 
+abbrev pub is_url : List ℕ → Bool
+is_url value = bytes_eq value (codes "url")
+
 abbrev pub as_it_is : List ℕ → List ℕ
 as_it_is value = value
 
--- what these parameters ask; what none of them gives is as in the other query
-abbrev pub asked_of : ListQuery → List Parameter → ListQuery
-asked_of other ps = record {
-  prefix = given Prefix as_it_is other.prefix ps;
-  delimiter = given Delimiter as_it_is other.delimiter ps;
-  start_after = given StartAfter as_it_is other.start_after ps;
-  token = given ContinuationToken as_it_is other.token ps;
-  max_keys = given MaxKeys most_entries other.max_keys ps;
-  url = given EncodingType (λ value. bytes_eq value (codes "url")) other.url ps;
+-- what these parameters ask, of which no two have one name
+abbrev pub asked_of : List Parameter → ListQuery
+asked_of ps = record {
+  prefix = or_else as_it_is [] (value_of Prefix ps);
+  delimiter = or_else as_it_is [] (value_of Delimiter ps);
+  start_after = or_else as_it_is [] (value_of StartAfter ps);
+  token = or_else as_it_is [] (value_of ContinuationToken ps);
+  max_keys = or_else most_entries 1000 (value_of MaxKeys ps);
+  url = or_else is_url false (value_of EncodingType ps);
 }
 
 abbrev pub query_or : Option Cause → ListQuery → Result ListQuery Cause
@@ -176,7 +184,7 @@ query_or (Some cause) query = Err cause
 
 -- the query of these parameters, or the first cause that they have
 abbrev pub query_of : List Parameter → Result ListQuery Cause
-query_of ps = query_or (first_that (have ps) parameter_causes) (asked_of plain_query ps)
+query_of ps = query_or (first_that (have ps) parameter_causes) (asked_of ps)
 
 unfoldable pub query_read : List ℕ → Result ListQuery Cause
 query_read query = do

@@ -13,8 +13,9 @@ use Rattle.request_lines.specs.declared.session.ClientPart.{ClientPart}
 use Rattle.request_lines.specs.declared.session_error.InputError.{InputError}
 use Rattle.request_lines.specs.declared.session_error.SessionError.{SessionError}
 use Rattle.request_lines.specs.declared.session_error.SessionError.TheVariants as errors
-use Rattle.request_lines.specs.Grammar.{reading_of, none_counted}
-use Rattle.request_lines.specs.Input.{counted_with, cause_after, error_at, begins_client, request_by, asked_at, name_by, record_by}
+use Rattle.request_lines.specs.Grammar.{reading_of}
+use Rattle.request_lines.specs.Counting.{none_counted, counted_with, cause_after, request_by}
+use Rattle.request_lines.specs.Input.{error_at, begins_client, asked_at, name_by, record_by}
 
 -- what the lines so far have asked: how much, the parts of the clients that have ended, what the last client
 -- has asked, and the names and records

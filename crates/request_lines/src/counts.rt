@@ -1,6 +1,7 @@
 // What the lines so far have asked, against the limits of a session.
 ghost use Rattle.std.specs.Prelude.{◌≡◌, None, Some, IfOk, MatchResult};
-ghost use Rattle.request_lines.specs.Grammar.{IsWithin, IsFineCommand, counted, limit_cause, none_counted};
+ghost use Rattle.request_lines.specs.Counting.{IsWithin, counted, limit_cause, none_counted};
+ghost use Rattle.request_lines.specs.Grammar.{IsFineCommand};
 
 use crate::Cause;
 use crate::command::Command;
@@ -36,7 +37,7 @@ impl Counts {
     }
 
     /// The counts with this line, or the limit that it passes.
-    #[tactic(auto, unfolding(crate::specs::Grammar::limit_cause))]
+    #[tactic(auto, unfolding(crate::specs::Counting::limit_cause))]
     pub fn admitted(self, command: &Command) -> Result<Counts, Cause>
         requires within { IsWithin self }
         requires fine { IsFineCommand command.now }

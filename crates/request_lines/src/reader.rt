@@ -2,7 +2,8 @@
 ghost use Rattle.std.specs.Prelude.{◌≡◌, ◌∷◌, [], ◌++◌, Ok, OnOk, IfOk, IsOkUnless};
 ghost use Rattle.request_lines.specs.declared.line_error.LineError.TheVariants.{NoMemory as OutOfMemory};
 ghost use Rattle.request_lines.specs.declared.session_error.SessionError.TheVariants.{NoMemory as NoSession};
-ghost use Rattle.request_lines.specs.Grammar.{IsWithin, IsFineCommand, counted};
+ghost use Rattle.request_lines.specs.Counting.{IsWithin, counted};
+ghost use Rattle.request_lines.specs.Grammar.{IsFineCommand};
 ghost use Rattle.request_lines.specs.Reading.{Progress, progress, no_progress, all_ended, kept, Takes, Keeps};
 
 use crate::command::{Command, command_of};

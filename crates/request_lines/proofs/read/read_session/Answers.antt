@@ -1,9 +1,11 @@
-use Rattle.std.proofs.Common.{IfOk, ◌+◌, ap, arith}
+use Rattle.std.proofs.Common.{Err, IfOk, ◌+◌, ap, arith}
 use Rattle.std.proofs.lemmas.Result.{err_from_is_err_and, IfOk-weaker}
 use Rattle.request_lines.specs.Session.{HasNames, HasRecords, HasRequests, HasLines, IsSmall}
 use Rattle.request_lines.specs.Reading.{progress}
 use Rattle.request_lines.specs.Left.{texts_left, size_left}
 use Rattle.request_lines.proofs.InputLaws.{halfway_start, halfway_more, halfway_next, refused_at, session_at, answer_at}
+use Rattle.request_lines.proofs.CountedLines.{IsSessionOf}
+use Rattle.request_lines.proofs.LineCounts.{session_is, refused_is}
 use Rattle.request_lines.proofs.Sound.{sound_start, sound_more, sound_answer, IsSoundSession}
 use Rattle.request_lines.proofs.read.read_session.Goals as goal
 
@@ -37,15 +39,19 @@ returns-in_err-take-clause-refused c =
     let text = c.first_line.result.0.now in
     let rest = c.first_line.result.1 in
     let half = halfway_next c.args.bytes.now p number c.loop-left.left rest c.in-Some.lines text c.in-Some.is c.first_line.ensures.cut c.loop-left.invariant.halfway in
-    rw (error.1, error.2) (refused_at c.args.bytes.now p p number text (texts_left rest) _ c.in_err-take.ensures.taken half)
+    rw (error.1, error.2) (refused_is c.args.bytes.now (Err c.in_err-take.field-0.0) (refused_at c.args.bytes.now p p number text (texts_left rest) _ c.in_err-take.ensures.taken half))
 
-pub returns-clause-session : goal.returns-clause-session
-returns-clause-session c =
+-- the session is that of the lines as the reader counts them
+counted_session : (c : goal.After-finish) → IfOk c.finish.result (IsSessionOf c.args.bytes.now)
+counted_session c =
     session_at c.args.bytes.now (progress c.loop-left.reader) (c.loop-left.number + 1) c.finish.result
     (rw c.in_default.is at c.loop-left.invariant.halfway) c.finish.ensures.clients c.finish.ensures.names c.finish.ensures.records
 
+pub returns-clause-session : goal.returns-clause-session
+returns-clause-session c = IfOk-weaker _ (IsSessionOf c.args.bytes.now) _ (λ s is. session_is c.args.bytes.now s is) (counted_session c)
+
 pub returns-clause-refused : goal.returns-clause-refused
-returns-clause-refused c = answer_at c.args.bytes.now _ (returns-clause-session c) c.finish.ensures.memory
+returns-clause-refused c = refused_is c.args.bytes.now _ (answer_at c.args.bytes.now _ (counted_session c) c.finish.ensures.memory)
 
 -- what holds of the session
 sound : (c : goal.After-finish) → IfOk c.finish.result IsSoundSession

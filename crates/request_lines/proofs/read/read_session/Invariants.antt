@@ -1,5 +1,5 @@
 use Rattle.std.proofs.Common.{◌≤◌, ◌+◌, length}
-use Rattle.request_lines.specs.Grammar.{IsWithin}
+use Rattle.request_lines.specs.Counting.{IsWithin}
 use Rattle.request_lines.specs.Reading.{progress}
 use Rattle.request_lines.specs.Left.{texts_left, size_left}
 use Rattle.request_lines.proofs.InputLaws.{IsHalfway}

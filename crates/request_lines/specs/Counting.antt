@@ -1,0 +1,60 @@
+-- What a reader counts of the lines so far.
+use Rattle.std.specs.Prelude.{◌+◌, ◌≤◌, ◌==◌, ◌&&◌, not, nat_lt, Option, Some, None, Result, Ok, Err, if◌then◌else◌}
+use Rattle.bucket_terms.specs.declared.request.Request.{Request}
+use Rattle.bucket_terms.specs.declared.request.Request.TheVariants as asks
+use Rattle.request_lines.specs.declared.cause.Cause.{Cause}
+use Rattle.request_lines.specs.declared.cause.Cause.TheVariants.{NoClient, TooManyClients, TooManyLines, TooManyEntries, NotBuilt}
+use Rattle.request_lines.specs.declared.command.Command.{Command}
+use Rattle.request_lines.specs.declared.command.Command.TheVariants as says
+use Rattle.request_lines.specs.declared.counts.Counts.{Counts}
+use Rattle.request_lines.specs.Grammar.{is_client}
+
+-- before the first line
+abbrev pub none_counted : Counts
+none_counted = record { clients = 0; requests = 0; puts = 0; entries = 0; last = 0 }
+
+-- with one line more. A LIST line counts with its `max_keys`, the most entries that its page can have, and a
+-- NEXT line with that of its client's last LIST line, or 0 where there is none.
+abbrev pub counted : Counts → Command → Counts
+counted so_far says.Client = record so_far { clients = so_far.clients + 1; last = 0 }
+counted so_far (says.Put name fields) = record so_far { requests = so_far.requests + 1; puts = so_far.puts + 1 }
+counted so_far (says.Delete name) = record so_far { requests = so_far.requests + 1 }
+counted so_far (says.Head name) = record so_far { requests = so_far.requests + 1 }
+counted so_far (says.List query) = record so_far { requests = so_far.requests + 1; entries = so_far.entries + query.max_keys; last = query.max_keys }
+counted so_far says.Next = record so_far { requests = so_far.requests + 1; entries = so_far.entries + so_far.last }
+
+-- the counts of lines that keep the limits
+pub record IsWithin (so_far : Counts) : Type 0 where
+  pub clients : so_far.clients ≤ 1
+  pub requests : so_far.requests ≤ 200000
+  pub puts : so_far.puts ≤ so_far.requests
+  pub entries : so_far.entries ≤ 4000000
+  pub last : so_far.last ≤ 1000
+
+-- the first cause that a line has after the lines before it. The counts are those up to and with the line.
+unfoldable pub limit_cause : Counts → Command → Option Cause
+limit_cause so_far command =
+    if not (is_client command) && so_far.clients == 0 then Some NoClient
+    else if is_client command && nat_lt 32 so_far.clients then Some TooManyClients
+    else if nat_lt 200000 so_far.requests then Some TooManyLines
+    else if nat_lt 4000000 so_far.entries then Some TooManyEntries
+    else if is_client command && nat_lt 1 so_far.clients then Some NotBuilt
+    else None
+
+abbrev pub counted_with : Counts → Result Command Cause → Counts
+counted_with before (Ok command) = counted before command
+counted_with before (Err cause) = before
+
+-- the first cause of a line: its own, or else the one that it has after the lines before it
+abbrev pub cause_after : Counts → Result Command Cause → Option Cause
+cause_after before (Err cause) = Some cause
+cause_after before (Ok command) = limit_cause (counted before command) command
+
+-- the request of a line. The record of a PUT line has as many records before it as there are PUT lines.
+abbrev pub request_by : Counts → Result Command Cause → Option Request
+request_by before (Ok (says.Put name fields)) = Some (asks.Put name before.puts)
+request_by before (Ok (says.Delete name)) = Some (asks.Delete name)
+request_by before (Ok (says.Head name)) = Some (asks.Head name)
+request_by before (Ok (says.List query)) = Some (asks.List query)
+request_by before (Ok says.Next) = Some asks.Next
+request_by before reading = None
