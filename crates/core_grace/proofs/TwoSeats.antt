@@ -1,20 +1,19 @@
 -- A seat that is split in two, and a seat that is joined into another one: the rule on slots is kept.
-use Rattle.std.proofs.Common.{◌≡◌, ◌≢◌, ℕ, ◌+◌, ◌<◌, ◌≤◌, ◌⊎◌, cond, List, [], ◌∷◌, ◌++◌, set, arith, refl, ap, ◌∙◌, sym, subst, inl, inr, Option, Some, None}
+use Rattle.std.proofs.Common.{◌≡◌, ◌≢◌, ℕ, ◌+◌, ◌<◌, List, [], ◌∷◌, ◌++◌, set, arith, refl, ap, ◌∙◌, sym, subst, inl, inr, Some, None}
 use Rattle.std.specs.List.{All, sum_by}
 use Rattle.std.proofs.lemmas.List.Elements.{All-set, All-push}
 use Rattle.std.proofs.lemmas.Bool.{cases_lt}
 use Rattle.index_words.specs.declared.layout.Layout.{Layout}
 use Rattle.index_words.specs.declared.view.View.{View}
 use Rattle.index_words.specs.declared.view.slots.Slots.{Slots}
-use Rattle.index_words.specs.declared.view.slots.Looks.{Looks}
 use Rattle.index_words.specs.declared.view.slots.SectionFound.{SectionFound}
 use Rattle.index_words.specs.Views.{no_slots, no_looks}
 use Rattle.index_words.specs.Lists.{count, Every, IsItem}
-use Rattle.index_words.proofs.Seats.{Beside, at_item, all_moved, all_framed, pairs_moved, sum_split, sum_joined}
+use Rattle.index_words.proofs.Seats.{at_item, all_moved, all_framed, sum_split, sum_joined}
 use Rattle.index_words.proofs.Counting.{count-append}
 use Rattle.core_grace.specs.Batches.{both}
 use Rattle.core_grace.specs.Slots.{nodes_of, entries_in, own, own_free, SlotsRight, HoldsNone, GraceRight, KeepsEntries, Linked, SlotRule}
-use Rattle.core_grace.proofs.RuleMoves.{HoldsFrom, KeepsSection, grace_column, grace_moved, same_looks, no_looks_right, batch_unlinked}
+use Rattle.core_grace.proofs.RuleMoves.{HoldsFrom, KeepsSection, grace_moved, same_looks, no_looks_right}
 
 every_all : {X : Type 0} (P : X → Type 0) (xs : List X) → ((x : X) → P x) → Every P xs
 every_all P [] all = tt

@@ -1,20 +1,28 @@
 -- What an allowed event says of its seat.
-use Rattle.std.proofs.Common.{◌≡◌, ◌≢◌, ℕ, ◌<◌, ◌≤◌, length, Bool, true, false, not, eqb, ◌&&◌, ◌||◌, arith, refl, sym, subst, Option, Some, None, is_none}
+use Rattle.std.proofs.Common.{◌≡◌, ◌≢◌, ℕ, ◌+◌, ◌^◌, ◌<◌, ◌≤◌, length, Bool, true, false, not, eqb, ◌&&◌, ◌||◌, arith, refl, sym, subst, Option, Some, None, is_none}
 use Rattle.std.specs.List.{slice_get}
 use Rattle.std.proofs.lemmas.Bool.{and_parts, eqb-true}
 use Rattle.std.proofs.lemmas.Bool.Decides.{nat_tests}
 use Rattle.std.proofs.lemmas.Option.{slice_get_within, get_or_from_slice_get}
 use Rattle.index_words.specs.declared.view.View.{View}
+use Rattle.index_words.specs.declared.word.Field.{Field}
+use Rattle.index_words.specs.declared.word.Field.TheVariants.{Key, Val, Lock, Mark, Head, Link, Tag}
 use Rattle.index_words.specs.declared.word.Word.{Word}
 use Rattle.index_words.specs.declared.word.Word.TheVariants.{Stamp, Section, Announced, Node, Entry}
 use Rattle.core_rule.specs.declared.event.Event.{Event}
 use Rattle.core_rule.specs.declared.event.Kind.{Kind}
-use Rattle.core_rule.specs.declared.event.Kind.TheVariants.{SplitSeat, JoinSeat, LookSec}
-use Rattle.core_rule.specs.Needs.{may_look, may_join_found, is_stamp}
+use Rattle.core_rule.specs.declared.event.Kind.TheVariants.{SplitSeat, JoinSeat, Prepare, Raise}
+use Rattle.core_rule.specs.Needs.{may_join_found, is_stamp}
+use Rattle.core_rule.specs.UpdateNeeds.{is_slot_number, may_prepare_entry, may_prepare_head, may_prepare, may_raise}
+use Rattle.core_rule.specs.Histories.{calls_left}
+use Rattle.core_rule.specs.Rule.{IsRight}
 use Rattle.core_rule.specs.Tables.{Table, held_by}
-use Rattle.core_rule.specs.Seats.{HasFree}
-use Rattle.core_rule.specs.Steps.{needs, allowed_at}
-use Rattle.core_rule.proofs.StepLaw.{not_equal}
+use Rattle.core_rule.specs.Seats.{HasFree, HasCalls}
+use Rattle.core_rule.specs.Steps.{needs, carries, allowed_at}
+use Rattle.index_words.specs.Words.{Memory}
+use Rattle.index_words.proofs.Seats.{one_term}
+use Rattle.core_rule.proofs.EachKind.{item_from_get}
+use Rattle.core_rule.proofs.StepLaw.{never, not_equal}
 
 pub record Needed (t : Table) (e : Event) (w : Word) : Type 0 where
   pub v : View
@@ -24,7 +32,7 @@ pub record Needed (t : Table) (e : Event) (w : Word) : Type 0 where
 needed_by : (t : Table) (e : Event) (w : Word) (o : Option View) → slice_get t.views e.seat ≡ o → allowed_at t e o (Some w) ≡ true → Needed t e w
 needed_by t e w None is met = cc
 needed_by t e w (Some v) is met =
-    record { v = v; is = is; met = (and_parts (is_none e.update && not v.joined) (needs e.kind (held_by t) t.views e.seat v w e.value) met).1 }
+    record { v = v; is = is; met = (and_parts (carries e.kind v e.update && not v.joined) (needs e.kind (held_by t) t.views e.seat v w e.value) met).1 }
 
 pub needed : (t : Table) (e : Event) (w : Word) → allowed_at t e (slice_get t.views e.seat) (Some w) ≡ true → Needed t e w
 needed t e w met = needed_by t e w (slice_get t.views e.seat) refl met
@@ -83,15 +91,60 @@ join_other t e w met is =
     let two = and_parts (is_stamp w) (not (eqb e.value e.seat)) one.0 in
     other_by t e need.v (slice_get t.views e.value) refl one.1 (not_equal e.value e.seat two.1)
 
-no_section : (v : View) (w : Word) (value : ℕ) → ((pass : ℕ) → w ≡ Section pass → ⊥) → may_look v w value ≡ true → ⊥
-no_section v (Section pass) value other met = other pass refl
-no_section v Stamp value other met = cc
-no_section v (Announced k) value other met = cc
-no_section v (Node f k) value other met = cc
-no_section v (Entry p k) value other met = cc
-
--- a look is at a section word
-pub look_at_section : (t : Table) (e : Event) (w : Word) → allowed_at t e (slice_get t.views e.seat) (Some w) ≡ true → e.kind ≡ LookSec → ((pass : ℕ) → w ≡ Section pass → ⊥) → ⊥
-look_at_section t e w met is other =
+-- a prepared entry is named by 32 bits
+pub prepare_small : (t : Table) (e : Event) (w : Word) → allowed_at t e (slice_get t.views e.seat) (Some w) ≡ true → e.kind ≡ Prepare → e.value < 2 ^ 32
+prepare_small t e w met is =
     let need = needed t e w met in
-    no_section need.v w e.value other (split_met t e w LookSec need.v is need.met)
+    small_by (held_by t) need.v w e.value (split_met t e w Prepare need.v is need.met)
+  where
+    low : (x : ℕ) → is_slot_number x ≡ true → x < 2 ^ 32
+    low x p = grind (arith, nat_tests)
+
+    small_at : (m : Memory) (v : View) (f : Field) (k x : ℕ) → may_prepare_head m v f k x ≡ true → x < 2 ^ 32
+    small_at m v (Head side) k x met =
+        low x (and_parts (is_slot_number x) (may_prepare_entry m v side k x) met).0
+    small_at m v Key k x met = absurd (never met)
+    small_at m v Val k x met = absurd (never met)
+    small_at m v Lock k x met = absurd (never met)
+    small_at m v Mark k x met = absurd (never met)
+    small_at m v (Link side) k x met = absurd (never met)
+    small_at m v (Tag side) k x met = absurd (never met)
+
+    small_by : (m : Memory) (v : View) (u : Word) (x : ℕ) → may_prepare m v u x ≡ true → x < 2 ^ 32
+    small_by m v (Node f k) x met = small_at m v f k x met
+    small_by m v Stamp x met = absurd (never met)
+    small_by m v (Section i) x met = absurd (never met)
+    small_by m v (Announced i) x met = absurd (never met)
+    small_by m v (Entry p e) x met = absurd (never met)
+
+-- a raise has a call left, and the stamp after it is small
+pub record Raises (t : Table) (e : Event) (w : Word) : Type 0 where
+  pub calls : HasCalls t.views e.seat
+  pub small : held_by t w + 1 < 2 ^ 64
+  pub stamp : w ≡ Stamp
+
+raises_at : (t : Table) (e : Event) (u : Word) (v : View) → slice_get t.views e.seat ≡ Some v → IsRight t → may_raise v u e.value ≡ true → Raises t e u
+raises_at t e Stamp v is right met =
+    let c = not (eqb v.history.left 0) in
+    let f = not (eqb (length v.update.pending) 0) in
+    let one = and_parts (is_stamp Stamp && eqb e.value 0 && is_none v.update.raised && c) f met in
+    let two = and_parts (is_stamp Stamp && eqb e.value 0 && is_none v.update.raised) c one.0 in
+    let left : 0 < v.history.left = some_left v.history.left two.1 in
+    let within = slice_get_within t.views e.seat v is in
+    record {
+      calls = record { within = within; left = λ d. subst (λ (x : View). 0 < x.history.left) (sym (get_or_from_slice_get t.views e.seat v d is)) left };
+      small = omega (arith, right.rule.history.calls, right.rule.history.few, left, one_term calls_left t.views e.seat v (item_from_get t.views e.seat v is));
+      stamp = refl;
+    }
+  where
+    some_left : (n : ℕ) → not (eqb n 0) ≡ true → 0 < n
+    some_left n p = grind (arith, nat_tests)
+raises_at t e (Section i) v is right met = absurd (never met)
+raises_at t e (Announced i) v is right met = absurd (never met)
+raises_at t e (Node f k) v is right met = absurd (never met)
+raises_at t e (Entry p k) v is right met = absurd (never met)
+
+pub raises : (t : Table) (e : Event) (w : Word) → IsRight t → allowed_at t e (slice_get t.views e.seat) (Some w) ≡ true → e.kind ≡ Raise → Raises t e w
+raises t e w right met is =
+    let need = needed t e w met in
+    raises_at t e w need.v need.is right (split_met t e w Raise need.v is need.met)

@@ -1,8 +1,8 @@
 -- The table at the start meets the rule.
-use Rattle.std.proofs.Common.{◌≡◌, ℕ, ◌+◌, zero, suc, cond, List, [], ◌∷◌, ◌++◌, length, Bool, true, false, eqb, ltb, leb, ◌&&◌, get_or, arith, refl, ap, ◌∙◌, sym, subst, Option, Some, None, replicate, slice_index}
-use Rattle.std.specs.List.{All, sum_by}
+use Rattle.std.proofs.Common.{◌≡◌, ℕ, ◌+◌, zero, suc, cond, List, [], ◌∷◌, ◌++◌, length, take, ◌<◌, Bool, true, false, eqb, ltb, leb, ◌&&◌, get_or, arith, refl, ap, ◌∙◌, sym, subst, Option, Some, None, replicate, slice_index}
+use Rattle.std.specs.List.{All, sum_by, slice_get}
 use Rattle.std.proofs.lemmas.Bool.Decides.{nat_tests}
-use Rattle.std.proofs.lemmas.List.{length-replicate}
+use Rattle.std.proofs.lemmas.List.{length-replicate, length-append, get_or_push}
 use Rattle.std.proofs.lemmas.List.Elements.{All-nil, All-cons, All-append, All-weaker}
 use Rattle.std.proofs.lemmas.List.Sums.{sum_by-cons, sum_by_push}
 use Rattle.index_words.specs.declared.layout.Layout.{Layout}
@@ -10,20 +10,32 @@ use Rattle.index_words.specs.declared.pass.PassSize.{PassSize}
 use Rattle.index_words.specs.declared.view.View.{View}
 use Rattle.index_words.specs.declared.view.slots.Slots.{Slots}
 use Rattle.index_words.specs.declared.word.Word.{Word}
-use Rattle.index_words.specs.declared.word.Word.TheVariants.{Section, Announced}
-use Rattle.index_words.specs.Sizes.{all_nodes, all_entries, layout_of}
-use Rattle.index_words.specs.Views.{empty_view, no_slots, no_looks}
+use Rattle.index_words.specs.declared.view.reading.Reading.{Reading}
+use Rattle.index_words.specs.declared.view.update.Updating.{Updating}
+use Rattle.index_words.specs.declared.update.Update.{Update}
+use Rattle.index_words.specs.declared.word.Field.TheVariants.{Lock, Mark, Head}
+use Rattle.index_words.specs.declared.word.Part.TheVariants.{Child, Stamp as Number}
+use Rattle.index_words.specs.declared.word.Word.TheVariants.{Section, Announced, Stamp, Node, Entry}
+use Rattle.index_words.specs.Sizes.{all_nodes, all_entries, all_calls, layout_of, FitTable}
+use Rattle.index_words.specs.Views.{empty_view, no_slots, no_looks, no_reading, no_update}
 use Rattle.index_words.specs.Words.{memory, word_count, is_there, address}
-use Rattle.index_words.specs.Lists.{count}
+use Rattle.index_words.specs.Lists.{count, Every}
 use Rattle.index_words.proofs.Counting.{count-push}
 use Rattle.core_grace.specs.Holds.{HoldsNode, HoldsEntry}
 use Rattle.core_grace.specs.Slots.{nodes_of, entries_in, own, own_free, is_slot, GraceRight, KeepsEntries}
 use Rattle.core_grace.proofs.RuleMoves.{no_looks_right}
 use Rattle.core_rule.specs.Numbers.{number_count}
 use Rattle.core_rule.specs.SectionRule.{IsIdle, SectionRight, IsOwnWord}
-use Rattle.core_rule.specs.Rule.{Meaning, linked_by, HasLayout, InRule, IsRight}
+use Rattle.core_links.specs.Bundle.{no_number}
+use Rattle.core_rule.specs.Meanings.{Meaning, linked_by}
+use Rattle.core_rule.specs.Histories.{SeenRight, place_count, calls_left, made_by, update_at}
+use Rattle.core_rule.specs.Locks.{lock_count}
+use Rattle.core_rule.specs.BundleRule.{UpdateRight, IsPending, pending_count}
+use Rattle.core_rule.specs.Readers.{VersionRight, PlaceRight, LinkRight}
+use Rattle.core_rule.specs.SeatRule.{SeatRight}
+use Rattle.core_rule.specs.Rule.{InRule, IsRight}
 use Rattle.core_rule.specs.Openings.{from_up, pass_view, pass_views, opening}
-use Rattle.core_rule.proofs.Idle.{idle_nodes, idle_entries}
+use Rattle.core_rule.proofs.Idle.{idle_nodes, idle_entry}
 
 -- 1 for a number from `first` on, and 0 for another one
 abbrev pub between : ℕ → ℕ → ℕ → ℕ
@@ -46,17 +58,21 @@ count-from_up x first (suc n) = count-push x (from_up first n) (first + n) ∙ a
 record IsFresh (z : Layout) (v : View) : Type 0 where
   layout : v.layout ≡ z
   idle : IsIdle v
+  seen : v.history.seen ≡ []
+  told : v.history.told ≡ []
+  found : v.history.found ≡ 0
   grace : v.grace ≡ no_looks
   retired : v.retired ≡ no_slots
   batch : v.batch ≡ no_slots
+  nexts : v.held.nexts ≡ []
   section_word : v.section_word ≡ 0
   announced : v.announced ≡ 0
 
 pass_fresh : (z : Layout) (k a b : ℕ) (size : PassSize) → IsFresh z (pass_view z k a b size)
-pass_fresh z k a b size = record { layout = refl; idle = record { reading = refl; held = refl }; grace = refl; retired = refl; batch = refl; section_word = refl; announced = refl }
+pass_fresh z k a b size = record { layout = refl; idle = record { reading = refl; held = refl; update = refl }; seen = refl; told = refl; found = refl; grace = refl; retired = refl; batch = refl; nexts = refl; section_word = refl; announced = refl }
 
 empty_fresh : (z : Layout) → IsFresh z (empty_view z)
-empty_fresh z = record { layout = refl; idle = record { reading = refl; held = refl }; grace = refl; retired = refl; batch = refl; section_word = refl; announced = refl }
+empty_fresh z = record { layout = refl; idle = record { reading = refl; held = refl; update = refl }; seen = refl; told = refl; found = refl; grace = refl; retired = refl; batch = refl; nexts = refl; section_word = refl; announced = refl }
 
 passes_fresh : (z : Layout) (k a b : ℕ) (sizes : List PassSize) → All (IsFresh z) (pass_views z k a b sizes)
 passes_fresh z k a b [] = All-nil (IsFresh z)
@@ -95,6 +111,37 @@ sum_entries x z k a b (size ∷ sizes) =
     omega (arith, sum_entries x z (k + 1) (a + size.nodes) (b + size.entries) sizes, between_both x b size.entries (all_entries sizes), count-from_up x b size.entries) in
     head ∙ step ∙ ap (between x b) (sym (sum_by-cons (λ (s : PassSize). s.entries) size sizes))
 
+sum_places : (n x : ℕ) (z : Layout) (k a b : ℕ) (sizes : List PassSize) → sum_by (place_count n x) (pass_views z k a b sizes) ≡ 0
+sum_places n x z k a b [] = refl
+sum_places n x z k a b (size ∷ sizes) =
+    omega (
+      arith,
+      sum_by-cons (place_count n x) (pass_view z k a b size) (pass_views z (k + 1) (a + size.nodes) (b + size.entries) sizes),
+      no_place (eqb k n),
+      sum_places n x z (k + 1) (a + size.nodes) (b + size.entries) sizes,
+    )
+  where
+    no_place : (c : Bool) → 0 + cond c 0 0 ≡ 0
+    no_place true = refl
+    no_place false = refl
+
+sum_calls : (z : Layout) (k a b : ℕ) (sizes : List PassSize) → sum_by calls_left (pass_views z k a b sizes) ≡ all_calls sizes
+sum_calls z k a b [] = refl
+sum_calls z k a b (size ∷ sizes) =
+    sum_by-cons calls_left (pass_view z k a b size) (pass_views z (k + 1) (a + size.nodes) (b + size.entries) sizes)
+    ∙ ap (λ n. size.calls + n) (sum_calls z (k + 1) (a + size.nodes) (b + size.entries) sizes)
+    ∙ sym (sum_by-cons (λ (s : PassSize). s.calls) size sizes)
+
+sum_none : (f : View → ℕ) (z : Layout) (k a b : ℕ) (sizes : List PassSize) → ((c d e : ℕ) (size : PassSize) → f (pass_view z c d e size) ≡ 0) → sum_by f (pass_views z k a b sizes) ≡ 0
+sum_none f z k a b [] none = refl
+sum_none f z k a b (size ∷ sizes) none =
+    omega (
+      arith,
+      sum_by-cons f (pass_view z k a b size) (pass_views z (k + 1) (a + size.nodes) (b + size.entries) sizes),
+      none k a b size,
+      sum_none f z (k + 1) (a + size.nodes) (b + size.entries) sizes none,
+    )
+
 between_slot : (x n : ℕ) → between x 1 n ≡ is_slot n x
 between_slot x n = grind (arith, nat_tests)
 
@@ -118,9 +165,28 @@ zero_word : (word : ℕ → ℕ) (number : Option ℕ) (held : ℕ) → ((n : �
 zero_word word None held zeros none = none
 zero_word word (Some n) held zeros none = zeros n ∙ sym none
 
--- what the words mean at the start: there is no bundle, and nothing is linked
+-- what the words mean at the start: there is no update and no bundle, and nothing is linked
 abbrev pub nothing_linked : Meaning
-nothing_linked = record { bundles = record { bundle = λ side k. []; number = λ e. 0 }; linked_nodes = λ k. 0; linked_entries = λ e. 0 }
+nothing_linked = record { updates = []; bundles = record { bundle = λ side k. []; number = λ e. 0 }; tree = [] }
+
+nothing_taken : (n : ℕ) → take {A = Update} n [] ≡ []
+nothing_taken zero = refl
+nothing_taken (suc n) = refl
+
+seen_fresh : (z : Layout) (v : View) → IsFresh z v → SeenRight [] v.history
+seen_fresh z v fresh = record {
+  seen = fresh.seen ∙ sym (nothing_taken (length v.history.seen));
+  told = fresh.told ∙ sym (nothing_taken (length v.history.told));
+  known = omega (arith, ap length fresh.told);
+  found = omega (arith, fresh.found);
+}
+
+no_update_at : (n x : ℕ) → made_by n (update_at [] x) ≡ 0
+no_update_at n x = none_by n (eqb x 0)
+  where
+    none_by : (n : ℕ) (c : Bool) → made_by n (cond c None (slice_get {X = Update} [] 0)) ≡ 0
+    none_by n true = refl
+    none_by n false = refl
 
 module _ (z : Layout) (sizes : List PassSize) where
   abbrev ws : List ℕ
@@ -134,25 +200,71 @@ module _ (z : Layout) (sizes : List PassSize) where
     section = zero_word (λ n. memory z ws (Section n)) v.number v.section_word (λ n. zero_memory z (word_count z) (Section n)) fresh.section_word;
     announced = zero_word (λ n. memory z ws (Announced n)) v.number v.announced (λ n. zero_memory z (word_count z) (Announced n)) fresh.announced;
     outside = λ even. fresh.idle;
+    done = λ _. fresh.idle.update;
   }
+
+  seat_right : (v : View) → IsFresh z v → SeatRight z (memory z ws) nothing_linked v
+  seat_right v fresh =
+      let read : v.reading ≡ no_reading = fresh.idle.reading in
+      let locks : v.held.nodes ≡ [] = fresh.idle.held in
+      let update : v.update ≡ no_update = fresh.idle.update in
+      record {
+        layout = λ _. fresh.layout;
+        section = sections_right v fresh;
+        seen = seen_fresh z v fresh;
+        update = subst (UpdateRight (memory z ws Stamp)) (sym update) (record { raised = tt; first = λ _. refl });
+        version = subst (VersionRight z (memory z ws Stamp)) (sym read) (record { past = tt; opened = tt; bare = λ _. refl; there = λ k some. absurd (omega (arith, some)) });
+        locks = λ k some. absurd (omega (arith, some, ap (λ (hs : List _). lock_count k (record v { held = record v.held { nodes = hs } })) locks));
+        loaded = record { nodes = subst (Every _) (sym locks) tt; nexts = subst (Every _) (sym fresh.nexts) tt };
+        marks = record {
+          retired = λ k some. absurd (omega (arith, some, ap (λ (s : Slots). count k s.nodes) fresh.retired));
+          batch = λ k some. absurd (omega (arith, some, ap (λ (s : Slots). count k s.nodes) fresh.batch));
+        };
+        pending = subst (λ (x : Updating). Every (IsPending z (λ s k. memory z ws (Node (Head s) k)) (λ e. memory z ws (Entry Number e)) nothing_linked.bundles.number v) x.pending) (sym update) tt;
+        place = subst (λ (r : Reading). PlaceRight z (λ e. memory z ws (Entry Number e)) nothing_linked.bundles v r.place) (sym read) tt;
+        links = subst (λ (r : Reading). Every (LinkRight z (λ e. memory z ws (Entry Child e)) nothing_linked.bundles v) r.links) (sym read) tt;
+      }
 
   no_node : (v : View) → IsFresh z v → (k : ℕ) → HoldsNode v k → ⊥
   no_node v fresh k holds = omega (arith, holds, ap (count k) (idle_nodes v fresh.idle))
 
   no_entry : (v : View) → IsFresh z v → (e : ℕ) → HoldsEntry nothing_linked.bundles v e → ⊥
-  no_entry v fresh e holds = omega (arith, holds, ap (count e) (idle_entries nothing_linked.bundles v fresh.idle))
+  no_entry v fresh e holds = idle_entry nothing_linked.bundles v e fresh.idle holds
 
   no_slots_kept : (s : Slots) → s ≡ no_slots → KeepsEntries (linked_by nothing_linked).entries_of s
   no_slots_kept s none = subst (KeepsEntries (linked_by nothing_linked).entries_of) (sym none) (λ k e some of. absurd (omega arith))
 
-  pub opening_right : z ≡ layout_of sizes → IsRight (opening z sizes)
-  opening_right is = record {
+  nothing_pending : (f : View → ℕ) → ((c d e : ℕ) (size : PassSize) → f (pass_view z c d e size) ≡ 0) → f (empty_view z) ≡ 0 → sum_by f vs ≡ 0
+  nothing_pending f none last = omega (arith, sum_by_push f (pass_views z 0 1 1 sizes) (empty_view z), sum_none f z 0 1 1 sizes none, last)
+
+  nobody_holds : (e : ℕ) → sum_by (pending_count e) vs ≡ 0
+  nobody_holds e = nothing_pending (pending_count e) (λ c d x size. refl) refl
+
+  pub opening_right : z ≡ layout_of sizes → all_calls sizes < no_number → IsRight (opening z sizes)
+  opening_right is few = record {
     size = length-replicate (word_count z) 0;
     meaning = nothing_linked;
     rule = record {
-      layouts = All-weaker (IsFresh z) (HasLayout z) (λ v fresh live. fresh.layout) vs (all_fresh z sizes);
       numbers = λ n. sum_by_push (number_count n) (pass_views z 0 1 1 sizes) (empty_view z) ∙ omega (arith, sum_numbers n z 0 1 1 sizes) ∙ between_number n (length sizes) ∙ ap (λ (y : Layout). cond (ltb n y.passes) 1 0) (sym is);
-      sections = All-weaker (IsFresh z) (SectionRight (λ n. memory z ws (Section n)) (λ n. memory z ws (Announced n))) sections_right vs (all_fresh z sizes);
+      history = record {
+        long = sym (zero_memory z (word_count z) Stamp);
+        known = record {
+          place = length (pass_views z 0 1 1 sizes);
+          view = empty_view z;
+          at = record { within = omega (arith, length-append (pass_views z 0 1 1 sizes) (empty_view z ∷ [])); is = λ d. get_or_push (pass_views z 0 1 1 sizes) (empty_view z) d (length (pass_views z 0 1 1 sizes)) refl };
+          all = refl;
+        };
+        clients = tt;
+        places = λ n x. omega (arith, sum_by_push (place_count n x) (pass_views z 0 1 1 sizes) (empty_view z), sum_places n x z 0 1 1 sizes, no_update_at n x);
+        calls = omega (
+          arith,
+          zero_memory z (word_count z) Stamp,
+          sum_by_push calls_left (pass_views z 0 1 1 sizes) (empty_view z),
+          sum_calls z 0 1 1 sizes,
+          ap (λ (y : Layout). y.calls) is,
+        );
+        few = omega (arith, few, ap (λ (y : Layout). y.calls) is);
+      };
       slots = record {
         nodes = record {
           one = λ k. ap (λ n. n + 0) (sum_by_push (own nodes_of k) (pass_views z 0 1 1 sizes) (empty_view z)) ∙ omega (arith, sum_nodes k z 0 1 1 sizes) ∙ between_slot k (all_nodes sizes) ∙ ap (λ (y : Layout). is_slot y.nodes k) (sym is);
@@ -167,13 +279,18 @@ module _ (z : Layout) (sizes : List PassSize) where
         retired = All-weaker (IsFresh z) (λ v. KeepsEntries (linked_by nothing_linked).entries_of v.retired × KeepsEntries (linked_by nothing_linked).entries_of v.batch)
             (λ v fresh. (no_slots_kept v.retired fresh.retired, no_slots_kept v.batch fresh.batch)) vs (all_fresh z sizes);
       };
+      locks = λ k. nothing_pending (lock_count k) (λ c d x size. refl) refl ∙ ap (λ x. cond (eqb x 0) 0 1) (sym (zero_memory z (word_count z) (Node Lock k)));
+      marks = record { root = zero_memory z (word_count z) (Node Mark 0); nodes = λ k some. absurd (omega (arith, some)) };
+      bundles = λ k live side. record { chain = zero_memory z (word_count z) (Node (Head side) k); numbers = tt; tail = tt; falls = tt; owned = tt };
+      single = λ e. omega (arith, nobody_holds e);
+      seats = All-weaker (IsFresh z) (SeatRight z (memory z ws) nothing_linked) seat_right vs (all_fresh z sizes);
     };
   }
 
 -- the same for what the code makes
-pub started : (z : Layout) (sizes : List PassSize) (words : List ℕ) (views : List View) (n : ℕ) → z ≡ layout_of sizes → n ≡ word_count z → words ≡ replicate n 0
+pub started : (z : Layout) (sizes : List PassSize) (words : List ℕ) (views : List View) (n : ℕ) → FitTable sizes → z ≡ layout_of sizes → n ≡ word_count z → words ≡ replicate n 0
     → views ≡ pass_views z 0 1 1 sizes ++ empty_view z ∷ [] → InRule z words views
-started z sizes words views n is count_is words_are views_are =
+started z sizes words views n fit is count_is words_are views_are =
     let words_now : words ≡ replicate (word_count z) 0 = words_are ∙ ap (λ k. replicate k 0) count_is in
     subst (λ (xs : List ℕ). InRule z xs views) (sym words_now)
-    (subst (λ (xs : List View). InRule z (replicate (word_count z) 0) xs) (sym views_are) (opening_right z sizes is))
+    (subst (λ (xs : List View). InRule z (replicate (word_count z) 0) xs) (sym views_are) (opening_right z sizes is (omega (arith, fit.calls))))

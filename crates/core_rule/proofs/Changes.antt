@@ -4,15 +4,13 @@ use Rattle.std.specs.List.{slice_get}
 use Rattle.index_words.specs.declared.layout.Layout.{Layout}
 use Rattle.index_words.specs.declared.view.View.{View}
 use Rattle.index_words.specs.declared.word.Word.{Word}
-use Rattle.index_words.specs.declared.word.Word.TheVariants.{Section}
 use Rattle.index_words.specs.Words.{memory}
 use Rattle.index_words.specs.Views.{spent_view}
 use Rattle.core_rule.specs.declared.event.Event.{Event}
 use Rattle.core_rule.specs.declared.event.Kind.{Kind}
-use Rattle.core_rule.specs.declared.event.Kind.TheVariants.{JoinSeat, LookSec}
-use Rattle.core_grace.specs.Batches.{looked}
+use Rattle.core_rule.specs.declared.event.Kind.TheVariants.{JoinSeat}
 use Rattle.core_rule.specs.Moves.{joined_with}
-use Rattle.core_rule.specs.Steps.{views_after, join_found, look_from, IsChange}
+use Rattle.core_rule.specs.Steps.{views_after, join_found, IsChange}
 use lib.ListN.{set}
 
 pub on_ok : {T E P Q : Type 0} (r : Result T E) → (P → Q) → OnOk r P → OnOk r Q
@@ -21,10 +19,10 @@ on_ok (Err e) step holds = holds
 
 -- what the views are after an event of this kind
 pub change_of : (z : Layout) (words : List ℕ) (vs : List View) (e : Event) (w : Word) (changed : List View) (k : Kind) → e.kind ≡ k
-    → ((v : View) → slice_get vs e.seat ≡ Some v → changed ≡ views_after k z (memory z words) vs e.seat v w e.value)
+    → ((v : View) → slice_get vs e.seat ≡ Some v → changed ≡ views_after k z (memory z words) vs e.seat v w e.value e.update)
     → IsChange z words vs e w changed
 change_of z words vs e w changed k is all v found =
-    subst (λ (j : Kind). changed ≡ views_after j z (memory z words) vs e.seat v w e.value) (sym is) (all v found)
+    subst (λ (j : Kind). changed ≡ views_after j z (memory z words) vs e.seat v w e.value e.update) (sym is) (all v found)
 
 -- the same where the kind is a join with this other view
 pub join_change : (z : Layout) (words : List ℕ) (vs : List View) (e : Event) (w : Word) (changed : List View) (u : View) → e.kind ≡ JoinSeat → slice_get vs e.value ≡ Some u
@@ -34,12 +32,7 @@ join_change z words vs e w changed u is other all =
     change_of z words vs e w changed JoinSeat is
     (λ v found. all v u found other ∙ ap (join_found vs e.seat v e.value) (sym other))
 
--- the same where the kind is a look at the section word of this pass
-pub look_change : (z : Layout) (words : List ℕ) (vs : List View) (e : Event) (w : Word) (changed : List View) (pass x : ℕ) → e.kind ≡ LookSec → w ≡ Section pass → x ≡ memory z words (Section pass)
-    → ((v : View) → slice_get vs e.seat ≡ Some v → changed ≡ set vs e.seat (looked z.passes v pass x))
-    → IsChange z words vs e w changed
-look_change z words vs e w changed pass x is word value all =
-    change_of z words vs e w changed LookSec is
-    (λ v found. all v found
-    ∙ ap (λ y. set vs e.seat (looked z.passes v pass y)) value
-    ∙ ap (λ (u : Word). set vs e.seat (look_from z (memory z words) v u)) (sym word))
+-- a change of the seat's view by what was found in a word
+pub at_found : (vs : List View) (seat : ℕ) (changed : List View) (F : View → ℕ → View) (x y : ℕ) → x ≡ y
+    → ((v : View) → slice_get vs seat ≡ Some v → changed ≡ set vs seat (F v x)) → (v : View) → slice_get vs seat ≡ Some v → changed ≡ set vs seat (F v y)
+at_found vs seat changed F x y same all v found = all v found ∙ ap (λ n. set vs seat (F v n)) same

@@ -11,21 +11,22 @@ use Rattle.index_words.specs.declared.word.Word.TheVariants.{Stamp, Section, Ann
 use Rattle.index_words.specs.Views.{no_reading, no_slots, no_looks}
 use Rattle.index_words.specs.Words.{Memory, written}
 use Rattle.index_words.specs.Lists.{IsItem}
-use Rattle.index_words.proofs.Seats.{at_item, item_set}
+use Rattle.index_words.proofs.Seats.{item_set}
 use Rattle.core_grace.specs.Sections.{is_even}
 use Rattle.core_grace.specs.Batches.{is_empty, batch_taken, settled, looked_at, looked, is_number}
 use Rattle.core_rule.specs.Needs.{is_outside, is_own_section}
 use Rattle.core_rule.specs.Moves.{nowhere, in_section, entered, left}
 use Rattle.core_rule.specs.SectionRule.{IsIdle}
-use Rattle.core_rule.specs.Rule.{Meaning, Rule}
-use Rattle.core_rule.proofs.OneView.{Sections, taken, settled_right, look_right}
+use Rattle.core_rule.specs.Meanings.{Meaning}
+use Rattle.core_rule.specs.Rule.{Rule}
+use Rattle.core_rule.proofs.OneView.{seat_at, taken, settled_right, look_right}
 use Rattle.core_rule.proofs.Stores.{section_stored}
 
 pub item_from_get : {X : Type 0} (xs : List X) (i : ℕ) (x : X) → slice_get xs i ≡ Some x → IsItem xs i x
 item_from_get xs i x found = record { within = slice_get_within xs i x found; is = λ d. get_or_from_slice_get xs i x d found }
 
 taken_idle_by : (v : View) (b : Bool) → IsIdle v → IsIdle (cond b (record v { retired = no_slots; batch = v.retired; grace = no_looks }) v)
-taken_idle_by v true idle = record { reading = idle.reading; held = idle.held }
+taken_idle_by v true idle = record { reading = idle.reading; held = idle.held; update = idle.update }
 taken_idle_by v false idle = idle
 
 taken_idle : (v : View) → IsIdle v → IsIdle (batch_taken v)
@@ -58,9 +59,9 @@ own_section None (Node f k) e = cc
 own_section None (Entry p k) e = cc
 
 module _ (z : Layout) (m : Memory) (vs : List View) (g : Meaning) where
-  outside_idle : (i : ℕ) (v : View) → IsItem vs i v → Rule z m vs g → is_outside v ≡ true → IsIdle v
+  pub outside_idle : (i : ℕ) (v : View) → IsItem vs i v → Rule z m vs g → is_outside v ≡ true → IsIdle v
   outside_idle i v at rule out =
-      (at_item (Sections z m vs g) vs i v at rule.sections).outside (and_parts (is_even v.section_word) (eqb (length v.held.nodes) 0) out).0
+      (seat_at z m vs g i v at rule).section.outside (and_parts (is_even v.section_word) (eqb (length v.held.nodes) 0) out).0
 
   -- enter keeps the rule
   pub enter_kept : (i n value : ℕ) (v : View) → IsItem vs i v → Rule z m vs g → v.number ≡ Some n → is_outside v ≡ true
@@ -69,13 +70,13 @@ module _ (z : Layout) (m : Memory) (vs : List View) (g : Meaning) where
       let m' : Memory = written m (Section n) value in
       let idle = outside_idle i v at rule out in
       let v1 : View = in_section v value in
-      let idle1 : IsIdle v1 = record { reading = ap nowhere idle.reading; held = idle.held } in
+      let idle1 : IsIdle v1 = record { reading = ap nowhere idle.reading; held = idle.held; update = idle.update } in
       let vs1 : List View = set vs i v1 in
       let rule1 : Rule z m' vs1 g = section_stored z m vs g i n value v (nowhere v.reading) at rule named idle1 in
       let at1 : IsItem vs1 i v1 = item_set vs i v v1 at in
       let v2 : View = batch_taken v1 in
       let vs2 : List View = set vs1 i v2 in
-      let rule2 : Rule z m' vs2 g = taken z m' vs1 g i v1 at1 rule1 in
+      let rule2 : Rule z m' vs2 g = taken z m' vs1 g i v1 at1 rule1 idle1 in
       let at2 : IsItem vs2 i v2 = item_set vs1 i v1 v2 at1 in
       let rule3 : Rule z m' (set vs2 i (settled z.passes v2)) g = settled_right z m' vs2 g i v2 at2 rule2 (taken_idle v1 idle1) in
       subst (λ (ws : List View). Rule z m' ws g) (set-set vs1 i v2 (settled z.passes v2) ∙ set-set vs i v1 (settled z.passes v2)) rule3
@@ -84,7 +85,8 @@ module _ (z : Layout) (m : Memory) (vs : List View) (g : Meaning) where
   pub leave_kept : (i n value : ℕ) (v : View) → IsItem vs i v → Rule z m vs g → v.number ≡ Some n → eqb (length v.held.nodes) 0 ≡ true
       → Rule z (written m (Section n) value) (set vs i (left v value)) g
   leave_kept i n value v at rule named unlocked =
-      section_stored z m vs g i n value v no_reading at rule named (record { reading = refl; held = length_empty v.held.nodes unlocked })
+      let none = length_empty v.held.nodes unlocked in
+      section_stored z m vs g i n value v no_reading at rule named (record { reading = refl; held = none; update = (seat_at z m vs g i v at rule).section.done none })
 
   -- a look keeps the rule
   pub look_kept : (i pass : ℕ) (v : View) → IsItem vs i v → Rule z m vs g → is_number pass v.number ≡ false → is_outside v ≡ true
@@ -93,7 +95,7 @@ module _ (z : Layout) (m : Memory) (vs : List View) (g : Meaning) where
       let idle = outside_idle i v at rule out in
       let v1 : View = batch_taken v in
       let vs1 : List View = set vs i v1 in
-      let rule1 : Rule z m vs1 g = taken z m vs g i v at rule in
+      let rule1 : Rule z m vs1 g = taken z m vs g i v at rule idle in
       let at1 : IsItem vs1 i v1 = item_set vs i v v1 at in
       let other1 : is_number pass v1.number ≡ false = ap (is_number pass) (taken_number_by v (is_empty v.batch)) ∙ other in
       let v2 : View = record v1 { grace = looked_at v1.grace pass (m (Section pass)) } in
@@ -101,6 +103,6 @@ module _ (z : Layout) (m : Memory) (vs : List View) (g : Meaning) where
       let rule2 : Rule z m vs2 g = look_right z m vs1 g i v1 pass at1 rule1 other1 in
       let at2 : IsItem vs2 i v2 = item_set vs1 i v1 v2 at1 in
       let idle1 : IsIdle v1 = taken_idle v idle in
-      let idle2 : IsIdle v2 = record { reading = idle1.reading; held = idle1.held } in
+      let idle2 : IsIdle v2 = record { reading = idle1.reading; held = idle1.held; update = idle1.update } in
       let rule3 : Rule z m (set vs2 i (settled z.passes v2)) g = settled_right z m vs2 g i v2 at2 rule2 idle2 in
       subst (λ (ws : List View). Rule z m ws g) (set-set vs1 i v2 (settled z.passes v2) ∙ set-set vs i v1 (settled z.passes v2)) rule3

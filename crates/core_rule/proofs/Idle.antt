@@ -1,5 +1,5 @@
 -- What idle views hold, and what the rule says of two views with numbers.
-use Rattle.std.proofs.Common.{◌≡◌, ℕ, ◌+◌, ◌<◌, ◌≤◌, cond, List, [], Bool, true, false, eqb, ltb, arith, refl, ap, subst, Option, Some, None}
+use Rattle.std.proofs.Common.{◌≡◌, ℕ, ◌+◌, ◌<◌, ◌≤◌, cond, List, [], Bool, true, false, eqb, ltb, arith, refl, ap, subst, inl, inr, Option, Some, None}
 use Rattle.std.proofs.lemmas.Bool.Decides.{nat_tests}
 use Rattle.std.proofs.lemmas.Bool.{eq-eqb}
 use Rattle.index_words.specs.declared.layout.Layout.{Layout}
@@ -9,22 +9,26 @@ use Rattle.index_words.specs.Lists.{count, IsItem}
 use Rattle.index_words.proofs.Seats.{Beside, two_terms, one_term}
 use Rattle.core_grace.specs.Sections.{is_even}
 use Rattle.core_grace.specs.Batches.{is_number}
-use Rattle.core_grace.specs.Holds.{Bundles, held_nodes, held_entries, HoldsNode, HoldsEntry}
+use Rattle.core_grace.specs.Holds.{Bundles, held_nodes, work_nodes, ReadsAt, HoldsNode, HoldsEntry}
 use Rattle.core_grace.specs.Slots.{HoldsNone}
 use Rattle.core_rule.specs.Moves.{own_number}
 use Rattle.core_rule.specs.Numbers.{number_count, NumbersRight}
 use Rattle.core_rule.specs.SectionRule.{IsIdle, IsOwnWord, SectionRight}
 
-pub idle_nodes : (v : View) → IsIdle v → held_nodes v ≡ []
-idle_nodes v idle = rw idle.reading (rw idle.held refl)
+pub idle_work : (v : View) → IsIdle v → work_nodes v ≡ []
+idle_work v idle = rw idle.held (rw idle.update refl)
 
-pub idle_entries : (b : Bundles) (v : View) → IsIdle v → held_entries b v ≡ []
-idle_entries b v idle = rw idle.reading (rw idle.held refl)
+pub idle_nodes : (v : View) → IsIdle v → held_nodes v ≡ []
+idle_nodes v idle = rw idle.reading (rw idle.held (rw idle.update refl))
+
+pub idle_entry : (b : Bundles) (v : View) (e : ℕ) → IsIdle v → HoldsEntry b v e → ⊥
+idle_entry b v e idle (inl reads) = let none : ReadsAt b None [] e = rw idle.reading at reads in none
+idle_entry b v e idle (inr stands) = omega (arith, stands.of, ap (count stands.node) (idle_work v idle))
 
 pub idle_none : (b : Bundles) (s : Slots) (v : View) → IsIdle v → HoldsNone HoldsNode (HoldsEntry b) s v
 idle_none b s v idle = record {
   nodes = λ k some holds. omega (arith, holds, ap (count k) (idle_nodes v idle));
-  entries = λ e some holds. omega (arith, holds, ap (count e) (idle_entries b v idle));
+  entries = λ e some holds. idle_entry b v e idle holds;
 }
 
 -- a view without a number is idle

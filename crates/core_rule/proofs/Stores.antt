@@ -1,23 +1,29 @@
--- Stores that keep the rule: to the own section word, and to words of free slots.
-use Rattle.std.proofs.Common.{◌≡◌, ℕ, cond, List, false, eqb, set, arith, refl, ap, ◌∙◌, subst, inr, Option, Some, None}
+-- A store to the own section word keeps the rule.
+use Rattle.std.proofs.Common.{◌≡◌, ℕ, cond, List, false, eqb, set, arith, refl, ap, ◌∙◌, sym, subst, inr, Option, Some, None}
 use Rattle.std.proofs.lemmas.Bool.{eq-eqb}
 use Rattle.std.proofs.lemmas.Bool.Decides.{nat_tests}
 use Rattle.index_words.specs.declared.layout.Layout.{Layout}
 use Rattle.index_words.specs.declared.view.View.{View}
 use Rattle.index_words.specs.declared.view.reading.Reading.{Reading}
-use Rattle.index_words.specs.declared.word.Word.TheVariants.{Section, Announced, Node, Entry}
-use Rattle.index_words.specs.declared.word.Field.{Field}
-use Rattle.index_words.specs.declared.word.Part.{Part}
+use Rattle.index_words.specs.declared.word.Word.TheVariants.{Section, Entry, Stamp}
+use Rattle.index_words.specs.declared.word.Part.TheVariants.{Child, Stamp as Number}
 use Rattle.index_words.specs.Words.{Memory, written}
-use Rattle.index_words.specs.Lists.{count, IsItem}
-use Rattle.index_words.proofs.Seats.{sum_kept, at_item, all_moved}
+use Rattle.index_words.specs.Lists.{count, Every, IsItem}
+use Rattle.index_words.proofs.Seats.{sum_kept, all_moved}
 use Rattle.core_grace.specs.Batches.{is_number}
 use Rattle.core_grace.specs.Holds.{HoldsNode, HoldsEntry}
 use Rattle.core_grace.proofs.RuleMoves.{HoldsFrom, HoldsLinked, quiet, same_looks}
+use Rattle.core_rule.specs.Meanings.{Meaning, linked_by}
 use Rattle.core_rule.specs.Numbers.{number_count}
-use Rattle.core_rule.specs.SectionRule.{IsIdle, IsOwnWord, SectionRight}
-use Rattle.core_rule.specs.Rule.{Meaning, linked_by, HasLayout, Rule}
-use Rattle.core_rule.proofs.Idle.{idle_nodes, idle_entries, number_apart}
+use Rattle.core_rule.specs.SectionRule.{IsIdle, IsOwnWord}
+use Rattle.core_rule.specs.Locks.{lock_count}
+use Rattle.core_rule.specs.BundleRule.{IsPendingAt, pending_count}
+use Rattle.core_rule.specs.Readers.{VersionRight, PlaceRight, LinkRight}
+use Rattle.core_rule.specs.SeatRule.{SeatRight}
+use Rattle.core_rule.specs.Rule.{Rule}
+use Rattle.core_rule.proofs.Frames.{live_moved, pending_moved, bundle_weaker}
+use Rattle.core_rule.proofs.Idle.{idle_nodes, idle_entry, number_apart}
+use Rattle.core_rule.proofs.OneView.{history_kept, seat_at}
 
 eqb_false_comm : (a b : ℕ) → eqb a b ≡ false → eqb b a ≡ false
 eqb_false_comm a b e = grind (arith, nat_tests)
@@ -38,44 +44,76 @@ module _ (z : Layout) (m : Memory) (vs : List View) (g : Meaning) where
   idle_from : (v w : View) → IsIdle w → HoldsFrom z (linked_by g) HoldsNode (HoldsEntry g.bundles) v w
   idle_from v w idle = record {
     nodes = λ k holds. absurd (omega (arith, holds, ap (count k) (idle_nodes w idle)));
-    entries = λ e holds. absurd (omega (arith, holds, ap (count e) (idle_entries g.bundles w idle)));
+    entries = λ e holds. absurd (idle_entry g.bundles w e idle holds);
   }
 
   idle_linked : (w : View) → IsIdle w → HoldsLinked z (linked_by g) HoldsNode (HoldsEntry g.bundles) w
   idle_linked w idle = record {
     nodes = λ k holds. absurd (omega (arith, holds, ap (count k) (idle_nodes w idle)));
-    entries = λ e holds. absurd (omega (arith, holds, ap (count e) (idle_entries g.bundles w idle)));
+    entries = λ e holds. absurd (idle_entry g.bundles w e idle holds);
   }
+
+  -- a view that has read nothing
+  idle_version : (s : ℕ) (w : View) → IsIdle w → VersionRight z s w.reading
+  idle_version s w idle = subst (VersionRight z s) (sym idle.reading) (record { past = tt; opened = tt; bare = λ none. refl; there = λ k some. absurd (omega (arith, some)) })
+
+  idle_place : (stamp : ℕ → ℕ) (w : View) → IsIdle w → PlaceRight z stamp g.bundles w w.reading.place
+  idle_place stamp w idle = subst (λ (r : Reading). PlaceRight z stamp g.bundles w r.place) (sym idle.reading) tt
+
+  idle_links : (child : ℕ → ℕ) (w : View) → IsIdle w → Every (LinkRight z child g.bundles w) w.reading.links
+  idle_links child w idle = subst (λ (r : Reading). Every (LinkRight z child g.bundles w) r.links) (sym idle.reading) tt
 
   -- a store to the own section word, after which the view is idle
   pub section_stored : (i n word : ℕ) (v : View) (r : Reading) → IsItem vs i v → Rule z m vs g → v.number ≡ Some n
       → IsIdle (record v { section_word = word; reading = r })
       → Rule z (written m (Section n) word) (set vs i (record v { section_word = word; reading = r })) g
   section_stored i n word v r at rule named idle =
+      let m' : Memory = written m (Section n) word in
       let w : View = record v { section_word = word; reading = r } in
-      let Before : View → Type 0 = SectionRight (λ k. m (Section k)) (λ k. m (Announced k)) in
-      let After : View → Type 0 = SectionRight (λ k. written m (Section n) word (Section k)) (λ k. m (Announced k)) in
-      let own : Before v = at_item Before vs i v at rule.sections in
+      let own : SeatRight z m g v = seat_at z m vs g i v at rule in
       record {
-        layouts = all_moved (HasLayout z) (HasLayout z) vs i v w at rule.layouts (at_item (HasLayout z) vs i v at rule.layouts) (λ u beside of. of);
         numbers = λ k. sum_kept (number_count k) vs i v w at refl ∙ rule.numbers k;
-        sections = all_moved Before After vs i v w at rule.sections
-            (record { section = own_written m v.number n word named; announced = own.announced; outside = λ even. idle })
-            (λ u beside of. record {
-              section = other_written m u.number n word u.section_word
-                  (λ k is. apart_from v.number n k named (number_apart z vs i v u k rule.numbers at beside is)) of.section;
-              announced = of.announced;
-              outside = of.outside;
-            });
+        history = history_kept z _ g vs i v w at refl refl rule.history;
         slots = quiet z (linked_by g) HoldsNode (HoldsEntry g.bundles) vs i v w at rule.slots refl refl refl (idle_from v w idle)
             (record { number = refl; section = inr (idle_linked w idle) })
             (λ known. same_looks z (linked_by g) HoldsNode (HoldsEntry g.bundles) v w w refl refl known)
             (λ u beside known. same_looks z (linked_by g) HoldsNode (HoldsEntry g.bundles) v w u refl refl known);
+        locks = λ k. sum_kept (lock_count k) vs i v w at refl ∙ rule.locks k;
+        marks = record { root = rule.marks.root; nodes = rule.marks.nodes };
+        bundles = λ k live side. bundle_weaker _ _ _ _ (IsPendingAt vs k) (IsPendingAt (set vs i w) k) _ _
+            (λ e. pending_moved vs i k e v w at refl (λ works. works)) (rule.bundles k (live_moved z vs i k v w at (omega arith) live) side);
+        single = λ e. omega (arith, sum_kept (pending_count e) vs i v w at refl, rule.single e);
+        seats = all_moved (SeatRight z m g) (SeatRight z m' g) vs i v w at rule.seats
+            (record {
+              layout = own.layout;
+              section = record { section = own_written m v.number n word named; announced = own.section.announced; outside = λ even. idle; done = own.section.done };
+              seen = own.seen;
+              update = own.update;
+              version = idle_version (m Stamp) w idle;
+              locks = own.locks;
+              loaded = record { nodes = own.loaded.nodes; nexts = own.loaded.nexts };
+              marks = record { retired = own.marks.retired; batch = own.marks.batch };
+              pending = own.pending;
+              place = idle_place (λ e. m (Entry Number e)) w idle;
+              links = idle_links (λ e. m (Entry Child e)) w idle;
+            })
+            (λ u beside of. record {
+              layout = of.layout;
+              section = record {
+                section = other_written m u.number n word u.section_word
+                    (λ k is. apart_from v.number n k named (number_apart z vs i v u k rule.numbers at beside is)) of.section.section;
+                announced = of.section.announced;
+                outside = of.section.outside;
+                done = of.section.done;
+              };
+              seen = of.seen;
+              update = of.update;
+              version = of.version;
+              locks = of.locks;
+              loaded = record { nodes = of.loaded.nodes; nexts = of.loaded.nexts };
+              marks = record { retired = of.marks.retired; batch = of.marks.batch };
+              pending = of.pending;
+              place = of.place;
+              links = of.links;
+            });
       }
-
-  -- a store to a word of a node or of an entry: no part of the rule reads it yet
-  pub node_stored : (field : Field) (k x : ℕ) → Rule z m vs g → Rule z (written m (Node field k) x) vs g
-  node_stored field k x rule = record { layouts = rule.layouts; numbers = rule.numbers; sections = rule.sections; slots = rule.slots }
-
-  pub entry_stored : (part : Part) (e x : ℕ) → Rule z m vs g → Rule z (written m (Entry part e) x) vs g
-  entry_stored part e x rule = record { layouts = rule.layouts; numbers = rule.numbers; sections = rule.sections; slots = rule.slots }

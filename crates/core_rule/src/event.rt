@@ -19,6 +19,23 @@ pub enum Kind {
     LookSec,
     /// Stores to a word of an own free slot, but not to its lock.
     Fill,
+    /// Loads the stamp: the number at which the seat reads from then on. Its value is 1 where it fixes a place,
+    /// else 0.
+    LoadStamp,
+    /// Loads the head of a reachable node's bundle, and stands at the entry found.
+    LoadHead,
+    /// Loads the stamp of the entry at which the seat stands.
+    LoadTs,
+    /// Loads the child of that entry.
+    LoadPtr,
+    /// Loads the next of that entry, and stands there.
+    LoadNext,
+    /// Stores an own free entry as the head of a bundle of a locked node. It is pending from then on.
+    Prepare,
+    /// Adds one to the stamp: the update takes effect, and its pending entries have that number.
+    Raise,
+    /// Stores the number of the raise as the stamp of a pending entry.
+    Finalise,
 }
 
 /// One atomic step of one seat.
@@ -30,8 +47,9 @@ pub struct Event {
     pub kind: Kind,
     /// The number of the word that is loaded or stored.
     pub word: u64,
-    /// What is stored. The number of nodes at a split, the other seat at a join, and else 0.
+    /// What is stored. The number of nodes at a split, the other seat at a join, 1 at a load of the stamp that
+    /// fixes a place, and else 0.
     pub value: u64,
-    /// None at these kinds.
+    /// The update at a raise, and None at every other kind.
     pub update: Option<Update>,
 }

@@ -4,13 +4,17 @@
 #![tactic(auto)]
 
 mod event;
+mod link_needs;
+mod loads;
 mod moves;
 mod needs;
 mod opening;
 mod run;
+mod seat_links;
 mod seats;
 mod state;
 mod step;
+mod updates;
 
 pub use event::{Event, Kind};
 pub use run::{RunError, run_of};

@@ -1,11 +1,14 @@
 // The view of a seat after each kind of event.
 ghost use Rattle.std.specs.Prelude.{◌≡◌, ◌≤◌, ◌++◌, OnOk, OnErr, IfOk, length, take, Some};
-ghost use Rattle.core_grace.specs.Batches.{looked, both};
+ghost use Rattle.core_grace.specs.Batches.{both};
+ghost use Rattle.core_rule.specs.Steps.{look_from};
 ghost use Rattle.core_rule.specs.Gains.{gained, with_gain};
 ghost use Rattle.core_rule.specs.Moves.{entered, in_section, nowhere, left, split_left, split_right, longer, own_number, own_ended};
 
 use core_grace::{current_looks, look_at, settle};
-use index_words::{EndedPlace, Items, NoMemory, Place, Reading, SeenHistory, Slots, Update, View};
+use index_words::{
+    EndedPlace, Items, Layout, NoMemory, Place, Reading, SeenHistory, Slots, Update, View, Word,
+};
 use std::alloc::{AllocError, Global};
 
 /// The view inside a section. Where no batch waits, the retired slots become the batch. After a refusal the
@@ -32,21 +35,26 @@ pub(crate) fn leave(alloc: Global, view: &mut View, word: u64)
     view.reading = Reading::none(alloc);
 }
 
-/// The view after a look that found `word` as the section word of `pass`. After a refusal the view is
-/// unchanged.
+/// The view after a look that found this number in the section word of another pass. After a refusal the view
+/// is unchanged.
 pub(crate) fn look(
     alloc: Global,
     view: &mut View,
-    passes: u32,
-    pass: u32,
-    word: u64,
+    layout: &Layout,
+    word: Word,
+    found: u64,
 ) -> Result<(), NoMemory>
-    ensures ok { OnOk result (view.new ≡ looked passes view.old pass word) }
+    ensures ok { OnOk result (view.new ≡ look_from layout.now view.old word found) }
     ensures err { OnErr result (view.new ≡ view.old) }
 {
-    let mut looks = current_looks(alloc, view)?;
-    look_at(&mut looks, pass, word)?;
-    settle(alloc, view, looks, passes)
+    match word {
+        Word::Section(pass) => {
+            let mut looks = current_looks(alloc, view)?;
+            look_at(&mut looks, pass, found)?;
+            settle(alloc, view, looks, layout.passes)
+        }
+        _ => Ok(()),
+    }
 }
 
 fn first_nodes(alloc: Global, nodes: &[u32], count: u64) -> Result<Items<u32>, NoMemory>

@@ -7,8 +7,12 @@ ghost use Rattle.core_rule.specs.Needs.{is_outside as outside_of, is_marked_node
 ghost use Rattle.core_rule.specs.Steps.{needs};
 
 use crate::event::{Event, Kind};
+use crate::link_needs::{
+    may_finalise, may_load_head, may_load_next, may_load_part, may_load_stamp, may_prepare,
+    may_raise,
+};
 use core_grace::{is_own, left_word};
-use index_words::{Field, Layout, View, Word};
+use index_words::{Field, Layout, Part, View, Word};
 
 /// What a word holds, and 0 for a word that is not there.
 pub(crate) fn held(layout: &Layout, words: &[u64], word: Word) -> u64
@@ -23,7 +27,7 @@ pub(crate) fn held(layout: &Layout, words: &[u64], word: Word) -> u64
         .unwrap_or(0)
 }
 
-fn is_in(slots: &[u32], slot: u32) -> bool
+pub(crate) fn is_in(slots: &[u32], slot: u32) -> bool
     ensures { result ≡ has slot slots.now }
 {
     slots.contains(&slot)
@@ -62,7 +66,7 @@ fn is_own_word(number: Option<u32>, word: Word) -> bool
     }
 }
 
-fn is_stamp_word(word: Word) -> bool
+pub(crate) fn is_stamp_word(word: Word) -> bool
     ensures { result ≡ is_stamp word }
 {
     match word {
@@ -164,5 +168,13 @@ pub(crate) fn are_met(
         Kind::Leave => may_leave(layout, words, view, word, value),
         Kind::LookSec => may_look(view, word, value),
         Kind::Fill => may_fill(view, word),
+        Kind::LoadStamp => may_load_stamp(view, word, value),
+        Kind::LoadHead => may_load_head(view, word, value),
+        Kind::LoadTs => may_load_part(Part::Stamp, view, word, value),
+        Kind::LoadPtr => may_load_part(Part::Child, view, word, value),
+        Kind::LoadNext => may_load_next(view, word, value),
+        Kind::Prepare => may_prepare(layout, words, view, word, value),
+        Kind::Raise => may_raise(view, word, value),
+        Kind::Finalise => may_finalise(view, word, value),
     }
 }

@@ -3,12 +3,12 @@ ghost use Rattle.std.specs.Prelude.{◌≡◌, ◌≢◌, ℕ, ◌<◌, ◌≤�
 ghost use Rattle.std.specs.List.{slice_get};
 ghost use Rattle.index_words.specs.Views.{spent_view};
 ghost use Rattle.index_words.specs.declared.view.View.{View as SeatView};
-ghost use Rattle.core_grace.specs.Batches.{looked};
+ghost use Rattle.core_rule.specs.Steps.{look_from};
 ghost use Rattle.core_rule.specs.Seats.{HasFree};
 ghost use Rattle.core_rule.specs.Moves.{entered, left, split_left, split_right, joined_with};
 
 use crate::moves::{enter, gain, keep_rest, leave, look, split_off, take_gain};
-use index_words::{NoMemory, View};
+use index_words::{Layout, NoMemory, View, Word};
 use std::alloc::Global;
 
 pub(crate) fn enter_seat(
@@ -38,16 +38,16 @@ pub(crate) fn look_seat(
     alloc: Global,
     views: &mut [View],
     seat: usize,
-    passes: u32,
-    pass: u32,
-    word: u64,
+    layout: &Layout,
+    word: Word,
+    found: u64,
 ) -> Result<(), NoMemory>
     requires { seat < length views.old }
-    ensures ok { OnOk result ((v : SeatView) → slice_get views.old seat ≡ Some v → views.new ≡ slice_set views.old seat (looked passes v pass word)) }
+    ensures ok { OnOk result ((v : SeatView) → slice_get views.old seat ≡ Some v → views.new ≡ slice_set views.old seat (look_from layout.now v word found)) }
     ensures err { OnErr result (views.new ≡ views.old) }
 {
     let view = &mut views[seat];
-    look(alloc, view, passes, pass, word)
+    look(alloc, view, layout, word, found)
 }
 
 pub(crate) fn split_seat(

@@ -5,6 +5,7 @@ ghost use Rattle.index_words.specs.Sizes.{FitTable, layout_of};
 ghost use Rattle.index_words.specs.Words.{word_count};
 ghost use Rattle.core_rule.specs.Steps.{allowed, after};
 ghost use Rattle.core_rule.specs.Rule.{IsRight};
+ghost use Rattle.core_rule.specs.LinkLaw.{KeepsSelections};
 ghost use Rattle.core_rule.specs.Openings.{opening};
 
 use crate::event::Event;
@@ -76,12 +77,14 @@ impl State {
     }
 
     /// Makes one step. It is refused exactly where the event's needs are not met, or for want of memory; the
-    /// state is then unchanged.
+    /// state is then unchanged. Whatever the event is, no number up to the stamp selects another entry of a
+    /// bundle of the root or of a node that is not free.
     pub fn step(&mut self, alloc: Global, event: &Event) -> Result<(), StepError>
         ensures ok { OnOk result ((allowed self.old event.now ≡ true) × (self.new ≡ after self.old event.now)) }
         ensures refused { (result ≡ Err StepError.NotAllowed) ↔ (allowed self.old event.now ≡ false) }
         ensures unchanged { OnErr result (self.new ≡ self.old) }
         ensures rule { IsRight self.new }
+        ensures links { KeepsSelections self.old self.new }
     {
         let Some(word) = self.layout.word_at(event.word) else {
             return Err(StepError::NotAllowed);

@@ -1,16 +1,40 @@
 // One step of a table: whether its event is allowed, and the change that it makes.
-ghost use Rattle.std.specs.Prelude.{◌≡◌, ◌≢◌, ◌<◌, OnOk, OnErr, Some, true, vec_len};
+ghost use Rattle.std.specs.Prelude.{◌≡◌, ◌≢◌, ◌+◌, ◌<◌, ◌^◌, OnOk, OnErr, Some, true, slice_index, vec_len};
 ghost use Rattle.std.specs.List.{slice_get};
 ghost use Rattle.index_words.specs.Words.{word_at, word_count, memory};
 ghost use Rattle.core_rule.specs.Tables.{Table};
-ghost use Rattle.core_rule.specs.declared.event.Kind.TheVariants.{SplitSeat};
-ghost use Rattle.core_rule.specs.Steps.{allowed_at, words_after, IsChange};
+ghost use Rattle.core_rule.specs.declared.event.Kind.TheVariants.{SplitSeat, Raise};
+ghost use Rattle.core_rule.specs.Rule.{InRule};
+ghost use Rattle.core_rule.specs.Steps.{is_own_update as own_update, carries as kind_carries, allowed_at, words_after, IsChange};
 
 use crate::event::{Event, Kind};
 use crate::needs::{are_met, held};
+use crate::seat_links::{
+    finalise_seat, load_head_seat, load_next_seat, load_ptr_seat, load_stamp_seat, load_ts_seat,
+    prepare_seat, raise_seat,
+};
 use crate::seats::{enter_seat, join_seats, leave_seat, look_seat, split_seat};
-use index_words::{Layout, NoMemory, View, Word};
+use core_grace::is_own;
+use index_words::{Layout, NoMemory, Update, View, Word};
 use std::alloc::Global;
+
+fn is_own_update(view: &View, update: Option<Update>) -> bool
+    ensures { result ≡ own_update view.now update }
+{
+    match update {
+        None => false,
+        Some(update) => is_own(view.number, update.client),
+    }
+}
+
+fn carries(kind: Kind, view: &View, update: Option<Update>) -> bool
+    ensures { result ≡ kind_carries kind view.now update }
+{
+    match kind {
+        Kind::Raise => is_own_update(view, update),
+        _ => update.is_none(),
+    }
+}
 
 /// Whether an event is allowed whose word has this name.
 pub(crate) fn is_allowed(
@@ -25,21 +49,25 @@ pub(crate) fn is_allowed(
     match views.get(event.seat as usize) {
         None => false,
         Some(view) => {
-            event.update.is_none()
+            carries(event.kind, view, event.update)
                 && !view.joined
                 && are_met(layout, words, views, view, word, event)
         }
     }
 }
 
-/// Puts the value of an event of a kind that stores.
+/// Puts the value of an event of a kind that stores, and adds one at a raise.
 pub(crate) fn store(words: &mut Vec<u64>, event: &Event)
-    requires { event.now.word < vec_len words.old }
+    requires there { event.now.word < vec_len words.old }
+    requires small { event.now.kind ≡ Raise → slice_index words.old.items event.now.word + 1 < 2 ^ 64 }
     ensures { words.new.items ≡ words_after event.now.kind words.old.items event.now.word event.now.value }
 {
     match event.kind {
-        Kind::Enter | Kind::Leave | Kind::Fill => words[event.word as usize] = event.value,
-        Kind::MakeSeat | Kind::SplitSeat | Kind::JoinSeat | Kind::LookSec => {}
+        Kind::Enter | Kind::Leave | Kind::Fill | Kind::Prepare | Kind::Finalise => {
+            words[event.word as usize] = event.value;
+        }
+        Kind::Raise => words[event.word as usize] += 1,
+        _ => {}
     }
 }
 
@@ -55,11 +83,13 @@ fn change_in_place(
 ) -> Result<(), NoMemory>
     requires met { allowed_at (record { layout = layout.now; words = words.now; views = views.old }) event.now (slice_get views.old event.now.seat) (Some word) ≡ true }
     requires in_place { event.now.kind ≢ SplitSeat }
+    requires right { InRule layout.now words.now views.old }
     ensures ok { OnOk result (IsChange layout.now words.now views.old event.now word views.new) }
     ensures err { OnErr result (views.new ≡ views.old) }
 {
     let seat = event.seat as usize;
     let value = event.value;
+    let found = held(layout, words, word);
     match event.kind {
         Kind::MakeSeat => Ok(()),
         Kind::SplitSeat => unreachable!(),
@@ -70,19 +100,21 @@ fn change_in_place(
             leave_seat(alloc, views, seat, value);
             Ok(())
         }
-        Kind::LookSec => match word {
-            Word::Section(pass) => {
-                look_seat(
-                    alloc,
-                    views,
-                    seat,
-                    layout.passes,
-                    pass,
-                    held(layout, words, word),
-                )
-            }
-            _ => unreachable!(),
-        },
+        Kind::LookSec => look_seat(alloc, views, seat, layout, word, found),
+        Kind::LoadStamp => load_stamp_seat(alloc, views, seat, found, value == 1),
+        Kind::LoadHead => load_head_seat(alloc, views, seat, word, found),
+        Kind::LoadTs => {
+            load_ts_seat(alloc, views, seat, word, found);
+            Ok(())
+        }
+        Kind::LoadPtr => load_ptr_seat(views, seat, word, found),
+        Kind::LoadNext => load_next_seat(views, seat, word, found),
+        Kind::Prepare => prepare_seat(alloc, views, seat, word, value),
+        Kind::Raise => raise_seat(alloc, views, seat, found, event.update),
+        Kind::Finalise => {
+            finalise_seat(alloc, views, seat, word);
+            Ok(())
+        }
     }
 }
 
@@ -95,7 +127,8 @@ pub(crate) fn change(
     word: Word,
     event: &Event,
 ) -> Result<(), NoMemory>
-    requires { allowed_at (record { layout = layout.now; words = words.now; views = views.old.items }) event.now (slice_get views.old.items event.now.seat) (Some word) ≡ true }
+    requires met { allowed_at (record { layout = layout.now; words = words.now; views = views.old.items }) event.now (slice_get views.old.items event.now.seat) (Some word) ≡ true }
+    requires right { InRule layout.now words.now views.old.items }
     ensures ok { OnOk result (IsChange layout.now words.now views.old.items event.now word views.new.items) }
     ensures err { OnErr result (views.new.items ≡ views.old.items) }
 {

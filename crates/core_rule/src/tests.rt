@@ -1,5 +1,5 @@
 use crate::*;
-use index_words::{Layout, PassSize};
+use index_words::{Change, Layout, Link, LinkSource, PassSize, Place, Side, Update};
 use std::alloc::Global;
 use std::test::Fail;
 
@@ -124,6 +124,123 @@ fn moves_slots_at_a_split_and_at_a_join(rt: HostRuntime) -> Result<(), Fail> {
         }
         Answer::NotAllowed(_) => assert!(rt; false),
         Answer::Other => assert!(rt; false),
+    }
+    Ok(())
+}
+
+const fn raise(client: u32) -> Event {
+    Event {
+        seat: 0,
+        kind: Kind::Raise,
+        word: 0,
+        value: 0,
+        update: Some(Update {
+            client,
+            line: 2,
+            key: 5,
+            change: Change::Put(7),
+        }),
+    }
+}
+
+#[test]
+fn reads_the_stamp_inside_a_section(rt: HostRuntime) -> Result<(), Fail> {
+    let events = [
+        event(0, Kind::Enter, 1, 1),
+        event(0, Kind::LoadStamp, 0, 0),
+        event(0, Kind::Leave, 1, 2),
+    ];
+    assert_eq!(rt; word_of(rt.alloc(), &[SIZE], &events, 1), Some(2));
+    Ok(())
+}
+
+#[test]
+fn remembers_a_null_link_of_the_root(rt: HostRuntime) -> Result<(), Fail> {
+    let events = [
+        event(0, Kind::Enter, 1, 1),
+        event(0, Kind::LoadStamp, 0, 1),
+        event(0, Kind::LoadHead, 8, 0),
+    ];
+    match answer_of(rt.alloc(), &[SIZE], &events) {
+        Answer::State(state) => {
+            let view = state.view(0).ok_or("no seat")?;
+            assert_eq!(rt; view.reading.section, Some(0));
+            assert_eq!(rt; view.reading.opened, Some(0));
+            assert_eq!(rt; view.history.looks, 1);
+            let place = Place::Entry {
+                node: 0,
+                side: Side::Right,
+                entry: 0,
+                stamp: None,
+            };
+            assert_eq!(rt; view.reading.place, place);
+            let null = Link {
+                node: 0,
+                side: Side::Right,
+                child: 0,
+                source: LinkSource::Bundle { entry: 0 },
+            };
+            assert_eq!(rt; view.reading.links.as_slice(), [null].as_slice());
+        }
+        Answer::NotAllowed(_) => assert!(rt; false),
+        Answer::Other => assert!(rt; false),
+    }
+    Ok(())
+}
+
+#[test]
+fn refuses_each_load_whose_need_fails(rt: HostRuntime) -> Result<(), Fail> {
+    let enter = event(0, Kind::Enter, 1, 1);
+    let stamp = event(0, Kind::LoadStamp, 0, 1);
+    let head = event(0, Kind::LoadHead, 8, 0);
+    let rows: [(&[Event], usize); 14] = [
+        // the stamp: outside a section, another value, another word, with a snapshot open
+        (&[stamp, enter], 0),
+        (&[enter, event(0, Kind::LoadStamp, 0, 2)], 1),
+        (&[enter, event(0, Kind::LoadStamp, 1, 0)], 1),
+        (&[enter, stamp, stamp], 2),
+        // a head: outside a section, of a node that is not held, a value, another field
+        (&[head, enter], 0),
+        (&[enter, stamp, event(0, Kind::LoadHead, 18, 0)], 2),
+        (&[enter, event(0, Kind::LoadHead, 8, 1)], 1),
+        (&[enter, event(0, Kind::LoadHead, 5, 0)], 1),
+        // a part of an entry: the seat stands nowhere, or behind the last entry, or it is another part
+        (&[enter, event(0, Kind::LoadTs, 24, 0)], 1),
+        (&[enter, event(0, Kind::LoadPtr, 23, 0)], 1),
+        (&[enter, event(0, Kind::LoadNext, 25, 0)], 1),
+        (&[enter, head, event(0, Kind::LoadTs, 24, 0)], 2),
+        (&[enter, head, event(0, Kind::LoadNext, 25, 0)], 2),
+        (&[enter, head, event(0, Kind::LoadTs, 23, 0)], 2),
+    ];
+    for (events, place) in rows {
+        assert_eq!(rt; place_of(rt.alloc(), &[SIZE], events), Some(place));
+    }
+    Ok(())
+}
+
+#[test]
+fn refuses_each_event_of_an_update_whose_need_fails(rt: HostRuntime) -> Result<(), Fail> {
+    let enter = event(0, Kind::Enter, 1, 1);
+    let updated = Event {
+        update: raise(0).update,
+        ..enter
+    };
+    let rows: [(&[Event], usize); 8] = [
+        // prepare: without the lock, at a word that is no head, of an entry that is not free
+        (&[enter, event(0, Kind::Prepare, 8, 1)], 1),
+        (&[enter, event(0, Kind::Prepare, 5, 1)], 1),
+        (&[enter, event(0, Kind::Prepare, 8, 9)], 1),
+        // raise: nothing is pending, without an update, with another pass's
+        (&[enter, raise(0)], 1),
+        (&[enter, event(0, Kind::Raise, 0, 0)], 1),
+        (&[enter, raise(1)], 1),
+        // finalise: the entry is not pending
+        (&[enter, event(0, Kind::Finalise, 24, 1)], 1),
+        // an update at another kind
+        (&[updated, enter], 0),
+    ];
+    for (events, place) in rows {
+        assert_eq!(rt; place_of(rt.alloc(), &[SIZE], events), Some(place));
     }
     Ok(())
 }

@@ -2,7 +2,7 @@
 use Rattle.std.proofs.Common.{ℕ, ◌+◌, ◌<◌, ◌≤◌, sym, subst, arith}
 use Rattle.core_trees.specs.NamedTree.{NamedTree, Null, Branch, contents, IsWithin}
 use Rattle.core_trees.specs.TreeStep.{put_here, remove_here, tree_put, tree_remove, joined, first_pair, without_first}
-use Rattle.core_trees.proofs.Compare.{compared, less, more, same}
+use Rattle.core_links.proofs.Compare.{compared, less, more, same}
 use Rattle.core_trees.proofs.MapSteps.{AllBelow, AllFrom, AllBelow-append, AllFrom-append, AllBelow-more, AllFrom-less}
 use Rattle.core_trees.proofs.Updates.{update-left, update-right, update-here}
 

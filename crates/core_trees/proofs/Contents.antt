@@ -3,7 +3,7 @@ use Rattle.std.proofs.Common.{◌≡◌, ℕ, ◌+◌, ◌∷◌, ◌++◌, refl
 use Rattle.index_words.specs.Map.{pair, map_put, map_remove}
 use Rattle.core_trees.specs.NamedTree.{NamedTree, Null, Branch, contents, IsWithin}
 use Rattle.core_trees.specs.TreeStep.{put_here, remove_here, tree_put, tree_remove, joined, first_pair, without_first}
-use Rattle.core_trees.proofs.Compare.{compared, less, more, same}
+use Rattle.core_links.proofs.Compare.{compared, less, more, same}
 use Rattle.core_trees.proofs.MapSteps.{AllBelow-more, AllFrom-less, map_put-left, map_put-found, map_put-past, map_remove-left, map_remove-found, map_remove-past}
 use Rattle.core_trees.proofs.Updates.{update-left, update-right, update-here}
 use Rattle.core_trees.proofs.Bounds.{contents-below, contents-from}

@@ -14,7 +14,7 @@ use Rattle.core_trees.specs.NamedTree.{NamedTree, Null, Branch, contents, IsWith
 use Rattle.core_trees.specs.TreeStep.{put_here, remove_here, tree_put, tree_remove, joined, first_pair, without_first, subtree_at}
 use Rattle.core_trees.specs.Search.{end_node, end_side, EndsAt}
 use Rattle.core_trees.specs.Gaps.{child_of, IsNull, HasNullLink, IsBeside, IsBetween, IsClear, IsInGap, Lacks, IsGapLink, WidensOtherGaps, WidensGaps, GapEndLaw, AbsentGapLaw, OtherLinkLaw}
-use Rattle.core_trees.proofs.Compare.{compared, less, more, same}
+use Rattle.core_links.proofs.Compare.{compared, less, more, same}
 use Rattle.core_trees.proofs.Updates.{update-left, update-right, update-here, subtree_at-left, subtree_at-right, subtree_at-here, end_node-left, end_node-right, end_side-left, end_side-right}
 
 -- the key of a null link's node is within the bounds

@@ -1,4 +1,3 @@
-pub mod Compare
 pub mod MapSteps
 pub mod Updates
 pub mod Bounds
@@ -7,7 +6,6 @@ pub mod Gaps
 pub mod GapLinks
 pub mod StepLaws
 pub mod Slots
-pub mod Chains
 pub mod SpelledTree
 pub mod SpelledStep
 pub mod LawfulContents

@@ -7,7 +7,7 @@ use Rattle.std.specs.Option.{option_or}
 use Rattle.std.specs.List.{AllByRecursion}
 use Rattle.index_words.specs.declared.pair.Pair.{Pair}
 use Rattle.index_words.specs.Map.{pair, map_put, map_remove, first_from}
-use Rattle.core_trees.proofs.Compare.{less, more, same, compared}
+use Rattle.core_links.proofs.Compare.{less, more, same, compared}
 
 -- each key is below `high`
 abbrev pub AllBelow : ℕ → List Pair → Type 0

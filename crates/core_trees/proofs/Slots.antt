@@ -6,7 +6,7 @@ use Rattle.std.proofs.lemmas.List.Sums.{sum_by-cons}
 use Rattle.core_trees.specs.NamedTree.{NamedTree, Null, Branch}
 use Rattle.core_trees.specs.TreeStep.{subtree_at, update, put_here, remove_here, without_first, tree_put, tree_remove}
 use Rattle.core_trees.specs.Slots.{tally, top_slots, first_slots, removed_slots, added_slots, put_takes, remove_takes, remove_brings, MovesSlots, NamesOnce, occurs, one_at, UpdateTallyLaw, PutNamesLaw, RemoveNamesLaw}
-use Rattle.core_trees.proofs.Compare.{compared, less, more, same}
+use Rattle.core_links.proofs.Compare.{compared, less, more, same}
 use Rattle.core_trees.proofs.Updates.{update-left, update-right, update-here, subtree_at-left, subtree_at-right, subtree_at-here}
 
 pub update_tally : UpdateTallyLaw

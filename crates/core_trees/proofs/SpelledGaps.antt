@@ -9,7 +9,7 @@ use Rattle.core_trees.specs.Slots.{occurs}
 use Rattle.core_trees.specs.SpelledTree.{Graph, IsSpelled}
 use Rattle.core_trees.specs.SpelledStep.{end_child}
 use Rattle.core_trees.specs.SpelledGaps.{NullLinkLaw, StillNullLaw}
-use Rattle.core_trees.proofs.Compare.{compared, less, more, same}
+use Rattle.core_links.proofs.Compare.{compared, less, more, same}
 use Rattle.core_trees.proofs.Gaps.{other_link}
 use Rattle.core_trees.proofs.Slots.{one_at-other}
 use Rattle.core_trees.proofs.SpelledStep.{put_end_law}

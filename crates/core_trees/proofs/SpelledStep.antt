@@ -8,7 +8,7 @@ use Rattle.core_trees.specs.Search.{end_node, end_side}
 use Rattle.core_trees.specs.Slots.{NamesOnce}
 use Rattle.core_trees.specs.SpelledTree.{Graph, IsSpelled, KeepsOutside}
 use Rattle.core_trees.specs.SpelledStep.{end_child, IsNodeOf, behind_first, SubtreeLaw, UpdateEndLaw, PutEndLaw, GrowLaw, ReplaceLaw, LiftRightLaw, LiftLeftLaw, JoinLaw, UnlinkLaw}
-use Rattle.core_trees.proofs.Compare.{compared, less, more, same}
+use Rattle.core_links.proofs.Compare.{compared, less, more, same}
 use Rattle.core_trees.proofs.Bounds.{first-within}
 use Rattle.core_trees.proofs.Updates.{update-left, update-right, update-here, subtree_at-left, subtree_at-right, subtree_at-here, end_node-left, end_node-right, end_node-here, end_side-left, end_side-right, end_side-here}
 use Rattle.core_trees.proofs.SpelledTree.{spelled-frame, spelled-swap}

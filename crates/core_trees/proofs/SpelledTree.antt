@@ -8,7 +8,7 @@ use Rattle.core_trees.specs.TreeStep.{update, subtree_at}
 use Rattle.core_trees.specs.Search.{end_node, end_side, EndsAt}
 use Rattle.core_trees.specs.Slots.{occurs, one_at, NamesOnce}
 use Rattle.core_trees.specs.SpelledTree.{Graph, IsSpelled, SameAt, IsOutside, KeepsOutside, OneTreeLaw, FrameLaw, SwapLaw}
-use Rattle.core_trees.proofs.Compare.{compared, less, more, same}
+use Rattle.core_links.proofs.Compare.{compared, less, more, same}
 use Rattle.core_trees.proofs.Updates.{update-left, update-right, update-here, subtree_at-left, subtree_at-right, subtree_at-here, end_node-left, end_node-right, end_node-here, end_side-left, end_side-right, end_side-here}
 use Rattle.core_trees.proofs.Slots.{subtree_tally, one_at-same}
 
@@ -173,4 +173,5 @@ pub frame_law : FrameLaw
 frame_law g c tree spelled g' agree = spelled-frame g g' c tree agree spelled
 
 pub swap_law : SwapLaw
-swap_law g tree g' root key top f once spelled kept new = spelled-swap g g' root key top f tree once spelled kept new
+swap_law g c tree spelled g' root key top f once same' kept new =
+    spelled-swap g g' root key top f tree once (subst (λ n. IsSpelled g n tree) same' spelled) kept new

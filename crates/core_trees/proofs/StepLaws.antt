@@ -7,7 +7,7 @@ use Rattle.core_trees.specs.TreeStep.{tree_put, tree_remove}
 use Rattle.core_trees.proofs.MapSteps.{AllBelow-more, first_from-right, first_from-left}
 use Rattle.core_trees.proofs.Bounds.{contents-below, put-within, remove-within}
 use Rattle.core_trees.proofs.Updates.{search_from-left, search_from-right}
-use Rattle.core_trees.proofs.Compare.{compared, less, more, same}
+use Rattle.core_links.proofs.Compare.{compared, less, more, same}
 use Rattle.core_trees.specs.Search.{search_from}
 use Rattle.std.specs.Option.{option_or}
 use Rattle.core_trees.specs.Gaps.{WidensOtherGaps, WidensGaps}

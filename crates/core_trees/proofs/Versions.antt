@@ -2,7 +2,8 @@
 use Rattle.std.proofs.Common.{inl, inr, refl, ap, subst}
 use Rattle.index_words.specs.declared.side.Side.TheVariants.{Left, Right}
 use Rattle.core_trees.specs.SpelledTree.{IsSpelled}
-use Rattle.core_trees.specs.SpelledAt.{child_of_entry, graph_at, VersionLaw}
+use Rattle.core_links.specs.Bundle.{child_of_entry}
+use Rattle.core_trees.specs.SpelledAt.{graph_at, VersionLaw}
 use Rattle.core_trees.proofs.SpelledTree.{spelled-frame}
 
 pub version_law : VersionLaw

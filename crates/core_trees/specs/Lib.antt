@@ -4,7 +4,6 @@ pub mod Shape
 pub mod Search
 pub mod Gaps
 pub mod Slots
-pub mod Bundle
 pub mod SpelledTree
 pub mod SpelledStep
 pub mod NodeLists

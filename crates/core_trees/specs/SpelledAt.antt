@@ -1,16 +1,12 @@
 -- The tree that is spelled at one number: each link's child is the one that the number selects in the link's
 -- bundle.
-use Rattle.std.specs.Prelude.{◌≡◌, ℕ, ◌<◌, ◌⊎◌, List, ◌==◌, if◌then◌else◌}
+use Rattle.std.specs.Prelude.{◌≡◌, ℕ, ◌<◌, ◌⊎◌, List}
 use Rattle.index_words.specs.declared.side.Side.{Side}
 use Rattle.index_words.specs.declared.side.Side.TheVariants.{Right}
-use Rattle.core_trees.specs.Bundle.{select}
+use Rattle.core_links.specs.Bundle.{select, child_of_entry}
 use Rattle.core_trees.specs.NamedTree.{NamedTree}
 use Rattle.core_trees.specs.Slots.{occurs}
 use Rattle.core_trees.specs.SpelledTree.{Graph, IsSpelled}
-
--- the child of the selected entry, or 0 where none is selected
-abbrev pub child_of_entry : (ℕ → ℕ) → ℕ → ℕ
-child_of_entry ptr e = if e == 0 then 0 else ptr e
 
 -- what is read at the number `t`, from the keys and values of the nodes, the children and numbers of the
 -- entries, and the entries of each link's bundle

@@ -47,12 +47,12 @@ IsOnlySpelled g c tree = (other : NamedTree) → IsSpelled g c other → other �
 abbrev pub StaysSpelled : Graph → ℕ → NamedTree → Type 0
 StaysSpelled g c tree = (g' : Graph) → ((x : ℕ) → 0 < occurs x tree → SameAt g g' x) → IsSpelled g' c tree
 
--- where a changed subtree is spelled at the link at which the search ends, the update of the whole tree is
--- spelled
-abbrev pub SwapsSpelled : Graph → NamedTree → Type 0
-SwapsSpelled g tree =
+-- where a changed subtree is spelled at the link at which the search ends, in a tree that hangs at a link to
+-- this child, the update of the whole tree is spelled
+abbrev pub SwapsSpelled : Graph → ℕ → NamedTree → Type 0
+SwapsSpelled g c tree =
     (g' : Graph) (root key : ℕ) (top : Side) (f : NamedTree → NamedTree) → NamesOnce root tree
-    → IsSpelled g (g.child top root) tree → KeepsOutside g g' key root top tree
+    → c ≡ g.child top root → KeepsOutside g g' key root top tree
     → IsSpelled g' (g'.child (end_side key top tree) (end_node key root tree)) (f (subtree_at key tree))
     → IsSpelled g' (g'.child top root) (update key f tree)
 
@@ -63,4 +63,4 @@ abbrev pub FrameLaw : Type 0
 FrameLaw = (g : Graph) (c : ℕ) (tree : NamedTree) → IsSpelled g c tree → StaysSpelled g c tree
 
 abbrev pub SwapLaw : Type 0
-SwapLaw = (g : Graph) (tree : NamedTree) → SwapsSpelled g tree
+SwapLaw = (g : Graph) (c : ℕ) (tree : NamedTree) → IsSpelled g c tree → SwapsSpelled g c tree

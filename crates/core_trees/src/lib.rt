@@ -3,7 +3,6 @@
 // layers above prove their updates against the definitions and laws that stand here.
 #![tactic(auto)]
 
-mod bundle;
 mod lawful;
 mod link;
 mod nodes;
@@ -13,7 +12,6 @@ mod remove;
 mod search;
 mod tree;
 
-pub use bundle::{is_chain, selected};
 pub use link::{Link, ROOT};
 pub use nodes::{NodeLists, spells};
 pub use tree::{Tree, TreeError, TreeNode};

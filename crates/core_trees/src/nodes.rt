@@ -23,7 +23,7 @@ pub fn spells(nodes: &NodeLists<'_>, child: u32, tree: &Tree) -> bool
     ensures spelled { IsTrue result ↔ IsSpelled (graph_of nodes.now) child (shape tree.now) }
     ensures only { IsTrue result → IsOnlySpelled (graph_of nodes.now) child (shape tree.now) }
     ensures stays { IsTrue result → StaysSpelled (graph_of nodes.now) child (shape tree.now) }
-    ensures swaps { SwapsSpelled (graph_of nodes.now) (shape tree.now) }
+    ensures swaps { IsTrue result → SwapsSpelled (graph_of nodes.now) child (shape tree.now) }
 {
     spells_from(nodes, child, tree)
 }

@@ -125,9 +125,5 @@ fn reads_what_lists_spell(rt: HostRuntime) -> Result<(), Fail> {
     };
     assert!(rt; spells(&nodes, 1, &tree));
     assert!(rt; !spells(&nodes, 2, &tree));
-    assert_eq!(rt; selected(&[0, 7, 5, 3], &[1, 2, 3], 5), 2);
-    assert_eq!(rt; selected(&[0, 7, 5, 3], &[1, 2, 3], 2), 0);
-    assert!(rt; is_chain(&[0, 2, 3, 0], 1, &[1, 2, 3]));
-    assert!(rt; !is_chain(&[0, 2, 3, 0], 1, &[1, 2]));
     Ok(())
 }

@@ -18,11 +18,12 @@ pub struct TreeNode {
 pub enum Place {
     /// Nowhere yet. A search on plain links begins at the root.
     Nowhere,
-    /// At an entry of a bundle, 0 behind its last one, with the stamp word where it was loaded.
+    /// At an entry of a bundle, as a word was found to name it, with the stamp word where it was loaded. 0 is
+    /// behind the last entry.
     Entry {
         node: u32,
         side: Side,
-        entry: u32,
+        entry: u64,
         stamp: Option<u64>,
     },
     /// At a node that a search on plain links has come to.
@@ -39,7 +40,7 @@ pub enum Place {
 pub enum LinkSource {
     /// Through the link's bundle: the entry that selected it, 0 where none did.
     Bundle {
-        entry: u32,
+        entry: u64,
     },
     /// As a plain link: its tag where that was loaded, and the keys of the two turns.
     Plain {
@@ -54,8 +55,8 @@ pub enum LinkSource {
 pub struct Link {
     pub node: u32,
     pub side: Side,
-    /// The child's slot, 0 for none.
-    pub child: u32,
+    /// The child's slot as it was found, 0 for none.
+    pub child: u64,
     pub source: LinkSource,
 }
 

@@ -6,7 +6,7 @@ use std::alloc::Global;
 /// The head of a bundle as it was loaded or stored under the lock.
 #[derive(Clone, Copy, Debug, PartialEq, Eq)]
 pub struct LoadedHead {
-    pub entry: u32,
+    pub entry: u64,
     /// The entry's stamp word where it was loaded.
     pub stamp: Option<u64>,
 }
@@ -33,7 +33,7 @@ pub struct HeldNode {
 pub struct HeldNext {
     pub node: u32,
     pub entry: u32,
-    pub next: u32,
+    pub next: u64,
 }
 
 /// The nodes that a seat has locked, with what it has loaded of each since.

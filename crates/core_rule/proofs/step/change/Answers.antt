@@ -4,10 +4,10 @@ use Rattle.core_rule.proofs.Changes.{on_ok, change_of}
 use Rattle.core_rule.proofs.step.change.Goals as goal
 
 pub split_seat-requires-clause-few : goal.split_seat-requires-clause-few
-split_seat-requires-clause-few c = split_few (record { layout = c.args.layout.now; words = c.args.words.now; views = c.args.views.now.items }) c.args.event.now c.args.word c.requires c.in-SplitSeat.is
+split_seat-requires-clause-few c = split_few (record { layout = c.args.layout.now; words = c.args.words.now; views = c.args.views.now.items }) c.args.event.now c.args.word c.requires.met c.in-SplitSeat.is
 
 pub split_seat-requires-clause-there : goal.split_seat-requires-clause-there
-split_seat-requires-clause-there c = split_there (record { layout = c.args.layout.now; words = c.args.words.now; views = c.args.views.now.items }) c.args.event.now c.args.word c.requires c.in-SplitSeat.is
+split_seat-requires-clause-there c = split_there (record { layout = c.args.layout.now; words = c.args.words.now; views = c.args.views.now.items }) c.args.event.now c.args.word c.requires.met c.in-SplitSeat.is
 
 pub returns-in-SplitSeat-clause-ok : goal.returns-in-SplitSeat-clause-ok
 returns-in-SplitSeat-clause-ok c =

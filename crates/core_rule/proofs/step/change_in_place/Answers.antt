@@ -1,7 +1,11 @@
 use Rattle.std.proofs.Common.{refl}
-use Rattle.core_rule.specs.declared.event.Kind.TheVariants.{MakeSeat, Enter, Leave, Fill}
-use Rattle.core_rule.proofs.Allowed.{seat_within, join_other, look_at_section}
-use Rattle.core_rule.proofs.Changes.{on_ok, change_of, join_change, look_change}
+use Rattle.core_rule.specs.declared.event.Kind.TheVariants.{MakeSeat, Enter, Leave, LookSec, Fill, LoadStamp, LoadHead, LoadTs, LoadPtr, LoadNext, Prepare, Raise, Finalise}
+use Rattle.index_words.specs.declared.view.View.{View}
+use Rattle.std.proofs.Common.{ℕ, eqb}
+use Rattle.core_rule.specs.LoadMoves.{longest, stamp_loaded}
+use Rattle.core_rule.specs.Steps.{look_from, head_from, ts_from, ptr_from, next_from, raised_from}
+use Rattle.core_rule.proofs.Allowed.{seat_within, join_other, prepare_small, raises}
+use Rattle.core_rule.proofs.Changes.{on_ok, change_of, join_change, at_found}
 use Rattle.core_rule.proofs.step.change_in_place.Goals as goal
 
 pub join_seats-requires-clause-seat : goal.join_seats-requires-clause-seat
@@ -21,6 +25,36 @@ leave_seat-requires c = seat_within (record { layout = c.args.layout.now; words 
 
 pub look_seat-requires : goal.look_seat-requires
 look_seat-requires c = seat_within (record { layout = c.args.layout.now; words = c.args.words.now; views = c.args.views.now }) c.args.event.now c.args.word c.requires.met
+
+pub load_stamp_seat-requires : goal.load_stamp_seat-requires
+load_stamp_seat-requires c = seat_within (record { layout = c.args.layout.now; words = c.args.words.now; views = c.args.views.now }) c.args.event.now c.args.word c.requires.met
+
+pub load_head_seat-requires : goal.load_head_seat-requires
+load_head_seat-requires c = seat_within (record { layout = c.args.layout.now; words = c.args.words.now; views = c.args.views.now }) c.args.event.now c.args.word c.requires.met
+
+pub load_ts_seat-requires : goal.load_ts_seat-requires
+load_ts_seat-requires c = seat_within (record { layout = c.args.layout.now; words = c.args.words.now; views = c.args.views.now }) c.args.event.now c.args.word c.requires.met
+
+pub load_ptr_seat-requires : goal.load_ptr_seat-requires
+load_ptr_seat-requires c = seat_within (record { layout = c.args.layout.now; words = c.args.words.now; views = c.args.views.now }) c.args.event.now c.args.word c.requires.met
+
+pub load_next_seat-requires : goal.load_next_seat-requires
+load_next_seat-requires c = seat_within (record { layout = c.args.layout.now; words = c.args.words.now; views = c.args.views.now }) c.args.event.now c.args.word c.requires.met
+
+pub finalise_seat-requires : goal.finalise_seat-requires
+finalise_seat-requires c = seat_within (record { layout = c.args.layout.now; words = c.args.words.now; views = c.args.views.now }) c.args.event.now c.args.word c.requires.met
+
+pub prepare_seat-requires-clause-seat : goal.prepare_seat-requires-clause-seat
+prepare_seat-requires-clause-seat c = seat_within (record { layout = c.args.layout.now; words = c.args.words.now; views = c.args.views.now }) c.args.event.now c.args.word c.requires.met
+
+pub prepare_seat-requires-clause-small : goal.prepare_seat-requires-clause-small
+prepare_seat-requires-clause-small c = prepare_small (record { layout = c.args.layout.now; words = c.args.words.now; views = c.args.views.now }) c.args.event.now c.args.word c.requires.met c.in-Prepare.is
+
+pub raise_seat-requires-clause-seat : goal.raise_seat-requires-clause-seat
+raise_seat-requires-clause-seat c = (raises (record { layout = c.args.layout.now; words = c.args.words.now; views = c.args.views.now }) c.args.event.now c.args.word c.requires.right c.requires.met c.in-Raise.is).calls
+
+pub raise_seat-requires-clause-small : goal.raise_seat-requires-clause-small
+raise_seat-requires-clause-small c = rw c.held-found.ensures (raises (record { layout = c.args.layout.now; words = c.args.words.now; views = c.args.views.now }) c.args.event.now c.args.word c.requires.right c.requires.met c.in-Raise.is).small
 
 pub returns-in-MakeSeat-clause-ok : goal.returns-in-MakeSeat-clause-ok
 returns-in-MakeSeat-clause-ok c = change_of c.args.layout.now c.args.words.now c.args.views.now c.args.event.now c.args.word c.args.views.now MakeSeat c.in-MakeSeat.is (λ v found. refl)
@@ -47,23 +81,77 @@ pub returns-in-Leave-clause-ok : goal.returns-in-Leave-clause-ok
 returns-in-Leave-clause-ok c =
     change_of c.args.layout.now c.args.words.now c.args.views.now c.args.event.now c.args.word c.leave_seat.new.views Leave c.in-Leave.is c.leave_seat.ensures
 
-pub returns-in-Section-clause-ok : goal.returns-in-Section-clause-ok
-returns-in-Section-clause-ok c =
+pub returns-in-LookSec-clause-ok : goal.returns-in-LookSec-clause-ok
+returns-in-LookSec-clause-ok c =
     on_ok c.look_seat.result
-    (look_change c.args.layout.now c.args.words.now c.args.views.now c.args.event.now c.args.word c.look_seat.new.views c.in-Section.pass c.held.result c.in-LookSec.is c.in-Section.is c.held.ensures)
+    (λ step. change_of c.args.layout.now c.args.words.now c.args.views.now c.args.event.now c.args.word c.look_seat.new.views LookSec c.in-LookSec.is (at_found c.args.views.now c.args.event.now.seat c.look_seat.new.views (λ (v : View) (x : ℕ). look_from c.args.layout.now v c.args.word x) c.held-found.result _ c.held-found.ensures step))
     c.look_seat.ensures.ok
 
-pub returns-in-Section-clause-err : goal.returns-in-Section-clause-err
-returns-in-Section-clause-err c = c.look_seat.ensures.err
+pub returns-in-LookSec-clause-err : goal.returns-in-LookSec-clause-err
+returns-in-LookSec-clause-err c = c.look_seat.ensures.err
+
+pub returns-in-LoadStamp-clause-ok : goal.returns-in-LoadStamp-clause-ok
+returns-in-LoadStamp-clause-ok c =
+    on_ok c.load_stamp_seat.result
+    (λ step. change_of c.args.layout.now c.args.words.now c.args.views.now c.args.event.now c.args.word c.load_stamp_seat.new.views LoadStamp c.in-LoadStamp.is (at_found c.args.views.now c.args.event.now.seat c.load_stamp_seat.new.views (λ (v : View) (x : ℕ). stamp_loaded (longest c.args.views.now) v x (eqb c.args.event.now.value 1)) c.held-found.result _ c.held-found.ensures step))
+    c.load_stamp_seat.ensures.ok
+
+pub returns-in-LoadStamp-clause-err : goal.returns-in-LoadStamp-clause-err
+returns-in-LoadStamp-clause-err c = c.load_stamp_seat.ensures.err
+
+pub returns-in-LoadHead-clause-ok : goal.returns-in-LoadHead-clause-ok
+returns-in-LoadHead-clause-ok c =
+    on_ok c.load_head_seat.result
+    (λ step. change_of c.args.layout.now c.args.words.now c.args.views.now c.args.event.now c.args.word c.load_head_seat.new.views LoadHead c.in-LoadHead.is (at_found c.args.views.now c.args.event.now.seat c.load_head_seat.new.views (λ (v : View) (x : ℕ). head_from v c.args.word x) c.held-found.result _ c.held-found.ensures step))
+    c.load_head_seat.ensures.ok
+
+pub returns-in-LoadHead-clause-err : goal.returns-in-LoadHead-clause-err
+returns-in-LoadHead-clause-err c = c.load_head_seat.ensures.err
+
+pub returns-in-LoadTs-clause-ok : goal.returns-in-LoadTs-clause-ok
+returns-in-LoadTs-clause-ok c =
+    change_of c.args.layout.now c.args.words.now c.args.views.now c.args.event.now c.args.word c.load_ts_seat.new.views LoadTs c.in-LoadTs.is (at_found c.args.views.now c.args.event.now.seat c.load_ts_seat.new.views (λ (v : View) (x : ℕ). ts_from v c.args.word x) c.held-found.result _ c.held-found.ensures c.load_ts_seat.ensures)
+
+pub returns-in-LoadPtr-clause-ok : goal.returns-in-LoadPtr-clause-ok
+returns-in-LoadPtr-clause-ok c =
+    on_ok c.load_ptr_seat.result
+    (λ step. change_of c.args.layout.now c.args.words.now c.args.views.now c.args.event.now c.args.word c.load_ptr_seat.new.views LoadPtr c.in-LoadPtr.is (at_found c.args.views.now c.args.event.now.seat c.load_ptr_seat.new.views (λ (v : View) (x : ℕ). ptr_from v c.args.word x) c.held-found.result _ c.held-found.ensures step))
+    c.load_ptr_seat.ensures.ok
+
+pub returns-in-LoadPtr-clause-err : goal.returns-in-LoadPtr-clause-err
+returns-in-LoadPtr-clause-err c = c.load_ptr_seat.ensures.err
+
+pub returns-in-LoadNext-clause-ok : goal.returns-in-LoadNext-clause-ok
+returns-in-LoadNext-clause-ok c =
+    on_ok c.load_next_seat.result
+    (λ step. change_of c.args.layout.now c.args.words.now c.args.views.now c.args.event.now c.args.word c.load_next_seat.new.views LoadNext c.in-LoadNext.is (at_found c.args.views.now c.args.event.now.seat c.load_next_seat.new.views (λ (v : View) (x : ℕ). next_from v c.args.word x) c.held-found.result _ c.held-found.ensures step))
+    c.load_next_seat.ensures.ok
+
+pub returns-in-LoadNext-clause-err : goal.returns-in-LoadNext-clause-err
+returns-in-LoadNext-clause-err c = c.load_next_seat.ensures.err
+
+pub returns-in-Prepare-clause-ok : goal.returns-in-Prepare-clause-ok
+returns-in-Prepare-clause-ok c =
+    on_ok c.prepare_seat.result (change_of c.args.layout.now c.args.words.now c.args.views.now c.args.event.now c.args.word c.prepare_seat.new.views Prepare c.in-Prepare.is) c.prepare_seat.ensures.ok
+
+pub returns-in-Prepare-clause-err : goal.returns-in-Prepare-clause-err
+returns-in-Prepare-clause-err c = c.prepare_seat.ensures.err
+
+pub returns-in-Raise-clause-ok : goal.returns-in-Raise-clause-ok
+returns-in-Raise-clause-ok c =
+    on_ok c.raise_seat.result
+    (λ step. change_of c.args.layout.now c.args.words.now c.args.views.now c.args.event.now c.args.word c.raise_seat.new.views Raise c.in-Raise.is (at_found c.args.views.now c.args.event.now.seat c.raise_seat.new.views (λ (v : View) (x : ℕ). raised_from (longest c.args.views.now) v x c.args.event.now.update) c.held-found.result _ c.held-found.ensures step))
+    c.raise_seat.ensures.ok
+
+pub returns-in-Raise-clause-err : goal.returns-in-Raise-clause-err
+returns-in-Raise-clause-err c = c.raise_seat.ensures.err
+
+pub returns-in-Finalise-clause-ok : goal.returns-in-Finalise-clause-ok
+returns-in-Finalise-clause-ok c =
+    change_of c.args.layout.now c.args.words.now c.args.views.now c.args.event.now c.args.word c.finalise_seat.new.views Finalise c.in-Finalise.is c.finalise_seat.ensures
 
 pub unreachable-requires : goal.unreachable-requires
 unreachable-requires c = c.requires.in_place c.in-SplitSeat.is
 
 pub unreachable-unreachable : goal.unreachable-unreachable
 unreachable-unreachable c = c.requires.in_place c.in-SplitSeat.is
-
-pub unreachable-requires-in_default : goal.unreachable-requires-in_default
-unreachable-requires-in_default c = look_at_section (record { layout = c.args.layout.now; words = c.args.words.now; views = c.args.views.now }) c.args.event.now c.args.word c.requires.met c.in-LookSec.is c.in_default.not-Section
-
-pub unreachable-unreachable-in_default : goal.unreachable-unreachable-in_default
-unreachable-unreachable-in_default c = look_at_section (record { layout = c.args.layout.now; words = c.args.words.now; views = c.args.views.now }) c.args.event.now c.args.word c.requires.met c.in-LookSec.is c.in_default.not-Section

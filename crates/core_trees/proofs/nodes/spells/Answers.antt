@@ -10,4 +10,4 @@ pub returns-clause-stays : goal.returns-clause-stays
 returns-clause-stays c = λ yes. frame_law (graph_of c.args.nodes.now) c.args.child (shape c.args.tree.now) (c.spells_from.ensures.0 yes)
 
 pub returns-clause-swaps : goal.returns-clause-swaps
-returns-clause-swaps c = swap_law (graph_of c.args.nodes.now) (shape c.args.tree.now)
+returns-clause-swaps c = λ yes. swap_law (graph_of c.args.nodes.now) c.args.child (shape c.args.tree.now) (c.spells_from.ensures.0 yes)

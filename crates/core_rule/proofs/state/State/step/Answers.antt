@@ -1,16 +1,48 @@
-use Rattle.core_rule.proofs.Stepped.{finished}
+use Rattle.std.proofs.Common.{ℕ, List, sym, subst}
+use Rattle.core_rule.specs.LinkLaw.{KeepsSelections}
+use Rattle.core_rule.specs.Rule.{InRule}
+use Rattle.core_rule.specs.Tables.{Table}
+use Rattle.core_rule.proofs.Stepped.{finished, same_selections, refused_selections, stored_small}
 use Rattle.core_rule.proofs.state.State.step.Goals as goal
+
+pub change-requires-clause-right : goal.change-requires-clause-right
+change-requires-clause-right c = subst (λ (ws : List ℕ). InRule c.self.inside.layout ws c.self.inside.views.items) (sym c.as_slice-3.ensures.value) c.self.invariant
+
+pub store-requires-clause-small : goal.store-requires-clause-small
+store-requires-clause-small c =
+    stored_small c.self.inside.layout c.self.inside.words.items c.as_slice.result.now c.self.inside.views.items c.as_slice-2.result.now c.args.event.now c.in-Some.word c.is_allowed.result
+    c.self.invariant c.in-Some.ensures.value c.as_slice.ensures.value c.as_slice-2.ensures.value c.is_allowed.ensures c.if-not-is_allowed.false
 
 pub invariant_of-self-2 : goal.invariant_of-self-2
 invariant_of-self-2 c =
-    finished c.self.inside.layout c.self.inside.words.items c.as_slice.result.now c.as_slice-3.result.now c.self.inside.views.items c.as_slice-2.result.now c.args.event.now c.in-Some.word
+    (finished c.self.inside.layout c.self.inside.words.items c.as_slice.result.now c.as_slice-3.result.now c.self.inside.views.items c.as_slice-2.result.now c.args.event.now c.in-Some.word
     c.is_allowed.result c.is_err.result c.change.result c.store.new.words.items c.change.new.views.items
     c.self.invariant c.in-Some.ensures.value c.as_slice.ensures.value c.as_slice-2.ensures.value c.is_allowed.ensures c.if-not-is_allowed.false
-    c.as_slice-3.ensures.value c.is_err.ensures.value c.if-is_err.false c.change.ensures.ok c.store.ensures
+    c.as_slice-3.ensures.value c.is_err.ensures.value c.if-is_err.false c.change.ensures.ok c.store.ensures).right
 
 pub returns-clause-rule : goal.returns-clause-rule
 returns-clause-rule c =
-    finished c.self.inside.layout c.self.inside.words.items c.as_slice.result.now c.as_slice-3.result.now c.self.inside.views.items c.as_slice-2.result.now c.args.event.now c.in-Some.word
+    (finished c.self.inside.layout c.self.inside.words.items c.as_slice.result.now c.as_slice-3.result.now c.self.inside.views.items c.as_slice-2.result.now c.args.event.now c.in-Some.word
     c.is_allowed.result c.is_err.result c.change.result c.store.new.words.items c.change.new.views.items
     c.self.invariant c.in-Some.ensures.value c.as_slice.ensures.value c.as_slice-2.ensures.value c.is_allowed.ensures c.if-not-is_allowed.false
-    c.as_slice-3.ensures.value c.is_err.ensures.value c.if-is_err.false c.change.ensures.ok c.store.ensures
+    c.as_slice-3.ensures.value c.is_err.ensures.value c.if-is_err.false c.change.ensures.ok c.store.ensures).right
+
+pub returns-in_default-clause-links : goal.returns-in_default-clause-links
+returns-in_default-clause-links c = same_selections c.args.self.now
+
+pub returns-then-not-is_allowed-clause-links : goal.returns-then-not-is_allowed-clause-links
+returns-then-not-is_allowed-clause-links c = same_selections c.args.self.now
+
+pub returns-then-is_err-clause-links : goal.returns-then-is_err-clause-links
+returns-then-is_err-clause-links c =
+    let t : Table = record { layout = c.self.inside.layout; words = c.self.inside.words.items; views = c.self.inside.views.items } in
+    subst (λ (u : Table). KeepsSelections u (record { layout = c.self.inside.layout; words = c.self.inside.words.items; views = c.change.new.views.items })) c.self.view_is
+    (refused_selections t c.change.new.views.items c.is_err.result c.change.result c.is_err.ensures.value c.if-is_err.true c.change.ensures.err)
+
+pub returns-clause-links : goal.returns-clause-links
+returns-clause-links c =
+    subst (λ (u : Table). KeepsSelections u (record { layout = c.self.inside.layout; words = c.store.new.words.items; views = c.change.new.views.items })) c.self.view_is
+    (finished c.self.inside.layout c.self.inside.words.items c.as_slice.result.now c.as_slice-3.result.now c.self.inside.views.items c.as_slice-2.result.now c.args.event.now c.in-Some.word
+    c.is_allowed.result c.is_err.result c.change.result c.store.new.words.items c.change.new.views.items
+    c.self.invariant c.in-Some.ensures.value c.as_slice.ensures.value c.as_slice-2.ensures.value c.is_allowed.ensures c.if-not-is_allowed.false
+    c.as_slice-3.ensures.value c.is_err.ensures.value c.if-is_err.false c.change.ensures.ok c.store.ensures).same

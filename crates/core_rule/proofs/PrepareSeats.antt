@@ -1,0 +1,311 @@
+-- Prepare keeps the rule: a free entry, which has the old head behind it, becomes the head of a bundle.
+use Rattle.std.proofs.Common.{◌≡◌, ℕ, suc, ◌+◌, ◌<◌, ◌≤◌, ◌⊎◌, cond, List, [], ◌∷◌, ◌++◌, Bool, true, false, eqb, ◌&&◌, is_some, set, arith, refl, ap, ◌∙◌, sym, subst, inl, inr, Option, Some, None, map}
+use Rattle.std.specs.Prelude.{IfSome}
+use Rattle.std.specs.List.{All, sum_by}
+use Rattle.std.proofs.lemmas.Bool.{eq-eqb, ne_eqb, eqb-true, and_parts, cases_lt}
+use Rattle.std.proofs.lemmas.Bool.Decides.{eqb_tells}
+use Rattle.std.proofs.lemmas.List.{get_or_default}
+use Rattle.index_words.specs.declared.layout.Layout.{Layout}
+use Rattle.index_words.specs.declared.side.Side.{Side}
+use Rattle.index_words.specs.declared.side.Side.TheVariants.{Left, Right}
+use Rattle.index_words.specs.declared.view.View.{View}
+use Rattle.index_words.specs.declared.view.slots.Slots.{Slots}
+use Rattle.index_words.specs.declared.view.reading.Place.{Place}
+use Rattle.index_words.specs.declared.view.reading.Place.TheVariants.{Nowhere, Entry as AtEntry, Node as AtNode, Gap}
+use Rattle.index_words.specs.declared.view.reading.Link.{Link}
+use Rattle.index_words.specs.declared.view.reading.LinkSource.{LinkSource}
+use Rattle.index_words.specs.declared.view.reading.LinkSource.TheVariants.{Bundle, Plain}
+use Rattle.index_words.specs.declared.view.update.Held.{Held}
+use Rattle.index_words.specs.declared.view.update.HeldNode.{HeldNode}
+use Rattle.index_words.specs.declared.view.update.Updating.{Updating}
+use Rattle.index_words.specs.declared.word.Field.TheVariants.{Mark, Head}
+use Rattle.index_words.specs.declared.word.Part.TheVariants.{Child, Stamp as Number, Next}
+use Rattle.index_words.specs.declared.word.Word.TheVariants.{Stamp, Node, Entry}
+use Rattle.index_words.specs.Words.{Memory, written, same_side}
+use Rattle.index_words.specs.Lists.{count, Every, IsItem}
+use Rattle.index_words.proofs.Seats.{Beside, sum_moved, sum_kept, one_term, at_item, all_moved}
+use Rattle.index_words.proofs.Counting.{count-append, count-push}
+use Rattle.core_grace.specs.Holds.{HoldsNode, held_slots, listed, work_nodes, tree_slots, entries_of}
+use Rattle.core_grace.proofs.RuleMoves.{every_push}
+use Rattle.core_links.specs.Bundle.{IsChain, no_number, select}
+use Rattle.core_links.proofs.Chains.{select-behind}
+use Rattle.core_rule.specs.Meanings.{Meaning}
+use Rattle.core_rule.specs.Numbers.{number_count}
+use Rattle.core_rule.specs.Locks.{lock_count, SideRight, NodeRight, NextRight, IsTakenOut}
+use Rattle.core_rule.specs.BundleRule.{IsLive, IsPendingAt, IsBundle, BundleRight, IsNumbered, Falls, IsHeadOf, IsPending, pending_count, shown}
+use Rattle.core_rule.specs.Readers.{IsReachable, IsLocked, ReadsNode, StandsAt, IsPassed, PlaceRight, SourceRight, LinkRight}
+use Rattle.core_rule.specs.SeatRule.{SeatRight}
+use Rattle.core_rule.specs.UpdateMoves.{head_known, known_at, in_front, unnumbered, prepared, prepared_meaning}
+use Rattle.core_rule.specs.Rule.{Rule}
+use Rattle.core_rule.specs.LinkLaw.{Kept}
+use Rattle.core_rule.proofs.Frames.{every_map, every_listed, every_at, every_named, Term, term_of, live_moved}
+use Rattle.core_rule.proofs.BundleFrames.{falls_frame, falls_below, all_written, select_frame}
+use Rattle.core_rule.proofs.OneView.{history_kept, seat_at}
+use Rattle.core_rule.proofs.Owned.{in_entries, held_live, not_in_bundle, reachable_live, free_entry_some}
+use Rattle.core_rule.proofs.Fills.{node_other, work_holds, head_apart}
+use Rattle.core_rule.proofs.Fronts.{count-fronted, numbered_other, numbered_new}
+use Rattle.core_rule.proofs.Locked.{locked_live, locked_apart}
+use Rattle.core_rule.proofs.Prepare.{Ready, same_locks, same_work, prepared_slots}
+use Rattle.core_rule.proofs.PrepareBundles.{same_side-refl, not_pending, pending_same, new_pending, bundle_now, selects, above_still, pending_head}
+
+pub every_mapped : {X : Type 0} (P Q : X → Type 0) (f : X → X) (xs : List X) → ((x : X) → P x → Q (f x)) → Every P xs → Every Q (map f xs)
+every_mapped P Q f [] step all = tt
+every_mapped P Q f (x ∷ xs) step all = (step x all.0, every_mapped P Q f xs step all.1)
+
+-- the heads that are known of a locked node once one of them is stored
+node_now : (m : Memory) (side : Side) (k e : ℕ) (h : HeldNode) (c : Bool) → eqb h.node k ≡ c
+    → NodeRight (λ j. m (Node Mark j)) (λ s j. m (Node (Head s) j)) (λ d. m (Entry Number d)) h
+    → NodeRight (λ j. m (Node Mark j)) (λ s j. written m (Node (Head side) k) e (Node (Head s) j)) (λ d. m (Entry Number d))
+    (cond c (head_known side (record { entry = e; stamp = None }) h) h)
+node_now m Left k e h true is right = (right.0, (ap (λ b. cond b e (m (Node (Head Left) h.node))) is, tt), right.2)
+node_now m Right k e h true is right = (right.0, right.1, (ap (λ b. cond b e (m (Node (Head Right) h.node))) is, tt))
+node_now m Left k e h false is right =
+    (right.0, subst (λ x. SideRight x (λ d. m (Entry Number d)) h.left) (sym (ap (λ b. cond b e (m (Node (Head Left) h.node))) is)) right.1, right.2)
+node_now m Right k e h false is right =
+    (right.0, right.1, subst (λ x. SideRight x (λ d. m (Entry Number d)) h.right) (sym (ap (λ b. cond b e (m (Node (Head Right) h.node))) is)) right.2)
+
+module _ (z : Layout) (m : Memory) (vs : List View) (g : Meaning) (rule : Rule z m vs g) (i k e : ℕ) (side : Side) (v : View) (at : IsItem vs i v) (ready : Ready m v side k e) where
+  abbrev stamp : ℕ → ℕ
+  stamp d = m (Entry Number d)
+
+  abbrev head : Side → ℕ → ℕ
+  head s j = m (Node (Head s) j)
+
+  abbrev m' : Memory
+  m' = written m (Node (Head side) k) e
+
+  abbrev head' : Side → ℕ → ℕ
+  head' s j = m' (Node (Head s) j)
+
+  abbrev g' : Meaning
+  g' = prepared_meaning g side k e
+
+  abbrev number' : ℕ → ℕ
+  number' = unnumbered g.bundles.number e
+
+  abbrev v' : View
+  v' = prepared v side k e
+
+  abbrev ws : List View
+  ws = set vs i v'
+
+  own : SeatRight z m g v
+  own = seat_at z m vs g i v at rule
+
+  locks_same : held_slots v'.held.nodes ≡ held_slots v.held.nodes
+  locks_same = same_locks z m vs g rule i k e side v at ready
+
+  work_same : work_nodes v' ≡ work_nodes v
+  work_same = same_work z m vs g rule i k e side v at ready
+
+  low : m Stamp < no_number
+  low = omega (arith, rule.history.calls, rule.history.few)
+
+  some : 0 < e
+  some = free_entry_some z vs g rule.slots i e v at ready.free
+
+  live_k : IsLive z vs k
+  live_k = locked_live z m vs g rule i k v at ready.locked
+
+  -- another view, or the moved one, with what it reads as before
+  module _ (j : ℕ) (u : View) (of : IsItem vs j u) (h : Held) (p : Updating) (f : Slots) (locks : held_slots h.nodes ≡ held_slots u.held.nodes) (work : work_nodes (record u { held = h; update = p; free = f }) ≡ work_nodes u) where
+    abbrev u' : View
+    u' = record u { held = h; update = p; free = f }
+
+    seat : SeatRight z m g u
+    seat = seat_at z m vs g j u of rule
+
+    reach : (n : ℕ) → IsReachable z u n → IsReachable z u' n
+    reach n old = (
+      old.0,
+      elim old.1 as (λ _. (n ≡ 0) ⊎ HoldsNode u' n) [
+        | inl root ↦ inl root
+        | inr holds ↦ inr (subst (λ xs. 0 < count n (tree_slots u.reading.tree ++ xs)) (sym work) holds)
+      ],
+    )
+
+    reads : (n : ℕ) → ReadsNode u' n → ReadsNode u n
+    reads n (inl section) = inl section
+    reads n (inr locked) = inr (subst (λ xs. 0 < count n xs) locks locked)
+
+    passed_by : (n d : ℕ) (o : Option ℕ) → IfSome o (λ t. t ≤ m Stamp) → IfSome o (λ t. IsLocked u n ⊎ (t < g.bundles.number d)) → IfSome o (λ t. IsLocked u' n ⊎ (t < number' d))
+    passed_by n d None past old = tt
+    passed_by n d (Some t) past (inl locked) = inl (subst (λ xs. 0 < count n xs) (sym locks) locked)
+    passed_by n d (Some t) past (inr above) = inr ((above_still z m vs g rule i k e side v at ready) t d past above)
+
+    front_by : (n : ℕ) (o : Option ℕ) → IfSome o (λ t. t ≤ m Stamp) → IfSome o (λ t. IsLocked u' n ⊎ (t < number' e))
+    front_by n None past = tt
+    front_by n (Some t) past = inr (omega (arith, past, low, numbered_new g.bundles.number e))
+
+    stands_same : (n entry : ℕ) (found : Option ℕ) (es : List ℕ) → StandsAt stamp es entry found (IsPassed g.bundles.number u n) → StandsAt stamp es entry found (IsPassed number' u' n)
+    stands_same n entry found es old = record {
+      front = old.front;
+      back = old.back;
+      splits = old.splits;
+      passed = every_map (IsPassed g.bundles.number u n) (IsPassed number' u' n) old.front (λ d is. passed_by n d u.reading.section seat.version.past is) old.passed;
+      found = old.found;
+    }
+
+    stands_by : (n entry : ℕ) (found : Option ℕ) (es : List ℕ) (c : Bool) → StandsAt stamp es entry found (IsPassed g.bundles.number u n) → StandsAt stamp (cond c (e ∷ es) es) entry found (IsPassed number' u' n)
+    stands_by n entry found es false old = stands_same n entry found es old
+    stands_by n entry found es true old =
+        let rest = stands_same n entry found es old in
+        record {
+          front = e ∷ rest.front;
+          back = rest.back;
+          splits = ap (λ xs. e ∷ xs) rest.splits;
+          passed = (front_by n u.reading.section seat.version.past, rest.passed);
+          found = rest.found;
+        }
+
+    place_now : (place : Place) → PlaceRight z stamp g.bundles u place → PlaceRight z stamp g'.bundles u' place
+    place_now Nowhere right = tt
+    place_now (AtNode n) right = tt
+    place_now (Gap n s) right = tt
+    place_now (AtEntry n s entry found) right =
+        (reach n right.0, λ reading above. stands_by n entry found (g.bundles.bundle s n) (same_side s side && eqb n k) (right.1 (reads n reading) above))
+
+    source_now : (t n c : ℕ) (s : Side) (source : LinkSource) → t ≤ m Stamp → IsLive z vs n
+        → SourceRight (λ d. m (Entry Child d)) g.bundles.number (g.bundles.bundle s n) t c source
+        → SourceRight (λ d. m (Entry Child d)) number' (in_front g.bundles.bundle side k e s n) t c source
+    source_now t n c s (Plain tag above below) past live right = tt
+    source_now t n c s (Bundle entry) past live right = ((selects z m vs g rule i k e side v at ready) t n s past live ∙ right.0, right.1)
+
+    link_by : (l : Link) (o : Option ℕ) → IfSome o (λ t. t ≤ m Stamp)
+        → IfSome o (λ t. IsReachable z u l.node × SourceRight (λ d. m (Entry Child d)) g.bundles.number (g.bundles.bundle l.side l.node) t l.child l.source)
+        → IfSome o (λ t. IsReachable z u' l.node × SourceRight (λ d. m (Entry Child d)) number' (in_front g.bundles.bundle side k e l.side l.node) t l.child l.source)
+    link_by l None past old = tt
+    link_by l (Some t) past old = (reach l.node old.0, source_now t l.node l.child l.side l.source past (reachable_live z vs g rule.slots j l.node u of old.0) old.1)
+
+    links_now : Every (LinkRight z (λ d. m (Entry Child d)) g'.bundles u') u.reading.links
+    links_now = every_map (LinkRight z (λ d. m (Entry Child d)) g.bundles u) (LinkRight z (λ d. m (Entry Child d)) g'.bundles u') u.reading.links
+        (λ l old. link_by l u.reading.section seat.version.past old) seat.links
+
+    entries_more : (n x : ℕ) → 0 < count x (entries_of g.bundles n) → 0 < count x (entries_of g'.bundles n)
+    entries_more n x here = omega (arith, count-fronted g.bundles side k e n x, here)
+
+    nexts_now : Every (NextRight (λ d. m (Entry Next d)) g'.bundles h.nodes) u.held.nexts
+    nexts_now = every_map (NextRight (λ d. m (Entry Next d)) g.bundles u.held.nodes) (NextRight (λ d. m (Entry Next d)) g'.bundles h.nodes) u.held.nexts
+        (λ l old. (old.0, subst (λ xs. 0 < count l.node xs) (sym locks) old.1, entries_more l.node l.entry old.2)) seat.loaded.nexts
+
+    pending_now : Every (IsPending z head' stamp number' u) u.update.pending
+    pending_now = every_listed (IsPending z head stamp g.bundles.number u) (IsPending z head' stamp number' u) u.update.pending
+        (λ d within is. (
+          is.0,
+          numbered_other g.bundles.number e d (λ same. omega (arith, (not_pending z m vs g rule i k e side v at ready), one_term (pending_count e) vs j u of, subst (λ x. 0 < count x u.update.pending) same within)) ∙ is.1,
+          (pending_head z m vs g rule i k e side v at ready) (work_nodes u) (work_nodes u) d refl is.0 is.2,
+        )) seat.pending
+
+  lock_there : (hs : List HeldNode) → 0 < count k (held_slots hs) → hs ≡ [] → ⊥
+  lock_there hs locked none = omega (arith, locked, ap (λ (xs : List HeldNode). count k (held_slots xs)) none)
+
+  held_there : v.held.nodes ≡ [] → ⊥
+  held_there none = lock_there v.held.nodes ready.locked none
+
+  own_now : SeatRight z m' g' v'
+  own_now =
+      let h : Held = v'.held in
+      record {
+        layout = own.layout;
+        section = record {
+          section = own.section.section;
+          announced = own.section.announced;
+          outside = λ even. absurd (held_there (own.section.outside even).held);
+          done = λ none. absurd (lock_there v'.held.nodes (subst (λ xs. 0 < count k xs) (sym locks_same) ready.locked) none);
+        };
+        seen = own.seen;
+        update = record { raised = own.update.raised; first = own.update.first };
+        version = own.version;
+        locks = λ j held. own.locks j (subst (λ xs. 0 < count j xs) locks_same held);
+        loaded = record {
+          nodes = every_mapped (NodeRight (λ j. m (Node Mark j)) head stamp) (NodeRight (λ j. m (Node Mark j)) head' stamp)
+              (known_at k side (record { entry = e; stamp = None })) v.held.nodes (λ x is. node_now m side k e x (eqb x.node k) refl is) own.loaded.nodes;
+          nexts = nexts_now i v at h v'.update v'.free locks_same work_same;
+        };
+        marks = record {
+          retired = λ j waits. elim (own.marks.retired j waits) as (λ _. (m (Node Mark j) ≡ 1) ⊎ IsTakenOut v' j) [
+            | inl marked ↦ inl marked
+            | inr out ↦ absurd (unraised v.update.raised ready.raised out.0)
+          ];
+          batch = own.marks.batch;
+        };
+        pending = every_push (IsPending z head' stamp number' v') v.update.pending e
+            (every_listed (IsPending z head stamp g.bundles.number v) (IsPending z head' stamp number' v') v.update.pending
+            (λ d within is. (
+              is.0,
+              numbered_other g.bundles.number e d (λ same. omega (arith, (not_pending z m vs g rule i k e side v at ready), one_term (pending_count e) vs i v at, subst (λ x. 0 < count x v.update.pending) same within)) ∙ is.1,
+              (pending_head z m vs g rule i k e side v at ready) (work_nodes v) (work_nodes v') d work_same is.0 is.2,
+            )) own.pending)
+            (ready.unnumbered, numbered_new g.bundles.number e ∙ sym (ap shown ready.raised), new_head);
+        place = place_now i v at h v'.update v'.free locks_same work_same v.reading.place own.place;
+        links = links_now i v at h v'.update v'.free locks_same work_same;
+      }
+    where
+      unraised : (o : Option ℕ) → o ≡ None → is_some o ≡ true → ⊥
+      unraised None is one = cc
+      unraised (Some n) is one = cc
+
+      new_head : IsHeadOf z head' (work_nodes v') e
+      new_head = record {
+        node = k;
+        side = side;
+        there = live_k.0;
+        is = stored (same_side side side) (eqb k k) (same_side-refl side) (eq-eqb k k refl);
+        some = some;
+        of = subst (λ xs. 0 < count k xs) (sym work_same) (omega (arith, ready.locked, count-append k (held_slots v.held.nodes) (listed v.update.added)));
+      }
+        where
+          stored : (a b : Bool) → a ≡ true → b ≡ true → cond (a && b) e (head side k) ≡ e
+          stored true true p q = refl
+          stored true false p q = cc
+          stored false b p q = cc
+
+  node_apart : (u : View) (h : HeldNode) → Beside vs i u → 0 < lock_count h.node u → h.node ≡ k → ⊥
+  node_apart u h beside held same =
+      omega (arith, locked_apart z m vs g rule i k v u at beside ready.locked, subst (λ n. 0 < lock_count n u) same held)
+
+  other_now : (u : View) → Beside vs i u → SeatRight z m g u → SeatRight z m' g' u
+  other_now u beside of = record {
+    layout = of.layout;
+    section = record { section = of.section.section; announced = of.section.announced; outside = of.section.outside; done = of.section.done };
+    seen = of.seen;
+    update = of.update;
+    version = of.version;
+    locks = of.locks;
+    loaded = record {
+      nodes = every_named (λ (h : HeldNode). h.node) (NodeRight (λ j. m (Node Mark j)) head stamp) (NodeRight (λ j. m (Node Mark j)) head' stamp) u.held.nodes
+          (λ h held is. (
+            is.0,
+            subst (λ x. SideRight x stamp h.left) (sym (node_other m (Head side) (Head Left) k h.node e (node_apart u h beside held))) is.1,
+            subst (λ x. SideRight x stamp h.right) (sym (node_other m (Head side) (Head Right) k h.node e (node_apart u h beside held))) is.2,
+          )) of.loaded.nodes;
+      nexts = nexts_now beside.place u beside.at u.held u.update u.free refl refl;
+    };
+    marks = record { retired = of.marks.retired; batch = of.marks.batch };
+    pending = pending_now beside.place u beside.at u.held u.update u.free refl refl;
+    place = place_now beside.place u beside.at u.held u.update u.free refl refl u.reading.place of.place;
+    links = links_now beside.place u beside.at u.held u.update u.free refl refl;
+  }
+
+  single_now : (d : ℕ) → sum_by (pending_count d) ws ≤ 1
+  single_now d =
+      elim (eqb_tells d e) as (λ _. sum_by (pending_count d) ws ≤ 1) [
+        | inl same ↦ subst (λ x. sum_by (pending_count x) ws ≤ 1) (sym same.1) (omega (arith, (new_pending z m vs g rule i k e side v at ready).0))
+        | inr other ↦ omega (arith, sum_kept (pending_count d) vs i v v' at ((pending_same z m vs g rule i k e side v at ready) d other.1), rule.single d)
+      ]
+
+  pub prepare_kept : Kept z (m Stamp) vs g m' ws
+  prepare_kept = record {
+    meaning = g';
+    rule = record {
+      numbers = λ n. sum_kept (number_count n) vs i v v' at refl ∙ rule.numbers n;
+      history = history_kept z _ g vs i v v' at refl refl rule.history;
+      slots = prepared_slots z m vs g rule i k e side v at ready;
+      locks = λ j. sum_kept (lock_count j) vs i v v' at (ap (count j) locks_same) ∙ rule.locks j;
+      marks = record { root = rule.marks.root; nodes = rule.marks.nodes };
+      bundles = (bundle_now z m vs g rule i k e side v at ready);
+      single = single_now;
+      seats = all_moved (SeatRight z m g) (SeatRight z m' g') vs i v v' at rule.seats own_now other_now;
+    };
+    same = λ t j s past live live'. sym ((selects z m vs g rule i k e side v at ready) t j s past live);
+  }

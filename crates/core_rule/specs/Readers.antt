@@ -1,0 +1,63 @@
+-- The rule on readers: where a seat stands in a bundle, and the links that it remembers.
+use Rattle.std.specs.Prelude.{◌≡◌, ℕ, ◌<◌, ◌≤◌, ◌⊎◌, List, [], ◌∷◌, ◌++◌, Option, Some, None, IfSome, true, is_some}
+use Rattle.index_words.specs.declared.layout.Layout.{Layout}
+use Rattle.index_words.specs.declared.view.View.{View}
+use Rattle.index_words.specs.declared.view.reading.Reading.{Reading}
+use Rattle.index_words.specs.declared.view.reading.Place.{Place}
+use Rattle.index_words.specs.declared.view.reading.Place.TheVariants.{Nowhere, Entry, Node, Gap}
+use Rattle.index_words.specs.declared.view.reading.Link.{Link}
+use Rattle.index_words.specs.declared.view.reading.LinkSource.{LinkSource}
+use Rattle.index_words.specs.declared.view.reading.LinkSource.TheVariants.{Bundle, Plain}
+use Rattle.index_words.specs.Lists.{count, Every}
+use Rattle.core_grace.specs.Holds.{Bundles, HoldsNode, held_slots, tree_slots}
+use Rattle.core_links.specs.Bundle.{select, child_of_entry}
+
+-- the section number is at most the stamp, and an open snapshot has it; without one no tree is read, and the
+-- nodes of a tree are slots of the table
+pub record VersionRight (z : Layout) (s : ℕ) (r : Reading) : Type 0 where
+  pub past : IfSome r.section (λ t. t ≤ s)
+  pub opened : IfSome r.opened (λ t. r.section ≡ Some t)
+  pub bare : r.section ≡ None → r.tree ≡ []
+  pub there : (k : ℕ) → 0 < count k (tree_slots r.tree) → k ≤ z.nodes
+
+-- the node is the root, or the seat holds it
+abbrev pub IsReachable : Layout → View → ℕ → Type 0
+IsReachable z v k = (k ≤ z.nodes) × ((k ≡ 0) ⊎ HoldsNode v k)
+
+abbrev pub IsLocked : View → ℕ → Type 0
+IsLocked v k = 0 < count k (held_slots v.held.nodes)
+
+-- the entry stands in the bundle, behind entries that the seat does not read; a number that was found in its
+-- stamp is still there
+pub record StandsAt (stamp : ℕ → ℕ) (es : List ℕ) (e : ℕ) (loaded : Option ℕ) (unread : ℕ → Type 0) : Type 0 where
+  pub front : List ℕ
+  pub back : List ℕ
+  pub splits : es ≡ front ++ e ∷ back
+  pub passed : Every unread front
+  pub found : IfSome loaded (λ x. 0 < x → stamp e ≡ x)
+
+-- the seat may be past the entry: its number is above the seat's, or the seat has locked the node
+abbrev pub IsPassed : (ℕ → ℕ) → View → ℕ → ℕ → Type 0
+IsPassed number v node e = IfSome v.reading.section (λ t. IsLocked v node ⊎ (t < number e))
+
+-- the seat reads bundles at a number, or has locked this node
+abbrev pub ReadsNode : View → ℕ → Type 0
+ReadsNode v node = (is_some v.reading.section ≡ true) ⊎ IsLocked v node
+
+-- where the seat stands, over the stamps of entries
+abbrev pub PlaceRight : Layout → (ℕ → ℕ) → Bundles → View → Place → Type 0
+PlaceRight z stamp b v Nowhere = Unit {0}
+PlaceRight z stamp b v (Entry node side entry found) =
+    IsReachable z v node × (ReadsNode v node → 0 < entry → StandsAt stamp (b.bundle side node) entry found (IsPassed b.number v node))
+PlaceRight z stamp b v (Node node) = Unit {0}
+PlaceRight z stamp b v (Gap node side) = Unit {0}
+
+-- a link that was found through its bundle is the one that the section number selects
+abbrev pub SourceRight : (ℕ → ℕ) → (ℕ → ℕ) → List ℕ → ℕ → ℕ → LinkSource → Type 0
+SourceRight child number es t c (Bundle entry) = (select number t es ≡ entry) × (child_of_entry child entry ≡ c)
+SourceRight child number es t c (Plain tag above below) = Unit {0}
+
+-- a remembered link, over the children of entries
+abbrev pub LinkRight : Layout → (ℕ → ℕ) → Bundles → View → Link → Type 0
+LinkRight z child b v l =
+    IfSome v.reading.section (λ t. IsReachable z v l.node × SourceRight child b.number (b.bundle l.side l.node) t l.child l.source)

@@ -1,0 +1,32 @@
+-- The rule on one seat.
+use Rattle.std.specs.Prelude.{◌≡◌, false}
+use Rattle.index_words.specs.declared.layout.Layout.{Layout}
+use Rattle.index_words.specs.declared.view.View.{View}
+use Rattle.index_words.specs.declared.word.Field.TheVariants.{Lock, Mark, Head}
+use Rattle.index_words.specs.declared.word.Part.TheVariants.{Child, Stamp as Number, Next}
+use Rattle.index_words.specs.declared.word.Word.TheVariants.{Stamp, Section, Announced, Node, Entry}
+use Rattle.index_words.specs.Words.{Memory}
+use Rattle.index_words.specs.Lists.{Every}
+use Rattle.core_rule.specs.Meanings.{Meaning}
+use Rattle.core_rule.specs.Histories.{SeenRight}
+use Rattle.core_rule.specs.SectionRule.{SectionRight}
+use Rattle.core_rule.specs.Locks.{LocksRight, LoadedRight, MarksRight}
+use Rattle.core_rule.specs.BundleRule.{IsPending, UpdateRight}
+use Rattle.core_rule.specs.Readers.{VersionRight, PlaceRight, LinkRight}
+
+-- a view that was not joined away has the table's layout
+abbrev pub HasLayout : Layout → View → Type 0
+HasLayout z v = v.joined ≡ false → v.layout ≡ z
+
+pub record SeatRight (z : Layout) (m : Memory) (g : Meaning) (v : View) : Type 0 where
+  pub layout : HasLayout z v
+  pub section : SectionRight (λ n. m (Section n)) (λ n. m (Announced n)) v
+  pub seen : SeenRight g.updates v.history
+  pub update : UpdateRight (m Stamp) v.update
+  pub version : VersionRight z (m Stamp) v.reading
+  pub locks : LocksRight z (λ k. m (Node Lock k)) v
+  pub loaded : LoadedRight (λ k. m (Node Mark k)) (λ s k. m (Node (Head s) k)) (λ e. m (Entry Number e)) (λ e. m (Entry Next e)) g.bundles v
+  pub marks : MarksRight (λ k. m (Node Mark k)) v
+  pub pending : Every (IsPending z (λ s k. m (Node (Head s) k)) (λ e. m (Entry Number e)) g.bundles.number v) v.update.pending
+  pub place : PlaceRight z (λ e. m (Entry Number e)) g.bundles v v.reading.place
+  pub links : Every (LinkRight z (λ e. m (Entry Child e)) g.bundles v) v.reading.links

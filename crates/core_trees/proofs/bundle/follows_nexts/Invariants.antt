@@ -1,6 +1,0 @@
-use Rattle.std.proofs.Common.{◌↔◌, drop, slice_index}
-use Rattle.core_trees.specs.Bundle.{IsChain}
-use Rattle.core_trees.proofs.bundle.follows_nexts.Given as goal
-
-abbrev pub invariant-loop-entry : goal.invariant-loop-entry
-invariant-loop-entry l = IsChain (slice_index l.nexts) l.head l.entries ↔ IsChain (slice_index l.nexts) l.at (drop l.entry-index l.entries)
