@@ -1,53 +1,69 @@
-// Runs one pass in and out of its section, as many events as the first argument says, and prints the
-// section word afterwards. `bench/README.md` says how to measure with it.
+// Runs the pure machine. With a number it runs one pass in and out of its section, so many events, and
+// prints the section word afterwards; `bench/README.md` says how to measure with it. Without one it reads a
+// run from standard input, and prints the words afterwards, or the place of the first event that is refused.
 #![tactic(auto)]
 
-use core_rule::{Event, Kind, run_of};
+mod reading;
+mod turns;
+
+use core_rule::{RunError, State, run_of};
 use index_words::{Layout, PassSize};
-use std::alloc::{AllocError, Global};
+use outside_io::{StdSource, read_all};
+use reading::{Run, run_of_text};
 use std::{env, io};
+use turns::{SIZE, turns};
 
-const SIZE: PassSize = PassSize {
-    nodes: 1,
-    entries: 4,
-    calls: 1,
-};
-
-fn turns(alloc: Global, count: u64) -> Result<Vec<Event>, AllocError> {
-    let mut events = Vec::new(alloc);
-    for i in 0..count {
-        let kind = if i % 2 == 0 { Kind::Enter } else { Kind::Leave };
-        events.push(Event {
-            seat: 0,
-            kind,
-            word: 1,
-            value: i + 1,
-            update: None,
-        })?;
-    }
-    Ok(events)
-}
-
-fn section_after(alloc: Global, sizes: &[PassSize], events: &[Event]) -> Option<u64> {
-    let layout = Layout::new(sizes)?;
-    match run_of(alloc, &layout, sizes, events) {
-        Ok(state) => state.word(1),
-        Err(_) => None,
-    }
-}
-
-fn asked_count(rt: &HostRuntime) -> io::Result<u64> {
-    let Some(text) = env::args(rt)?.nth(1) else {
-        return Ok(0);
-    };
-    Ok(text.as_str().parse::<u64>().unwrap_or(0))
-}
+const MOST_BYTES: usize = 1 << 30;
 
 fn main(rt: HostRuntime) -> io::Result<()> {
-    let count = asked_count(&rt)?;
+    match env::args(&rt)?.nth(1) {
+        Some(count) => run_turns(&rt, count.as_str().parse::<u64>().unwrap_or(0)),
+        None => run_input(&rt),
+    }
+}
+
+fn run_turns(rt: &HostRuntime, count: u64) -> io::Result<()> {
     let events = turns(rt.alloc(), count)?;
-    match section_after(rt.alloc(), &[SIZE], events.as_slice()) {
+    let sizes = [SIZE];
+    let word = Layout::new(&sizes).and_then(|layout| {
+        run_of(rt.alloc(), &layout, &sizes, events.as_slice())
+            .ok()
+            .and_then(|state| state.word(1))
+    });
+    match word {
         Some(word) => println!(rt; "{count} events: section word {word}"),
         None => println!(rt; "{count} events: refused"),
     }
+}
+
+fn run_input(rt: &HostRuntime) -> io::Result<()> {
+    let alloc = rt.alloc();
+    let Ok(bytes) = read_all(alloc, &mut StdSource::new(rt), MOST_BYTES) else {
+        return println!(rt; "no input");
+    };
+    let Some(run) = std::str::from_utf8(&bytes)
+        .ok()
+        .and_then(|text| run_of_text(alloc, text))
+    else {
+        return println!(rt; "no run");
+    };
+    let Some(layout) = Layout::new(run.sizes.as_slice()) else {
+        return println!(rt; "no layout");
+    };
+    match run_of(alloc, &layout, run.sizes.as_slice(), run.events.as_slice()) {
+        Ok(state) => print_words(rt, &layout, &state),
+        Err(RunError::NotAllowed(place)) => println!(rt; "refused {place}"),
+        Err(RunError::NoMemory) => println!(rt; "no memory"),
+    }
+}
+
+fn print_words(rt: &HostRuntime, layout: &Layout, state: &State) -> io::Result<()> {
+    for number in 0..layout.word_count() {
+        let word = state.word(number).unwrap_or(0);
+        if number > 0 {
+            print!(rt; " ")?;
+        }
+        print!(rt; "{word}")?;
+    }
+    println!(rt; "")
 }
