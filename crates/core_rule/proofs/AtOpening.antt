@@ -219,6 +219,7 @@ module _ (z : Layout) (sizes : List PassSize) where
         marks = record {
           retired = λ k some. absurd (omega (arith, some, ap (λ (s : Slots). count k s.nodes) fresh.retired));
           batch = λ k some. absurd (omega (arith, some, ap (λ (s : Slots). count k s.nodes) fresh.batch));
+          taken = λ k some. absurd (omega (arith, some, ap (λ (u : Updating). count k u.taken) update));
         };
         pending = subst (λ (x : Updating). Every (IsPending z (λ s k. memory z ws (Node (Head s) k)) (λ e. memory z ws (Entry Number e)) nothing_linked.bundles.number v) x.pending) (sym update) tt;
         place = subst (λ (r : Reading). PlaceRight z (λ e. memory z ws (Entry Number e)) nothing_linked.bundles v r.place) (sym read) tt;

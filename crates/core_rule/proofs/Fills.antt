@@ -119,6 +119,7 @@ module _ (z : Layout) (m : Memory) (vs : List View) (g : Meaning) (rule : Rule z
             | inr out ↦ inr out
           ];
           batch = λ j some. node_other m f Mark k j x (λ same. omega (arith, waits, subst (λ y. 0 < count y u.batch.nodes) same some)) ∙ seat.marks.batch j some;
+          taken = seat.marks.taken;
         };
         pending = every_map
             (IsPending z (λ s j. m (Node (Head s) j)) (λ e. m (Entry Number e)) g.bundles.number u)
@@ -196,8 +197,8 @@ module _ (z : Layout) (m : Memory) (vs : List View) (g : Meaning) (rule : Rule z
     entry_place n u (Gap node side) of right = tt
     entry_place n u (AtEntry node side entry found) of right = (
       right.0,
-      λ reads some.
-          let stands : StandsAt (λ d. m (Entry Number d)) (g.bundles.bundle side node) entry found (IsPassed g.bundles.number u node) = right.1 reads some in
+      λ some.
+          let stands : StandsAt (λ d. m (Entry Number d)) (g.bundles.bundle side node) entry found (IsPassed g.bundles.number u node) = right.1 some in
           let here : 0 < count entry (g.bundles.bundle side node) = subst (λ es. 0 < count entry es) (sym stands.splits) (count-middle entry stands.front stands.back) in
           record {
             front = stands.front;
@@ -249,7 +250,7 @@ module _ (z : Layout) (m : Memory) (vs : List View) (g : Meaning) (rule : Rule z
                 (λ h right. (entry_other m p Next e h.entry x (λ same. not_in_bundle z vs g rule.slots i h.node e v at free (locked h.node right.1) (subst (λ d. 0 < count d (entries_of g.bundles h.node)) same right.2)) ∙ right.0, right.1, right.2))
                 seat.loaded.nexts;
           };
-          marks = record { retired = seat.marks.retired; batch = seat.marks.batch };
+          marks = record { retired = seat.marks.retired; batch = seat.marks.batch; taken = seat.marks.taken };
           pending = every_map
               (IsPending z (λ s j. m (Node (Head s) j)) (λ d. m (Entry Number d)) g.bundles.number u)
               (IsPending z (λ s j. m (Node (Head s) j)) (λ d. written m (Entry p e) x (Entry Number d)) g.bundles.number u)

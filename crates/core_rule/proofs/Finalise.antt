@@ -127,8 +127,8 @@ module _ (z : Layout) (m : Memory) (vs : List View) (g : Meaning) (rule : Rule z
   place_kept u (Gap node side) right = tt
   place_kept u (AtEntry node side entry found) right = (
     right.0,
-    λ reads low.
-        let stands : StandsAt stamp (g.bundles.bundle side node) entry found (IsPassed g.bundles.number u node) = right.1 reads low in
+    λ low.
+        let stands : StandsAt stamp (g.bundles.bundle side node) entry found (IsPassed g.bundles.number u node) = right.1 low in
         record { front = stands.front; back = stands.back; splits = stands.splits; passed = stands.passed; found = found_kept stamp stamp' entry found (kept_stamp entry) stands.found },
   )
 
@@ -149,7 +149,7 @@ module _ (z : Layout) (m : Memory) (vs : List View) (g : Meaning) (rule : Rule z
     version = own.version;
     locks = own.locks;
     loaded = record { nodes = every_map _ _ v.held.nodes node_kept own.loaded.nodes; nexts = own.loaded.nexts };
-    marks = record { retired = own.marks.retired; batch = own.marks.batch };
+    marks = record { retired = own.marks.retired; batch = own.marks.batch; taken = own.marks.taken };
     pending = every_without
         (IsPending z (λ s k. m (Node (Head s) k)) stamp g.bundles.number v) (IsPending z (λ s k. m (Node (Head s) k)) stamp' g.bundles.number w)
         e v.update.pending (λ d within apart right. (other_stamp d apart ∙ right.0, right.1, right.2)) own.pending;
@@ -171,7 +171,7 @@ module _ (z : Layout) (m : Memory) (vs : List View) (g : Meaning) (rule : Rule z
     version = of.version;
     locks = of.locks;
     loaded = record { nodes = every_map _ _ u.held.nodes node_kept of.loaded.nodes; nexts = of.loaded.nexts };
-    marks = record { retired = of.marks.retired; batch = of.marks.batch };
+    marks = record { retired = of.marks.retired; batch = of.marks.batch; taken = of.marks.taken };
     pending = every_listed
         (IsPending z (λ s k. m (Node (Head s) k)) stamp g.bundles.number u) (IsPending z (λ s k. m (Node (Head s) k)) stamp' g.bundles.number u)
         u.update.pending (λ d within right. (other_stamp d (pending_apart u d beside within) ∙ right.0, right.1, right.2)) of.pending;

@@ -30,7 +30,7 @@ use Rattle.core_rule.specs.Meanings.{Meaning, linked_by}
 use Rattle.core_rule.specs.Histories.{SeenRight, KnowsAll}
 use Rattle.core_rule.specs.Locks.{IsTakenOut, HeadRight, NodeRight, NextRight}
 use Rattle.core_rule.specs.BundleRule.{IsPending}
-use Rattle.core_rule.specs.Readers.{IsReachable, IsLocked, ReadsNode, StandsAt, IsPassed, PlaceRight, SourceRight, LinkRight}
+use Rattle.core_rule.specs.Readers.{IsReachable, IsLocked, StandsAt, IsPassed, PlaceRight, SourceRight, LinkRight}
 use Rattle.core_rule.specs.SeatRule.{SeatRight}
 use Rattle.core_rule.specs.Moves.{longer}
 use Rattle.core_rule.specs.LoadMoves.{longest_from, longest, stamp_loaded, with_held, with_place, head_loaded, remembered_if, bundle_link, stamp_known, node_known}
@@ -169,7 +169,7 @@ module _ (z : Layout) (m : Memory) (vs : List View) (g : Meaning) (rule : Rule z
         version = record { past = omega arith; opened = opened_by fixes; bare = λ none. cc; there = λ k some. absurd (omega (arith, some)) };
         locks = seat.locks;
         loaded = record { nodes = seat.loaded.nodes; nexts = seat.loaded.nexts };
-        marks = record { retired = seat.marks.retired; batch = seat.marks.batch };
+        marks = record { retired = seat.marks.retired; batch = seat.marks.batch; taken = seat.marks.taken };
         pending = seat.pending;
         place = tt;
         links = tt;
@@ -198,10 +198,6 @@ module _ (z : Layout) (m : Memory) (vs : List View) (g : Meaning) (rule : Rule z
 
     pub reach_back : (k : ℕ) → IsReachable z v k → IsReachable z w k
     reach_back k reach = (reach.0, elim reach.1 as (λ _. (k ≡ 0) ⊎ HoldsNode w k) [ inl root ↦ inl root | inr holds ↦ inr (holds_back k holds) ])
-
-    pub reads_same : (k : ℕ) → ReadsNode w k → ReadsNode v k
-    reads_same k (inl section) = inl section
-    reads_same k (inr locked) = inr (subst (λ xs. 0 < count k xs) same locked)
 
     pub passed_back : (k d : ℕ) → IsPassed g.bundles.number v k d → IsPassed g.bundles.number w k d
     passed_back k d passed = passed_by v.reading.section passed
@@ -263,6 +259,7 @@ module _ (z : Layout) (m : Memory) (vs : List View) (g : Meaning) (rule : Rule z
               | inr out ↦ inr (out.0, out.1, subst (λ xs. 0 < count k xs) (sym same) out.2)
             ];
             batch = seat.marks.batch;
+            taken = seat.marks.taken;
           };
           pending = every_map (IsPending z (λ s k. m (Node (Head s) k)) (λ e. m (Entry Number e)) g.bundles.number v) (IsPending z (λ s k. m (Node (Head s) k)) (λ e. m (Entry Number e)) g.bundles.number w) v.update.pending
               (λ d old. (old.0, old.1, record { node = old.2.node; side = old.2.side; there = old.2.there; is = old.2.is; some = old.2.some; of = subst (λ xs. 0 < count old.2.node xs) (sym work_same) old.2.of })) seat.pending;
@@ -293,7 +290,7 @@ module _ (z : Layout) (m : Memory) (vs : List View) (g : Meaning) (rule : Rule z
       (every_mapped (NodeRight (λ j. m (Node Mark j)) (λ s j. m (Node (Head s) j)) (λ e. m (Entry Number e))) (NodeRight (λ j. m (Node Mark j)) (λ s j. m (Node (Head s) j)) (λ e. m (Entry Number e)))
       (known_at node side l) v.held.nodes (λ h right. known_now node side h (eqb h.node node) refl right) seat.loaded.nodes)
       (nexts_back i v at w.counts w.held.nodes w.held.nexts w.reading.place w.reading.links same)
-      (back node reach, (λ reads some. first_stands (λ e. m (Entry Next e)) (λ e. m (Entry Number e)) x (g.bundles.bundle side node) (IsPassed g.bundles.number w node) chain some))
+      (back node reach, (λ some. first_stands (λ e. m (Entry Next e)) (λ e. m (Entry Number e)) x (g.bundles.bundle side node) (IsPassed g.bundles.number w node) chain some))
       (links_push (LinkRight z (λ e. m (Entry Child e)) g.bundles w) (eqb x 0) v.reading.links (bundle_link node side 0 0)
       (links_back i v at w.counts w.held.nodes w.held.nexts w.reading.place w.reading.links same)
       (λ none. link_by v.reading.section (back node reach) (empty_chain (λ e. m (Entry Next e)) x (g.bundles.bundle side node) chain (eqb-true x 0 none))))

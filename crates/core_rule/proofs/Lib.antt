@@ -26,6 +26,11 @@ pub mod Raise
 pub mod Quiet
 pub mod HeadLoads
 pub mod LoadEntries
+pub mod Holding
+pub mod TryLocks
+pub mod Unlocks
+pub mod Marks
 pub mod LinkLaw
 pub mod Needed
 pub mod InPlace
+pub mod LockSteps

@@ -1,5 +1,5 @@
 -- Loads of the words of an entry at which the seat stands keep the rule.
-use Rattle.std.proofs.Common.{◌≡◌, ℕ, suc, ◌+◌, ◌<◌, ◌≤◌, ◌⊎◌, cond, List, [], ◌∷◌, ◌++◌, Bool, true, false, eqb, ltb, leb, ◌&&◌, ◌||◌, not, is_some, is_none, set, arith, refl, ap, ◌∙◌, sym, subst, inl, inr, Option, Some, None, append_assoc}
+use Rattle.std.proofs.Common.{◌≡◌, ℕ, suc, ◌+◌, ◌<◌, ◌≤◌, ◌⊎◌, cond, List, [], ◌∷◌, ◌++◌, Bool, true, false, eqb, ltb, leb, ◌&&◌, ◌||◌, not, is_none, set, arith, refl, ap, ◌∙◌, sym, subst, inl, inr, Option, Some, None, append_assoc}
 use Rattle.std.specs.Prelude.{IfSome}
 use Rattle.std.proofs.lemmas.Bool.{eqb-true, and_parts}
 use Rattle.std.proofs.lemmas.Bool.Decides.{nat_tests}
@@ -25,7 +25,7 @@ use Rattle.core_links.proofs.Chains.{select-here, select-behind}
 use Rattle.core_rule.specs.Meanings.{Meaning}
 use Rattle.core_rule.specs.Locks.{NodeRight, NextRight}
 use Rattle.core_rule.specs.BundleRule.{IsLive, IsBundle, IsNumbered, Falls, IsPending, shown}
-use Rattle.core_rule.specs.Readers.{IsLocked, ReadsNode, StandsAt, IsPassed, PlaceRight, SourceRight, LinkRight}
+use Rattle.core_rule.specs.Readers.{IsLocked, StandsAt, IsPassed, PlaceRight, SourceRight, LinkRight}
 use Rattle.core_rule.specs.SeatRule.{SeatRight}
 use Rattle.core_rule.specs.LoadMoves.{locks, ts_loaded, node_known, place_known, ptr_loaded, child_links, is_selected, is_above, is_above_at, next_at, next_loaded, bundle_link}
 use Rattle.core_rule.specs.Rule.{Rule}
@@ -34,7 +34,7 @@ use Rattle.core_rule.proofs.OneView.{seat_at}
 use Rattle.core_rule.proofs.Owned.{in_entries, reachable_live}
 use Rattle.core_rule.proofs.Fills.{count-middle}
 use Rattle.core_rule.proofs.PrepareSeats.{every_mapped}
-use Rattle.core_rule.proofs.HeadLoads.{side_node, side_at, links_push, reach_back, reads_same, passed_back, links_back, nexts_back, read_kept}
+use Rattle.core_rule.proofs.HeadLoads.{side_node, side_at, links_push, reach_back, passed_back, links_back, nexts_back, read_kept}
 
 lock_step : (node x : ℕ) (b c : Bool) (n : ℕ) → eqb x node ≡ b → (b || c) ≡ true → (c ≡ true → 0 < n) → 0 < cond (eqb x node) 1 0 + n
 lock_step node x true c n is met rest = counted (eqb x node) is
@@ -114,14 +114,14 @@ module _ (z : Layout) (m : Memory) (vs : List View) (g : Meaning) (rule : Rule z
   bundle : IsBundle m vs g node side
   bundle = rule.bundles node live side
 
-  stands : ReadsNode v node → StandsAt stamp es e found (IsPassed g.bundles.number v node)
-  stands reads = right.1 reads some
+  stands : StandsAt stamp es e found (IsPassed g.bundles.number v node)
+  stands = right.1 some
 
-  member : ReadsNode v node → 0 < count e es
-  member reads = subst (λ xs. 0 < count e xs) (sym (stands reads).splits) (count-middle e (stands reads).front (stands reads).back)
+  member : 0 < count e es
+  member = subst (λ xs. 0 < count e xs) (sym stands.splits) (count-middle e stands.front stands.back)
 
-  numbered : ReadsNode v node → 0 < stamp e → g.bundles.number e ≡ stamp e
-  numbered reads above = (every_at (IsNumbered (m Stamp) stamp g.bundles.number) e es bundle.numbers (member reads) above).0
+  numbered : 0 < stamp e → g.bundles.number e ≡ stamp e
+  numbered above = (every_at (IsNumbered (m Stamp) stamp g.bundles.number) e es bundle.numbers member above).0
 
   -- a load of the entry's stamp
   pub load_ts_kept : Rule z m (set vs i (ts_loaded v e (m (Entry Number e)))) g
@@ -135,14 +135,13 @@ module _ (z : Layout) (m : Memory) (vs : List View) (g : Meaning) (rule : Rule z
       (nexts_back z m vs g rule i v at w.counts w.held.nodes w.held.nexts w.reading.place w.reading.links same)
       (subst (λ (p : Place). PlaceRight z stamp g.bundles w (place_known x p)) (sym here) (
         reach_back z m vs g rule i v at w.counts w.held.nodes w.held.nexts w.reading.place w.reading.links same node right.0,
-        λ reads above.
-            let old = stands (reads_same z m vs g rule i v at w.counts w.held.nodes w.held.nexts w.reading.place w.reading.links same node reads) in
+        λ above.
             record {
-              front = old.front;
-              back = old.back;
-              splits = old.splits;
-              passed = every_map (IsPassed g.bundles.number v node) (IsPassed g.bundles.number w node) old.front
-                  (λ d is. passed_back z m vs g rule i v at w.counts w.held.nodes w.held.nexts w.reading.place w.reading.links same node d is) old.passed;
+              front = stands.front;
+              back = stands.back;
+              splits = stands.splits;
+              passed = every_map (IsPassed g.bundles.number v node) (IsPassed g.bundles.number w node) stands.front
+                  (λ d is. passed_back z m vs g rule i v at w.counts w.held.nodes w.held.nexts w.reading.place w.reading.links same node d is) stands.passed;
               found = λ _. refl;
             },
       ))
@@ -156,12 +155,11 @@ module _ (z : Layout) (m : Memory) (vs : List View) (g : Meaning) (rule : Rule z
   selected_by (Some t) (Some x) locked free is section same =
       let one = and_parts (ltb 0 x && leb x t) (not locked) is in
       let two = and_parts (ltb 0 x) (leb x t) one.0 in
-      let reads : ReadsNode v node = inl (ap is_some section) in
-      let stood = stands reads in
+      let stood = stands in
       let low : 0 < x = grind (arith, nat_tests) in
       let past : x ≤ t = grind (arith, nat_tests) in
       let is_stamp : stamp e ≡ x = subst (λ (y : Option ℕ). IfSome y (λ n. 0 < n → stamp e ≡ n)) same stood.found low in
-      let number : g.bundles.number e ≡ x = numbered reads (omega (arith, is_stamp, low)) ∙ is_stamp in
+      let number : g.bundles.number e ≡ x = numbered (omega (arith, is_stamp, low)) ∙ is_stamp in
       let above : Every (λ d. t < g.bundles.number d) stood.front = every_map (IsPassed g.bundles.number v node) (λ d. t < g.bundles.number d) stood.front
       (λ d passed. unlocked d (subst (λ (y : Option ℕ). IfSome y (λ n. IsLocked v node ⊎ (n < g.bundles.number d))) section passed) (not_locked locked one.1)) stood.passed in
       ap (select g.bundles.number t) stood.splits ∙ select_past g.bundles.number t stood.front (e ∷ stood.back) above ∙ select-here g.bundles.number t e stood.back (omega (arith, number, past))
@@ -218,9 +216,8 @@ module _ (z : Layout) (m : Memory) (vs : List View) (g : Meaning) (rule : Rule z
       elim (either (ltb t x) unnumbered is) as (λ _. t < g.bundles.number e) [
         | inl over ↦
             let up : t < x = grind (arith, nat_tests) in
-            let reads : ReadsNode v node = inl (ap is_some section) in
-            let is_stamp : stamp e ≡ x = subst (λ (y : Option ℕ). IfSome y (λ n. 0 < n → stamp e ≡ n)) same (stands reads).found (omega (arith, up)) in
-            omega (arith, numbered reads (omega (arith, is_stamp, up)), is_stamp, up)
+            let is_stamp : stamp e ≡ x = subst (λ (y : Option ℕ). IfSome y (λ n. 0 < n → stamp e ≡ n)) same stands.found (omega (arith, up)) in
+            omega (arith, numbered (omega (arith, is_stamp, up)), is_stamp, up)
         | inr yet ↦ omega (arith, none yet, past, rule.history.calls, rule.history.few)
       ]
     where
@@ -251,7 +248,7 @@ module _ (z : Layout) (m : Memory) (vs : List View) (g : Meaning) (rule : Rule z
   last_by : (o : Option ℕ) → v.reading.section ≡ o → m (Entry Next e) ≡ 0 → IfSome o (λ t. t < g.bundles.number e) → IfSome o (λ t. select g.bundles.number t es ≡ 0)
   last_by None section none above = tt
   last_by (Some t) section none above =
-      let stood = stands (inl (ap is_some section)) in
+      let stood = stands in
       let chain = subst (IsChain (λ d. m (Entry Next d)) (m (Node (Head side) node))) stood.splits bundle.chain in
       let last = behind_none (λ d. m (Entry Next d)) e stood.back (chain_behind (λ d. m (Entry Next d)) (m (Node (Head side) node)) e stood.front stood.back chain) none in
       let falls = front_above g.bundles.number (suc no_number) e stood.front stood.back (subst (Falls g.bundles.number (suc no_number)) stood.splits bundle.falls) in
@@ -267,7 +264,7 @@ module _ (z : Layout) (m : Memory) (vs : List View) (g : Meaning) (rule : Rule z
   nexts_by false locked = seat.loaded.nexts
   nexts_by true locked =
       every_push (NextRight (λ d. m (Entry Next d)) g.bundles v.held.nodes) v.held.nexts (record { node = node; entry = e; next = m (Entry Next e) }) seat.loaded.nexts
-      (refl, locked refl, in_entries g.bundles node e side (member (inr (locked refl))))
+      (refl, locked refl, in_entries g.bundles node e side member)
 
   abbrev next_word : ℕ
   next_word = m (Entry Next e)
@@ -294,9 +291,9 @@ module _ (z : Layout) (m : Memory) (vs : List View) (g : Meaning) (rule : Rule z
       link_by None reach is = tt
       link_by (Some t) reach is = (reach, (is, refl))
 
-      stands_behind : ReadsNode next_view node → 0 < next_word → StandsAt stamp es next_word None (IsPassed g.bundles.number next_view node)
-      stands_behind reads low =
-          let stood = stands reads in
+      stands_behind : 0 < next_word → StandsAt stamp es next_word None (IsPassed g.bundles.number next_view node)
+      stands_behind low =
+          let stood = stands in
           let chain = subst (IsChain (λ d. m (Entry Next d)) (m (Node (Head side) node))) stood.splits bundle.chain in
           let behind = behind_of (λ d. m (Entry Next d)) e stood.back (chain_behind (λ d. m (Entry Next d)) (m (Node (Head side) node)) e stood.front stood.back chain) low in
           record {

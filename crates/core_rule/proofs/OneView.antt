@@ -7,6 +7,7 @@ use Rattle.index_words.specs.declared.layout.Layout.{Layout}
 use Rattle.index_words.specs.declared.view.View.{View}
 use Rattle.index_words.specs.declared.view.slots.Slots.{Slots}
 use Rattle.index_words.specs.declared.view.slots.Looks.{Looks}
+use Rattle.index_words.specs.declared.view.update.Updating.{Updating}
 use Rattle.index_words.specs.declared.word.Field.TheVariants.{Mark}
 use Rattle.index_words.specs.declared.word.Word.TheVariants.{Section, Announced, Node}
 use Rattle.index_words.specs.Views.{no_slots, no_looks}
@@ -123,11 +124,15 @@ module _ (z : Layout) (m : Memory) (vs : List View) (g : Meaning) where
         | inr out ↦ absurd (omega (arith, out.2, ap (λ (hs : List _). lock_count k (record v { held = record v.held { nodes = hs } })) idle.held))
       ]
 
+  -- an idle view has no node that its update took out
+  idle_taken : (v : View) (k : ℕ) → IsIdle v → 0 < count k v.update.taken → ⊥
+  idle_taken v k idle some = omega (arith, some, ap (λ (u : Updating). count k u.taken) idle.update)
+
   taken_by : (i : ℕ) (v : View) (b : Bool) → is_empty v.batch ≡ b → IsItem vs i v → Rule z m vs g → IsIdle v
       → Rule z m (set vs i (cond b (record v { retired = no_slots; batch = v.retired; grace = no_looks }) v)) g
   taken_by i v true empty at rule idle =
       moved_slots i v v.free no_slots v.retired no_looks at rule (λ k. omega arith)
-      (record { retired = λ k some. absurd (omega (arith, some)); batch = λ k some. idle_marked v k (seat_at i v at rule) idle some })
+      (record { retired = λ k some. absurd (omega (arith, some)); batch = λ k some. idle_marked v k (seat_at i v at rule) idle some; taken = λ k some. absurd (idle_taken v k idle some) })
       (take_batch z (linked_by g) HoldsNode (HoldsEntry g.bundles) vs i v (with_slots v v.free no_slots v.retired no_looks) at rule.slots (batch_none v.batch empty) refl refl refl refl
       (holds_slots v v.free no_slots v.retired no_looks) (keeps_slots v v.free no_slots v.retired no_looks))
   taken_by i v false empty at rule idle = subst (λ ws. Rule z m ws g) (sym (set_same vs i v at)) rule
@@ -153,7 +158,7 @@ module _ (z : Layout) (m : Memory) (vs : List View) (g : Meaning) where
   settled_by i v true done at rule idle =
       let f : Slots = both v.free v.batch in
       moved_slots i v f v.retired no_slots no_looks at rule (λ k. omega (arith, count-append k v.free.nodes v.batch.nodes))
-      (record { retired = λ k some. inl (idle_marked v k (seat_at i v at rule) idle some); batch = λ k some. absurd (omega (arith, some)) })
+      (record { retired = λ k some. inl (idle_marked v k (seat_at i v at rule) idle some); batch = λ k some. absurd (omega (arith, some)); taken = (seat_at i v at rule).marks.taken })
       (free_batch z (linked_by g) HoldsNode (HoldsEntry g.bundles) vs i v (with_slots v f v.retired no_slots no_looks) at rule.slots (none_holds i v at rule idle done) refl refl refl refl (λ k h. h) (λ e h. h)
       (keeps_slots v f v.retired no_slots no_looks))
   settled_by i v false done at rule idle = subst (λ ws. Rule z m ws g) (sym (set_same vs i v at)) rule
@@ -175,7 +180,7 @@ module _ (z : Layout) (m : Memory) (vs : List View) (g : Meaning) where
       let s : ℕ → ℕ = λ n. m (Section n) in
       let a : ℕ → ℕ = λ n. m (Announced n) in
       let marks = (seat_at i v at rule).marks in
-      moved_slots i v v.free v.retired v.batch l at rule (λ k. omega arith) (record { retired = marks.retired; batch = marks.batch })
+      moved_slots i v v.free v.retired v.batch l at rule (λ k. omega arith) (record { retired = marks.retired; batch = marks.batch; taken = marks.taken })
       (quiet z (linked_by g) HoldsNode (HoldsEntry g.bundles) vs i v w at rule.slots refl refl refl (holds_slots v v.free v.retired v.batch l) (keeps_slots v v.free v.retired v.batch l)
       (λ known. look_row z (linked_by g) HoldsNode (HoldsEntry g.bundles) v w pass (m (Section pass)) (λ is. absurd (not_both pass v.number is other)) (λ is even. absurd (not_both pass v.number is other)) known)
       (λ u beside known.

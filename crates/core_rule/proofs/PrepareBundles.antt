@@ -1,51 +1,35 @@
 -- Prepare: the bundles, and what each number selects, once a free entry is the head of one of them.
-use Rattle.std.proofs.Common.{◌≡◌, ℕ, suc, ◌+◌, ◌<◌, ◌≤◌, ◌⊎◌, cond, List, [], ◌∷◌, ◌++◌, Bool, true, false, eqb, ◌&&◌, is_some, set, arith, refl, ap, ◌∙◌, sym, subst, inl, inr, Option, Some, None, map}
-use Rattle.std.specs.Prelude.{IfSome}
+use Rattle.std.proofs.Common.{◌≡◌, ℕ, suc, ◌+◌, ◌<◌, ◌≤◌, cond, List, ◌∷◌, Bool, true, false, eqb, ◌&&◌, set, arith, refl, ap, ◌∙◌, sym, subst, inl, inr}
 use Rattle.std.specs.List.{All, sum_by}
 use Rattle.std.proofs.lemmas.Bool.{eq-eqb, ne_eqb, eqb-true, and_parts, cases_lt}
-use Rattle.std.proofs.lemmas.Bool.Decides.{eqb_tells}
 use Rattle.std.proofs.lemmas.List.{get_or_default}
 use Rattle.index_words.specs.declared.layout.Layout.{Layout}
 use Rattle.index_words.specs.declared.side.Side.{Side}
 use Rattle.index_words.specs.declared.side.Side.TheVariants.{Left, Right}
 use Rattle.index_words.specs.declared.view.View.{View}
-use Rattle.index_words.specs.declared.view.slots.Slots.{Slots}
-use Rattle.index_words.specs.declared.view.reading.Place.{Place}
-use Rattle.index_words.specs.declared.view.reading.Place.TheVariants.{Nowhere, Entry as AtEntry, Node as AtNode, Gap}
-use Rattle.index_words.specs.declared.view.reading.Link.{Link}
-use Rattle.index_words.specs.declared.view.reading.LinkSource.{LinkSource}
-use Rattle.index_words.specs.declared.view.reading.LinkSource.TheVariants.{Bundle, Plain}
-use Rattle.index_words.specs.declared.view.update.Held.{Held}
-use Rattle.index_words.specs.declared.view.update.HeldNode.{HeldNode}
-use Rattle.index_words.specs.declared.view.update.Updating.{Updating}
-use Rattle.index_words.specs.declared.word.Field.TheVariants.{Mark, Head}
-use Rattle.index_words.specs.declared.word.Part.TheVariants.{Child, Stamp as Number, Next}
+use Rattle.index_words.specs.declared.word.Field.TheVariants.{Head}
+use Rattle.index_words.specs.declared.word.Part.TheVariants.{Stamp as Number, Next}
 use Rattle.index_words.specs.declared.word.Word.TheVariants.{Stamp, Node, Entry}
 use Rattle.index_words.specs.Words.{Memory, written, same_side}
 use Rattle.index_words.specs.Lists.{count, Every, IsItem}
-use Rattle.index_words.proofs.Seats.{Beside, sum_moved, sum_kept, one_term, at_item, all_moved}
+use Rattle.index_words.proofs.Seats.{sum_moved, sum_kept, one_term, at_item, all_moved}
 use Rattle.index_words.proofs.Counting.{count-append, count-push}
-use Rattle.core_grace.specs.Holds.{HoldsNode, held_slots, listed, work_nodes, tree_slots, entries_of}
-use Rattle.core_grace.proofs.RuleMoves.{every_push}
+use Rattle.core_grace.specs.Holds.{held_slots, listed, work_nodes}
 use Rattle.core_links.specs.Bundle.{IsChain, no_number, select}
 use Rattle.core_links.proofs.Chains.{select-behind}
 use Rattle.core_rule.specs.Meanings.{Meaning}
-use Rattle.core_rule.specs.Numbers.{number_count}
-use Rattle.core_rule.specs.Locks.{lock_count, SideRight, NodeRight, NextRight, IsTakenOut}
-use Rattle.core_rule.specs.BundleRule.{IsLive, IsPendingAt, IsBundle, BundleRight, IsNumbered, Falls, IsHeadOf, IsPending, pending_count, shown}
-use Rattle.core_rule.specs.Readers.{IsReachable, IsLocked, ReadsNode, StandsAt, IsPassed, PlaceRight, SourceRight, LinkRight}
+use Rattle.core_rule.specs.BundleRule.{IsLive, IsPendingAt, IsBundle, BundleRight, IsNumbered, Falls, IsHeadOf, IsPending, pending_count}
 use Rattle.core_rule.specs.SeatRule.{SeatRight}
-use Rattle.core_rule.specs.UpdateMoves.{head_known, known_at, in_front, unnumbered, prepared, prepared_meaning}
+use Rattle.core_rule.specs.UpdateMoves.{in_front, unnumbered, prepared, prepared_meaning}
 use Rattle.core_rule.specs.Rule.{Rule}
-use Rattle.core_rule.specs.LinkLaw.{Kept}
-use Rattle.core_rule.proofs.Frames.{every_map, every_listed, every_at, every_named, Term, term_of, live_moved}
+use Rattle.core_rule.proofs.Frames.{every_map, every_listed, every_at, Term, term_of, live_moved}
 use Rattle.core_rule.proofs.BundleFrames.{falls_frame, falls_below, all_written, select_frame}
-use Rattle.core_rule.proofs.OneView.{history_kept, seat_at}
-use Rattle.core_rule.proofs.Owned.{in_entries, held_live, not_in_bundle, reachable_live, free_entry_some}
-use Rattle.core_rule.proofs.Fills.{node_other, work_holds, head_apart}
-use Rattle.core_rule.proofs.Fronts.{count-fronted, numbered_other, numbered_new}
-use Rattle.core_rule.proofs.Locked.{locked_live, locked_apart}
-use Rattle.core_rule.proofs.Prepare.{Ready, same_locks, same_work, prepared_slots}
+use Rattle.core_rule.proofs.OneView.{seat_at}
+use Rattle.core_rule.proofs.Owned.{in_entries, held_live, not_in_bundle, free_entry_some}
+use Rattle.core_rule.proofs.Fills.{work_holds, head_apart}
+use Rattle.core_rule.proofs.Fronts.{numbered_other, numbered_new}
+use Rattle.core_rule.proofs.Locked.{locked_live}
+use Rattle.core_rule.proofs.Prepare.{Ready, same_locks, same_work}
 
 pub same_side-refl : (s : Side) → same_side s s ≡ true
 same_side-refl Left = refl

@@ -1,10 +1,9 @@
 -- Prepare keeps the rule: a free entry, which has the old head behind it, becomes the head of a bundle.
-use Rattle.std.proofs.Common.{◌≡◌, ℕ, suc, ◌+◌, ◌<◌, ◌≤◌, ◌⊎◌, cond, List, [], ◌∷◌, ◌++◌, Bool, true, false, eqb, ◌&&◌, is_some, set, arith, refl, ap, ◌∙◌, sym, subst, inl, inr, Option, Some, None, map}
+use Rattle.std.proofs.Common.{◌≡◌, ℕ, ◌<◌, ◌≤◌, ◌⊎◌, cond, List, [], ◌∷◌, ◌++◌, Bool, true, false, eqb, ◌&&◌, is_some, set, arith, refl, ap, ◌∙◌, sym, subst, inl, inr, Option, Some, None, map}
 use Rattle.std.specs.Prelude.{IfSome}
-use Rattle.std.specs.List.{All, sum_by}
-use Rattle.std.proofs.lemmas.Bool.{eq-eqb, ne_eqb, eqb-true, and_parts, cases_lt}
+use Rattle.std.specs.List.{sum_by}
+use Rattle.std.proofs.lemmas.Bool.{eq-eqb}
 use Rattle.std.proofs.lemmas.Bool.Decides.{eqb_tells}
-use Rattle.std.proofs.lemmas.List.{get_or_default}
 use Rattle.index_words.specs.declared.layout.Layout.{Layout}
 use Rattle.index_words.specs.declared.side.Side.{Side}
 use Rattle.index_words.specs.declared.side.Side.TheVariants.{Left, Right}
@@ -23,26 +22,24 @@ use Rattle.index_words.specs.declared.word.Part.TheVariants.{Child, Stamp as Num
 use Rattle.index_words.specs.declared.word.Word.TheVariants.{Stamp, Node, Entry}
 use Rattle.index_words.specs.Words.{Memory, written, same_side}
 use Rattle.index_words.specs.Lists.{count, Every, IsItem}
-use Rattle.index_words.proofs.Seats.{Beside, sum_moved, sum_kept, one_term, at_item, all_moved}
-use Rattle.index_words.proofs.Counting.{count-append, count-push}
+use Rattle.index_words.proofs.Seats.{Beside, sum_kept, one_term, all_moved}
+use Rattle.index_words.proofs.Counting.{count-append}
 use Rattle.core_grace.specs.Holds.{HoldsNode, held_slots, listed, work_nodes, tree_slots, entries_of}
 use Rattle.core_grace.proofs.RuleMoves.{every_push}
-use Rattle.core_links.specs.Bundle.{IsChain, no_number, select}
-use Rattle.core_links.proofs.Chains.{select-behind}
+use Rattle.core_links.specs.Bundle.{no_number}
 use Rattle.core_rule.specs.Meanings.{Meaning}
 use Rattle.core_rule.specs.Numbers.{number_count}
 use Rattle.core_rule.specs.Locks.{lock_count, SideRight, NodeRight, NextRight, IsTakenOut}
-use Rattle.core_rule.specs.BundleRule.{IsLive, IsPendingAt, IsBundle, BundleRight, IsNumbered, Falls, IsHeadOf, IsPending, pending_count, shown}
-use Rattle.core_rule.specs.Readers.{IsReachable, IsLocked, ReadsNode, StandsAt, IsPassed, PlaceRight, SourceRight, LinkRight}
+use Rattle.core_rule.specs.BundleRule.{IsLive, IsHeadOf, IsPending, pending_count, shown}
+use Rattle.core_rule.specs.Readers.{IsReachable, IsLocked, StandsAt, IsPassed, PlaceRight, SourceRight, LinkRight}
 use Rattle.core_rule.specs.SeatRule.{SeatRight}
 use Rattle.core_rule.specs.UpdateMoves.{head_known, known_at, in_front, unnumbered, prepared, prepared_meaning}
 use Rattle.core_rule.specs.Rule.{Rule}
 use Rattle.core_rule.specs.LinkLaw.{Kept}
-use Rattle.core_rule.proofs.Frames.{every_map, every_listed, every_at, every_named, Term, term_of, live_moved}
-use Rattle.core_rule.proofs.BundleFrames.{falls_frame, falls_below, all_written, select_frame}
+use Rattle.core_rule.proofs.Frames.{every_map, every_listed, every_named}
 use Rattle.core_rule.proofs.OneView.{history_kept, seat_at}
-use Rattle.core_rule.proofs.Owned.{in_entries, held_live, not_in_bundle, reachable_live, free_entry_some}
-use Rattle.core_rule.proofs.Fills.{node_other, work_holds, head_apart}
+use Rattle.core_rule.proofs.Owned.{reachable_live, free_entry_some}
+use Rattle.core_rule.proofs.Fills.{node_other}
 use Rattle.core_rule.proofs.Fronts.{count-fronted, numbered_other, numbered_new}
 use Rattle.core_rule.proofs.Locked.{locked_live, locked_apart}
 use Rattle.core_rule.proofs.Prepare.{Ready, same_locks, same_work, prepared_slots}
@@ -124,10 +121,6 @@ module _ (z : Layout) (m : Memory) (vs : List View) (g : Meaning) (rule : Rule z
       ],
     )
 
-    reads : (n : ℕ) → ReadsNode u' n → ReadsNode u n
-    reads n (inl section) = inl section
-    reads n (inr locked) = inr (subst (λ xs. 0 < count n xs) locks locked)
-
     passed_by : (n d : ℕ) (o : Option ℕ) → IfSome o (λ t. t ≤ m Stamp) → IfSome o (λ t. IsLocked u n ⊎ (t < g.bundles.number d)) → IfSome o (λ t. IsLocked u' n ⊎ (t < number' d))
     passed_by n d None past old = tt
     passed_by n d (Some t) past (inl locked) = inl (subst (λ xs. 0 < count n xs) (sym locks) locked)
@@ -163,7 +156,7 @@ module _ (z : Layout) (m : Memory) (vs : List View) (g : Meaning) (rule : Rule z
     place_now (AtNode n) right = tt
     place_now (Gap n s) right = tt
     place_now (AtEntry n s entry found) right =
-        (reach n right.0, λ reading above. stands_by n entry found (g.bundles.bundle s n) (same_side s side && eqb n k) (right.1 (reads n reading) above))
+        (reach n right.0, λ above. stands_by n entry found (g.bundles.bundle s n) (same_side s side && eqb n k) (right.1 above))
 
     source_now : (t n c : ℕ) (s : Side) (source : LinkSource) → t ≤ m Stamp → IsLive z vs n
         → SourceRight (λ d. m (Entry Child d)) g.bundles.number (g.bundles.bundle s n) t c source
@@ -228,6 +221,7 @@ module _ (z : Layout) (m : Memory) (vs : List View) (g : Meaning) (rule : Rule z
             | inr out ↦ absurd (unraised v.update.raised ready.raised out.0)
           ];
           batch = own.marks.batch;
+          taken = own.marks.taken;
         };
         pending = every_push (IsPending z head' stamp number' v') v.update.pending e
             (every_listed (IsPending z head stamp g.bundles.number v) (IsPending z head' stamp number' v') v.update.pending
@@ -281,7 +275,7 @@ module _ (z : Layout) (m : Memory) (vs : List View) (g : Meaning) (rule : Rule z
           )) of.loaded.nodes;
       nexts = nexts_now beside.place u beside.at u.held u.update u.free refl refl;
     };
-    marks = record { retired = of.marks.retired; batch = of.marks.batch };
+    marks = record { retired = of.marks.retired; batch = of.marks.batch; taken = of.marks.taken };
     pending = pending_now beside.place u beside.at u.held u.update u.free refl refl;
     place = place_now beside.place u beside.at u.held u.update u.free refl refl u.reading.place of.place;
     links = links_now beside.place u beside.at u.held u.update u.free refl refl;

@@ -310,8 +310,8 @@ module _ (z : Layout) (m : Memory) (vs : List View) (g : Meaning) (rule : Rule z
   place_now y (Gap n w) past right = tt
   place_now y (AtEntry n w entry found) past right = (
     right.0,
-    λ reading above.
-        let stands : StandsAt stamp (g.bundles.bundle w n) entry found (IsPassed g.bundles.number y n) = right.1 reading above in
+    λ above.
+        let stands : StandsAt stamp (g.bundles.bundle w n) entry found (IsPassed g.bundles.number y n) = right.1 above in
         record {
           front = stands.front;
           back = stands.back;
@@ -353,6 +353,7 @@ module _ (z : Layout) (m : Memory) (vs : List View) (g : Meaning) (rule : Rule z
         | inr out ↦ inr (refl, out.1, out.2)
       ];
       batch = own.marks.batch;
+      taken = own.marks.taken;
     };
     pending = own_pending;
     place = tt;
@@ -368,7 +369,7 @@ module _ (z : Layout) (m : Memory) (vs : List View) (g : Meaning) (rule : Rule z
     version = record { past = IfSome_then y.reading.section of.version.past (λ t past. omega (arith, past)); opened = of.version.opened; bare = of.version.bare; there = of.version.there };
     locks = of.locks;
     loaded = record { nodes = of.loaded.nodes; nexts = of.loaded.nexts };
-    marks = record { retired = of.marks.retired; batch = of.marks.batch };
+    marks = record { retired = of.marks.retired; batch = of.marks.batch; taken = of.marks.taken };
     pending = every_listed (IsPending z head stamp g.bundles.number y) (IsPending z head stamp number' y) y.update.pending
         (λ d here is. (is.0, other_number y d beside here ∙ is.1, is.2)) of.pending;
     place = place_now y y.reading.place of.version.past of.place;

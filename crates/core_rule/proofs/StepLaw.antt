@@ -1,7 +1,7 @@
 -- An event that is allowed keeps the rule, and what each number up to the stamp selects.
-use Rattle.std.proofs.Common.{◌≡◌, ℕ, ◌+◌, List, [], ◌∷◌, ◌++◌, length, true, false, not, eqb, ◌&&◌, ◌||◌, inl, inr, set, refl, ◌∙◌, sym, subst, slice_index, Option, Some, None, is_none, length-set}
+use Rattle.std.proofs.Common.{◌≡◌, ℕ, cond, ap, Bool, ◌+◌, List, [], ◌∷◌, ◌++◌, length, true, false, not, eqb, ◌&&◌, ◌||◌, inl, inr, set, refl, ◌∙◌, sym, subst, slice_index, Option, Some, None, is_none, length-set}
 use Rattle.std.specs.List.{slice_get}
-use Rattle.std.proofs.lemmas.Bool.{and_parts, eq-eqb}
+use Rattle.std.proofs.lemmas.Bool.{and_parts, eq-eqb, eqb-true}
 use Rattle.index_words.specs.declared.layout.Layout.{Layout}
 use Rattle.index_words.specs.declared.update.Update.{Update}
 use Rattle.index_words.specs.declared.view.View.{View}
@@ -10,7 +10,7 @@ use Rattle.index_words.specs.declared.word.Field.TheVariants.{Key, Val, Lock, Ma
 use Rattle.index_words.specs.declared.word.Part.TheVariants.{Child, Stamp as Number, Next}
 use Rattle.index_words.specs.declared.word.Word.{Word}
 use Rattle.index_words.specs.declared.word.Word.TheVariants.{Stamp, Section, Announced, Node, Entry}
-use Rattle.index_words.specs.Words.{Memory, memory, written, word_at}
+use Rattle.index_words.specs.Words.{Memory, memory, written, address, word_at}
 use Rattle.index_words.specs.Lists.{has, IsItem}
 use Rattle.index_words.proofs.Counting.{has-count}
 use Rattle.index_words.proofs.Store.{stored_at, word_there}
@@ -19,10 +19,12 @@ use Rattle.core_grace.specs.Sections.{is_even, left_word}
 use Rattle.core_grace.specs.Batches.{is_number, is_empty, looked}
 use Rattle.core_rule.specs.declared.event.Event.{Event}
 use Rattle.core_rule.specs.declared.event.Kind.{Kind}
-use Rattle.core_rule.specs.declared.event.Kind.TheVariants.{MakeSeat, SplitSeat, JoinSeat, Enter, Leave, LookSec, Fill, LoadStamp, LoadHead, LoadTs, LoadPtr, LoadNext, Prepare, Raise, Finalise}
+use Rattle.core_rule.specs.declared.event.Kind.TheVariants.{MakeSeat, SplitSeat, JoinSeat, Enter, Leave, LookSec, Fill, LoadStamp, LoadHead, LoadTs, LoadPtr, LoadNext, Prepare, Raise, Finalise, TryLock, Unlock, LoadMark, Mark as MarkNode, LoadKeyOrVal}
 use Rattle.core_rule.specs.Needs.{is_outside, is_own_section, may_enter, may_leave, may_look, may_fill, may_join, may_join_found, may_join_view, nothing_pending, is_stamp, is_lock}
 use Rattle.core_rule.specs.LoadNeeds.{may_load_stamp, is_reachable, may_load_field, may_load_head, is_part, stands_at, may_load_part, may_go_on, may_load_next}
 use Rattle.core_rule.specs.UpdateNeeds.{may_prepare_head, may_prepare, may_raise, may_finalise}
+use Rattle.core_rule.specs.LockNeeds.{may_try_lock, may_unlock, may_load_mark, may_mark}
+use Rattle.core_rule.specs.LockMoves.{locked_view, met_lock, tried, unlocked_view, with_mark, mark_loaded}
 use Rattle.core_rule.specs.Moves.{entered, left, split_left, split_right, joined_with}
 use Rattle.core_rule.specs.LoadMoves.{longest, stamp_loaded, head_loaded, ts_loaded, ptr_loaded, next_loaded}
 use Rattle.core_rule.specs.UpdateMoves.{prepared, raised_view, finalised}
@@ -42,6 +44,7 @@ use Rattle.core_rule.proofs.LoadEntries.{load_ts_kept, load_ptr_kept, load_next_
 use Rattle.core_rule.proofs.PrepareSeats.{prepare_kept}
 use Rattle.core_rule.proofs.Raise.{raise_kept}
 use Rattle.core_rule.proofs.Finalise.{finalise_kept}
+use Rattle.core_rule.proofs.LockSteps.{lock_by, met_by, unlock_by, load_mark_by, mark_by}
 use Rattle.core_rule.proofs.LinkLaw.{selections_kept}
 use Rattle.core_rule.proofs.Needed.{either_true, not_true, none_of, number_of_is, node_there, entry_there, reach_is, standing, going_on, ready_is, can_raise}
 
@@ -285,6 +288,50 @@ module _ (z : Layout) (words : List ℕ) (vs : List View) (right : InRule z word
   raise_found (Node f k) o is own met = absurd (never met)
   raise_found (Entry p e) o is own met = absurd (never met)
 
+  found_in : (u : Word) → word_at z n ≡ Some u → slice_index words n ≡ m u
+  found_in u is =
+      let there = word_there z n u is in
+      ap (slice_index words) (sym there.1) ∙ sym (ap (λ b. cond b (slice_index words (address z u)) 0) there.0)
+
+  try_lock_found : (u : Word) → word_at z n ≡ Some u → may_try_lock v u value ≡ true → Gives (words_after TryLock words n value) (views_after TryLock z m vs i v u value None)
+  try_lock_found (Node f k) is met =
+      subst (λ x. Gives (cond (eqb x 0) (set words n value) words) (set vs i (tried v k value (m (Node f k))))) (sym (found_in (Node f k) is)) (tried_by (eqb (m (Node f k)) 0) refl)
+    where
+      tried_by : (c : Bool) → eqb (m (Node f k)) 0 ≡ c → Gives (cond c (set words n value) words) (set vs i (cond c (locked_view v k) (met_lock v value (m (Node f k)))))
+      tried_by true free =
+          store_right z words vs n value (Node f k) right (set vs i (locked_view v k)) is
+          (lock_by z m vs right.meaning right.rule i v at f k value (node_there z n k f is) met (eqb-true (m (Node f k)) 0 free))
+      tried_by false held =
+          load_right z words vs right (set vs i (met_lock v value (m (Node f k)))) (met_by z m vs right.meaning right.rule i v at f k value (m (Node f k)) met)
+  try_lock_found Stamp is met = absurd (never met)
+  try_lock_found (Section k) is met = absurd (never met)
+  try_lock_found (Announced k) is met = absurd (never met)
+  try_lock_found (Entry p e) is met = absurd (never met)
+
+  unlock_found : (u : Word) → word_at z n ≡ Some u → may_unlock m v u value ≡ true → Gives (set words n value) (views_after Unlock z m vs i v u value None)
+  unlock_found (Node f k) is met =
+      store_right z words vs n value (Node f k) right (set vs i (unlocked_view v k)) is (unlock_by z m vs right.meaning right.rule i v at f k value met)
+  unlock_found Stamp is met = absurd (never met)
+  unlock_found (Section k) is met = absurd (never met)
+  unlock_found (Announced k) is met = absurd (never met)
+  unlock_found (Entry p e) is met = absurd (never met)
+
+  load_mark_found : (u : Word) → may_load_mark v u value ≡ true → Gives words (views_after LoadMark z m vs i v u value None)
+  load_mark_found (Node f k) met =
+      load_right z words vs right (set vs i (mark_loaded v k (m (Node f k)))) (load_mark_by z m vs right.meaning right.rule i v at f k value met)
+  load_mark_found Stamp met = absurd (never met)
+  load_mark_found (Section k) met = absurd (never met)
+  load_mark_found (Announced k) met = absurd (never met)
+  load_mark_found (Entry p e) met = absurd (never met)
+
+  mark_found : (u : Word) → word_at z n ≡ Some u → may_mark v u value ≡ true → Gives (set words n value) (views_after MarkNode z m vs i v u value None)
+  mark_found (Node f k) is met =
+      store_right z words vs n value (Node f k) right (set vs i (with_mark v k 1)) is (mark_by z m vs right.meaning right.rule i v at f k value met)
+  mark_found Stamp is met = absurd (never met)
+  mark_found (Section k) is met = absurd (never met)
+  mark_found (Announced k) is met = absurd (never met)
+  mark_found (Entry p e) is met = absurd (never met)
+
   kind_right : (kind : Kind) (o : Option Update) → carries kind v o ≡ true → needs kind m vs i v w value ≡ true
       → Gives (words_after kind words n value) (views_after kind z m vs i v w value o)
   kind_right MakeSeat o own met = absurd (never met)
@@ -302,6 +349,11 @@ module _ (z : Layout) (words : List ℕ) (vs : List View) (right : InRule z word
   kind_right Prepare o own met = prepare_found w found met
   kind_right Raise o own met = raise_found w o found own met
   kind_right Finalise o own met = finalise_found w found met
+  kind_right TryLock o own met = try_lock_found w found met
+  kind_right Unlock o own met = unlock_found w found met
+  kind_right LoadMark o own met = load_mark_found w met
+  kind_right MarkNode o own met = mark_found w found met
+  kind_right LoadKeyOrVal o own met = load_right z words vs right vs right.rule
 
 -- the table after an event, and the rule of it
 pub record AfterTable (t u : Table) : Type 0 where

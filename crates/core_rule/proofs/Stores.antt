@@ -92,7 +92,7 @@ module _ (z : Layout) (m : Memory) (vs : List View) (g : Meaning) where
               version = idle_version (m Stamp) w idle;
               locks = own.locks;
               loaded = record { nodes = own.loaded.nodes; nexts = own.loaded.nexts };
-              marks = record { retired = own.marks.retired; batch = own.marks.batch };
+              marks = record { retired = own.marks.retired; batch = own.marks.batch; taken = own.marks.taken };
               pending = own.pending;
               place = idle_place (λ e. m (Entry Number e)) w idle;
               links = idle_links (λ e. m (Entry Child e)) w idle;
@@ -111,7 +111,7 @@ module _ (z : Layout) (m : Memory) (vs : List View) (g : Meaning) where
               version = of.version;
               locks = of.locks;
               loaded = record { nodes = of.loaded.nodes; nexts = of.loaded.nexts };
-              marks = record { retired = of.marks.retired; batch = of.marks.batch };
+              marks = record { retired = of.marks.retired; batch = of.marks.batch; taken = of.marks.taken };
               pending = of.pending;
               place = of.place;
               links = of.links;

@@ -72,7 +72,7 @@ module _ (z : Layout) (m : Memory) (vs : List View) (g : Meaning) where
       version = seat.version;
       locks = seat.locks;
       loaded = record { nodes = seat.loaded.nodes; nexts = seat.loaded.nexts };
-      marks = record { retired = seat.marks.retired; batch = seat.marks.batch };
+      marks = record { retired = seat.marks.retired; batch = seat.marks.batch; taken = seat.marks.taken };
       pending = seat.pending;
       place = seat.place;
       links = seat.links;
@@ -85,7 +85,7 @@ module _ (z : Layout) (m : Memory) (vs : List View) (g : Meaning) where
       version = record { past = tt; opened = tt; bare = λ _. refl; there = λ k some. absurd (omega (arith, some)) };
       locks = λ k some. absurd (omega (arith, some));
       loaded = record { nodes = tt; nexts = tt };
-      marks = record { retired = λ k some. absurd (omega (arith, some)); batch = λ k some. absurd (omega (arith, some)) };
+      marks = record { retired = λ k some. absurd (omega (arith, some)); batch = λ k some. absurd (omega (arith, some)); taken = λ k some. absurd (omega (arith, some)) };
       pending = tt;
       place = tt;
       links = tt;
@@ -151,6 +151,7 @@ module _ (z : Layout) (m : Memory) (vs : List View) (g : Meaning) where
           ]
         ];
     batch = seat.marks.batch;
+    taken = λ k some. omega (arith, seat.marks.taken k some, count-append k v.retired.nodes (both u.retired u.batch).nodes);
   }
 
   joined_seat : (v u : View) → SeatRight z m g v → SeatRight z m g u → IsIdle u → SeatRight z m g (joined_with v u)
@@ -182,7 +183,7 @@ module _ (z : Layout) (m : Memory) (vs : List View) (g : Meaning) where
     version = record { past = tt; opened = tt; bare = λ _. refl; there = λ k some. absurd (omega (arith, some)) };
     locks = λ k some. absurd (omega (arith, some));
     loaded = record { nodes = tt; nexts = tt };
-    marks = record { retired = λ k some. absurd (omega (arith, some)); batch = λ k some. absurd (omega (arith, some)) };
+    marks = record { retired = λ k some. absurd (omega (arith, some)); batch = λ k some. absurd (omega (arith, some)); taken = λ k some. absurd (omega (arith, some)) };
     pending = tt;
     place = tt;
     links = tt;

@@ -6,6 +6,8 @@ pub mod UpdateMoves
 pub mod LoadMoves
 pub mod LoadNeeds
 pub mod UpdateNeeds
+pub mod LockMoves
+pub mod LockNeeds
 pub mod Steps
 pub mod Seats
 pub mod Meanings

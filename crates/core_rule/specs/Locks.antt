@@ -48,10 +48,12 @@ pub record LoadedRight (mark : ℕ → ℕ) (head : Side → ℕ → ℕ) (stamp
 abbrev pub IsTakenOut : View → ℕ → Type 0
 IsTakenOut v k = (is_some v.update.raised ≡ true) × (0 < count k v.update.taken) × (0 < lock_count k v)
 
--- a retired node is marked, but for one whose update has still to mark it; a node of a batch is marked
+-- a retired node is marked, but for one whose update has still to mark it; a node of a batch is marked; and
+-- what the update took out is retired
 pub record MarksRight (mark : ℕ → ℕ) (v : View) : Type 0 where
   pub retired : (k : ℕ) → 0 < count k v.retired.nodes → (mark k ≡ 1) ⊎ IsTakenOut v k
   pub batch : (k : ℕ) → 0 < count k v.batch.nodes → mark k ≡ 1
+  pub taken : (k : ℕ) → 0 < count k v.update.taken → 0 < count k v.retired.nodes
 
 -- the root and the nodes of the tree are not marked
 pub record TreeUnmarked (mark : ℕ → ℕ) (tree : List ℕ) : Type 0 where

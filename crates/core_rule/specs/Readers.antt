@@ -1,5 +1,5 @@
 -- The rule on readers: where a seat stands in a bundle, and the links that it remembers.
-use Rattle.std.specs.Prelude.{◌≡◌, ℕ, ◌<◌, ◌≤◌, ◌⊎◌, List, [], ◌∷◌, ◌++◌, Option, Some, None, IfSome, true, is_some}
+use Rattle.std.specs.Prelude.{◌≡◌, ℕ, ◌<◌, ◌≤◌, ◌⊎◌, List, [], ◌∷◌, ◌++◌, Option, Some, None, IfSome}
 use Rattle.index_words.specs.declared.layout.Layout.{Layout}
 use Rattle.index_words.specs.declared.view.View.{View}
 use Rattle.index_words.specs.declared.view.reading.Reading.{Reading}
@@ -40,15 +40,11 @@ pub record StandsAt (stamp : ℕ → ℕ) (es : List ℕ) (e : ℕ) (loaded : Op
 abbrev pub IsPassed : (ℕ → ℕ) → View → ℕ → ℕ → Type 0
 IsPassed number v node e = IfSome v.reading.section (λ t. IsLocked v node ⊎ (t < number e))
 
--- the seat reads bundles at a number, or has locked this node
-abbrev pub ReadsNode : View → ℕ → Type 0
-ReadsNode v node = (is_some v.reading.section ≡ true) ⊎ IsLocked v node
-
 -- where the seat stands, over the stamps of entries
 abbrev pub PlaceRight : Layout → (ℕ → ℕ) → Bundles → View → Place → Type 0
 PlaceRight z stamp b v Nowhere = Unit {0}
 PlaceRight z stamp b v (Entry node side entry found) =
-    IsReachable z v node × (ReadsNode v node → 0 < entry → StandsAt stamp (b.bundle side node) entry found (IsPassed b.number v node))
+    IsReachable z v node × (0 < entry → StandsAt stamp (b.bundle side node) entry found (IsPassed b.number v node))
 PlaceRight z stamp b v (Node node) = Unit {0}
 PlaceRight z stamp b v (Gap node side) = Unit {0}
 

@@ -1,5 +1,5 @@
 -- Which events are allowed, and the table after an event.
-use Rattle.std.specs.Prelude.{◌≡◌, ℕ, ◌+◌, List, [], ◌∷◌, ◌++◌, Bool, true, false, not, ◌==◌, ◌&&◌, Option, Some, None, is_none, slice_index, slice_set}
+use Rattle.std.specs.Prelude.{◌≡◌, ℕ, ◌+◌, List, [], ◌∷◌, ◌++◌, cond, Bool, true, false, not, ◌==◌, ◌&&◌, Option, Some, None, is_none, slice_index, slice_set}
 use Rattle.std.specs.List.{slice_get}
 use Rattle.index_words.specs.declared.layout.Layout.{Layout}
 use Rattle.index_words.specs.declared.update.Update.{Update}
@@ -14,15 +14,17 @@ use Rattle.index_words.specs.Views.{spent_view}
 use Rattle.core_grace.specs.Batches.{is_number, looked}
 use Rattle.core_rule.specs.declared.event.Event.{Event}
 use Rattle.core_rule.specs.declared.event.Kind.{Kind}
-use Rattle.core_rule.specs.declared.event.Kind.TheVariants.{MakeSeat, SplitSeat, JoinSeat, Enter, Leave, LookSec, Fill, LoadStamp, LoadHead, LoadTs, LoadPtr, LoadNext, Prepare, Raise, Finalise}
+use Rattle.core_rule.specs.declared.event.Kind.TheVariants.{MakeSeat, SplitSeat, JoinSeat, Enter, Leave, LookSec, Fill, LoadStamp, LoadHead, LoadTs, LoadPtr, LoadNext, Prepare, Raise, Finalise, TryLock, Unlock, LoadMark, Mark, LoadKeyOrVal}
 use Rattle.core_rule.specs.Tables.{Table, held_by}
 use Rattle.core_rule.specs.Rule.{IsRight}
 use Rattle.core_rule.specs.Needs.{may_enter, may_leave, may_look, may_fill, may_split, may_join}
 use Rattle.core_rule.specs.LoadNeeds.{may_load_stamp, may_load_head, may_load_part, may_load_next}
 use Rattle.core_rule.specs.UpdateNeeds.{may_prepare, may_raise, may_finalise}
+use Rattle.core_rule.specs.LockNeeds.{may_try_lock, may_unlock, may_load_mark, may_mark, may_load_pair}
 use Rattle.core_rule.specs.Moves.{entered, left, split_left, split_right, joined_with}
 use Rattle.core_rule.specs.LoadMoves.{longest, stamp_loaded, head_loaded, ts_loaded, ptr_loaded, next_loaded}
 use Rattle.core_rule.specs.UpdateMoves.{prepared, raised_view, finalised}
+use Rattle.core_rule.specs.LockMoves.{tried, unlocked_view, with_mark, mark_loaded}
 
 -- the needs of a kind, for a seat with this view and a word by name
 abbrev pub needs : Kind → Memory → List View → ℕ → View → Word → ℕ → Bool
@@ -41,6 +43,11 @@ needs LoadNext m views seat v w value = may_load_next v w value
 needs Prepare m views seat v w value = may_prepare m v w value
 needs Raise m views seat v w value = may_raise v w value
 needs Finalise m views seat v w value = may_finalise v w value
+needs TryLock m views seat v w value = may_try_lock v w value
+needs Unlock m views seat v w value = may_unlock m v w value
+needs LoadMark m views seat v w value = may_load_mark v w value
+needs Mark m views seat v w value = may_mark v w value
+needs LoadKeyOrVal m views seat v w value = may_load_pair v w value
 
 -- a raise has an update of the view's own pass, and no other kind has one
 abbrev pub is_own_update : View → Option Update → Bool
@@ -104,6 +111,22 @@ abbrev pub finalised_from : View → Word → View
 finalised_from v (Entry p e) = finalised v e
 finalised_from v _ = v
 
+abbrev pub tried_from : View → Word → ℕ → ℕ → View
+tried_from v (Node field k) own x = tried v k own x
+tried_from v _ own x = v
+
+abbrev pub unlocked_from : View → Word → View
+unlocked_from v (Node field k) = unlocked_view v k
+unlocked_from v _ = v
+
+abbrev pub mark_from : View → Word → ℕ → View
+mark_from v (Node field k) x = mark_loaded v k x
+mark_from v _ x = v
+
+abbrev pub marked_from : View → Word → View
+marked_from v (Node field k) = with_mark v k 1
+marked_from v _ = v
+
 -- the view of the seat after an event of a kind that changes it alone, at a word that was found to hold `x`
 abbrev pub view_after : Kind → Layout → List View → View → Word → ℕ → ℕ → Option Update → View
 view_after Enter z views v w x value update = entered z.passes v value
@@ -117,17 +140,23 @@ view_after LoadNext z views v w x value update = next_from v w x
 view_after Prepare z views v w x value update = prepared_from v w value
 view_after Raise z views v w x value update = raised_from (longest views) v x update
 view_after Finalise z views v w x value update = finalised_from v w
+view_after TryLock z views v w x value update = tried_from v w value x
+view_after Unlock z views v w x value update = unlocked_from v w
+view_after LoadMark z views v w x value update = mark_from v w x
+view_after Mark z views v w x value update = marked_from v w
 view_after _ z views v w x value update = v
 
 -- the views after an event of a kind
 abbrev pub views_after : Kind → Layout → Memory → List View → ℕ → View → Word → ℕ → Option Update → List View
 views_after MakeSeat z m views seat v w value update = views
 views_after Fill z m views seat v w value update = views
+views_after LoadKeyOrVal z m views seat v w value update = views
 views_after SplitSeat z m views seat v w value update = slice_set views seat (split_left v value) ++ split_right v value ∷ []
 views_after JoinSeat z m views seat v w value update = join_found views seat v value (slice_get views value)
 views_after kind z m views seat v w value update = slice_set views seat (view_after kind z views v w (m w) value update)
 
--- the words after an event of a kind: those that store put their value, and a raise adds one
+-- the words after an event of a kind: those that store put their value, at a try of a lock only where the word is
+-- 0, and a raise adds one
 abbrev pub words_after : Kind → List ℕ → ℕ → ℕ → List ℕ
 words_after Enter words at value = slice_set words at value
 words_after Leave words at value = slice_set words at value
@@ -135,6 +164,9 @@ words_after Fill words at value = slice_set words at value
 words_after Prepare words at value = slice_set words at value
 words_after Raise words at value = slice_set words at (slice_index words at + 1)
 words_after Finalise words at value = slice_set words at value
+words_after TryLock words at value = cond (slice_index words at == 0) (slice_set words at value) words
+words_after Unlock words at value = slice_set words at value
+words_after Mark words at value = slice_set words at value
 words_after _ words at value = words
 
 abbrev pub after_at : Table → Event → Option View → Option Word → Table

@@ -36,6 +36,16 @@ pub enum Kind {
     Raise,
     /// Stores the number of the raise as the stamp of a pending entry.
     Finalise,
+    /// Tries to lock a reachable node: stores the pass's number plus 1 where the lock word is found 0.
+    TryLock,
+    /// Gives a lock back: stores 0.
+    Unlock,
+    /// Loads a mark.
+    LoadMark,
+    /// Marks a locked node that the update took out: stores 1.
+    Mark,
+    /// Loads a key or a value.
+    LoadKeyOrVal,
 }
 
 /// One atomic step of one seat.
@@ -47,7 +57,7 @@ pub struct Event {
     pub kind: Kind,
     /// The number of the word that is loaded or stored.
     pub word: u64,
-    /// What is stored. The number of nodes at a split, the other seat at a join, 1 at a load of the stamp that
+    /// What is stored, or would be at a try of a lock. The number of nodes at a split, the other seat at a join, 1 at a load of the stamp that
     /// fixes a place, and else 0.
     pub value: u64,
     /// The update at a raise, and None at every other kind.

@@ -6,11 +6,14 @@
 mod event;
 mod link_needs;
 mod loads;
+mod lock_needs;
+mod locks;
 mod moves;
 mod needs;
 mod opening;
 mod run;
 mod seat_links;
+mod seat_locks;
 mod seats;
 mod state;
 mod step;
@@ -20,5 +23,7 @@ pub use event::{Event, Kind};
 pub use run::{RunError, run_of};
 pub use state::{State, StepError};
 
+#[cfg(test)]
+mod link_tests;
 #[cfg(test)]
 mod tests;

@@ -37,7 +37,8 @@ fn is_added(added: Option<u32>, node: u32) -> bool
     }
 }
 
-fn is_reachable(view: &View, node: u32) -> bool
+/// Whether the seat may be looking at the node.
+pub(crate) fn is_reachable(view: &View, node: u32) -> bool
     ensures { result ≡ reaches view.now node }
 {
     node == 0

@@ -13,7 +13,8 @@ use index_words::{
 };
 use std::alloc::Global;
 
-fn risen(count: u64) -> u64
+/// One more, but at the last value as many.
+pub(crate) fn risen(count: u64) -> u64
     ensures { result ≡ risen_count count }
 {
     if count == u64::MAX { count } else { count + 1 }

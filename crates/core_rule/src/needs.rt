@@ -11,6 +11,7 @@ use crate::link_needs::{
     may_finalise, may_load_head, may_load_next, may_load_part, may_load_stamp, may_prepare,
     may_raise,
 };
+use crate::lock_needs::{may_load_mark, may_load_pair, may_mark, may_try_lock, may_unlock};
 use core_grace::{is_own, left_word};
 use index_words::{Field, Layout, Part, View, Word};
 
@@ -51,7 +52,8 @@ fn are_marked(layout: &Layout, words: &[u64], nodes: &[u32]) -> bool
     nodes.iter().all(|node| is_marked(layout, words, *node))
 }
 
-fn is_pending_free(layout: &Layout, words: &[u64], view: &View) -> bool
+/// Whether nothing of the view is pending.
+pub(crate) fn is_pending_free(layout: &Layout, words: &[u64], view: &View) -> bool
     ensures { result ≡ nothing_pending (memory layout.now words.now) view.now }
 {
     view.update.pending.is_empty() && are_marked(layout, words, view.update.taken.as_slice())
@@ -75,7 +77,7 @@ pub(crate) fn is_stamp_word(word: Word) -> bool
     }
 }
 
-fn is_lock_word(field: Field) -> bool
+pub(crate) fn is_lock_word(field: Field) -> bool
     ensures { result ≡ is_lock field }
 {
     match field {
@@ -176,5 +178,10 @@ pub(crate) fn are_met(
         Kind::Prepare => may_prepare(layout, words, view, word, value),
         Kind::Raise => may_raise(view, word, value),
         Kind::Finalise => may_finalise(view, word, value),
+        Kind::TryLock => may_try_lock(view, word, value),
+        Kind::Unlock => may_unlock(layout, words, view, word, value),
+        Kind::LoadMark => may_load_mark(view, word, value),
+        Kind::Mark => may_mark(view, word, value),
+        Kind::LoadKeyOrVal => may_load_pair(view, word, value),
     }
 }

@@ -13,6 +13,7 @@ use crate::seat_links::{
     finalise_seat, load_head_seat, load_next_seat, load_ptr_seat, load_stamp_seat, load_ts_seat,
     prepare_seat, raise_seat,
 };
+use crate::seat_locks::{load_mark_seat, mark_seat, try_lock_seat, unlock_seat};
 use crate::seats::{enter_seat, join_seats, leave_seat, look_seat, split_seat};
 use core_grace::is_own;
 use index_words::{Layout, NoMemory, Update, View, Word};
@@ -56,15 +57,27 @@ pub(crate) fn is_allowed(
     }
 }
 
-/// Puts the value of an event of a kind that stores, and adds one at a raise.
+/// Puts the value of an event of a kind that stores, at a try of a lock only where the word is 0, and adds one at
+/// a raise.
 pub(crate) fn store(words: &mut Vec<u64>, event: &Event)
     requires there { event.now.word < vec_len words.old }
     requires small { event.now.kind ≡ Raise → slice_index words.old.items event.now.word + 1 < 2 ^ 64 }
     ensures { words.new.items ≡ words_after event.now.kind words.old.items event.now.word event.now.value }
 {
     match event.kind {
-        Kind::Enter | Kind::Leave | Kind::Fill | Kind::Prepare | Kind::Finalise => {
+        Kind::Enter
+        | Kind::Leave
+        | Kind::Fill
+        | Kind::Prepare
+        | Kind::Finalise
+        | Kind::Unlock
+        | Kind::Mark => {
             words[event.word as usize] = event.value;
+        }
+        Kind::TryLock => {
+            if words[event.word as usize] == 0 {
+                words[event.word as usize] = event.value;
+            }
         }
         Kind::Raise => words[event.word as usize] += 1,
         _ => {}
@@ -115,6 +128,20 @@ fn change_in_place(
             finalise_seat(alloc, views, seat, word);
             Ok(())
         }
+        Kind::TryLock => try_lock_seat(views, seat, word, value, found),
+        Kind::Unlock => {
+            unlock_seat(alloc, views, seat, word);
+            Ok(())
+        }
+        Kind::LoadMark => {
+            load_mark_seat(alloc, views, seat, word, found);
+            Ok(())
+        }
+        Kind::Mark => {
+            mark_seat(alloc, views, seat, word);
+            Ok(())
+        }
+        Kind::LoadKeyOrVal => Ok(()),
     }
 }
 

@@ -1,3 +1,5 @@
+mod locks;
+
 use crate::*;
 use index_words::{Change, Layout, Link, LinkSource, PassSize, Place, Side, Update};
 use std::alloc::Global;
@@ -9,7 +11,7 @@ const SIZE: PassSize = PassSize {
     calls: 1,
 };
 
-fn event(seat: u32, kind: Kind, word: u64, value: u64) -> Event {
+const fn event(seat: u32, kind: Kind, word: u64, value: u64) -> Event {
     Event {
         seat,
         kind,

@@ -1,9 +1,9 @@
 use Rattle.std.proofs.Common.{refl}
-use Rattle.core_rule.specs.declared.event.Kind.TheVariants.{MakeSeat, Enter, Leave, LookSec, Fill, LoadStamp, LoadHead, LoadTs, LoadPtr, LoadNext, Prepare, Raise, Finalise}
+use Rattle.core_rule.specs.declared.event.Kind.TheVariants.{MakeSeat, Enter, Leave, LookSec, Fill, LoadStamp, LoadHead, LoadTs, LoadPtr, LoadNext, Prepare, Raise, Finalise, TryLock, Unlock, LoadMark, Mark, LoadKeyOrVal}
 use Rattle.index_words.specs.declared.view.View.{View}
 use Rattle.std.proofs.Common.{ℕ, eqb}
 use Rattle.core_rule.specs.LoadMoves.{longest, stamp_loaded}
-use Rattle.core_rule.specs.Steps.{look_from, head_from, ts_from, ptr_from, next_from, raised_from}
+use Rattle.core_rule.specs.Steps.{look_from, head_from, ts_from, ptr_from, next_from, raised_from, tried_from, mark_from}
 use Rattle.core_rule.proofs.Allowed.{seat_within, join_other, prepare_small, raises}
 use Rattle.core_rule.proofs.Changes.{on_ok, change_of, join_change, at_found}
 use Rattle.core_rule.proofs.step.change_in_place.Goals as goal
@@ -43,6 +43,18 @@ load_next_seat-requires c = seat_within (record { layout = c.args.layout.now; wo
 
 pub finalise_seat-requires : goal.finalise_seat-requires
 finalise_seat-requires c = seat_within (record { layout = c.args.layout.now; words = c.args.words.now; views = c.args.views.now }) c.args.event.now c.args.word c.requires.met
+
+pub try_lock_seat-requires : goal.try_lock_seat-requires
+try_lock_seat-requires c = seat_within (record { layout = c.args.layout.now; words = c.args.words.now; views = c.args.views.now }) c.args.event.now c.args.word c.requires.met
+
+pub unlock_seat-requires : goal.unlock_seat-requires
+unlock_seat-requires c = seat_within (record { layout = c.args.layout.now; words = c.args.words.now; views = c.args.views.now }) c.args.event.now c.args.word c.requires.met
+
+pub load_mark_seat-requires : goal.load_mark_seat-requires
+load_mark_seat-requires c = seat_within (record { layout = c.args.layout.now; words = c.args.words.now; views = c.args.views.now }) c.args.event.now c.args.word c.requires.met
+
+pub mark_seat-requires : goal.mark_seat-requires
+mark_seat-requires c = seat_within (record { layout = c.args.layout.now; words = c.args.words.now; views = c.args.views.now }) c.args.event.now c.args.word c.requires.met
 
 pub prepare_seat-requires-clause-seat : goal.prepare_seat-requires-clause-seat
 prepare_seat-requires-clause-seat c = seat_within (record { layout = c.args.layout.now; words = c.args.words.now; views = c.args.views.now }) c.args.event.now c.args.word c.requires.met
@@ -149,6 +161,30 @@ returns-in-Raise-clause-err c = c.raise_seat.ensures.err
 pub returns-in-Finalise-clause-ok : goal.returns-in-Finalise-clause-ok
 returns-in-Finalise-clause-ok c =
     change_of c.args.layout.now c.args.words.now c.args.views.now c.args.event.now c.args.word c.finalise_seat.new.views Finalise c.in-Finalise.is c.finalise_seat.ensures
+
+pub returns-in-TryLock-clause-ok : goal.returns-in-TryLock-clause-ok
+returns-in-TryLock-clause-ok c =
+    on_ok c.try_lock_seat.result
+    (λ step. change_of c.args.layout.now c.args.words.now c.args.views.now c.args.event.now c.args.word c.try_lock_seat.new.views TryLock c.in-TryLock.is (at_found c.args.views.now c.args.event.now.seat c.try_lock_seat.new.views (λ (v : View) (x : ℕ). tried_from v c.args.word c.args.event.now.value x) c.held-found.result _ c.held-found.ensures step))
+    c.try_lock_seat.ensures.ok
+
+pub returns-in-TryLock-clause-err : goal.returns-in-TryLock-clause-err
+returns-in-TryLock-clause-err c = c.try_lock_seat.ensures.err
+
+pub returns-in-Unlock-clause-ok : goal.returns-in-Unlock-clause-ok
+returns-in-Unlock-clause-ok c =
+    change_of c.args.layout.now c.args.words.now c.args.views.now c.args.event.now c.args.word c.unlock_seat.new.views Unlock c.in-Unlock.is c.unlock_seat.ensures
+
+pub returns-in-LoadMark-clause-ok : goal.returns-in-LoadMark-clause-ok
+returns-in-LoadMark-clause-ok c =
+    change_of c.args.layout.now c.args.words.now c.args.views.now c.args.event.now c.args.word c.load_mark_seat.new.views LoadMark c.in-LoadMark.is (at_found c.args.views.now c.args.event.now.seat c.load_mark_seat.new.views (λ (v : View) (x : ℕ). mark_from v c.args.word x) c.held-found.result _ c.held-found.ensures c.load_mark_seat.ensures)
+
+pub returns-in-Mark-clause-ok : goal.returns-in-Mark-clause-ok
+returns-in-Mark-clause-ok c =
+    change_of c.args.layout.now c.args.words.now c.args.views.now c.args.event.now c.args.word c.mark_seat.new.views Mark c.in-Mark.is c.mark_seat.ensures
+
+pub returns-in-LoadKeyOrVal-clause-ok : goal.returns-in-LoadKeyOrVal-clause-ok
+returns-in-LoadKeyOrVal-clause-ok c = change_of c.args.layout.now c.args.words.now c.args.views.now c.args.event.now c.args.word c.args.views.now LoadKeyOrVal c.in-LoadKeyOrVal.is (λ v found. refl)
 
 pub unreachable-requires : goal.unreachable-requires
 unreachable-requires c = c.requires.in_place c.in-SplitSeat.is

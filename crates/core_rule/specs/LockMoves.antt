@@ -1,0 +1,68 @@
+-- The view of a seat after each kind of event that locks, unlocks or marks.
+use Rattle.std.specs.Prelude.{ℕ, List, [], ◌∷◌, ◌++◌, length, cond, Bool, not, ◌==◌, ◌&&◌, Some, None, map, filter}
+use Rattle.index_words.specs.declared.view.View.{View}
+use Rattle.index_words.specs.declared.view.update.HeldNode.{HeldNode}
+use Rattle.index_words.specs.declared.view.update.HeldNext.{HeldNext}
+use Rattle.index_words.specs.declared.view.update.HeldSide.{HeldSide}
+use Rattle.index_words.specs.declared.view.update.Updating.{Updating}
+use Rattle.index_words.specs.Lists.{has}
+use Rattle.index_words.specs.Views.{no_update}
+use Rattle.core_rule.specs.Moves.{nowhere}
+use Rattle.core_rule.specs.LoadMoves.{raised_if}
+use Rattle.core_rule.specs.LoadNeeds.{is_reachable}
+
+abbrev pub nothing_loaded : HeldSide
+nothing_loaded = record { head = None; link = None; tag = None }
+
+-- a node that was locked just now: nothing of it has been loaded
+abbrev pub just_locked : ℕ → HeldNode
+just_locked k = record { node = k; mark = None; left = nothing_loaded; right = nothing_loaded }
+
+-- try lock, where the word was found free
+abbrev pub locked_view : View → ℕ → View
+locked_view v k = record v { held = record v.held { nodes = v.held.nodes ++ just_locked k ∷ [] } }
+
+-- a lock word names a pass, and not the one whose word is `own`
+abbrev pub names_other : ℕ → ℕ → Bool
+names_other own found = not (found == 0) && not (found == own)
+
+-- try lock, where the word was found held: a lock of another pass is counted
+abbrev pub met_lock : View → ℕ → ℕ → View
+met_lock v own found = record v { counts = record v.counts { busy = raised_if (names_other own found) v.counts.busy } }
+
+-- try lock of a node whose word was found to hold `found`
+abbrev pub tried : View → ℕ → ℕ → ℕ → View
+tried v k own found = cond (found == 0) (locked_view v k) (met_lock v own found)
+
+abbrev pub other_nodes : ℕ → List HeldNode → List HeldNode
+other_nodes k hs = filter (λ (h : HeldNode). not (h.node == k)) hs
+
+abbrev pub other_nexts : ℕ → List HeldNext → List HeldNext
+other_nexts k ns = filter (λ (n : HeldNext). not (n.node == k)) ns
+
+-- the update ends with the last lock
+abbrev pub update_until : List HeldNode → Updating → Updating
+update_until hs u = cond (length hs == 0) no_update u
+
+-- unlock: what was loaded of the node is gone, and the seat stands nowhere
+abbrev pub unlocked_view : View → ℕ → View
+unlocked_view v k = record v {
+  reading = nowhere v.reading;
+  held = record { nodes = other_nodes k v.held.nodes; nexts = other_nexts k v.held.nexts };
+  update = update_until (other_nodes k v.held.nodes) v.update;
+}
+
+abbrev pub mark_known : ℕ → ℕ → HeldNode → HeldNode
+mark_known k x h = cond (h.node == k) (record h { mark = Some x }) h
+
+-- mark: the mark of a locked node is known
+abbrev pub with_mark : View → ℕ → ℕ → View
+with_mark v k x = record v { held = record v.held { nodes = map (mark_known k x) v.held.nodes } }
+
+-- a mark of 1, on a node at which the seat may be looking and which its update did not take out
+abbrev pub finds_mark : View → ℕ → ℕ → Bool
+finds_mark v k x = x == 1 && is_reachable v k && not (has k v.update.taken)
+
+-- load of a mark: it is kept with a locked node, and a mark that another seat has set is counted
+abbrev pub mark_loaded : View → ℕ → ℕ → View
+mark_loaded v k x = record (with_mark v k x) { counts = record v.counts { moves = raised_if (finds_mark v k x) v.counts.moves } }
