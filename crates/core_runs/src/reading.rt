@@ -77,6 +77,11 @@ fn kind_of(name: &str) -> Option<Kind> {
         "Prepare" => Kind::Prepare,
         "Raise" => Kind::Raise,
         "Finalise" => Kind::Finalise,
+        "TryLock" => Kind::TryLock,
+        "Unlock" => Kind::Unlock,
+        "LoadMark" => Kind::LoadMark,
+        "Mark" => Kind::Mark,
+        "LoadKeyOrVal" => Kind::LoadKeyOrVal,
         _ => return None,
     })
 }

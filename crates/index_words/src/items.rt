@@ -35,6 +35,13 @@ impl<T> Items<T> {
         Items { items }
     }
 
+    pub fn into_vec(self) -> Vec<T>
+        ensures { result.items ≡ self }
+    {
+        let Items { items } = self;
+        items
+    }
+
     pub fn len(&self) -> usize
         ensures { result ≡ length self.now }
     {

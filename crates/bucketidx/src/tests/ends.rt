@@ -108,22 +108,12 @@ const SIXTEEN_LINES: &str = "\n\n\n\n\n\n\n\n\n\n\n\n\n\n\n\n";
 #[test]
 fn inputs_of_the_most_bytes(rt: HostRuntime) -> Result<(), Fail> {
     let alloc = rt.alloc();
-    let most = repeated(
-        alloc,
-        "",
-        SIXTEEN_LINES,
-        67_108_864 / 16,
-    )?;
+    let most = repeated(alloc, "", SIXTEEN_LINES, 67_108_864 / 16)?;
     let mut source = MemSource::new(most);
     let ended = serve_run(&rt, alloc, &mut source, AMPLE)?;
     assert_eq!(rt; ended.status, Status::Done);
     assert_eq!(rt; ended.sink.taken(), b"{\"Updates\":0}\n".as_slice());
-    let more = repeated(
-        alloc,
-        "\n",
-        SIXTEEN_LINES,
-        67_108_864 / 16,
-    )?;
+    let more = repeated(alloc, "\n", SIXTEEN_LINES, 67_108_864 / 16)?;
     let mut source = MemSource::new(more);
     let ended = serve_run(&rt, alloc, &mut source, AMPLE)?;
     assert_eq!(rt; ended.status, Status::TooLong);
