@@ -34,3 +34,4 @@ pub mod LinkLaw
 pub mod Needed
 pub mod InPlace
 pub mod LockSteps
+pub mod HeldLocks

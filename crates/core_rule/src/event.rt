@@ -57,8 +57,8 @@ pub struct Event {
     pub kind: Kind,
     /// The number of the word that is loaded or stored.
     pub word: u64,
-    /// What is stored, or would be at a try of a lock. The number of nodes at a split, the other seat at a join, 1 at a load of the stamp that
-    /// fixes a place, and else 0.
+    /// What is stored, or would be at a try of a lock that finds it held. The number of nodes at a split, the
+    /// other seat at a join, 1 at a load of the stamp that fixes a place, and else 0.
     pub value: u64,
     /// The update at a raise, and None at every other kind.
     pub update: Option<Update>,

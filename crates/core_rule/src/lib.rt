@@ -26,4 +26,6 @@ pub use state::{State, StepError};
 #[cfg(test)]
 mod link_tests;
 #[cfg(test)]
+mod lock_tests;
+#[cfg(test)]
 mod tests;
