@@ -1,7 +1,7 @@
 -- The entries of a bundle as plain data, newest first, and the place of the one that a number selects.
 use Rattle.std.specs.Prelude.{◌≡◌, ℕ, ◌<◌, ◌≤◌, List, length, Option, Some, None, slice_index, slice_index_or, All}
 use Rattle.core_links.specs.declared.entry.Entry.{Entry}
-use Rattle.core_links.specs.Bundle.{select}
+use Rattle.core_links.specs.Bundle.{select, StaysSelected, StaysBehind, IsWalkedTo}
 
 -- each entry has a number above `t`
 abbrev pub NumberedAbove : ℕ → List Entry → Type 0
@@ -27,3 +27,19 @@ name_at names (Some place) = slice_index names place
 abbrev pub IsSelection : ℕ → List Entry → Option ℕ → Type 0
 IsSelection t bundle place =
     (number : ℕ → ℕ) (names : List ℕ) → Names number names bundle → select number t names ≡ name_at names place
+
+-- whatever the entries are named: the entry stays selected where another numbering tells the same of each
+-- entry at `t`
+abbrev pub StaysAtPlace : ℕ → List Entry → Option ℕ → Type 0
+StaysAtPlace t bundle place =
+    (number : ℕ → ℕ) (names : List ℕ) → Names number names bundle → StaysSelected number t names (name_at names place)
+
+-- and where an entry with a greater number is put in front
+abbrev pub StaysBehindFront : ℕ → List Entry → Option ℕ → Type 0
+StaysBehindFront t bundle place =
+    (number : ℕ → ℕ) (names : List ℕ) → Names number names bundle → StaysBehind number t names (name_at names place)
+
+-- and a reader that has passed only entries with greater numbers selects it
+abbrev pub IsWalkedToPlace : ℕ → List Entry → Option ℕ → Type 0
+IsWalkedToPlace t bundle place =
+    (number : ℕ → ℕ) (names : List ℕ) → Names number names bundle → IsWalkedTo number t names (name_at names place)

@@ -1,5 +1,5 @@
 ghost use Rattle.std.specs.Prelude.{◌≡◌, ◌<◌, ◌↔◌, All, IsNone, IfSome};
-ghost use Rattle.core_links.specs.Selection.{IsFirstPlace, IsSelection, NumberedAbove};
+ghost use Rattle.core_links.specs.Selection.{IsFirstPlace, IsSelection, IsWalkedToPlace, NumberedAbove, StaysAtPlace, StaysBehindFront};
 ghost use Rattle.core_links.specs.declared.entry.Entry.{Entry as BundleEntry};
 
 /// An entry of a bundle.
@@ -18,6 +18,9 @@ pub fn select(bundle: &[Entry], t: u64) -> Option<usize>
     ensures none { IsNone result ↔ NumberedAbove t bundle.now }
     ensures first { IfSome result (IsFirstPlace t bundle.now) }
     ensures selection { IsSelection t bundle.now result }
+    ensures stays { StaysAtPlace t bundle.now result }
+    ensures behind { StaysBehindFront t bundle.now result }
+    ensures walked { IsWalkedToPlace t bundle.now result }
 {
     first_at_most(bundle, t)
 }
