@@ -4,6 +4,7 @@ use Rattle.std.specs.List.{slice_get}
 use Rattle.std.proofs.lemmas.Bool.{and_parts, eqb-true}
 use Rattle.std.proofs.lemmas.Bool.Decides.{nat_tests}
 use Rattle.std.proofs.lemmas.Option.{slice_get_within, get_or_from_slice_get}
+use Rattle.index_words.specs.declared.update.Update.{Update}
 use Rattle.index_words.specs.declared.view.View.{View}
 use Rattle.index_words.specs.declared.word.Field.{Field}
 use Rattle.index_words.specs.declared.word.Field.TheVariants.{Key, Val, Lock, Mark, Head, Link, Tag}
@@ -11,28 +12,30 @@ use Rattle.index_words.specs.declared.word.Word.{Word}
 use Rattle.index_words.specs.declared.word.Word.TheVariants.{Stamp, Section, Announced, Node, Entry}
 use Rattle.core_rule.specs.declared.event.Event.{Event}
 use Rattle.core_rule.specs.declared.event.Kind.{Kind}
-use Rattle.core_rule.specs.declared.event.Kind.TheVariants.{SplitSeat, JoinSeat, Prepare, Raise}
+use Rattle.core_rule.specs.declared.event.Kind.TheVariants.{SplitSeat, JoinSeat, LoadStamp, Prepare, Raise}
 use Rattle.core_rule.specs.Needs.{may_join_found, is_stamp}
-use Rattle.core_rule.specs.UpdateNeeds.{is_slot_number, may_prepare_entry, may_prepare_head, may_prepare, may_raise}
+use Rattle.core_rule.specs.UpdateNeeds.{is_slot_number, may_prepare_entry, may_prepare_head, may_prepare, may_raise_number, is_raise_of}
 use Rattle.core_rule.specs.Histories.{calls_left}
 use Rattle.core_rule.specs.Rule.{IsRight}
 use Rattle.core_rule.specs.Tables.{Table, held_by}
 use Rattle.core_rule.specs.Seats.{HasFree, HasCalls}
 use Rattle.core_rule.specs.Steps.{needs, carries, allowed_at}
 use Rattle.index_words.specs.Words.{Memory}
+use Rattle.core_rule.specs.TreeMoves.{is_tree_step}
+use Rattle.core_grace.specs.Sections.{is_even}
 use Rattle.index_words.proofs.Seats.{one_term}
 use Rattle.core_rule.proofs.EachKind.{item_from_get}
-use Rattle.core_rule.proofs.StepLaw.{never, not_equal}
+use Rattle.core_rule.proofs.Needed.{never, not_equal}
 
 pub record Needed (t : Table) (e : Event) (w : Word) : Type 0 where
   pub v : View
   pub is : slice_get t.views e.seat ≡ Some v
-  pub met : needs e.kind (held_by t) t.views e.seat v w e.value ≡ true
+  pub met : needs e.kind t.layout (held_by t) t.views e.seat v w e.value e.update ≡ true
 
 needed_by : (t : Table) (e : Event) (w : Word) (o : Option View) → slice_get t.views e.seat ≡ o → allowed_at t e o (Some w) ≡ true → Needed t e w
-needed_by t e w None is met = cc
+needed_by t e w None is met = absurd (never met)
 needed_by t e w (Some v) is met =
-    record { v = v; is = is; met = (and_parts (carries e.kind v e.update && not v.joined) (needs e.kind (held_by t) t.views e.seat v w e.value) met).1 }
+    record { v = v; is = is; met = (and_parts (carries e.kind v e.update && not v.joined) (needs e.kind t.layout (held_by t) t.views e.seat v w e.value e.update) met).1 }
 
 pub needed : (t : Table) (e : Event) (w : Word) → allowed_at t e (slice_get t.views e.seat) (Some w) ≡ true → Needed t e w
 needed t e w met = needed_by t e w (slice_get t.views e.seat) refl met
@@ -40,13 +43,13 @@ needed t e w met = needed_by t e w (slice_get t.views e.seat) refl met
 pub seat_within : (t : Table) (e : Event) (w : Word) → allowed_at t e (slice_get t.views e.seat) (Some w) ≡ true → e.seat < length t.views
 seat_within t e w met = let need = needed t e w met in slice_get_within t.views e.seat need.v need.is
 
-split_met : (t : Table) (e : Event) (w : Word) (k : Kind) (v : View) → e.kind ≡ k → needs e.kind (held_by t) t.views e.seat v w e.value ≡ true → needs k (held_by t) t.views e.seat v w e.value ≡ true
-split_met t e w k v is met = subst (λ (j : Kind). needs j (held_by t) t.views e.seat v w e.value ≡ true) is met
+split_met : (t : Table) (e : Event) (w : Word) (k : Kind) (v : View) → e.kind ≡ k → needs e.kind t.layout (held_by t) t.views e.seat v w e.value e.update ≡ true → needs k t.layout (held_by t) t.views e.seat v w e.value e.update ≡ true
+split_met t e w k v is met = subst (λ (j : Kind). needs j t.layout (held_by t) t.views e.seat v w e.value e.update ≡ true) is met
 
 one_or_none : (value : ℕ) (a b c : Bool) → eqb value 0 ≡ a → eqb value 1 ≡ b → (a || (b && c)) ≡ true → value ≤ 1
 one_or_none value true b c e f met = let none : value ≡ 0 = eqb-true value 0 e in omega arith
 one_or_none value false true c e f met = let one : value ≡ 1 = eqb-true value 1 f in omega arith
-one_or_none value false false c e f met = cc
+one_or_none value false false c e f met = absurd (never met)
 
 not_none : (len : ℕ) → eqb len 0 ≡ false → 0 < len
 not_none len e = grind (arith, nat_tests)
@@ -54,8 +57,8 @@ not_none len e = grind (arith, nat_tests)
 as_many : (value len : ℕ) (a b c : Bool) → eqb value 0 ≡ a → eqb value 1 ≡ b → eqb len 0 ≡ c → (a || (b && not c)) ≡ true → value ≤ len
 as_many value len true b c e f g met = let none : value ≡ 0 = eqb-true value 0 e in omega arith
 as_many value len false true false e f g met = let one : value ≡ 1 = eqb-true value 1 f in omega (arith, not_none len g)
-as_many value len false true true e f g met = cc
-as_many value len false false c e f g met = cc
+as_many value len false true true e f g met = absurd (never met)
+as_many value len false false c e f g met = absurd (never met)
 
 pub split_few : (t : Table) (e : Event) (w : Word) → allowed_at t e (slice_get t.views e.seat) (Some w) ≡ true → e.kind ≡ SplitSeat → e.value ≤ 1
 split_few t e w met is =
@@ -80,7 +83,7 @@ pub record Other (t : Table) (e : Event) : Type 0 where
   pub apart : e.value ≢ e.seat
 
 other_by : (t : Table) (e : Event) (v : View) (o : Option View) → slice_get t.views e.value ≡ o → may_join_found v o ≡ true → (e.value ≡ e.seat → ⊥) → Other t e
-other_by t e v None is met apart = cc
+other_by t e v None is met apart = absurd (never met)
 other_by t e v (Some u) is met apart = record { u = u; is = is; within = slice_get_within t.views e.value u is; apart = apart }
 
 pub join_other : (t : Table) (e : Event) (w : Word) → allowed_at t e (slice_get t.views e.seat) (Some w) ≡ true → e.kind ≡ JoinSeat → Other t e
@@ -123,7 +126,7 @@ pub record Raises (t : Table) (e : Event) (w : Word) : Type 0 where
   pub small : held_by t w + 1 < 2 ^ 64
   pub stamp : w ≡ Stamp
 
-raises_at : (t : Table) (e : Event) (u : Word) (v : View) → slice_get t.views e.seat ≡ Some v → IsRight t → may_raise v u e.value ≡ true → Raises t e u
+raises_at : (t : Table) (e : Event) (u : Word) (v : View) → slice_get t.views e.seat ≡ Some v → IsRight t → may_raise_number v u e.value ≡ true → Raises t e u
 raises_at t e Stamp v is right met =
     let c = not (eqb v.history.left 0) in
     let f = not (eqb (length v.update.pending) 0) in
@@ -144,7 +147,38 @@ raises_at t e (Announced i) v is right met = absurd (never met)
 raises_at t e (Node f k) v is right met = absurd (never met)
 raises_at t e (Entry p k) v is right met = absurd (never met)
 
+-- what the needs of a raise say of the seat's view, and of its update
+raise_met : (t : Table) (e : Event) (w : Word) (v : View) → needs e.kind t.layout (held_by t) t.views e.seat v w e.value e.update ≡ true → e.kind ≡ Raise
+    → (may_raise_number v w e.value ≡ true) × (is_raise_of t.layout (held_by t) t.views v e.update ≡ true)
+raise_met t e w v met is =
+    and_parts (may_raise_number v w e.value) (is_raise_of t.layout (held_by t) t.views v e.update) (split_met t e w Raise v is met)
+
 pub raises : (t : Table) (e : Event) (w : Word) → IsRight t → allowed_at t e (slice_get t.views e.seat) (Some w) ≡ true → e.kind ≡ Raise → Raises t e w
 raises t e w right met is =
     let need = needed t e w met in
-    raises_at t e w need.v need.is right (split_met t e w Raise need.v is need.met)
+    raises_at t e w need.v need.is right (raise_met t e w need.v need.met is).0
+
+-- a raise makes the tree step of its update
+pub raise_steps : (t : Table) (e : Event) (w : Word) → allowed_at t e (slice_get t.views e.seat) (Some w) ≡ true → e.kind ≡ Raise
+    → (u : Update) → e.update ≡ Some u → (v : View) → slice_get t.views e.seat ≡ Some v → is_tree_step t.layout (held_by t) t.views v u ≡ true
+raise_steps t e w met is u carried v at =
+    let met_at : allowed_at t e (Some v) (Some w) ≡ true = subst (λ (o : Option View). allowed_at t e o (Some w) ≡ true) at met in
+    let need = (and_parts (carries e.kind v e.update && not v.joined) (needs e.kind t.layout (held_by t) t.views e.seat v w e.value e.update) met_at).1 in
+    subst (λ (o : Option Update). is_raise_of t.layout (held_by t) t.views v o ≡ true) carried (raise_met t e w v need is).1
+
+-- a load of the stamp is one at the stamp
+stamp_named : (w : Word) → is_stamp w ≡ true → w ≡ Stamp
+stamp_named Stamp is = refl
+stamp_named (Section i) is = absurd (never is)
+stamp_named (Announced i) is = absurd (never is)
+stamp_named (Node f k) is = absurd (never is)
+stamp_named (Entry p e) is = absurd (never is)
+
+pub loads_stamp : (t : Table) (e : Event) (w : Word) → allowed_at t e (slice_get t.views e.seat) (Some w) ≡ true → e.kind ≡ LoadStamp → w ≡ Stamp
+loads_stamp t e w met is =
+    let need = needed t e w met in
+    let v : View = need.v in
+    let b = not (is_even v.section_word) in
+    let c = is_none v.reading.opened in
+    let one = and_parts (is_stamp w && b && c) (eqb e.value 0 || eqb e.value 1) (split_met t e w LoadStamp v is need.met) in
+    stamp_named w (and_parts (is_stamp w) b (and_parts (is_stamp w && b) c one.0).0).0

@@ -21,20 +21,25 @@ use Rattle.index_words.specs.Views.{empty_view, no_slots, no_looks, no_reading, 
 use Rattle.index_words.specs.Words.{memory, word_count, is_there, address}
 use Rattle.index_words.specs.Lists.{count, Every}
 use Rattle.index_words.proofs.Counting.{count-push}
+use Rattle.index_words.proofs.HistoryLaws.{after-none}
+use Rattle.index_words.specs.History.{after}
 use Rattle.core_grace.specs.Holds.{HoldsNode, HoldsEntry}
 use Rattle.core_grace.specs.Slots.{nodes_of, entries_in, own, own_free, is_slot, GraceRight, KeepsEntries}
 use Rattle.core_grace.proofs.RuleMoves.{no_looks_right}
 use Rattle.core_rule.specs.Numbers.{number_count}
 use Rattle.core_rule.specs.SectionRule.{IsIdle, SectionRight, IsOwnWord}
 use Rattle.core_links.specs.Bundle.{no_number}
+use Rattle.core_trees.specs.NamedTree.{Null}
 use Rattle.core_rule.specs.Meanings.{Meaning, linked_by}
-use Rattle.core_rule.specs.Histories.{SeenRight, place_count, calls_left, made_by, update_at}
+use Rattle.core_rule.specs.Histories.{IsGiven, SeenRight, place_count, calls_left, made_by, update_at}
 use Rattle.core_rule.specs.Locks.{lock_count}
 use Rattle.core_rule.specs.BundleRule.{UpdateRight, IsPending, pending_count}
 use Rattle.core_rule.specs.Readers.{VersionRight, PlaceRight, LinkRight}
-use Rattle.core_rule.specs.SeatRule.{SeatRight}
+use Rattle.core_rule.specs.SeatRule.{TreeRight, SeatRight}
 use Rattle.core_rule.specs.Rule.{InRule, IsRight}
 use Rattle.core_rule.specs.Openings.{from_up, pass_view, pass_views, opening}
+use Rattle.core_rule.specs.SpentViews.{IsSpent}
+use Rattle.core_rule.proofs.SpentViews.{live_spent}
 use Rattle.core_rule.proofs.Idle.{idle_nodes, idle_entry}
 
 -- 1 for a number from `first` on, and 0 for another one
@@ -57,9 +62,11 @@ count-from_up x first (suc n) = count-push x (from_up first n) (first + n) ∙ a
 -- a view that has just been made
 record IsFresh (z : Layout) (v : View) : Type 0 where
   layout : v.layout ≡ z
+  live : v.joined ≡ false
   idle : IsIdle v
   seen : v.history.seen ≡ []
   told : v.history.told ≡ []
+  given : v.history.ended_places ≡ []
   found : v.history.found ≡ 0
   grace : v.grace ≡ no_looks
   retired : v.retired ≡ no_slots
@@ -69,10 +76,10 @@ record IsFresh (z : Layout) (v : View) : Type 0 where
   announced : v.announced ≡ 0
 
 pass_fresh : (z : Layout) (k a b : ℕ) (size : PassSize) → IsFresh z (pass_view z k a b size)
-pass_fresh z k a b size = record { layout = refl; idle = record { reading = refl; held = refl; update = refl }; seen = refl; told = refl; found = refl; grace = refl; retired = refl; batch = refl; nexts = refl; section_word = refl; announced = refl }
+pass_fresh z k a b size = record { layout = refl; live = refl; idle = record { reading = refl; held = refl; update = refl }; seen = refl; told = refl; given = refl; found = refl; grace = refl; retired = refl; batch = refl; nexts = refl; section_word = refl; announced = refl }
 
 empty_fresh : (z : Layout) → IsFresh z (empty_view z)
-empty_fresh z = record { layout = refl; idle = record { reading = refl; held = refl; update = refl }; seen = refl; told = refl; found = refl; grace = refl; retired = refl; batch = refl; nexts = refl; section_word = refl; announced = refl }
+empty_fresh z = record { layout = refl; live = refl; idle = record { reading = refl; held = refl; update = refl }; seen = refl; told = refl; given = refl; found = refl; grace = refl; retired = refl; batch = refl; nexts = refl; section_word = refl; announced = refl }
 
 passes_fresh : (z : Layout) (k a b : ℕ) (sizes : List PassSize) → All (IsFresh z) (pass_views z k a b sizes)
 passes_fresh z k a b [] = All-nil (IsFresh z)
@@ -167,7 +174,7 @@ zero_word word (Some n) held zeros none = zeros n ∙ sym none
 
 -- what the words mean at the start: there is no update and no bundle, and nothing is linked
 abbrev pub nothing_linked : Meaning
-nothing_linked = record { updates = []; bundles = record { bundle = λ side k. []; number = λ e. 0 }; tree = [] }
+nothing_linked = record { updates = []; bundles = record { bundle = λ side k. []; number = λ e. 0 }; tree = Null }
 
 nothing_taken : (n : ℕ) → take {A = Update} n [] ≡ []
 nothing_taken zero = refl
@@ -179,6 +186,7 @@ seen_fresh z v fresh = record {
   told = fresh.told ∙ sym (nothing_taken (length v.history.told));
   known = omega (arith, ap length fresh.told);
   found = omega (arith, fresh.found);
+  given = subst (Every (IsGiven v.history.ended)) (sym fresh.given) tt;
 }
 
 no_update_at : (n x : ℕ) → made_by n (update_at [] x) ≡ 0
@@ -214,6 +222,7 @@ module _ (z : Layout) (sizes : List PassSize) where
         seen = seen_fresh z v fresh;
         update = subst (UpdateRight (memory z ws Stamp)) (sym update) (record { raised = tt; first = λ _. refl });
         version = subst (VersionRight z (memory z ws Stamp)) (sym read) (record { past = tt; opened = tt; bare = λ _. refl; there = λ k some. absurd (omega (arith, some)) });
+        tree = subst (λ (r : Reading). TreeRight (memory z ws) nothing_linked r.section r.tree) (sym read) tt;
         locks = λ k some. absurd (omega (arith, some, ap (λ (hs : List _). lock_count k (record v { held = record v.held { nodes = hs } })) locks));
         loaded = record { nodes = subst (Every _) (sym locks) tt; nexts = subst (Every _) (sym fresh.nexts) tt };
         marks = record {
@@ -281,11 +290,13 @@ module _ (z : Layout) (sizes : List PassSize) where
             (λ v fresh. (no_slots_kept v.retired fresh.retired, no_slots_kept v.batch fresh.batch)) vs (all_fresh z sizes);
       };
       locks = λ k. nothing_pending (lock_count k) (λ c d x size. refl) refl ∙ ap (λ x. cond (eqb x 0) 0 1) (sym (zero_memory z (word_count z) (Node Lock k)));
+      tree = record { spelled = refl; lawful = tt; contents = sym (ap (after []) (zero_memory z (word_count z) Stamp) ∙ after-none []) };
       marks = record { root = zero_memory z (word_count z) (Node Mark 0); nodes = λ k some. absurd (omega (arith, some)) };
       bundles = λ k live side. record { chain = zero_memory z (word_count z) (Node (Head side) k); numbers = tt; tail = tt; falls = tt; owned = tt };
       single = λ e. omega (arith, nobody_holds e);
       seats = All-weaker (IsFresh z) (SeatRight z (memory z ws) nothing_linked) seat_right vs (all_fresh z sizes);
     };
+    spent = All-weaker (IsFresh z) IsSpent (λ v fresh. live_spent v fresh.live) vs (all_fresh z sizes);
   }
 
 -- the same for what the code makes

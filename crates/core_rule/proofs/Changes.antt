@@ -1,5 +1,5 @@
 -- The views after an event, by the kind of the event.
-use Rattle.std.proofs.Common.{◌≡◌, ℕ, List, ap, ◌∙◌, sym, subst, Some, Result, Ok, Err, OnOk}
+use Rattle.std.proofs.Common.{◌≡◌, ℕ, List, ap, ◌∙◌, sym, subst, Some, Result, Ok, Err, OnOk, OnErr}
 use Rattle.std.specs.List.{slice_get}
 use Rattle.index_words.specs.declared.layout.Layout.{Layout}
 use Rattle.index_words.specs.declared.view.View.{View}
@@ -36,3 +36,13 @@ join_change z words vs e w changed u is other all =
 pub at_found : (vs : List View) (seat : ℕ) (changed : List View) (F : View → ℕ → View) (x y : ℕ) → x ≡ y
     → ((v : View) → slice_get vs seat ≡ Some v → changed ≡ set vs seat (F v x)) → (v : View) → slice_get vs seat ≡ Some v → changed ≡ set vs seat (F v y)
 at_found vs seat changed F x y same all v found = all v found ∙ ap (λ n. set vs seat (F v n)) same
+
+-- what is so of a slice of all views is so of the views
+pub change_whole : {T E : Type 0} (z : Layout) (words : List ℕ) (vs us changed whole : List View) (e : Event) (w : Word) (r : Result T E) → us ≡ vs → whole ≡ changed
+    → OnOk r (IsChange z words us e w changed) → OnOk r (IsChange z words vs e w whole)
+change_whole z words vs us changed whole e w r same all holds =
+    on_ok r (λ (is : IsChange z words us e w changed). subst (λ (xs : List View). IsChange z words vs e w xs) (sym all) (subst (λ (xs : List View). IsChange z words xs e w changed) same is)) holds
+
+pub err_whole : {T E : Type 0} (vs us changed whole : List View) (r : Result T E) → us ≡ vs → whole ≡ changed → OnErr r (changed ≡ us) → OnErr r (whole ≡ vs)
+err_whole vs us changed whole (Ok x) same all holds = holds
+err_whole vs us changed whole (Err e) same all holds = all ∙ holds ∙ same

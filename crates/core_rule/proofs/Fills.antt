@@ -1,5 +1,5 @@
 -- A store to a word of a free slot keeps the rule: no part of it reads such a word.
-use Rattle.std.proofs.Common.{◌≡◌, ℕ, ◌<◌, ◌≤◌, ◌⊎◌, cond, List, [], ◌∷◌, ◌++◌, Bool, true, false, eqb, ◌&&◌, arith, refl, ap, ◌∙◌, sym, subst, inl, inr}
+use Rattle.std.proofs.Common.{◌≡◌, ℕ, ◌<◌, ◌≤◌, ◌⊎◌, cond, List, [], ◌∷◌, ◌++◌, Bool, true, false, eqb, ◌&&◌, arith, refl, ap, ◌∙◌, sym, subst, inl, inr, Option, Some, None}
 use Rattle.std.proofs.lemmas.Bool.{ne_eqb}
 use Rattle.std.proofs.lemmas.Option.{IfSome_then}
 use Rattle.index_words.specs.declared.layout.Layout.{Layout}
@@ -23,7 +23,8 @@ use Rattle.index_words.specs.Words.{Memory, written, same_field, same_part}
 use Rattle.index_words.specs.Lists.{count, IsItem}
 use Rattle.index_words.proofs.Counting.{count-append}
 use Rattle.core_grace.specs.Holds.{HoldsNode, held_slots, listed, work_nodes, tree_slots, entries_of}
-use Rattle.core_links.specs.Bundle.{IsChain, child_of_entry}
+use Rattle.core_links.specs.Bundle.{IsChain, select, child_of_entry}
+use Rattle.core_rule.specs.Versions.{slots_of}
 use Rattle.core_rule.specs.Meanings.{Meaning}
 use Rattle.core_rule.specs.Needs.{is_lock}
 use Rattle.core_rule.specs.Locks.{NamesHolder, lock_count, HeadRight, SideRight, NodeRight, NextRight, IsTakenOut}
@@ -34,6 +35,7 @@ use Rattle.core_rule.specs.Rule.{Rule}
 use Rattle.core_rule.proofs.Frames.{every_map, every_named, all_items, one_counted}
 use Rattle.core_rule.proofs.BundleFrames.{bundle_frame, select_in}
 use Rattle.core_rule.proofs.Owned.{in_entries, free_node_alone, free_node_waits, free_entry_some, not_in_bundle, held_live, free_not_live, reachable_live}
+use Rattle.core_rule.proofs.TreeFrames.{SameNode, child_at, version_frame, reads_frame, linked_live, read_live}
 
 and_false : (b : Bool) → (b && false) ≡ false
 and_false true = refl
@@ -89,6 +91,13 @@ module _ (z : Layout) (m : Memory) (vs : List View) (g : Meaning) (rule : Rule z
   held_apart : (i k j n : ℕ) (v u : View) → IsItem vs i v → 0 < count k v.free.nodes → IsItem vs n u → HoldsNode u j → j ≤ z.nodes → j ≡ k → ⊥
   held_apart i k j n v u at free of holds high = apart i k j v at free (held_live z vs g rule.slots n j u of holds high)
 
+  -- the same is read of a live node, at each number
+  node_same : (i k t j : ℕ) (v : View) (f : Field) (x : ℕ) → IsItem vs i v → 0 < count k v.free.nodes → IsLive z vs j
+      → SameNode m (written m (Node f k) x) g.bundles g.bundles t j
+  node_same i k t j v f x at free live =
+      let other : j ≡ k → ⊥ = apart i k j v at free live in
+      record { key = sym (node_other m f Key k j x other); val = sym (node_other m f Val k j x other); entry = λ side. refl; child = λ side. refl }
+
   node_seat : (i k n : ℕ) (v u : View) (f : Field) (x : ℕ) → IsItem vs i v → 0 < count k v.free.nodes → is_lock f ≡ false → IsItem vs n u
       → SeatRight z m g u → SeatRight z (written m (Node f k) x) g u
   node_seat i k n v u f x at free other of seat =
@@ -100,6 +109,8 @@ module _ (z : Layout) (m : Memory) (vs : List View) (g : Meaning) (rule : Rule z
         seen = seat.seen;
         update = seat.update;
         version = seat.version;
+        tree = reads_frame m (written m (Node f k) x) g.bundles g.bundles g.updates (m Stamp) g.tree u.reading.tree u.reading.section
+            (λ t j past here. node_same i k t j v f x at free (read_live z vs g rule.slots (m Stamp) n j u of seat.version here)) seat.version.past seat.tree;
         locks = λ j some. ((seat.locks j some).0, subst (λ l. NamesHolder l u.number) (sym (lock_other m f k j x other)) (seat.locks j some).1);
         loaded = record {
           nodes = every_named (λ (h : HeldNode). h.node)
@@ -151,9 +162,11 @@ module _ (z : Layout) (m : Memory) (vs : List View) (g : Meaning) (rule : Rule z
         history = rule.history;
         slots = rule.slots;
         locks = λ j. rule.locks j ∙ ap (λ l. cond (eqb l 0) 0 1) (sym (lock_other m f k j x other));
+        tree = version_frame m (written m (Node f k) x) g.bundles g.bundles g.updates (m Stamp) g.tree
+            (λ j here. node_same i k (m Stamp) j v f x at free (linked_live z vs g rule.slots j here)) rule.tree;
         marks = record {
           root = node_other m f Mark k 0 x (λ same. omega (arith, alone.1, same)) ∙ rule.marks.root;
-          nodes = λ j some. node_other m f Mark k j x (λ same. omega (arith, alone.0, subst (λ y. 0 < count y g.tree) same some)) ∙ rule.marks.nodes j some;
+          nodes = λ j some. node_other m f Mark k j x (λ same. omega (arith, alone.0, subst (λ y. 0 < count y (slots_of g.tree)) same some)) ∙ rule.marks.nodes j some;
         };
         bundles = λ j live side.
             subst (λ h. BundleRight (m Stamp) (λ e. m (Entry Next e)) (λ e. m (Entry Number e)) g.bundles.number (IsPendingAt vs j) h (g.bundles.bundle side j))
@@ -209,22 +222,31 @@ module _ (z : Layout) (m : Memory) (vs : List View) (g : Meaning) (rule : Rule z
           },
     )
 
-    entry_source : (k t c : ℕ) (side : Side) (source : LinkSource) → IsLive z vs k
-        → SourceRight (λ d. m (Entry Child d)) g.bundles.number (g.bundles.bundle side k) t c source
-        → SourceRight (λ d. written m (Entry p e) x (Entry Child d)) g.bundles.number (g.bundles.bundle side k) t c source
-    entry_source k t c side (Plain tag above below) live right = tt
-    entry_source k t c side (Bundle entry) live right = (
+    entry_same : (t k : ℕ) → IsLive z vs k → SameNode m (written m (Entry p e) x) g.bundles g.bundles t k
+    entry_same t k live = record { key = refl; val = refl; entry = λ side. refl; child = λ side. child_by side (select_in g.bundles.number t (g.bundles.bundle side k)) }
+      where
+        child_by : (side : Side) → (select g.bundles.number t (g.bundles.bundle side k) ≡ 0) ⊎ (0 < count (select g.bundles.number t (g.bundles.bundle side k)) (g.bundles.bundle side k))
+            → child_at m g.bundles t side k ≡ child_at (written m (Entry p e) x) g.bundles t side k
+        child_by side (inl none) = sym (child_none (λ d. m (Entry Child d)) (λ d. written m (Entry p e) x (Entry Child d)) (select g.bundles.number t (g.bundles.bundle side k)) none)
+        child_by side (inr some) =
+            let d : ℕ = select g.bundles.number t (g.bundles.bundle side k) in
+            ap (λ c. cond (eqb d 0) 0 c) (sym (entry_other m p Child e d x (member_apart i e k d v side at free live some)))
+
+    entry_source : (k c : ℕ) (side : Side) (o : Option ℕ) (source : LinkSource) → IsLive z vs k
+        → SourceRight (λ d. m (Entry Child d)) g.bundles.number (g.bundles.bundle side k) o c source
+        → SourceRight (λ d. written m (Entry p e) x (Entry Child d)) g.bundles.number (g.bundles.bundle side k) o c source
+    entry_source k c side o (Plain tag above below) live right = tt
+    entry_source k c side None (Bundle entry) live right = right
+    entry_source k c side (Some t) (Bundle entry) live right = (
       right.0,
-      elim (select_in g.bundles.number t (g.bundles.bundle side k)) as (λ _. child_of_entry (λ d. written m (Entry p e) x (Entry Child d)) entry ≡ c) [
-        | inl none ↦ child_none (λ d. m (Entry Child d)) (λ d. written m (Entry p e) x (Entry Child d)) entry (sym right.0 ∙ none) ∙ right.1
-        | inr some ↦ ap (λ y. cond (eqb entry 0) 0 y) (entry_other m p Child e entry x (member_apart i e k entry v side at free live (subst (λ d. 0 < count d (g.bundles.bundle side k)) right.0 some))) ∙ right.1
-      ],
+      subst (λ d. child_of_entry (λ y. written m (Entry p e) x (Entry Child y)) d ≡ c) right.0
+          (sym ((entry_same t k live).child side) ∙ ap (child_of_entry (λ d. m (Entry Child d))) right.0 ∙ right.1),
     )
 
     entry_link : (n : ℕ) (u : View) (l : Link) → IsItem vs n u → LinkRight z (λ d. m (Entry Child d)) g.bundles u l
         → LinkRight z (λ d. written m (Entry p e) x (Entry Child d)) g.bundles u l
     entry_link n u l of right =
-        IfSome_then u.reading.section right (λ t known. (known.0, entry_source l.node t l.child l.side l.source (reachable_live z vs g rule.slots n l.node u of known.0) known.1))
+        (right.0, entry_source l.node l.child l.side u.reading.section l.source (reachable_live z vs g rule.slots n l.node u of right.0) right.1)
 
     entry_seat : (n : ℕ) (u : View) → IsItem vs n u → SeatRight z m g u → SeatRight z (written m (Entry p e) x) g u
     entry_seat n u of seat =
@@ -235,6 +257,8 @@ module _ (z : Layout) (m : Memory) (vs : List View) (g : Meaning) (rule : Rule z
           seen = seat.seen;
           update = seat.update;
           version = seat.version;
+          tree = reads_frame m (written m (Entry p e) x) g.bundles g.bundles g.updates (m Stamp) g.tree u.reading.tree u.reading.section
+              (λ t j past here. entry_same t j (read_live z vs g rule.slots (m Stamp) n j u of seat.version here)) seat.version.past seat.tree;
           locks = seat.locks;
           loaded = record {
             nodes = every_named (λ (h : HeldNode). h.node)
@@ -271,6 +295,8 @@ module _ (z : Layout) (m : Memory) (vs : List View) (g : Meaning) (rule : Rule z
       history = rule.history;
       slots = rule.slots;
       locks = rule.locks;
+      tree = version_frame m (written m (Entry p e) x) g.bundles g.bundles g.updates (m Stamp) g.tree
+          (λ j here. entry_same (m Stamp) j (linked_live z vs g rule.slots j here)) rule.tree;
       marks = record { root = rule.marks.root; nodes = rule.marks.nodes };
       bundles = λ k live side. entry_bundle k live side (rule.bundles k live side);
       single = rule.single;

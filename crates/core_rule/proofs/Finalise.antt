@@ -147,6 +147,7 @@ module _ (z : Layout) (m : Memory) (vs : List View) (g : Meaning) (rule : Rule z
     seen = own.seen;
     update = record { raised = own.update.raised; first = own.update.first };
     version = own.version;
+    tree = own.tree;
     locks = own.locks;
     loaded = record { nodes = every_map _ _ v.held.nodes node_kept own.loaded.nodes; nexts = own.loaded.nexts };
     marks = record { retired = own.marks.retired; batch = own.marks.batch; taken = own.marks.taken };
@@ -169,6 +170,7 @@ module _ (z : Layout) (m : Memory) (vs : List View) (g : Meaning) (rule : Rule z
     seen = of.seen;
     update = of.update;
     version = of.version;
+    tree = of.tree;
     locks = of.locks;
     loaded = record { nodes = every_map _ _ u.held.nodes node_kept of.loaded.nodes; nexts = of.loaded.nexts };
     marks = record { retired = of.marks.retired; batch = of.marks.batch; taken = of.marks.taken };
@@ -190,6 +192,7 @@ module _ (z : Layout) (m : Memory) (vs : List View) (g : Meaning) (rule : Rule z
           (λ known. same_looks z (linked_by g) HoldsNode (HoldsEntry g.bundles) v w w refl refl known)
           (λ u beside known. same_looks z (linked_by g) HoldsNode (HoldsEntry g.bundles) v w u refl refl known);
       locks = λ k. sum_kept (lock_count k) vs i v w at refl ∙ rule.locks k;
+      tree = rule.tree;
       marks = record { root = rule.marks.root; nodes = rule.marks.nodes };
       bundles = bundle_kept;
       single = λ d. omega (arith, sum_moved (pending_count d) vs i v w at, count-without-le d e v.update.pending, rule.single d);

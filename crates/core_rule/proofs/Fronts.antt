@@ -11,6 +11,7 @@ use Rattle.index_words.specs.Lists.{count}
 use Rattle.index_words.proofs.Counting.{count-append}
 use Rattle.core_grace.specs.Holds.{Bundles, entries_of, linked_in, read_at, Reads, ReadsAt, StandsIn, held_slots}
 use Rattle.core_links.specs.Bundle.{no_number}
+use Rattle.core_rule.specs.LoadMoves.{head_found, found_at}
 use Rattle.core_rule.specs.UpdateMoves.{head_known, known_at, in_front, unnumbered}
 use Rattle.core_rule.proofs.Frames.{one_counted}
 use Rattle.core_rule.proofs.SlotLinks.{one_at}
@@ -28,6 +29,19 @@ pub held-known : (k : ℕ) (side : Side) (l : LoadedHead) (hs : List HeldNode) �
 held-known k side l [] = refl
 held-known k side l (h ∷ hs) =
     ap (λ n. n ∷ held_slots (map (known_at k side l) hs)) (known_by (eqb h.node k) side l h) ∙ ap (λ ns. h.node ∷ ns) (held-known k side l hs)
+
+found_node : (side : Side) (e : ℕ) (h : HeldNode) → (head_found side e h).node ≡ h.node
+found_node Left e h = refl
+found_node Right e h = refl
+
+found_by : (b : Bool) (side : Side) (e : ℕ) (h : HeldNode) → (cond b (head_found side e h) h).node ≡ h.node
+found_by true side e h = found_node side e h
+found_by false side e h = refl
+
+pub held-found : (k : ℕ) (side : Side) (e : ℕ) (hs : List HeldNode) → held_slots (map (found_at k side e) hs) ≡ held_slots hs
+held-found k side e [] = refl
+held-found k side e (h ∷ hs) =
+    ap (λ n. n ∷ held_slots (map (found_at k side e) hs)) (found_by (eqb h.node k) side e h) ∙ ap (λ ns. h.node ∷ ns) (held-found k side e hs)
 
 -- the bundles with the entry in front
 abbrev pub fronted : Bundles → Side → ℕ → ℕ → Bundles

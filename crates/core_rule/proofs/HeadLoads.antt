@@ -12,7 +12,7 @@ use Rattle.index_words.specs.declared.view.View.{View}
 use Rattle.index_words.specs.declared.view.history.Counts.{Counts}
 use Rattle.index_words.specs.declared.view.reading.Place.{Place}
 use Rattle.index_words.specs.declared.view.reading.Link.{Link}
-use Rattle.index_words.specs.declared.view.reading.LinkSource.TheVariants.{Bundle}
+use Rattle.index_words.specs.declared.view.reading.TreeNode.{TreeNode}
 use Rattle.index_words.specs.declared.view.update.HeldNode.{HeldNode}
 use Rattle.index_words.specs.declared.view.update.HeldNext.{HeldNext}
 use Rattle.index_words.specs.declared.view.update.LoadedHead.{LoadedHead}
@@ -26,21 +26,23 @@ use Rattle.core_grace.specs.Sections.{is_even}
 use Rattle.core_grace.specs.Holds.{HoldsNode, HoldsEntry, held_slots, listed, work_nodes, tree_slots, linked_in, read_at}
 use Rattle.core_grace.proofs.RuleMoves.{HoldsFrom, every_push}
 use Rattle.core_links.specs.Bundle.{IsChain, select}
+use Rattle.core_rule.specs.Versions.{tree_nodes, slots_of}
 use Rattle.core_rule.specs.Meanings.{Meaning, linked_by}
 use Rattle.core_rule.specs.Histories.{SeenRight, KnowsAll}
 use Rattle.core_rule.specs.Locks.{IsTakenOut, HeadRight, NodeRight, NextRight}
 use Rattle.core_rule.specs.BundleRule.{IsPending}
-use Rattle.core_rule.specs.Readers.{IsReachable, IsLocked, StandsAt, IsPassed, PlaceRight, SourceRight, LinkRight}
+use Rattle.core_rule.specs.Readers.{IsReachable, IsLocked, StandsAt, IsPassed, PlaceRight, EntryRight, LinkRight}
 use Rattle.core_rule.specs.SeatRule.{SeatRight}
 use Rattle.core_rule.specs.Moves.{longer}
-use Rattle.core_rule.specs.LoadMoves.{longest_from, longest, stamp_loaded, with_held, with_place, head_loaded, remembered_if, bundle_link, stamp_known, node_known}
-use Rattle.core_rule.specs.UpdateMoves.{head_known, known_at}
+use Rattle.core_rule.specs.LoadMoves.{longest_from, longest, stamp_loaded, with_held, with_place, found_again, head_found, found_at, head_loaded, remembered_if, bundle_link, stamp_known, node_known}
 use Rattle.core_rule.specs.Rule.{Rule}
 use Rattle.core_rule.proofs.Frames.{every_map}
 use Rattle.core_rule.proofs.OneView.{seat_at}
 use Rattle.core_rule.proofs.Joins.{Begins, longer_long, longer_begins, whole, begins-le}
 use Rattle.core_rule.proofs.Owned.{in_entries, linked-at, reachable_live}
-use Rattle.core_rule.proofs.Fronts.{held-known}
+use Rattle.core_rule.proofs.TreeNodes.{count_slots}
+use Rattle.core_rule.proofs.TreeFrames.{linked_live}
+use Rattle.core_rule.proofs.Fronts.{held-found}
 use Rattle.core_rule.proofs.PrepareSeats.{every_mapped}
 use Rattle.core_rule.proofs.Quiet.{quiet_kept}
 
@@ -122,8 +124,9 @@ module _ (z : Layout) (m : Memory) (vs : List View) (g : Meaning) (rule : Rule z
       apart true f t = cc
       apart false f t = cc
 
-  stamp_seen : (v : View) (known : List Update) (fixes : Bool) → SeatRight z m g v → known ≡ g.updates → SeenRight g.updates (stamp_loaded known v (m Stamp) fixes).history
-  stamp_seen v known fixes seat all =
+  stamp_seen : (v : View) (known : List Update) (fixes : Bool) (nodes : List TreeNode) → SeatRight z m g v → known ≡ g.updates
+      → SeenRight g.updates (stamp_loaded known v (m Stamp) fixes nodes).history
+  stamp_seen v known fixes nodes seat all =
       let long : length known ≡ m Stamp = ap length all ∙ rule.history.long in
       let short = begins-le g.updates v.history.seen seat.seen.seen in
       record {
@@ -131,42 +134,58 @@ module _ (z : Layout) (m : Memory) (vs : List View) (g : Meaning) (rule : Rule z
         told = seat.seen.told;
         known = omega (arith, seat.seen.known, short, ap length all);
         found = found_by fixes (omega (arith, long)) (omega (arith, seat.seen.found, short, ap length all));
+        given = seat.seen.given;
       }
     where
       found_by : (b : Bool) → m Stamp ≤ length known → v.history.found ≤ length known → cond b (m Stamp) v.history.found ≤ length known
       found_by true new old = new
       found_by false new old = old
 
-  root_linked : (x : ℕ) (side : Side) → 0 < count x (g.bundles.bundle side 0) → 0 < linked_in g.bundles x (0 ∷ g.tree)
-  root_linked x side here = omega (arith, linked-at g.bundles 0 x (0 ∷ g.tree) (omega arith), in_entries g.bundles 0 x side here)
+  -- an entry of a bundle of the root or of a node of the tree
+  tree_linked : (k x : ℕ) (side : Side) → (k ≡ 0) ⊎ (0 < count k (slots_of g.tree)) → 0 < count x (g.bundles.bundle side k) → 0 < linked_in g.bundles x (0 ∷ slots_of g.tree)
+  tree_linked k x side of here =
+      let among : 0 < count k (0 ∷ slots_of g.tree) = elim of as (λ _. 0 < count k (0 ∷ slots_of g.tree)) [
+        | inl root ↦ subst (λ j. 0 < count j (0 ∷ slots_of g.tree)) (sym root) (omega arith)
+        | inr node ↦ omega (arith, node)
+      ] in
+      omega (arith, linked-at g.bundles k x (0 ∷ slots_of g.tree) among, in_entries g.bundles k x side here)
 
-  stamp_holds : (v : View) (known : List Update) (fixes : Bool) → HoldsFrom z (linked_by g) HoldsNode (HoldsEntry g.bundles) v (stamp_loaded known v (m Stamp) fixes)
-  stamp_holds v known fixes = record {
-    nodes = λ k holds. inl (omega (arith, holds, count-append k (tree_slots v.reading.tree) (work_nodes v)));
-    entries = λ x holds. entries_by x holds;
-  }
+  read_slots : (nodes : List TreeNode) (k : ℕ) → nodes ≡ tree_nodes g.tree → count k (tree_slots nodes) ≡ count k (slots_of g.tree)
+  read_slots nodes k all = ap (λ ns. count k (tree_slots ns)) all
+
+  stamp_holds : (v : View) (known : List Update) (fixes : Bool) (nodes : List TreeNode) → nodes ≡ tree_nodes g.tree
+      → HoldsFrom z (linked_by g) HoldsNode (HoldsEntry g.bundles) v (stamp_loaded known v (m Stamp) fixes nodes)
+  stamp_holds v known fixes nodes all = record { nodes = λ k holds. node_by k (cases_lt 0 (count k (work_nodes v))) holds; entries = λ x holds. entry_by x holds }
     where
-      entries_by : (x : ℕ) → HoldsEntry g.bundles (stamp_loaded known v (m Stamp) fixes) x → HoldsEntry g.bundles v x ⊎ (0 < (linked_by g).entries x)
-      entries_by x (inr stands) = inl (inr stands)
-      entries_by x (inl reads) =
-          elim reads.of as (λ _. HoldsEntry g.bundles v x ⊎ (0 < (linked_by g).entries x)) [
-            | inl root ↦ inr (root_linked x reads.side (subst (λ n. 0 < count x (g.bundles.bundle reads.side n)) root (read_member g.bundles.number (m Stamp) x (g.bundles.bundle reads.side reads.node) reads.read)))
-            | inr none ↦ absurd (omega (arith, none))
-          ]
+      node_by : (k : ℕ) → (0 < count k (work_nodes v)) ⊎ (count k (work_nodes v) ≤ 0) → HoldsNode (stamp_loaded known v (m Stamp) fixes nodes) k
+          → HoldsNode v k ⊎ (0 < (linked_by g).nodes k)
+      node_by k (inl works) holds = inl (omega (arith, works, count-append k (tree_slots v.reading.tree) (work_nodes v)))
+      node_by k (inr none) holds = inr (omega (arith, none, holds, count-append k (tree_slots nodes) (work_nodes v), read_slots nodes k all))
 
-  -- a load of the stamp
-  pub load_stamp_kept : (i : ℕ) (v : View) (known : List Update) (fixes : Bool) → IsItem vs i v → is_even v.section_word ≡ false → known ≡ g.updates
-      → Rule z m (set vs i (stamp_loaded known v (m Stamp) fixes)) g
-  load_stamp_kept i v known fixes at inside all =
-      let w : View = stamp_loaded known v (m Stamp) fixes in
+      entry_by : (x : ℕ) → HoldsEntry g.bundles (stamp_loaded known v (m Stamp) fixes nodes) x → HoldsEntry g.bundles v x ⊎ (0 < (linked_by g).entries x)
+      entry_by x (inr stands) = inl (inr stands)
+      entry_by x (inl reads) =
+          inr (tree_linked reads.node x reads.side
+          (elim reads.of as (λ _. (reads.node ≡ 0) ⊎ (0 < count reads.node (slots_of g.tree))) [
+            | inl root ↦ inl root
+            | inr node ↦ inr (omega (arith, node, read_slots nodes reads.node all))
+          ]) (read_member g.bundles.number (m Stamp) x (g.bundles.bundle reads.side reads.node) reads.read))
+
+  -- a load of the stamp, and of the whole tree at it
+  pub load_stamp_kept : (i : ℕ) (v : View) (known : List Update) (fixes : Bool) (nodes : List TreeNode) → IsItem vs i v → is_even v.section_word ≡ false
+      → known ≡ g.updates → nodes ≡ tree_nodes g.tree → Rule z m (set vs i (stamp_loaded known v (m Stamp) fixes nodes)) g
+  load_stamp_kept i v known fixes nodes at inside all whole =
+      let w : View = stamp_loaded known v (m Stamp) fixes nodes in
       let seat = seat_at z m vs g i v at rule in
-      quiet_kept z m vs g rule i v at w.history w.counts w.reading w.held (record { mine = refl; ended = refl; ended_places = refl; left = refl }) (λ _. all) refl (stamp_holds v known fixes)
+      quiet_kept z m vs g rule i v at w.history w.counts w.reading w.held (record { mine = refl; ended = refl; ended_places = refl; left = refl }) (λ _. all) refl
+      (stamp_holds v known fixes nodes whole)
       (record {
         layout = seat.layout;
         section = record { section = seat.section.section; announced = seat.section.announced; outside = λ even. absurd (inside_only v inside even); done = seat.section.done };
-        seen = stamp_seen v known fixes seat all;
+        seen = stamp_seen v known fixes nodes seat all;
         update = seat.update;
-        version = record { past = omega arith; opened = opened_by fixes; bare = λ none. cc; there = λ k some. absurd (omega (arith, some)) };
+        version = record { past = omega arith; opened = opened_by fixes; bare = λ none. cc; there = λ k here. slot_there k (omega (arith, here, read_slots nodes k whole)) };
+        tree = record { tree = g.tree; version = rule.tree; read = whole; gaps = λ k y side here there null gap. gap };
         locks = seat.locks;
         loaded = record { nodes = seat.loaded.nodes; nexts = seat.loaded.nexts };
         marks = record { retired = seat.marks.retired; batch = seat.marks.batch; taken = seat.marks.taken };
@@ -178,6 +197,9 @@ module _ (z : Layout) (m : Memory) (vs : List View) (g : Meaning) (rule : Rule z
       opened_by : (b : Bool) → IfSome (cond b (Some (m Stamp)) None) (λ t. Some (m Stamp) ≡ Some t)
       opened_by true = refl
       opened_by false = tt
+
+      slot_there : (k : ℕ) → 0 < count k (slots_of g.tree) → k ≤ z.nodes
+      slot_there k here = (linked_live z vs g rule.slots k (inr (omega (arith, here, count_slots k g.tree)))).0
 
   -- a view that stands at another place, remembers other links, and has loaded more of the same locked nodes
   module _ (i : ℕ) (v : View) (at : IsItem vs i v) (c : Counts) (nodes : List HeldNode) (nexts : List HeldNext) (place : Place) (links : List Link) (same : held_slots nodes ≡ held_slots v.held.nodes) where
@@ -215,12 +237,7 @@ module _ (z : Layout) (m : Memory) (vs : List View) (g : Meaning) (rule : Rule z
         entries_by x (inr stands) = inr (record { node = stands.node; side = stands.side; of = subst (λ xs. 0 < count stands.node xs) work_same stands.of; here = stands.here })
 
     link_back : (l : Link) → LinkRight z (λ e. m (Entry Child e)) g.bundles v l → LinkRight z (λ e. m (Entry Child e)) g.bundles w l
-    link_back l old = link_by v.reading.section old
-      where
-        link_by : (o : Option ℕ) → IfSome o (λ t. IsReachable z v l.node × SourceRight (λ e. m (Entry Child e)) g.bundles.number (g.bundles.bundle l.side l.node) t l.child l.source)
-            → IfSome o (λ t. IsReachable z w l.node × SourceRight (λ e. m (Entry Child e)) g.bundles.number (g.bundles.bundle l.side l.node) t l.child l.source)
-        link_by None old = tt
-        link_by (Some t) old = (reach_back l.node old.0, old.1)
+    link_back l old = (reach_back l.node old.0, old.1)
 
     pub links_back : Every (LinkRight z (λ e. m (Entry Child e)) g.bundles w) v.reading.links
     links_back = every_map (LinkRight z (λ e. m (Entry Child e)) g.bundles v) (LinkRight z (λ e. m (Entry Child e)) g.bundles w) v.reading.links link_back seat.links
@@ -251,6 +268,7 @@ module _ (z : Layout) (m : Memory) (vs : List View) (g : Meaning) (rule : Rule z
           seen = seat.seen;
           update = seat.update;
           version = record { past = seat.version.past; opened = seat.version.opened; bare = seat.version.bare; there = seat.version.there };
+          tree = seat.tree;
           locks = λ k locked. seat.locks k (subst (λ xs. 0 < count k xs) same locked);
           loaded = record { nodes = nodes_right; nexts = nexts_right };
           marks = record {
@@ -268,34 +286,40 @@ module _ (z : Layout) (m : Memory) (vs : List View) (g : Meaning) (rule : Rule z
         })
 
   -- where a head is loaded, the heads known of locked nodes
+  again_by : (e head : ℕ) (stamp : ℕ → ℕ) (l : LoadedHead) (b : Bool) → head ≡ e → HeadRight head stamp l → HeadRight head stamp (cond b l (record { entry = e; stamp = None }))
+  again_by e head stamp l true is right = right
+  again_by e head stamp l false is right = (is, tt)
+
+  again_right : (e head : ℕ) (stamp : ℕ → ℕ) (o : Option LoadedHead) → head ≡ e → IfSome o (HeadRight head stamp) → IfSome (found_again e o) (HeadRight head stamp)
+  again_right e head stamp None is right = (is, tt)
+  again_right e head stamp (Some l) is right = again_by e head stamp l (eqb l.entry e) is right
+
   known_now : (node : ℕ) (side : Side) (h : HeldNode) (b : Bool) → eqb h.node node ≡ b
       → NodeRight (λ j. m (Node Mark j)) (λ s j. m (Node (Head s) j)) (λ e. m (Entry Number e)) h
-      → NodeRight (λ j. m (Node Mark j)) (λ s j. m (Node (Head s) j)) (λ e. m (Entry Number e)) (cond b (head_known side (record { entry = m (Node (Head side) node); stamp = None }) h) h)
+      → NodeRight (λ j. m (Node Mark j)) (λ s j. m (Node (Head s) j)) (λ e. m (Entry Number e)) (cond b (head_found side (m (Node (Head side) node)) h) h)
   known_now node side h false is right = right
-  known_now node Left h true is right = (right.0, (ap (λ n. m (Node (Head Left) n)) (eqb-true h.node node is), tt), right.2)
-  known_now node Right h true is right = (right.0, right.1, (ap (λ n. m (Node (Head Right) n)) (eqb-true h.node node is), tt))
+  known_now node Left h true is right = (right.0, again_right (m (Node (Head Left) node)) (m (Node (Head Left) h.node)) (λ e. m (Entry Number e)) h.left.head (ap (λ n. m (Node (Head Left) n)) (eqb-true h.node node is)) right.1, right.2)
+  known_now node Right h true is right = (right.0, right.1, again_right (m (Node (Head Right) node)) (m (Node (Head Right) h.node)) (λ e. m (Entry Number e)) h.right.head (ap (λ n. m (Node (Head Right) n)) (eqb-true h.node node is)) right.2)
 
   -- a load of a head
-  pub load_head_kept : (i node : ℕ) (side : Side) (v : View) → IsItem vs i v → is_even v.section_word ≡ false → IsReachable z v node
-      → Rule z m (set vs i (head_loaded v node side (m (Node (Head side) node)))) g
-  load_head_kept i node side v at inside reach =
+  pub load_head_kept : (i node : ℕ) (side : Side) (number : ℕ) (v : View) → IsItem vs i v → is_even v.section_word ≡ false → IsReachable z v node
+      → Rule z m (set vs i (head_loaded v node side (m (Node (Head side) node)) number)) g
+  load_head_kept i node side number v at inside reach =
       let x : ℕ = m (Node (Head side) node) in
-      let l : LoadedHead = record { entry = x; stamp = None } in
-      let w : View = head_loaded v node side x in
+      let w : View = head_loaded v node side x number in
       let seat = seat_at z m vs g i v at rule in
-      let same = held-known node side l v.held.nodes in
+      let same = held-found node side x v.held.nodes in
       let chain = (rule.bundles node (reachable_live z vs g rule.slots i node v at reach) side).chain in
       let back = λ (k : ℕ). reach_back i v at w.counts w.held.nodes w.held.nexts w.reading.place w.reading.links same k in
       read_kept i v at w.counts w.held.nodes w.held.nexts w.reading.place w.reading.links same inside
       (every_mapped (NodeRight (λ j. m (Node Mark j)) (λ s j. m (Node (Head s) j)) (λ e. m (Entry Number e))) (NodeRight (λ j. m (Node Mark j)) (λ s j. m (Node (Head s) j)) (λ e. m (Entry Number e)))
-      (known_at node side l) v.held.nodes (λ h right. known_now node side h (eqb h.node node) refl right) seat.loaded.nodes)
+      (found_at node side x) v.held.nodes (λ h right. known_now node side h (eqb h.node node) refl right) seat.loaded.nodes)
       (nexts_back i v at w.counts w.held.nodes w.held.nexts w.reading.place w.reading.links same)
       (back node reach, (λ some. first_stands (λ e. m (Entry Next e)) (λ e. m (Entry Number e)) x (g.bundles.bundle side node) (IsPassed g.bundles.number w node) chain some))
       (links_push (LinkRight z (λ e. m (Entry Child e)) g.bundles w) (eqb x 0) v.reading.links (bundle_link node side 0 0)
       (links_back i v at w.counts w.held.nodes w.held.nexts w.reading.place w.reading.links same)
-      (λ none. link_by v.reading.section (back node reach) (empty_chain (λ e. m (Entry Next e)) x (g.bundles.bundle side node) chain (eqb-true x 0 none))))
+      (λ none. (back node reach, null_by v.reading.section (empty_chain (λ e. m (Entry Next e)) x (g.bundles.bundle side node) chain (eqb-true x 0 none)))))
     where
-      link_by : {R : Type 0} (o : Option ℕ) → R → g.bundles.bundle side node ≡ []
-          → IfSome o (λ t. R × SourceRight (λ e. m (Entry Child e)) g.bundles.number (g.bundles.bundle side node) t 0 (Bundle 0))
-      link_by None reach none = tt
-      link_by (Some t) reach none = (reach, (ap (select g.bundles.number t) none, refl))
+      null_by : (o : Option ℕ) → g.bundles.bundle side node ≡ [] → EntryRight (λ e. m (Entry Child e)) g.bundles.number (g.bundles.bundle side node) o 0 0
+      null_by None none = (refl, refl)
+      null_by (Some t) none = (ap (select g.bundles.number t) none, refl)

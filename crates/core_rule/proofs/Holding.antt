@@ -13,6 +13,7 @@ use Rattle.index_words.proofs.Seats.{one_term, two_terms, sum_kept, at_item, all
 use Rattle.core_grace.specs.Holds.{HoldsNode, HoldsEntry, entries_of}
 use Rattle.core_grace.specs.Slots.{nodes_of, entries_in, own, own_free, SlotsRight, HoldsNone, GraceRight, KeepsEntries, Linked, SlotRule}
 use Rattle.core_grace.proofs.RuleMoves.{every_weaker, same_looks}
+use Rattle.core_rule.specs.Versions.{slots_of}
 use Rattle.core_rule.specs.Meanings.{Meaning, linked_by}
 use Rattle.core_rule.specs.BundleRule.{IsLive}
 use Rattle.core_rule.proofs.Frames.{Term, term_of, same_item}
@@ -74,10 +75,10 @@ module _ (z : Layout) (vs : List View) (g : Meaning) (rule : SlotRule z (linked_
   -- a live node waits in the batch in which an entry of its bundles waits
   pub waits_with : (j k e : ℕ) (u : View) → IsItem vs j u → IsLive z vs k → 0 < count e (entries_of g.bundles k) → 0 < count e u.batch.entries → 0 < count k u.batch.nodes
   waits_with j k e u of live here some =
-      elim (cases_lt 0 (count k (0 ∷ g.tree))) as (λ _. 0 < count k u.batch.nodes) [
-        | inl linked ↦ absurd (omega (arith, once_entry z vs g rule e, one_term (own entries_in e) vs j u of, some, linked-at g.bundles k e (0 ∷ g.tree) linked, here))
+      elim (cases_lt 0 (count k (0 ∷ slots_of g.tree))) as (λ _. 0 < count k u.batch.nodes) [
+        | inl linked ↦ absurd (omega (arith, once_entry z vs g rule e, one_term (own entries_in e) vs j u of, some, linked-at g.bundles k e (0 ∷ slots_of g.tree) linked, here))
         | inr unlinked ↦ elim (eqb_tells 0 k) as (λ _. 0 < count k u.batch.nodes) [
-          | inl root ↦ absurd (omega (arith, unlinked, subst (λ x. 0 < count x (0 ∷ g.tree)) root.1 (omega arith)))
+          | inl root ↦ absurd (omega (arith, unlinked, subst (λ x. 0 < count x (0 ∷ slots_of g.tree)) root.1 (omega arith)))
           | inr slot ↦
               let low : 0 < k = let apart : 0 ≡ k → ⊥ = slot.1 in omega (arith, apart) in
               waits_by (term_of (own nodes_of k) vs (omega (arith, rule.nodes.one k, slot_is z.nodes k low live.0, unlinked)))

@@ -1,15 +1,17 @@
 -- The histories of two views that are joined.
-use Rattle.std.proofs.Common.{◌≡◌, ℕ, ◌+◌, ◌≤◌, cond, List, [], ◌∷◌, ◌++◌, length, take, Bool, true, false, eqb, ltb, ◌&&◌, set, arith, refl, ap, ◌∙◌, sym, inl, inr, Option, Some, None, map}
+use Rattle.std.proofs.Common.{◌≡◌, ℕ, ◌+◌, ◌<◌, ◌≤◌, cond, List, [], ◌∷◌, ◌++◌, length, take, Bool, true, false, eqb, ltb, ◌&&◌, set, arith, refl, ap, ◌∙◌, sym, inl, inr, Option, Some, None, map}
 use Rattle.std.proofs.lemmas.Bool.Decides.{nat_tests, eqb_tells}
 use Rattle.std.proofs.lemmas.List.{take_all, length-take}
 use Rattle.index_words.specs.declared.update.Update.{Update}
 use Rattle.index_words.specs.declared.view.View.{View}
 use Rattle.index_words.specs.declared.view.history.SeenHistory.{SeenHistory}
 use Rattle.index_words.specs.declared.view.history.EndedPlace.{EndedPlace}
-use Rattle.index_words.specs.Lists.{count, IsItem}
+use Rattle.index_words.specs.Lists.{count, Every, IsItem}
+use Rattle.index_words.proofs.Counting.{count-append}
 use Rattle.index_words.proofs.Seats.{item_set, beside_item}
-use Rattle.core_rule.specs.Moves.{longer, own_ended, history_with}
-use Rattle.core_rule.specs.Histories.{SeenRight, own_place, ended_place, KnowsAll}
+use Rattle.core_grace.proofs.RuleMoves.{every_weaker}
+use Rattle.core_rule.specs.Moves.{longer, own_number, own_ended, history_with}
+use Rattle.core_rule.specs.Histories.{IsGiven, SeenRight, own_place, ended_place, KnowsAll}
 use Rattle.core_rule.proofs.Frames.{same_item}
 
 -- a beginning of the history
@@ -39,12 +41,39 @@ whole updates seen begins long = begins ∙ take_all (length seen) updates long
 pub begins-le : (updates seen : List Update) → Begins updates seen → length seen ≤ length updates
 begins-le updates seen begins = omega (arith, ap length begins, length-take (length seen) updates)
 
+every_append : {X : Type 0} (P : X → Type 0) (xs ys : List X) → Every P xs → Every P ys → Every P (xs ++ ys)
+every_append P [] ys one two = two
+every_append P (x ∷ xs) ys one two = (one.0, every_append P xs ys one.1 two)
+
+given_before : (xs ys : List ℕ) (ps : List EndedPlace) → Every (IsGiven xs) ps → Every (IsGiven (xs ++ ys)) ps
+given_before xs ys ps all = every_weaker (IsGiven xs) (IsGiven (xs ++ ys)) ps (λ p is. omega (arith, is, count-append p.pass xs ys)) all
+
+given_behind : (xs ys : List ℕ) (ps : List EndedPlace) → Every (IsGiven ys) ps → Every (IsGiven (xs ++ ys)) ps
+given_behind xs ys ps all = every_weaker (IsGiven ys) (IsGiven (xs ++ ys)) ps (λ p is. omega (arith, is, count-append p.pass xs ys)) all
+
+given_both : (xs ys : List ℕ) (ps qs : List EndedPlace) → Every (IsGiven xs) ps → Every (IsGiven ys) qs → Every (IsGiven (xs ++ ys)) (ps ++ qs)
+given_both xs ys ps qs one two = every_append (IsGiven (xs ++ ys)) ps qs (given_before xs ys ps one) (given_behind xs ys qs two)
+
+counts_own : (n : ℕ) → 0 < count n (n ∷ [])
+counts_own n = grind (arith, nat_tests)
+
+each_given : (n : ℕ) (mine : List ℕ) → Every (IsGiven (n ∷ [])) (map (λ (p : ℕ). record { pass = n; at = p }) mine)
+each_given n [] = tt
+each_given n (p ∷ mine) = (counts_own n, each_given n mine)
+
+-- the places of a view that is joined away are given up with its number
+own_given : (number : Option ℕ) (mine : List ℕ) → Every (IsGiven (own_number number)) (own_ended number mine)
+own_given None mine = tt
+own_given (Some n) mine = each_given n mine
+
 pub seen_joined : (updates : List Update) (h o : SeenHistory) (number : Option ℕ) → SeenRight updates h → SeenRight updates o → SeenRight updates (history_with h number o)
 seen_joined updates h o number right other = record {
   seen = longer_begins updates h.seen o.seen right.seen other.seen;
   told = other.seen;
   known = (longer_long h.seen o.seen).0;
   found = omega (arith, right.found, (longer_long h.seen o.seen).1);
+  given = given_both h.ended (o.ended ++ own_number number) h.ended_places (o.ended_places ++ own_ended number o.mine) right.given
+      (given_both o.ended (own_number number) o.ended_places (own_ended number o.mine) other.given (own_given number o.mine));
 }
 
 pub ended_append : (n place : ℕ) (xs ys : List EndedPlace) → ended_place n place (xs ++ ys) ≡ ended_place n place xs + ended_place n place ys

@@ -9,7 +9,6 @@ use Rattle.index_words.specs.declared.view.View.{View}
 use Rattle.index_words.specs.declared.view.reading.Reading.{Reading}
 use Rattle.index_words.specs.declared.view.reading.Place.{Place}
 use Rattle.index_words.specs.declared.view.reading.Place.TheVariants.{Nowhere, Entry as AtEntry}
-use Rattle.index_words.specs.declared.view.reading.LinkSource.TheVariants.{Bundle}
 use Rattle.index_words.specs.declared.view.update.HeldNode.{HeldNode}
 use Rattle.index_words.specs.declared.word.Field.TheVariants.{Mark, Head}
 use Rattle.index_words.specs.declared.word.Part.TheVariants.{Child, Stamp as Number, Next}
@@ -25,7 +24,7 @@ use Rattle.core_links.proofs.Chains.{select-here, select-behind}
 use Rattle.core_rule.specs.Meanings.{Meaning}
 use Rattle.core_rule.specs.Locks.{NodeRight, NextRight}
 use Rattle.core_rule.specs.BundleRule.{IsLive, IsBundle, IsNumbered, Falls, IsPending, shown}
-use Rattle.core_rule.specs.Readers.{IsLocked, StandsAt, IsPassed, PlaceRight, SourceRight, LinkRight}
+use Rattle.core_rule.specs.Readers.{IsLocked, StandsAt, IsPassed, PlaceRight, EntryRight, LinkRight}
 use Rattle.core_rule.specs.SeatRule.{SeatRight}
 use Rattle.core_rule.specs.LoadMoves.{locks, ts_loaded, node_known, place_known, ptr_loaded, child_links, is_selected, is_above, is_above_at, next_at, next_loaded, bundle_link}
 use Rattle.core_rule.specs.Rule.{Rule}
@@ -86,6 +85,11 @@ behind_of next e (d ∷ back) chain some = record { rest = back; is = ap (λ x. 
 behind_none : (next : ℕ → ℕ) (e : ℕ) (back : List ℕ) → IsChain next (next e) back → next e ≡ 0 → back ≡ []
 behind_none next e [] chain none = refl
 behind_none next e (d ∷ back) chain none = absurd (omega (arith, chain.0, chain.1, none))
+
+-- without a section number no entry is known to be selected
+unselected : (f : Option ℕ) (locked : Bool) → is_selected None f locked ≡ true → ⊥
+unselected None locked is = cc
+unselected (Some x) locked is = cc
 
 module _ (z : Layout) (m : Memory) (vs : List View) (g : Meaning) (rule : Rule z m vs g) (i : ℕ) (v : View) (at : IsItem vs i v) (node : ℕ) (side : Side) (e : ℕ) (found : Option ℕ) (here : v.reading.place ≡ AtEntry node side e found) (some : 0 < e) where
   abbrev stamp : ℕ → ℕ
@@ -197,12 +201,12 @@ module _ (z : Layout) (m : Memory) (vs : List View) (g : Meaning) (rule : Rule z
       (subst (λ (p : Place). Every (LinkRight z (λ d. m (Entry Child d)) g.bundles w) (child_links v p c)) (sym here)
       (links_push (LinkRight z (λ d. m (Entry Child d)) g.bundles w) (is_selected v.reading.section found (locks node v.held.nodes)) v.reading.links (bundle_link node side c e)
       seat.links
-      (λ is. link_by v.reading.section right.0 (selected_by v.reading.section found (locks node v.held.nodes) unlocked_is is refl refl))))
+      (λ is. (right.0, entry_by v.reading.section found (locks node v.held.nodes) is (selected_by v.reading.section found (locks node v.held.nodes) unlocked_is is refl refl)))))
     where
-      link_by : {R : Type 0} (o : Option ℕ) → R → IfSome o (λ t. select g.bundles.number t es ≡ e)
-          → IfSome o (λ t. R × SourceRight (λ d. m (Entry Child d)) g.bundles.number es t (m (Entry Child e)) (Bundle e))
-      link_by None reach is = tt
-      link_by (Some t) reach is = (reach, (is, child_is))
+      entry_by : (o f : Option ℕ) (locked : Bool) → is_selected o f locked ≡ true → IfSome o (λ t. select g.bundles.number t es ≡ e)
+          → EntryRight (λ d. m (Entry Child d)) g.bundles.number es o (m (Entry Child e)) e
+      entry_by None f locked known is = absurd (unselected f locked known)
+      entry_by (Some t) f locked known is = (is, child_is)
 
   -- an entry that is known to be above the section number
   above_by : (o f : Option ℕ) (unnumbered : Bool) → (unnumbered ≡ true → g.bundles.number e ≡ no_number) → is_above_at o f unnumbered ≡ true
@@ -284,12 +288,11 @@ module _ (z : Layout) (m : Memory) (vs : List View) (g : Meaning) (rule : Rule z
       (links_push (LinkRight z (λ d. m (Entry Child d)) g.bundles next_view) (eqb next_word 0 && is_above v e found) v.reading.links (bundle_link node side 0 0)
       seat.links
       (λ is. let parts = and_parts (eqb next_word 0) (is_above v e found) is in
-      link_by v.reading.section right.0 (last_by v.reading.section refl (eqb-true next_word 0 parts.0) (above_is parts.1)))))
+      (right.0, entry_by v.reading.section (last_by v.reading.section refl (eqb-true next_word 0 parts.0) (above_is parts.1))))))
     where
-      link_by : {R : Type 0} (o : Option ℕ) → R → IfSome o (λ t. select g.bundles.number t es ≡ 0)
-          → IfSome o (λ t. R × SourceRight (λ d. m (Entry Child d)) g.bundles.number es t 0 (Bundle 0))
-      link_by None reach is = tt
-      link_by (Some t) reach is = (reach, (is, refl))
+      entry_by : (o : Option ℕ) → IfSome o (λ t. select g.bundles.number t es ≡ 0) → EntryRight (λ d. m (Entry Child d)) g.bundles.number es o 0 0
+      entry_by None is = (refl, refl)
+      entry_by (Some t) is = (is, refl)
 
       stands_behind : 0 < next_word → StandsAt stamp es next_word None (IsPassed g.bundles.number next_view node)
       stands_behind low =

@@ -11,6 +11,7 @@ use Rattle.index_words.specs.Words.{Memory}
 use Rattle.index_words.specs.Lists.{count, IsItem}
 use Rattle.index_words.proofs.Seats.{Beside, one_term, two_terms}
 use Rattle.core_grace.specs.Slots.{nodes_of, own, own_free, is_slot}
+use Rattle.core_rule.specs.Versions.{slots_of}
 use Rattle.core_rule.specs.Meanings.{Meaning}
 use Rattle.core_rule.specs.Locks.{lock_count}
 use Rattle.core_rule.specs.BundleRule.{IsLive}
@@ -56,13 +57,13 @@ module _ (z : Layout) (m : Memory) (vs : List View) (g : Meaning) (rule : Rule z
         | inr other ↦ omega (arith, unmarked, marks.batch k (omega (arith, term.some, one_term (own_free nodes_of k) vs term.place u term.at, live.1, other)))
       ]
 
-  pub locked_linked : (i k : ℕ) (v : View) → IsItem vs i v → 0 < lock_count k v → v.update.raised ≡ None → m (Node Mark k) ≡ 0 → count k (0 ∷ g.tree) ≡ 1
+  pub locked_linked : (i k : ℕ) (v : View) → IsItem vs i v → 0 < lock_count k v → v.update.raised ≡ None → m (Node Mark k) ≡ 0 → count k (0 ∷ slots_of g.tree) ≡ 1
   locked_linked i k v at locked none unmarked =
-      elim (eqb_tells 0 k) as (λ _. count k (0 ∷ g.tree) ≡ 1) [
-        | inl root ↦ subst (λ x. count x (0 ∷ g.tree) ≡ 1) root.1 (root_once (omega (arith, once_node z vs g rule.slots 0, root_free)))
+      elim (eqb_tells 0 k) as (λ _. count k (0 ∷ slots_of g.tree) ≡ 1) [
+        | inl root ↦ subst (λ x. count x (0 ∷ slots_of g.tree) ≡ 1) root.1 (root_once (omega (arith, once_node z vs g rule.slots 0, root_free)))
         | inr slot ↦
             let low : 0 < k = let apart : 0 ≡ k → ⊥ = slot.1 in omega (arith, apart) in
-            elim (cases_lt 0 (sum_by (own nodes_of k) vs)) as (λ _. count k (0 ∷ g.tree) ≡ 1) [
+            elim (cases_lt 0 (sum_by (own nodes_of k) vs)) as (λ _. count k (0 ∷ slots_of g.tree) ≡ 1) [
               | inl owned ↦ absurd (waiting_marked i k v at locked none unmarked (term_of (own nodes_of k) vs owned))
               | inr unowned ↦
                   let total : is_slot z.nodes k ≡ 1 = slot_is z.nodes k low (locked_live i k v at locked).0 in
@@ -70,11 +71,11 @@ module _ (z : Layout) (m : Memory) (vs : List View) (g : Meaning) (rule : Rule z
             ]
       ]
     where
-      root_free : count 0 g.tree ≡ 0
+      root_free : count 0 (slots_of g.tree) ≡ 0
       root_free = omega (arith, rule.slots.nodes.one 0)
 
-      root_once : count 0 g.tree ≡ 0 → count 0 (0 ∷ g.tree) ≡ 1
+      root_once : count 0 (slots_of g.tree) ≡ 0 → count 0 (0 ∷ slots_of g.tree) ≡ 1
       root_once none = omega (arith, none)
 
-      other_once : (k : ℕ) → 0 < k → count k g.tree ≡ 1 → count k (0 ∷ g.tree) ≡ 1
+      other_once : (k : ℕ) → 0 < k → count k (slots_of g.tree) ≡ 1 → count k (0 ∷ slots_of g.tree) ≡ 1
       other_once k low one = grind (arith, nat_tests)

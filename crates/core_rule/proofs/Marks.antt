@@ -18,6 +18,7 @@ use Rattle.core_grace.specs.Sections.{is_even}
 use Rattle.core_grace.specs.Holds.{HoldsNode, HoldsEntry, held_slots, work_nodes}
 use Rattle.core_grace.specs.Slots.{nodes_of, own}
 use Rattle.core_grace.proofs.RuleMoves.{quiet, same_looks}
+use Rattle.core_rule.specs.Versions.{slots_of}
 use Rattle.core_rule.specs.Meanings.{Meaning, linked_by}
 use Rattle.core_rule.specs.Numbers.{number_count}
 use Rattle.core_rule.specs.Locks.{lock_count, NodeRight, IsTakenOut}
@@ -122,7 +123,7 @@ module _ (z : Layout) (m : Memory) (vs : List View) (g : Meaning) (rule : Rule z
   works_same = work_same z m vs g rule i v at v.counts nodes v.held.nexts v.reading.place v.reading.links locks_same
 
   -- the node is neither in the tree nor the root
-  unlinked : count k g.tree ≡ 0
+  unlinked : count k (slots_of g.tree) ≡ 0
   unlinked = omega (arith, once_node z vs g rule.slots k, one_term (own nodes_of k) vs i v at, seat.marks.taken k taken)
 
   root_apart : 0 ≡ k → ⊥
@@ -162,6 +163,7 @@ module _ (z : Layout) (m : Memory) (vs : List View) (g : Meaning) (rule : Rule z
     seen = seat.seen;
     update = seat.update;
     version = seat.version;
+    tree = seat.tree;
     locks = λ j held. seat.locks j (subst (λ xs. 0 < count j xs) locks_same held);
     loaded = record {
       nodes = every_mapped (NodeRight (λ j. m (Node Mark j)) (λ s j. m (Node (Head s) j)) (λ d. m (Entry Number d))) (NodeRight (λ j. m' (Node Mark j)) (λ s j. m (Node (Head s) j)) (λ d. m (Entry Number d)))
@@ -193,6 +195,7 @@ module _ (z : Layout) (m : Memory) (vs : List View) (g : Meaning) (rule : Rule z
     seen = of.seen;
     update = of.update;
     version = of.version;
+    tree = of.tree;
     locks = of.locks;
     loaded = record {
       nodes = every_named (λ (h : HeldNode). h.node) (NodeRight (λ j. m (Node Mark j)) (λ s j. m (Node (Head s) j)) (λ d. m (Entry Number d)))
@@ -228,9 +231,10 @@ module _ (z : Layout) (m : Memory) (vs : List View) (g : Meaning) (rule : Rule z
           (λ known. same_looks z (linked_by g) HoldsNode (HoldsEntry g.bundles) v w w refl refl known)
           (λ u beside known. same_looks z (linked_by g) HoldsNode (HoldsEntry g.bundles) v w u refl refl known);
       locks = λ j. sum_kept (lock_count j) vs i v w at (ap (count j) locks_same) ∙ rule.locks j;
+      tree = rule.tree;
       marks = record {
         root = node_other m Mark Mark k 0 1 root_apart ∙ rule.marks.root;
-        nodes = λ j some. node_other m Mark Mark k j 1 (λ is. omega (arith, unlinked, subst (λ n. 0 < count n g.tree) is some)) ∙ rule.marks.nodes j some;
+        nodes = λ j some. node_other m Mark Mark k j 1 (λ is. omega (arith, unlinked, subst (λ n. 0 < count n (slots_of g.tree)) is some)) ∙ rule.marks.nodes j some;
       };
       bundles = λ j live side. bundle_weaker _ _ _ _ (IsPendingAt vs j) (IsPendingAt ws j) _ _
           (λ d. pending_moved vs i j d v w at refl (λ works. subst (λ xs. 0 < count j xs) (sym works_same) works)) (rule.bundles j (live_moved z vs i j v w at (omega arith) live) side);

@@ -1,7 +1,7 @@
 -- What the needs of loads and of an update's events say.
 use Rattle.std.proofs.Common.{◌≡◌, ℕ, ◌+◌, ◌<◌, ◌≤◌, ◌⊎◌, cond, List, [], ◌∷◌, length, Bool, true, false, eqb, leb, ◌&&◌, ◌||◌, not, is_none, arith, refl, ap, ◌∙◌, sym, subst, inl, inr, Option, Some, None, find}
 use Rattle.std.specs.Prelude.{IfSome, nat_lt}
-use Rattle.std.proofs.lemmas.Bool.{eqb-true, and_parts}
+use Rattle.std.proofs.lemmas.Bool.{eqb-true, eq-eqb, and_parts}
 use Rattle.std.proofs.lemmas.Bool.Decides.{nat_tests}
 use Rattle.index_words.specs.declared.layout.Layout.{Layout}
 use Rattle.index_words.specs.declared.side.Side.{Side}
@@ -30,13 +30,13 @@ use Rattle.core_rule.specs.Readers.{IsReachable, IsLocked}
 use Rattle.core_rule.specs.Needs.{is_stamp}
 use Rattle.core_rule.specs.LoadMoves.{is_above, locks}
 use Rattle.core_rule.specs.LoadNeeds.{reads_tree, is_reachable, stands_at, may_go_on}
-use Rattle.core_rule.specs.UpdateNeeds.{side_of, is_written, is_next_of, is_ready, held_at, may_prepare_head, may_prepare_entry, may_raise, is_slot_number}
+use Rattle.core_rule.specs.UpdateNeeds.{side_of, is_written, is_next_of, is_ready, held_at, may_prepare_head, may_prepare_entry, may_raise_number, is_slot_number}
 use Rattle.core_rule.specs.SeatRule.{SeatRight}
 use Rattle.core_rule.specs.Meanings.{Meaning}
 use Rattle.core_rule.proofs.Frames.{one_counted}
 use Rattle.core_rule.proofs.LoadEntries.{locks-count}
 use Rattle.core_rule.proofs.Prepare.{Ready}
-use Rattle.core_rule.proofs.Raise.{CanRaise}
+use Rattle.core_rule.proofs.RaiseHistory.{CanRaise}
 
 pub either_true : (a b : Bool) → (a || b) ≡ true → (a ≡ true) ⊎ (b ≡ true)
 either_true true b e = inl refl
@@ -45,6 +45,13 @@ either_true false b e = inr e
 pub not_true : (b : Bool) → not b ≡ true → b ≡ false
 not_true true e = cc
 not_true false e = refl
+
+-- a test that fails does not hold
+pub never : false ≡ true → ⊥
+never e = cc
+
+pub not_equal : (a b : ℕ) → not (eqb a b) ≡ true → a ≡ b → ⊥
+not_equal a b e same = never (sym (not_true (eqb a b) e) ∙ eq-eqb a b same)
 
 pub none_of : {X : Type 0} (o : Option X) → is_none o ≡ true → o ≡ None
 none_of None e = refl
@@ -83,14 +90,11 @@ tree-count node (x ∷ ns) is = tree_step node x.slot (eqb x.slot node) (reads_t
 pub reach_is : (z : Layout) (v : View) (k : ℕ) → k ≤ z.nodes → is_reachable v k ≡ true → IsReachable z v k
 reach_is z v k high is = (
   high,
-  elim (either_true (eqb k 0 || reads_tree k v.reading.tree || locks k v.held.nodes) (has k (listed v.update.added)) is) as (λ _. (k ≡ 0) ⊎ HoldsNode v k) [
-    | inr added ↦ inr (omega (arith, has-count k (listed v.update.added) added, count-append k (held_slots v.held.nodes) (listed v.update.added), count-append k (tree_slots v.reading.tree) (work_nodes v)))
-    | inl rest ↦ elim (either_true (eqb k 0 || reads_tree k v.reading.tree) (locks k v.held.nodes) rest) as (λ _. (k ≡ 0) ⊎ HoldsNode v k) [
-      | inr held ↦ inr (omega (arith, locks-count k v.held.nodes held, count-append k (held_slots v.held.nodes) (listed v.update.added), count-append k (tree_slots v.reading.tree) (work_nodes v)))
-      | inl first ↦ elim (either_true (eqb k 0) (reads_tree k v.reading.tree) first) as (λ _. (k ≡ 0) ⊎ HoldsNode v k) [
-        | inl root ↦ inl (eqb-true k 0 root)
-        | inr tree ↦ inr (omega (arith, tree-count k v.reading.tree tree, count-append k (tree_slots v.reading.tree) (work_nodes v)))
-      ]
+  elim (either_true (eqb k 0 || reads_tree k v.reading.tree) (locks k v.held.nodes) is) as (λ _. (k ≡ 0) ⊎ HoldsNode v k) [
+    | inr held ↦ inr (omega (arith, locks-count k v.held.nodes held, count-append k (held_slots v.held.nodes) (listed v.update.added), count-append k (tree_slots v.reading.tree) (work_nodes v)))
+    | inl first ↦ elim (either_true (eqb k 0) (reads_tree k v.reading.tree) first) as (λ _. (k ≡ 0) ⊎ HoldsNode v k) [
+      | inl root ↦ inl (eqb-true k 0 root)
+      | inr tree ↦ inr (omega (arith, tree-count k v.reading.tree tree, count-append k (tree_slots v.reading.tree) (work_nodes v)))
     ]
   ],
 )
@@ -212,7 +216,7 @@ first_pending [] some = cc
 first_pending (x ∷ xs) some = (x, one_counted x (count x xs))
 
 -- what a raise needs
-pub can_raise : (v : View) (w : Word) (value : ℕ) (u : Update) → may_raise v w value ≡ true → is_number u.client v.number ≡ true → CanRaise v u
+pub can_raise : (v : View) (w : Word) (value : ℕ) (u : Update) → may_raise_number v w value ≡ true → is_number u.client v.number ≡ true → CanRaise v u
 can_raise v w value u is own =
     let c = is_none v.update.raised in
     let d = not (eqb v.history.left 0) in

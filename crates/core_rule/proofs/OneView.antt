@@ -74,6 +74,7 @@ module _ (z : Layout) (m : Memory) (vs : List View) (g : Meaning) where
     seen = seat.seen;
     update = seat.update;
     version = seat.version;
+    tree = seat.tree;
     locks = seat.locks;
     loaded = record { nodes = seat.loaded.nodes; nexts = seat.loaded.nexts };
     marks = marks;
@@ -94,6 +95,7 @@ module _ (z : Layout) (m : Memory) (vs : List View) (g : Meaning) where
         history = history_kept z _ g vs i v w at refl refl rule.history;
         slots = slots;
         locks = λ k. sum_kept (lock_count k) vs i v w at refl ∙ rule.locks k;
+        tree = rule.tree;
         marks = rule.marks;
         bundles = λ k live side. bundle_weaker _ _ _ _ (IsPendingAt vs k) (IsPendingAt (set vs i w) k) _ _
             (λ e. pending_moved vs i k e v w at refl (λ works. works)) (rule.bundles k (live_moved z vs i k v w at (more k) live) side);

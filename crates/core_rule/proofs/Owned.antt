@@ -15,6 +15,7 @@ use Rattle.index_words.proofs.Counting.{count-append}
 use Rattle.core_grace.specs.Holds.{Bundles, entries_of, linked_in, HoldsNode, HoldsEntry}
 use Rattle.core_grace.specs.Slots.{nodes_of, entries_in, own, own_free, is_slot, KeepsEntries, SlotRule}
 use Rattle.core_grace.proofs.SlotMoves.{is_slot-le}
+use Rattle.core_rule.specs.Versions.{slots_of}
 use Rattle.core_rule.specs.Meanings.{Meaning, linked_by}
 use Rattle.core_rule.specs.BundleRule.{IsLive}
 use Rattle.core_rule.specs.Readers.{IsReachable}
@@ -54,16 +55,19 @@ free_waits pick vs i j k v u at of once some =
       | inr other ↦ omega (arith, once, two_terms (own pick k) vs i v u at (record { place = j; at = of; other = other.1 }), some)
     ]
 
+pub slot_high : (last k : ℕ) → 0 < is_slot last k → k ≤ last
+slot_high last k some = grind (arith, nat_tests)
+
 module _ (z : Layout) (vs : List View) (g : Meaning) (rule : SlotRule z (linked_by g) HoldsNode (HoldsEntry g.bundles) vs) where
   -- a slot is at most once in a place
-  pub once_node : (k : ℕ) → sum_by (own nodes_of k) vs + count k g.tree ≤ 1
+  pub once_node : (k : ℕ) → sum_by (own nodes_of k) vs + count k (slots_of g.tree) ≤ 1
   once_node k = omega (arith, rule.nodes.one k, is_slot-le z.nodes k)
 
-  pub once_entry : (e : ℕ) → sum_by (own entries_in e) vs + linked_in g.bundles e (0 ∷ g.tree) ≤ 1
+  pub once_entry : (e : ℕ) → sum_by (own entries_in e) vs + linked_in g.bundles e (0 ∷ slots_of g.tree) ≤ 1
   once_entry e = omega (arith, rule.entries.one e, is_slot-le z.entries e)
 
   -- a free node is not in the tree, and is no other view's
-  pub free_node_alone : (i k : ℕ) (v : View) → IsItem vs i v → 0 < count k v.free.nodes → (count k g.tree ≡ 0) × (0 < k)
+  pub free_node_alone : (i k : ℕ) (v : View) → IsItem vs i v → 0 < count k v.free.nodes → (count k (slots_of g.tree) ≡ 0) × (0 < k)
   free_node_alone i k v at some =
       let total = one_term (own nodes_of k) vs i v at in
       (omega (arith, once_node k, total, some), slot_some z.nodes k (omega (arith, rule.nodes.one k, total, some)))
@@ -74,9 +78,9 @@ module _ (z : Layout) (vs : List View) (g : Meaning) (rule : SlotRule z (linked_
   pub free_entry_some : (i e : ℕ) (v : View) → IsItem vs i v → 0 < count e v.free.entries → 0 < e
   free_entry_some i e v at some = slot_some z.entries e (omega (arith, rule.entries.one e, one_term (own entries_in e) vs i v at, some))
 
-  free_linked : (i k e : ℕ) (v : View) → IsItem vs i v → 0 < count e v.free.entries → 0 < count k (0 ∷ g.tree) → 0 < count e (entries_of g.bundles k) → ⊥
+  free_linked : (i k e : ℕ) (v : View) → IsItem vs i v → 0 < count e v.free.entries → 0 < count k (0 ∷ slots_of g.tree) → 0 < count e (entries_of g.bundles k) → ⊥
   free_linked i k e v at free linked here =
-      omega (arith, once_entry e, one_term (own entries_in e) vs i v at, free, linked-at g.bundles k e (0 ∷ g.tree) linked, here)
+      omega (arith, once_entry e, one_term (own entries_in e) vs i v at, free, linked-at g.bundles k e (0 ∷ slots_of g.tree) linked, here)
 
   free_kept : (i k e : ℕ) (v : View) → IsItem vs i v → 0 < count e v.free.entries → Term (own nodes_of k) vs → sum_by (own_free nodes_of k) vs ≡ 0
       → 0 < count e (entries_of g.bundles k) → ⊥
@@ -93,14 +97,43 @@ module _ (z : Layout) (vs : List View) (g : Meaning) (rule : SlotRule z (linked_
   pub not_in_bundle : (i k e : ℕ) (v : View) → IsItem vs i v → 0 < count e v.free.entries → IsLive z vs k → 0 < count e (entries_of g.bundles k) → ⊥
   not_in_bundle i k e v at free live here =
       elim (eqb_tells 0 k) as (λ _. ⊥) [
-        | inl root ↦ free_linked i k e v at free (subst (λ x. 0 < count x (0 ∷ g.tree)) root.1 (omega arith)) here
+        | inl root ↦ free_linked i k e v at free (subst (λ x. 0 < count x (0 ∷ slots_of g.tree)) root.1 (omega arith)) here
         | inr slot ↦
             let low : 0 < k = let apart : 0 ≡ k → ⊥ = slot.1 in omega (arith, apart) in
-            elim (cases_lt 0 (count k g.tree)) as (λ _. ⊥) [
+            elim (cases_lt 0 (count k (slots_of g.tree))) as (λ _. ⊥) [
               | inl linked ↦ free_linked i k e v at free (omega (arith, linked)) here
               | inr unlinked ↦ free_kept i k e v at free (term_of (own nodes_of k) vs (omega (arith, rule.nodes.one k, slot_is z.nodes k low live.0, unlinked))) live.1 here
             ]
       ]
+
+  -- each entry of a live node's bundles is one of the table
+  pub entry_there : (k e : ℕ) → IsLive z vs k → 0 < count e (entries_of g.bundles k) → e ≤ z.entries
+  entry_there k e live here = slot_high z.entries e (omega (arith, rule.entries.one e, placed))
+    where
+      linked_placed : 0 < count k (0 ∷ slots_of g.tree) → 0 < sum_by (own entries_in e) vs + linked_in g.bundles e (0 ∷ slots_of g.tree)
+      linked_placed linked = omega (arith, linked-at g.bundles k e (0 ∷ slots_of g.tree) linked, here)
+
+      owned_placed : Term (own nodes_of k) vs → 0 < sum_by (own entries_in e) vs + linked_in g.bundles e (0 ∷ slots_of g.tree)
+      owned_placed term =
+          let u : View = term.item in
+          let keeps = at_item (λ (x : View). KeepsEntries (entries_of g.bundles) x.retired × KeepsEntries (entries_of g.bundles) x.batch) vs term.place u term.at rule.retired in
+          let total = one_term (own entries_in e) vs term.place u term.at in
+          elim (cases_lt 0 (count k u.retired.nodes)) as (λ _. 0 < sum_by (own entries_in e) vs + linked_in g.bundles e (0 ∷ slots_of g.tree)) [
+            | inl retired ↦ omega (arith, total, keeps.0 k e retired here)
+            | inr other ↦ omega (arith, total, keeps.1 k e (omega (arith, term.some, one_term (own_free nodes_of k) vs term.place u term.at, live.1, other)) here)
+          ]
+
+      placed : 0 < sum_by (own entries_in e) vs + linked_in g.bundles e (0 ∷ slots_of g.tree)
+      placed =
+          elim (eqb_tells 0 k) as (λ _. 0 < sum_by (own entries_in e) vs + linked_in g.bundles e (0 ∷ slots_of g.tree)) [
+            | inl root ↦ linked_placed (subst (λ x. 0 < count x (0 ∷ slots_of g.tree)) root.1 (omega arith))
+            | inr slot ↦
+                let low : 0 < k = let apart : 0 ≡ k → ⊥ = slot.1 in omega (arith, apart) in
+                elim (cases_lt 0 (count k (slots_of g.tree))) as (λ _. 0 < sum_by (own entries_in e) vs + linked_in g.bundles e (0 ∷ slots_of g.tree)) [
+                  | inl linked ↦ linked_placed (omega (arith, linked))
+                  | inr unlinked ↦ owned_placed (term_of (own nodes_of k) vs (omega (arith, rule.nodes.one k, slot_is z.nodes k low live.0, unlinked)))
+                ]
+          ]
 
   -- what a seat holds is live
   pub held_live : (j k : ℕ) (u : View) → IsItem vs j u → HoldsNode u k → k ≤ z.nodes → IsLive z vs k
@@ -110,7 +143,7 @@ module _ (z : Layout) (vs : List View) (g : Meaning) (rule : SlotRule z (linked_
   pub free_not_live : (i k : ℕ) (v : View) → IsItem vs i v → 0 < count k v.free.nodes → IsLive z vs k → ⊥
   free_not_live i k v at some live = omega (arith, live.1, one_term (own_free nodes_of k) vs i v at, some)
 
-  root_live : IsLive z vs 0
+  pub root_live : IsLive z vs 0
   root_live = (omega arith, omega (arith, sum_by-le-sum_by (own_free nodes_of 0) (own nodes_of 0) vs (λ v. omega arith), rule.nodes.one 0))
 
   pub reachable_live : (j k : ℕ) (u : View) → IsItem vs j u → IsReachable z u k → IsLive z vs k

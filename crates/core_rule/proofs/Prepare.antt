@@ -16,6 +16,7 @@ use Rattle.index_words.proofs.Seats.{one_term}
 use Rattle.index_words.proofs.Counting.{count-append}
 use Rattle.core_grace.specs.Holds.{Bundles, HoldsNode, HoldsEntry, held_slots, listed, work_nodes, tree_slots, linked_in, ReadsAt, StandsIn}
 use Rattle.core_grace.specs.Slots.{nodes_of, entries_in, own, SlotRule}
+use Rattle.core_rule.specs.Versions.{slots_of}
 use Rattle.core_rule.specs.Meanings.{Meaning, linked_by}
 use Rattle.core_rule.specs.Locks.{lock_count}
 use Rattle.core_rule.specs.UpdateMoves.{without, prepared, prepared_meaning}
@@ -76,7 +77,7 @@ module _ (z : Layout) (m : Memory) (vs : List View) (g : Meaning) (rule : Rule z
       no_one true e = cc
       no_one false e = refl
 
-  pub linked_once : count k (0 ∷ g.tree) ≡ 1
+  pub linked_once : count k (0 ∷ slots_of g.tree) ≡ 1
   linked_once = locked_linked z m vs g rule i k v at ready.locked ready.raised ready.unmarked
 
   -- the entry stands in no bundle that a seat may read
@@ -121,7 +122,7 @@ module _ (z : Layout) (m : Memory) (vs : List View) (g : Meaning) (rule : Rule z
     was_free = ready.free;
     taken = taken;
     nodes = λ n. refl;
-    entries = λ x. linked-fronted g.bundles side k e x (0 ∷ g.tree) ∙ ap (λ n. linked_in g.bundles x (0 ∷ g.tree) + cond (eqb e x) n 0) linked_once;
+    entries = λ x. linked-fronted g.bundles side k e x (0 ∷ slots_of g.tree) ∙ ap (λ n. linked_in g.bundles x (0 ∷ slots_of g.tree) + cond (eqb e x) n 0) linked_once;
     holds_node = same_holds;
     holds = λ x holds. holds_by i v w x at same_work refl holds;
     others_hold = λ u beside x holds. holds_by beside.place u u x beside.at refl refl holds;

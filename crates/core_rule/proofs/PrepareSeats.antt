@@ -11,7 +11,6 @@ use Rattle.index_words.specs.declared.view.View.{View}
 use Rattle.index_words.specs.declared.view.slots.Slots.{Slots}
 use Rattle.index_words.specs.declared.view.reading.Place.{Place}
 use Rattle.index_words.specs.declared.view.reading.Place.TheVariants.{Nowhere, Entry as AtEntry, Node as AtNode, Gap}
-use Rattle.index_words.specs.declared.view.reading.Link.{Link}
 use Rattle.index_words.specs.declared.view.reading.LinkSource.{LinkSource}
 use Rattle.index_words.specs.declared.view.reading.LinkSource.TheVariants.{Bundle, Plain}
 use Rattle.index_words.specs.declared.view.update.Held.{Held}
@@ -32,13 +31,14 @@ use Rattle.core_rule.specs.Numbers.{number_count}
 use Rattle.core_rule.specs.Locks.{lock_count, SideRight, NodeRight, NextRight, IsTakenOut}
 use Rattle.core_rule.specs.BundleRule.{IsLive, IsHeadOf, IsPending, pending_count, shown}
 use Rattle.core_rule.specs.Readers.{IsReachable, IsLocked, StandsAt, IsPassed, PlaceRight, SourceRight, LinkRight}
-use Rattle.core_rule.specs.SeatRule.{SeatRight}
+use Rattle.core_rule.specs.SeatRule.{TreeRight, SeatRight}
 use Rattle.core_rule.specs.UpdateMoves.{head_known, known_at, in_front, unnumbered, prepared, prepared_meaning}
 use Rattle.core_rule.specs.Rule.{Rule}
 use Rattle.core_rule.specs.LinkLaw.{Kept}
 use Rattle.core_rule.proofs.Frames.{every_map, every_listed, every_named}
 use Rattle.core_rule.proofs.OneView.{history_kept, seat_at}
 use Rattle.core_rule.proofs.Owned.{reachable_live, free_entry_some}
+use Rattle.core_rule.proofs.TreeFrames.{SameNode, version_frame, reads_frame, linked_live, read_live}
 use Rattle.core_rule.proofs.Fills.{node_other}
 use Rattle.core_rule.proofs.Fronts.{count-fronted, numbered_other, numbered_new}
 use Rattle.core_rule.proofs.Locked.{locked_live, locked_apart}
@@ -104,6 +104,10 @@ module _ (z : Layout) (m : Memory) (vs : List View) (g : Meaning) (rule : Rule z
   live_k : IsLive z vs k
   live_k = locked_live z m vs g rule i k v at ready.locked
 
+  -- the same is read of a live node, at each number up to the stamp
+  node_same : (t n : ℕ) → t ≤ m Stamp → IsLive z vs n → SameNode m m' g.bundles g'.bundles t n
+  node_same t n past live = record { key = refl; val = refl; entry = λ s. sym ((selects z m vs g rule i k e side v at ready) t n s past live); child = λ s. refl }
+
   -- another view, or the moved one, with what it reads as before
   module _ (j : ℕ) (u : View) (of : IsItem vs j u) (h : Held) (p : Updating) (f : Slots) (locks : held_slots h.nodes ≡ held_slots u.held.nodes) (work : work_nodes (record u { held = h; update = p; free = f }) ≡ work_nodes u) where
     abbrev u' : View
@@ -158,21 +162,20 @@ module _ (z : Layout) (m : Memory) (vs : List View) (g : Meaning) (rule : Rule z
     place_now (AtEntry n s entry found) right =
         (reach n right.0, λ above. stands_by n entry found (g.bundles.bundle s n) (same_side s side && eqb n k) (right.1 above))
 
-    source_now : (t n c : ℕ) (s : Side) (source : LinkSource) → t ≤ m Stamp → IsLive z vs n
-        → SourceRight (λ d. m (Entry Child d)) g.bundles.number (g.bundles.bundle s n) t c source
-        → SourceRight (λ d. m (Entry Child d)) number' (in_front g.bundles.bundle side k e s n) t c source
-    source_now t n c s (Plain tag above below) past live right = tt
-    source_now t n c s (Bundle entry) past live right = ((selects z m vs g rule i k e side v at ready) t n s past live ∙ right.0, right.1)
-
-    link_by : (l : Link) (o : Option ℕ) → IfSome o (λ t. t ≤ m Stamp)
-        → IfSome o (λ t. IsReachable z u l.node × SourceRight (λ d. m (Entry Child d)) g.bundles.number (g.bundles.bundle l.side l.node) t l.child l.source)
-        → IfSome o (λ t. IsReachable z u' l.node × SourceRight (λ d. m (Entry Child d)) number' (in_front g.bundles.bundle side k e l.side l.node) t l.child l.source)
-    link_by l None past old = tt
-    link_by l (Some t) past old = (reach l.node old.0, source_now t l.node l.child l.side l.source past (reachable_live z vs g rule.slots j l.node u of old.0) old.1)
+    source_now : (n c : ℕ) (s : Side) (o : Option ℕ) (source : LinkSource) → IfSome o (λ t. t ≤ m Stamp) → IsLive z vs n
+        → SourceRight (λ d. m (Entry Child d)) g.bundles.number (g.bundles.bundle s n) o c source
+        → SourceRight (λ d. m (Entry Child d)) number' (in_front g.bundles.bundle side k e s n) o c source
+    source_now n c s o (Plain tag above below) past live right = tt
+    source_now n c s None (Bundle entry) past live right = right
+    source_now n c s (Some t) (Bundle entry) past live right = ((selects z m vs g rule i k e side v at ready) t n s past live ∙ right.0, right.1)
 
     links_now : Every (LinkRight z (λ d. m (Entry Child d)) g'.bundles u') u.reading.links
     links_now = every_map (LinkRight z (λ d. m (Entry Child d)) g.bundles u) (LinkRight z (λ d. m (Entry Child d)) g'.bundles u') u.reading.links
-        (λ l old. link_by l u.reading.section seat.version.past old) seat.links
+        (λ l old. (reach l.node old.0, source_now l.node l.child l.side u.reading.section l.source seat.version.past (reachable_live z vs g rule.slots j l.node u of old.0) old.1)) seat.links
+
+    tree_now : TreeRight m' g' u.reading.section u.reading.tree
+    tree_now = reads_frame m m' g.bundles g'.bundles g.updates (m Stamp) g.tree u.reading.tree u.reading.section
+        (λ t n past here. node_same t n past (read_live z vs g rule.slots (m Stamp) j n u of seat.version here)) seat.version.past seat.tree
 
     entries_more : (n x : ℕ) → 0 < count x (entries_of g.bundles n) → 0 < count x (entries_of g'.bundles n)
     entries_more n x here = omega (arith, count-fronted g.bundles side k e n x, here)
@@ -209,6 +212,7 @@ module _ (z : Layout) (m : Memory) (vs : List View) (g : Meaning) (rule : Rule z
         seen = own.seen;
         update = record { raised = own.update.raised; first = own.update.first };
         version = own.version;
+        tree = tree_now i v at h v'.update v'.free locks_same work_same;
         locks = λ j held. own.locks j (subst (λ xs. 0 < count j xs) locks_same held);
         loaded = record {
           nodes = every_mapped (NodeRight (λ j. m (Node Mark j)) head stamp) (NodeRight (λ j. m (Node Mark j)) head' stamp)
@@ -265,6 +269,7 @@ module _ (z : Layout) (m : Memory) (vs : List View) (g : Meaning) (rule : Rule z
     seen = of.seen;
     update = of.update;
     version = of.version;
+    tree = tree_now beside.place u beside.at u.held u.update u.free refl refl;
     locks = of.locks;
     loaded = record {
       nodes = every_named (λ (h : HeldNode). h.node) (NodeRight (λ j. m (Node Mark j)) head stamp) (NodeRight (λ j. m (Node Mark j)) head' stamp) u.held.nodes
@@ -296,6 +301,8 @@ module _ (z : Layout) (m : Memory) (vs : List View) (g : Meaning) (rule : Rule z
       history = history_kept z _ g vs i v v' at refl refl rule.history;
       slots = prepared_slots z m vs g rule i k e side v at ready;
       locks = λ j. sum_kept (lock_count j) vs i v v' at (ap (count j) locks_same) ∙ rule.locks j;
+      tree = version_frame m m' g.bundles g'.bundles g.updates (m Stamp) g.tree
+          (λ n here. node_same (m Stamp) n (omega arith) (linked_live z vs g rule.slots n here)) rule.tree;
       marks = record { root = rule.marks.root; nodes = rule.marks.nodes };
       bundles = (bundle_now z m vs g rule i k e side v at ready);
       single = single_now;

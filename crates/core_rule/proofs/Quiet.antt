@@ -53,6 +53,7 @@ module _ (z : Layout) (m : Memory) (vs : List View) (g : Meaning) (rule : Rule z
             (λ right. same_looks z (linked_by g) HoldsNode (HoldsEntry g.bundles) v moved moved refl refl right)
             (λ u beside right. same_looks z (linked_by g) HoldsNode (HoldsEntry g.bundles) v moved u refl refl right);
         locks = λ k. sum_kept (lock_count k) vs i v moved at (ap (count k) locks) ∙ rule.locks k;
+        tree = rule.tree;
         marks = rule.marks;
         bundles = λ k live side. bundle_weaker _ _ _ _ (IsPendingAt vs k) (IsPendingAt (set vs i moved) k) _ _
             (λ e. pending_moved vs i k e v moved at refl (λ works. subst (λ xs. 0 < count k xs) (sym work) works)) (rule.bundles k (live_moved z vs i k v moved at (omega arith) live) side);

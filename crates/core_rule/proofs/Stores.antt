@@ -19,7 +19,7 @@ use Rattle.core_rule.specs.SectionRule.{IsIdle, IsOwnWord}
 use Rattle.core_rule.specs.Locks.{lock_count}
 use Rattle.core_rule.specs.BundleRule.{IsPendingAt, pending_count}
 use Rattle.core_rule.specs.Readers.{VersionRight, PlaceRight, LinkRight}
-use Rattle.core_rule.specs.SeatRule.{SeatRight}
+use Rattle.core_rule.specs.SeatRule.{TreeRight, SeatRight}
 use Rattle.core_rule.specs.Rule.{Rule}
 use Rattle.core_rule.proofs.Frames.{live_moved, pending_moved, bundle_weaker}
 use Rattle.core_rule.proofs.Idle.{idle_nodes, idle_entry, number_apart}
@@ -57,6 +57,9 @@ module _ (z : Layout) (m : Memory) (vs : List View) (g : Meaning) where
   idle_version : (s : ℕ) (w : View) → IsIdle w → VersionRight z s w.reading
   idle_version s w idle = subst (VersionRight z s) (sym idle.reading) (record { past = tt; opened = tt; bare = λ none. refl; there = λ k some. absurd (omega (arith, some)) })
 
+  idle_tree : (m' : Memory) (w : View) → IsIdle w → TreeRight m' g w.reading.section w.reading.tree
+  idle_tree m' w idle = subst (λ (r : Reading). TreeRight m' g r.section r.tree) (sym idle.reading) tt
+
   idle_place : (stamp : ℕ → ℕ) (w : View) → IsIdle w → PlaceRight z stamp g.bundles w w.reading.place
   idle_place stamp w idle = subst (λ (r : Reading). PlaceRight z stamp g.bundles w r.place) (sym idle.reading) tt
 
@@ -79,6 +82,7 @@ module _ (z : Layout) (m : Memory) (vs : List View) (g : Meaning) where
             (λ known. same_looks z (linked_by g) HoldsNode (HoldsEntry g.bundles) v w w refl refl known)
             (λ u beside known. same_looks z (linked_by g) HoldsNode (HoldsEntry g.bundles) v w u refl refl known);
         locks = λ k. sum_kept (lock_count k) vs i v w at refl ∙ rule.locks k;
+        tree = rule.tree;
         marks = record { root = rule.marks.root; nodes = rule.marks.nodes };
         bundles = λ k live side. bundle_weaker _ _ _ _ (IsPendingAt vs k) (IsPendingAt (set vs i w) k) _ _
             (λ e. pending_moved vs i k e v w at refl (λ works. works)) (rule.bundles k (live_moved z vs i k v w at (omega arith) live) side);
@@ -90,6 +94,7 @@ module _ (z : Layout) (m : Memory) (vs : List View) (g : Meaning) where
               seen = own.seen;
               update = own.update;
               version = idle_version (m Stamp) w idle;
+              tree = idle_tree m' w idle;
               locks = own.locks;
               loaded = record { nodes = own.loaded.nodes; nexts = own.loaded.nexts };
               marks = record { retired = own.marks.retired; batch = own.marks.batch; taken = own.marks.taken };
@@ -109,6 +114,7 @@ module _ (z : Layout) (m : Memory) (vs : List View) (g : Meaning) where
               seen = of.seen;
               update = of.update;
               version = of.version;
+              tree = of.tree;
               locks = of.locks;
               loaded = record { nodes = of.loaded.nodes; nexts = of.loaded.nexts };
               marks = record { retired = of.marks.retired; batch = of.marks.batch; taken = of.marks.taken };

@@ -26,7 +26,7 @@ use Rattle.core_rule.specs.Meanings.{Meaning, linked_by}
 use Rattle.core_rule.specs.Numbers.{number_count}
 use Rattle.core_rule.specs.Locks.{NamesHolder, lock_count, NodeRight, NextRight, IsTakenOut}
 use Rattle.core_rule.specs.BundleRule.{IsLive, IsPendingAt, IsPending, pending_count}
-use Rattle.core_rule.specs.Readers.{IsReachable, IsLocked, IsPassed, StandsAt, PlaceRight, SourceRight, LinkRight}
+use Rattle.core_rule.specs.Readers.{IsReachable, IsLocked, IsPassed, StandsAt, PlaceRight, LinkRight}
 use Rattle.core_rule.specs.SeatRule.{SeatRight}
 use Rattle.core_rule.specs.LockMoves.{just_locked, locked_view}
 use Rattle.core_rule.specs.Rule.{Rule}
@@ -210,12 +210,7 @@ module _ (z : Layout) (m : Memory) (vs : List View) (g : Meaning) (rule : Rule z
   )
 
   link_now : (l : Link) → LinkRight z (λ d. m (Entry Child d)) g.bundles v l → LinkRight z (λ d. m (Entry Child d)) g.bundles w l
-  link_now l old = link_by v.reading.section old
-    where
-      link_by : (o : Option ℕ) → IfSome o (λ t. IsReachable z v l.node × SourceRight (λ d. m (Entry Child d)) g.bundles.number (g.bundles.bundle l.side l.node) t l.child l.source)
-          → IfSome o (λ t. IsReachable z w l.node × SourceRight (λ d. m (Entry Child d)) g.bundles.number (g.bundles.bundle l.side l.node) t l.child l.source)
-      link_by None old = tt
-      link_by (Some t) old = (reach_now l.node old.0, old.1)
+  link_now l old = (reach_now l.node old.0, old.1)
 
   named_now : NamesHolder (m' (Node Lock k)) v.number
   named_now = subst (NamesHolder (m' (Node Lock k))) (sym named) lock_now
@@ -232,6 +227,7 @@ module _ (z : Layout) (m : Memory) (vs : List View) (g : Meaning) (rule : Rule z
     seen = own_seat.seen;
     update = own_seat.update;
     version = own_seat.version;
+    tree = own_seat.tree;
     locks = λ j locked. elim (eqb_tells j k) as (λ _. (j ≤ z.nodes) × NamesHolder (m' (Node Lock j)) v.number) [
       | inl same ↦ subst (λ x. (x ≤ z.nodes) × NamesHolder (m' (Node Lock x)) v.number) (sym same.1) (reach.0, named_now)
       | inr other ↦
@@ -269,6 +265,7 @@ module _ (z : Layout) (m : Memory) (vs : List View) (g : Meaning) (rule : Rule z
     seen = of.seen;
     update = of.update;
     version = of.version;
+    tree = of.tree;
     locks = λ j locked. ((of.locks j locked).0, subst (λ x. NamesHolder x u.number) (sym (node_other m Lock Lock k j (n + 1) (locker_apart u j beside locked))) (of.locks j locked).1);
     loaded = record { nodes = of.loaded.nodes; nexts = of.loaded.nexts };
     marks = record { retired = of.marks.retired; batch = of.marks.batch; taken = of.marks.taken };
@@ -286,6 +283,7 @@ module _ (z : Layout) (m : Memory) (vs : List View) (g : Meaning) (rule : Rule z
       history = history_kept z _ g vs i v w at refl refl rule.history;
       slots = slots_now;
       locks = locks_now;
+      tree = rule.tree;
       marks = record { root = rule.marks.root; nodes = rule.marks.nodes };
       bundles = λ j live' side. bundle_weaker _ _ _ _ (IsPendingAt vs j) (IsPendingAt ws j) _ _
           (λ d. pending_moved vs i j d v w at refl (works j)) (rule.bundles j (live_moved z vs i j v w at (omega arith) live') side);

@@ -70,6 +70,7 @@ module _ (z : Layout) (m : Memory) (vs : List View) (g : Meaning) where
       seen = seat.seen;
       update = seat.update;
       version = seat.version;
+      tree = seat.tree;
       locks = seat.locks;
       loaded = record { nodes = seat.loaded.nodes; nexts = seat.loaded.nexts };
       marks = record { retired = seat.marks.retired; batch = seat.marks.batch; taken = seat.marks.taken };
@@ -80,9 +81,10 @@ module _ (z : Layout) (m : Memory) (vs : List View) (g : Meaning) where
     record {
       layout = λ _. seat.layout live;
       section = record { section = refl; announced = refl; outside = λ even. record { reading = refl; held = refl; update = refl }; done = λ _. refl };
-      seen = record { seen = seat.seen.seen; told = refl; known = omega arith; found = omega arith };
+      seen = record { seen = seat.seen.seen; told = refl; known = omega arith; found = omega arith; given = tt };
       update = record { raised = tt; first = λ _. refl };
       version = record { past = tt; opened = tt; bare = λ _. refl; there = λ k some. absurd (omega (arith, some)) };
+      tree = tt;
       locks = λ k some. absurd (omega (arith, some));
       loaded = record { nodes = tt; nexts = tt };
       marks = record { retired = λ k some. absurd (omega (arith, some)); batch = λ k some. absurd (omega (arith, some)); taken = λ k some. absurd (omega (arith, some)) };
@@ -115,6 +117,7 @@ module _ (z : Layout) (m : Memory) (vs : List View) (g : Meaning) where
             (record { number = refl; section_word = refl; batch = refl; grace = refl; nodes = λ k h. h; entries = λ e h. h })
             (idle_bare y idle refl refl) (λ k. count-take-drop k n v.free.nodes) (λ e. omega arith) refl refl refl;
         locks = λ k. sum_split (lock_count k) vs i v w y at (omega arith) ∙ rule.locks k;
+        tree = rule.tree;
         marks = rule.marks;
         bundles = λ k alive side. bundle_weaker _ _ _ _ (IsPendingAt vs k) (IsPendingAt us k) _ _
             (λ e is. (
@@ -166,6 +169,7 @@ module _ (z : Layout) (m : Memory) (vs : List View) (g : Meaning) where
     seen = seen_joined g.updates v.history u.history u.number seat.seen other.seen;
     update = seat.update;
     version = seat.version;
+    tree = seat.tree;
     locks = seat.locks;
     loaded = record { nodes = seat.loaded.nodes; nexts = seat.loaded.nexts };
     marks = joined_marks v u seat other idle;
@@ -178,9 +182,10 @@ module _ (z : Layout) (m : Memory) (vs : List View) (g : Meaning) where
   spent_seat = record {
     layout = λ live. cc;
     section = record { section = refl; announced = refl; outside = λ even. record { reading = refl; held = refl; update = refl }; done = λ _. refl };
-    seen = record { seen = refl; told = refl; known = omega arith; found = omega arith };
+    seen = record { seen = refl; told = refl; known = omega arith; found = omega arith; given = tt };
     update = record { raised = tt; first = λ _. refl };
     version = record { past = tt; opened = tt; bare = λ _. refl; there = λ k some. absurd (omega (arith, some)) };
+    tree = tt;
     locks = λ k some. absurd (omega (arith, some));
     loaded = record { nodes = tt; nexts = tt };
     marks = record { retired = λ k some. absurd (omega (arith, some)); batch = λ k some. absurd (omega (arith, some)); taken = λ k some. absurd (omega (arith, some)) };
@@ -219,6 +224,7 @@ module _ (z : Layout) (m : Memory) (vs : List View) (g : Meaning) where
             (record { number = refl; section_word = refl; batch = refl; grace = refl; nodes = λ k h. h; entries = λ e h. h })
             (idle_bare spent_view idle' refl refl) refl refl refl refl refl;
         locks = λ k. sum_joined (lock_count k) vs i j v u w spent_view at of other (omega (arith, unlocked k)) ∙ rule.locks k;
+        tree = rule.tree;
         marks = rule.marks;
         bundles = λ k alive side. bundle_weaker _ _ _ _ (IsPendingAt vs k) (IsPendingAt us k) _ _
             (λ e is. (

@@ -169,6 +169,7 @@ module _ (z : Layout) (m : Memory) (vs : List View) (g : Meaning) (rule : Rule z
     seen = own_seat.seen;
     update = until_by (UpdateRight (m Stamp)) rest v.update (record { raised = tt; first = λ _. refl }) own_seat.update;
     version = record { past = own_seat.version.past; opened = own_seat.version.opened; bare = own_seat.version.bare; there = own_seat.version.there };
+    tree = own_seat.tree;
     locks = own_locks;
     loaded = record {
       nodes = every_filter (NodeRight (λ j. m (Node Mark j)) (λ s j. m (Node (Head s) j)) stamp) (NodeRight (λ j. m (Node Mark j)) (λ s j. m (Node (Head s) j)) stamp)
@@ -196,6 +197,7 @@ module _ (z : Layout) (m : Memory) (vs : List View) (g : Meaning) (rule : Rule z
     seen = of.seen;
     update = of.update;
     version = of.version;
+    tree = of.tree;
     locks = λ j some. (
       (of.locks j some).0,
       names_kept u.number j (λ same. omega (arith, locked_apart z m vs g rule i k v u at beside locked, subst (λ x. 0 < lock_count x u) same some)) (of.locks j some).1,
@@ -218,6 +220,7 @@ module _ (z : Layout) (m : Memory) (vs : List View) (g : Meaning) (rule : Rule z
           (λ known. same_looks z (linked_by g) HoldsNode (HoldsEntry g.bundles) v w w refl refl known)
           (λ u beside known. same_looks z (linked_by g) HoldsNode (HoldsEntry g.bundles) v w u refl refl known);
       locks = locks_now;
+      tree = rule.tree;
       marks = record { root = rule.marks.root; nodes = rule.marks.nodes };
       bundles = λ j live side. bundle_weaker _ _ _ _ (IsPendingAt vs j) (IsPendingAt ws j) _ _ (pending_kept j) (rule.bundles j (live_moved z vs i j v w at (omega arith) live) side);
       single = λ d. omega (arith, sum_kept (pending_count d) vs i v w at (pending_same d), rule.single d);

@@ -53,7 +53,7 @@ IsBundle m vs g k side =
     BundleRight (m Stamp) (λ e. m (Entry Next e)) (λ e. m (Entry Number e)) g.bundles.number (IsPendingAt vs k) (m (Node (Head side) k))
     (g.bundles.bundle side k)
 
--- the number of the pending entries of an update
+-- the number that the pending entries of an update have: that of its raise, or none yet
 abbrev pub shown : Option ℕ → ℕ
 shown None = no_number
 shown (Some r) = r

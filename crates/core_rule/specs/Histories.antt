@@ -9,12 +9,17 @@ use Rattle.index_words.specs.declared.view.history.EndedPlace.{EndedPlace}
 use Rattle.index_words.specs.Lists.{count, Every, IsItem}
 use Rattle.core_links.specs.Bundle.{no_number}
 
+-- a place that was given up to a view is of a pass whose number it has been given
+abbrev pub IsGiven : List ℕ → EndedPlace → Type 0
+IsGiven ended p = 0 < count p.pass ended
+
 -- what a view knows is a beginning of the history
 pub record SeenRight (updates : List Update) (h : SeenHistory) : Type 0 where
   pub seen : h.seen ≡ take (length h.seen) updates
   pub told : h.told ≡ take (length h.told) updates
   pub known : length h.told ≤ length h.seen
   pub found : h.found ≤ length h.seen
+  pub given : Every (IsGiven h.ended) h.ended_places
 
 -- the update at a place; places are counted from 1
 abbrev pub update_at : List Update → ℕ → Option Update

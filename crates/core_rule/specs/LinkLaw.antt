@@ -1,4 +1,4 @@
--- The law on links: no event changes what a number selects that some seat may read at.
+-- The law on links: at each number up to the stamp, no event changes which entry of a bundle is selected.
 use Rattle.std.specs.Prelude.{◌≡◌, ℕ, ◌≤◌, cond, List, [], ◌∷◌}
 use Rattle.index_words.specs.declared.layout.Layout.{Layout}
 use Rattle.index_words.specs.declared.side.Side.{Side}

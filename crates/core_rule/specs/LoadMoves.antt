@@ -2,10 +2,12 @@
 use Rattle.std.specs.Prelude.{ℕ, ◌+◌, List, [], ◌∷◌, ◌++◌, cond, Bool, false, not, nat_lt, nat_le, ◌==◌, ◌&&◌, ◌||◌, Option, Some, None, is_none, map}
 use Rattle.std.specs.List.{list_any}
 use Rattle.index_words.specs.declared.side.Side.{Side}
+use Rattle.index_words.specs.declared.side.Side.TheVariants.{Left, Right}
 use Rattle.index_words.specs.declared.update.Update.{Update}
 use Rattle.index_words.specs.declared.view.View.{View}
 use Rattle.index_words.specs.declared.view.history.SeenHistory.{SeenHistory}
 use Rattle.index_words.specs.declared.view.reading.Reading.{Reading}
+use Rattle.index_words.specs.declared.view.reading.TreeNode.{TreeNode}
 use Rattle.index_words.specs.declared.view.reading.Place.{Place}
 use Rattle.index_words.specs.declared.view.reading.Place.TheVariants.{Nowhere, Entry, Node, Gap}
 use Rattle.index_words.specs.declared.view.reading.Link.{Link}
@@ -18,7 +20,6 @@ use Rattle.index_words.specs.declared.view.update.HeldNext.{HeldNext}
 use Rattle.index_words.specs.Words.{same_side}
 use Rattle.index_words.specs.Lists.{has}
 use Rattle.core_rule.specs.Moves.{nowhere, longer}
-use Rattle.core_rule.specs.UpdateMoves.{known_at}
 
 -- a count rises, but at its last value it stands still
 abbrev pub risen : ℕ → ℕ
@@ -39,16 +40,18 @@ longest vs = longest_from [] vs
 abbrev pub locks : ℕ → List HeldNode → Bool
 locks node hs = list_any (λ (h : HeldNode). h.node == node) hs
 
--- load of the stamp: the seat has a section number and knows the whole history; where the load fixes a place,
--- a snapshot is open at that number
+-- load of the stamp: the seat knows the whole history; where the load fixes a place, the number is kept as the one
+-- found, and the look is counted
 abbrev pub stamp_history : List Update → SeenHistory → ℕ → Bool → SeenHistory
 stamp_history known h s fixes = record h { seen = known; found = cond fixes s h.found; looks = raised_if fixes h.looks }
 
-abbrev pub stamp_reading : Reading → ℕ → Bool → Reading
-stamp_reading r s fixes = record (nowhere r) { section = Some s; opened = cond fixes (Some s) None; tree = [] }
+-- and it has the section number and the nodes of the tree at it; where the load fixes a place, a snapshot is open
+-- at that number
+abbrev pub stamp_reading : Reading → ℕ → Bool → List TreeNode → Reading
+stamp_reading r s fixes nodes = record (nowhere r) { section = Some s; opened = cond fixes (Some s) None; tree = nodes }
 
-abbrev pub stamp_loaded : List Update → View → ℕ → Bool → View
-stamp_loaded known v s fixes = record v { history = stamp_history known v.history s fixes; reading = stamp_reading v.reading s fixes }
+abbrev pub stamp_loaded : List Update → View → ℕ → Bool → List TreeNode → View
+stamp_loaded known v s fixes nodes = record v { history = stamp_history known v.history s fixes; reading = stamp_reading v.reading s fixes nodes }
 
 abbrev pub bundle_link : ℕ → Side → ℕ → ℕ → Link
 bundle_link node side child entry = record { node = node; side = side; child = child; source = Bundle entry }
@@ -70,12 +73,32 @@ with_held v nodes nexts = record v { held = record { nodes = nodes; nexts = next
 abbrev pub with_place : View → Place → List Link → View
 with_place v place links = record v { reading = record v.reading { place = place; links = links } }
 
--- load of a head: the seat stands at the entry found; a link without an entry is remembered as null
-abbrev pub head_loaded : View → ℕ → Side → ℕ → View
-head_loaded v node side head =
-    record (with_place (with_held v (map (known_at node side (record { entry = head; stamp = None })) v.held.nodes) v.held.nexts)
+-- this seat stored the head: its entry is pending in the view, or has the number of one of its own updates
+abbrev pub stored_by : View → ℕ → ℕ → Bool
+stored_by v head number = has head v.update.pending || has number v.history.mine
+
+-- the head of a side after a load that found an entry: a head of the same entry stays as it is known, with its stamp
+abbrev pub found_again : ℕ → Option LoadedHead → Option LoadedHead
+found_again e None = Some (record { entry = e; stamp = None })
+found_again e (Some l) = Some (cond (l.entry == e) l (record { entry = e; stamp = None }))
+
+abbrev pub side_found : ℕ → HeldSide → HeldSide
+side_found e s = record s { head = found_again e s.head }
+
+abbrev pub head_found : Side → ℕ → HeldNode → HeldNode
+head_found Left e h = record h { left = side_found e h.left }
+head_found Right e h = record h { right = side_found e h.right }
+
+abbrev pub found_at : ℕ → Side → ℕ → HeldNode → HeldNode
+found_at k side e h = cond (h.node == k) (head_found side e h) h
+
+-- load of a head whose entry has this written number: the seat stands at the entry found; a link without an entry is
+-- remembered as null, and another entry than the remembered one is counted where this seat did not store it
+abbrev pub head_loaded : View → ℕ → Side → ℕ → ℕ → View
+head_loaded v node side head number =
+    record (with_place (with_held v (map (found_at node side head) v.held.nodes) v.held.nexts)
     (Entry node side head None) (remembered_if (head == 0) v.reading.links (bundle_link node side 0 0))) {
-      counts = record v.counts { moves = raised_if (has_moved v.reading.links node side head && not (has head v.update.pending)) v.counts.moves };
+      counts = record v.counts { moves = raised_if (has_moved v.reading.links node side head && not (stored_by v head number)) v.counts.moves };
     }
 
 -- the stamp of an entry where the entry is the head
@@ -102,8 +125,8 @@ ts_loaded v e x =
       counts = record v.counts { waits = raised_if (x == 0 && not (has e v.update.pending)) v.counts.waits };
     }
 
--- the entry is known to be the one that the section number selects: its number is at most the seat's, and
--- each entry in front of it was passed for its number
+-- the entry is known to be the one that the section number selects: its number was loaded and is at most the
+-- seat's, and the seat has not locked the node, so it has passed each entry in front for a greater number
 abbrev pub is_selected : Option ℕ → Option ℕ → Bool → Bool
 is_selected (Some t) (Some x) locked = nat_lt 0 x && nat_le x t && not locked
 is_selected _ _ locked = false

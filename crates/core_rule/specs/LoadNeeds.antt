@@ -11,9 +11,7 @@ use Rattle.index_words.specs.declared.word.Part.{Part}
 use Rattle.index_words.specs.declared.word.Part.TheVariants.{Child, Stamp as Number, Next}
 use Rattle.index_words.specs.declared.word.Word.{Word}
 use Rattle.index_words.specs.declared.word.Word.TheVariants.{Node, Entry}
-use Rattle.index_words.specs.Lists.{has}
 use Rattle.core_grace.specs.Sections.{is_even}
-use Rattle.core_grace.specs.Holds.{listed}
 use Rattle.core_rule.specs.Needs.{is_stamp}
 use Rattle.core_rule.specs.LoadMoves.{is_above, locks}
 
@@ -24,9 +22,9 @@ may_load_stamp v w value = is_stamp w && not (is_even v.section_word) && is_none
 abbrev pub reads_tree : ℕ → List TreeNode → Bool
 reads_tree node ns = list_any (λ (n : TreeNode). n.slot == node) ns
 
--- the root, a node of the tree that the seat reads, or one that it works on
+-- the root, a node of the tree that the seat reads, or one that it has locked
 abbrev pub is_reachable : View → ℕ → Bool
-is_reachable v k = k == 0 || reads_tree k v.reading.tree || locks k v.held.nodes || has k (listed v.update.added)
+is_reachable v k = k == 0 || reads_tree k v.reading.tree || locks k v.held.nodes
 
 -- load of a head: inside a section, of a reachable node
 abbrev pub may_load_field : View → Field → ℕ → ℕ → Bool

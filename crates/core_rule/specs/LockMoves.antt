@@ -59,9 +59,10 @@ mark_known k x h = cond (h.node == k) (record h { mark = Some x }) h
 abbrev pub with_mark : View → ℕ → ℕ → View
 with_mark v k x = record v { held = record v.held { nodes = map (mark_known k x) v.held.nodes } }
 
--- a mark of 1, on a node at which the seat may be looking and which its update did not take out
+-- a mark of 1, on a node at which the seat may be looking and which its update did not take out: after the last unlock
+-- the update's nodes are forgotten, but what it took out is among the seat's retired nodes
 abbrev pub finds_mark : View → ℕ → ℕ → Bool
-finds_mark v k x = x == 1 && is_reachable v k && not (has k v.update.taken)
+finds_mark v k x = x == 1 && is_reachable v k && not (has k v.update.taken) && not (has k v.retired.nodes)
 
 -- load of a mark: it is kept with a locked node, and a mark that another seat has set is counted
 abbrev pub mark_loaded : View → ℕ → ℕ → View

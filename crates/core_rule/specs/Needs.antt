@@ -39,7 +39,8 @@ abbrev pub may_leave : Memory → View → Word → ℕ → Bool
 may_leave m v w value =
     is_own_section v.number w && not (is_even v.section_word) && length v.held.nodes == 0 && nothing_pending m v && value == left_word v.section_word
 
--- look at a section: another pass's, from outside a section with no lock held, and for a slot
+-- look at a section: another pass's, from outside a section with no lock held, by a view with retired slots or a
+-- batch
 abbrev pub may_look_at : View → ℕ → ℕ → Bool
 may_look_at v pass value = not (is_number pass v.number) && is_outside v && not (is_empty v.batch && is_empty v.retired) && value == 0
 

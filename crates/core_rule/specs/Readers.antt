@@ -27,8 +27,8 @@ IsReachable z v k = (k ≤ z.nodes) × ((k ≡ 0) ⊎ HoldsNode v k)
 abbrev pub IsLocked : View → ℕ → Type 0
 IsLocked v k = 0 < count k (held_slots v.held.nodes)
 
--- the entry stands in the bundle, behind entries that the seat does not read; a number that was found in its
--- stamp is still there
+-- the entry stands in the bundle, and each entry in front of it is one that the seat may be past; a number that was
+-- found in its stamp is still there
 pub record StandsAt (stamp : ℕ → ℕ) (es : List ℕ) (e : ℕ) (loaded : Option ℕ) (unread : ℕ → Type 0) : Type 0 where
   pub front : List ℕ
   pub back : List ℕ
@@ -48,12 +48,17 @@ PlaceRight z stamp b v (Entry node side entry found) =
 PlaceRight z stamp b v (Node node) = Unit {0}
 PlaceRight z stamp b v (Gap node side) = Unit {0}
 
--- a link that was found through its bundle is the one that the section number selects
-abbrev pub SourceRight : (ℕ → ℕ) → (ℕ → ℕ) → List ℕ → ℕ → ℕ → LinkSource → Type 0
-SourceRight child number es t c (Bundle entry) = (select number t es ≡ entry) × (child_of_entry child entry ≡ c)
-SourceRight child number es t c (Plain tag above below) = Unit {0}
+-- a link is remembered with the entry that the section number selects, and with its child; without a section
+-- number with neither
+abbrev pub EntryRight : (ℕ → ℕ) → (ℕ → ℕ) → List ℕ → Option ℕ → ℕ → ℕ → Type 0
+EntryRight child number es None c entry = (entry ≡ 0) × (c ≡ 0)
+EntryRight child number es (Some t) c entry = (select number t es ≡ entry) × (child_of_entry child entry ≡ c)
+
+-- so it is where it was found through its bundle
+abbrev pub SourceRight : (ℕ → ℕ) → (ℕ → ℕ) → List ℕ → Option ℕ → ℕ → LinkSource → Type 0
+SourceRight child number es section c (Bundle entry) = EntryRight child number es section c entry
+SourceRight child number es section c (Plain tag above below) = Unit {0}
 
 -- a remembered link, over the children of entries
 abbrev pub LinkRight : Layout → (ℕ → ℕ) → Bundles → View → Link → Type 0
-LinkRight z child b v l =
-    IfSome v.reading.section (λ t. IsReachable z v l.node × SourceRight child b.number (b.bundle l.side l.node) t l.child l.source)
+LinkRight z child b v l = IsReachable z v l.node × SourceRight child b.number (b.bundle l.side l.node) v.reading.section l.child l.source

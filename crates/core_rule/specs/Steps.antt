@@ -24,30 +24,33 @@ use Rattle.core_rule.specs.LockNeeds.{may_try_lock, may_unlock, may_load_mark, m
 use Rattle.core_rule.specs.Moves.{entered, left, split_left, split_right, joined_with}
 use Rattle.core_rule.specs.LoadMoves.{longest, stamp_loaded, head_loaded, ts_loaded, ptr_loaded, next_loaded}
 use Rattle.core_rule.specs.UpdateMoves.{prepared, raised_view, finalised}
+use Rattle.core_rule.specs.Versions.{tree_nodes}
+use Rattle.core_rule.specs.SpelledNow.{tree_now}
+use Rattle.core_rule.specs.TreeMoves.{tree_move}
 use Rattle.core_rule.specs.LockMoves.{tried, unlocked_view, with_mark, mark_loaded}
 
--- the needs of a kind, for a seat with this view and a word by name
-abbrev pub needs : Kind → Memory → List View → ℕ → View → Word → ℕ → Bool
-needs MakeSeat m views seat v w value = false
-needs SplitSeat m views seat v w value = may_split v w value
-needs JoinSeat m views seat v w value = may_join views seat v w value
-needs Enter m views seat v w value = may_enter v w value
-needs Leave m views seat v w value = may_leave m v w value
-needs LookSec m views seat v w value = may_look v w value
-needs Fill m views seat v w value = may_fill v w
-needs LoadStamp m views seat v w value = may_load_stamp v w value
-needs LoadHead m views seat v w value = may_load_head v w value
-needs LoadTs m views seat v w value = may_load_part Number v w value
-needs LoadPtr m views seat v w value = may_load_part Child v w value
-needs LoadNext m views seat v w value = may_load_next v w value
-needs Prepare m views seat v w value = may_prepare m v w value
-needs Raise m views seat v w value = may_raise v w value
-needs Finalise m views seat v w value = may_finalise v w value
-needs TryLock m views seat v w value = may_try_lock v w value
-needs Unlock m views seat v w value = may_unlock m v w value
-needs LoadMark m views seat v w value = may_load_mark v w value
-needs Mark m views seat v w value = may_mark v w value
-needs LoadKeyOrVal m views seat v w value = may_load_pair v w value
+-- the needs of a kind, for a seat with this view, a word by name, and an update
+abbrev pub needs : Kind → Layout → Memory → List View → ℕ → View → Word → ℕ → Option Update → Bool
+needs MakeSeat z m views seat v w value update = false
+needs SplitSeat z m views seat v w value update = may_split v w value
+needs JoinSeat z m views seat v w value update = may_join views seat v w value
+needs Enter z m views seat v w value update = may_enter v w value
+needs Leave z m views seat v w value update = may_leave m v w value
+needs LookSec z m views seat v w value update = may_look v w value
+needs Fill z m views seat v w value update = may_fill v w
+needs LoadStamp z m views seat v w value update = may_load_stamp v w value
+needs LoadHead z m views seat v w value update = may_load_head v w value
+needs LoadTs z m views seat v w value update = may_load_part Number v w value
+needs LoadPtr z m views seat v w value update = may_load_part Child v w value
+needs LoadNext z m views seat v w value update = may_load_next v w value
+needs Prepare z m views seat v w value update = may_prepare m v w value
+needs Raise z m views seat v w value update = may_raise z m views v w value update
+needs Finalise z m views seat v w value update = may_finalise v w value
+needs TryLock z m views seat v w value update = may_try_lock v w value
+needs Unlock z m views seat v w value update = may_unlock m v w value
+needs LoadMark z m views seat v w value update = may_load_mark v w value
+needs Mark z m views seat v w value update = may_mark v w value
+needs LoadKeyOrVal z m views seat v w value update = may_load_pair v w value
 
 -- a raise has an update of the view's own pass, and no other kind has one
 abbrev pub is_own_update : View → Option Update → Bool
@@ -59,7 +62,7 @@ carries Raise v update = is_own_update v update
 carries _ v update = is_none update
 
 abbrev pub allowed_at : Table → Event → Option View → Option Word → Bool
-allowed_at t e (Some v) (Some w) = carries e.kind v e.update && not v.joined && needs e.kind (held_by t) t.views e.seat v w e.value
+allowed_at t e (Some v) (Some w) = carries e.kind v e.update && not v.joined && needs e.kind t.layout (held_by t) t.views e.seat v w e.value e.update
 allowed_at t e _ _ = false
 
 -- the event's needs are met
@@ -75,13 +78,14 @@ abbrev pub look_from : Layout → View → Word → ℕ → View
 look_from z v (Section pass) x = looked z.passes v pass x
 look_from z v _ x = v
 
-abbrev pub head_at : View → Field → ℕ → ℕ → View
-head_at v (Head side) k x = head_loaded v k side x
-head_at v _ k x = v
+-- `number` is the written number of the entry found
+abbrev pub head_at : View → Field → ℕ → ℕ → ℕ → View
+head_at v (Head side) k x number = head_loaded v k side x number
+head_at v _ k x number = v
 
-abbrev pub head_from : View → Word → ℕ → View
-head_from v (Node field k) x = head_at v field k x
-head_from v _ x = v
+abbrev pub head_from : View → Word → ℕ → ℕ → View
+head_from v (Node field k) x number = head_at v field k x number
+head_from v _ x number = v
 
 abbrev pub ts_from : View → Word → ℕ → View
 ts_from v (Entry p e) x = ts_loaded v e x
@@ -103,9 +107,9 @@ abbrev pub prepared_from : View → Word → ℕ → View
 prepared_from v (Node field k) e = prepared_at v field k e
 prepared_from v _ e = v
 
-abbrev pub raised_from : List Update → View → ℕ → Option Update → View
-raised_from known v x None = v
-raised_from known v x (Some u) = raised_view known v x u
+abbrev pub raised_from : Layout → Memory → List View → View → ℕ → Option Update → View
+raised_from z m views v x None = v
+raised_from z m views v x (Some u) = raised_view (longest views) v x u (tree_move z m views v u)
 
 abbrev pub finalised_from : View → Word → View
 finalised_from v (Entry p e) = finalised v e
@@ -128,23 +132,23 @@ marked_from v (Node field k) = with_mark v k 1
 marked_from v _ = v
 
 -- the view of the seat after an event of a kind that changes it alone, at a word that was found to hold `x`
-abbrev pub view_after : Kind → Layout → List View → View → Word → ℕ → ℕ → Option Update → View
-view_after Enter z views v w x value update = entered z.passes v value
-view_after Leave z views v w x value update = left v value
-view_after LookSec z views v w x value update = look_from z v w x
-view_after LoadStamp z views v w x value update = stamp_loaded (longest views) v x (value == 1)
-view_after LoadHead z views v w x value update = head_from v w x
-view_after LoadTs z views v w x value update = ts_from v w x
-view_after LoadPtr z views v w x value update = ptr_from v w x
-view_after LoadNext z views v w x value update = next_from v w x
-view_after Prepare z views v w x value update = prepared_from v w value
-view_after Raise z views v w x value update = raised_from (longest views) v x update
-view_after Finalise z views v w x value update = finalised_from v w
-view_after TryLock z views v w x value update = tried_from v w value x
-view_after Unlock z views v w x value update = unlocked_from v w
-view_after LoadMark z views v w x value update = mark_from v w x
-view_after Mark z views v w x value update = marked_from v w
-view_after _ z views v w x value update = v
+abbrev pub view_after : Kind → Layout → Memory → List View → View → Word → ℕ → ℕ → Option Update → View
+view_after Enter z m views v w x value update = entered z.passes v value
+view_after Leave z m views v w x value update = left v value
+view_after LookSec z m views v w x value update = look_from z v w x
+view_after LoadStamp z m views v w x value update = stamp_loaded (longest views) v x (value == 1) (tree_nodes (tree_now z m views))
+view_after LoadHead z m views v w x value update = head_from v w x (m (Entry Number x))
+view_after LoadTs z m views v w x value update = ts_from v w x
+view_after LoadPtr z m views v w x value update = ptr_from v w x
+view_after LoadNext z m views v w x value update = next_from v w x
+view_after Prepare z m views v w x value update = prepared_from v w value
+view_after Raise z m views v w x value update = raised_from z m views v x update
+view_after Finalise z m views v w x value update = finalised_from v w
+view_after TryLock z m views v w x value update = tried_from v w value x
+view_after Unlock z m views v w x value update = unlocked_from v w
+view_after LoadMark z m views v w x value update = mark_from v w x
+view_after Mark z m views v w x value update = marked_from v w
+view_after _ z m views v w x value update = v
 
 -- the views after an event of a kind
 abbrev pub views_after : Kind → Layout → Memory → List View → ℕ → View → Word → ℕ → Option Update → List View
@@ -153,7 +157,7 @@ views_after Fill z m views seat v w value update = views
 views_after LoadKeyOrVal z m views seat v w value update = views
 views_after SplitSeat z m views seat v w value update = slice_set views seat (split_left v value) ++ split_right v value ∷ []
 views_after JoinSeat z m views seat v w value update = join_found views seat v value (slice_get views value)
-views_after kind z m views seat v w value update = slice_set views seat (view_after kind z views v w (m w) value update)
+views_after kind z m views seat v w value update = slice_set views seat (view_after kind z m views v w (m w) value update)
 
 -- the words after an event of a kind: those that store put their value, at a try of a lock only where the word is
 -- 0, and a raise adds one

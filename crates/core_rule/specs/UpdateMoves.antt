@@ -1,5 +1,5 @@
 -- The view of a seat after each kind of event of an update, and what the words mean then.
-use Rattle.std.specs.Prelude.{ℕ, ◌+◌, ◌-◌, List, [], ◌∷◌, ◌++◌, cond, not, ◌==◌, ◌&&◌, Some, None, map, filter}
+use Rattle.std.specs.Prelude.{ℕ, ◌+◌, ◌-◌, List, [], ◌∷◌, ◌++◌, cond, not, ◌==◌, ◌&&◌, Option, Some, None, map, filter}
 use Rattle.index_words.specs.declared.side.Side.{Side}
 use Rattle.index_words.specs.declared.side.Side.TheVariants.{Left, Right}
 use Rattle.index_words.specs.declared.update.Update.{Update}
@@ -9,6 +9,10 @@ use Rattle.index_words.specs.declared.view.update.LoadedHead.{LoadedHead}
 use Rattle.index_words.specs.Words.{same_side}
 use Rattle.index_words.specs.Lists.{has}
 use Rattle.core_links.specs.Bundle.{no_number}
+use Rattle.core_grace.specs.Holds.{listed}
+use Rattle.core_trees.specs.NamedTree.{NamedTree}
+use Rattle.core_rule.specs.declared.tree_moves.TreeMove.{TreeMove}
+use Rattle.core_rule.specs.declared.updates.Longer.{Longer}
 use Rattle.core_rule.specs.Meanings.{Meaning}
 use Rattle.core_rule.specs.Moves.{nowhere}
 
@@ -47,20 +51,47 @@ prepared_meaning g side k e = record g {
   bundles = record { bundle = in_front g.bundles.bundle side k e; number = unnumbered g.bundles.number e };
 }
 
--- raise: the update is the last of the history, which the view then knows whole, and the place is its own
-abbrev pub raised_view : List Update → View → ℕ → Update → View
-raised_view known v s u = record v {
+-- the numbers that are not among these
+abbrev pub without_all : List ℕ → List ℕ → List ℕ
+without_all out xs = filter (λ x. not (has x out)) xs
+
+-- the lists that a raise makes longer
+abbrev pub lengthened : View → ℕ → TreeMove → Longer
+lengthened v place move = record {
+  mine = v.history.mine ++ place ∷ [];
+  pending = v.update.pending ++ move.entries;
+  retired = record { nodes = v.retired.nodes ++ move.taken; entries = v.retired.entries ++ move.taken_entries };
+}
+
+-- raise: the update is the last of the history, which the view then knows whole, and the place is its own. The new
+-- node and its entries are not free any more, the entries are pending, and what is taken out is retired
+abbrev pub raised_view : List Update → View → ℕ → Update → TreeMove → View
+raised_view known v s u move = record v {
   history = record v.history { seen = known ++ u ∷ []; mine = v.history.mine ++ (s + 1) ∷ []; left = v.history.left - 1 };
   reading = nowhere v.reading;
-  update = record v.update { raised = Some (s + 1) };
+  update = record v.update { raised = Some (s + 1); added = move.added; taken = move.taken; pending = v.update.pending ++ move.entries };
+  free = record { nodes = without_all (listed move.added) v.free.nodes; entries = without_all move.entries v.free.entries };
+  retired = record { nodes = v.retired.nodes ++ move.taken; entries = v.retired.entries ++ move.taken_entries };
 }
 
 -- the pending entries have the number of the raise
 abbrev pub raised_numbers : (ℕ → ℕ) → List ℕ → ℕ → ℕ → ℕ
 raised_numbers number pending n d = cond (has d pending) n (number d)
 
-abbrev pub raised_meaning : Meaning → List ℕ → ℕ → Update → Meaning
-raised_meaning g pending n u = record g {
+-- the entries of a bundle with this head and no other entry
+abbrev pub listed_entry : ℕ → List ℕ
+listed_entry e = cond (e == 0) [] (e ∷ [])
+
+-- the bundles of a new node have its heads
+abbrev pub with_added : (Side → ℕ → List ℕ) → (Side → ℕ → ℕ) → Option ℕ → Side → ℕ → List ℕ
+with_added bundle head added side k = cond (has k (listed added)) (listed_entry (head side k)) (bundle side k)
+
+abbrev pub raised_meaning : Meaning → (Side → ℕ → ℕ) → List ℕ → ℕ → Update → TreeMove → NamedTree → Meaning
+raised_meaning g head pending n u move tree = record {
   updates = g.updates ++ u ∷ [];
-  bundles = record { bundle = g.bundles.bundle; number = raised_numbers g.bundles.number pending n };
+  bundles = record {
+    bundle = with_added g.bundles.bundle head move.added;
+    number = raised_numbers g.bundles.number (pending ++ move.entries) n;
+  };
+  tree = tree;
 }

@@ -1,5 +1,7 @@
 -- The needs of each kind of event of an update, as computed truth values.
 use Rattle.std.specs.Prelude.{ℕ, List, length, Bool, false, not, ◌==◌, ◌&&◌, ◌||◌, Option, Some, None, is_none, find, nat_lt}
+use Rattle.index_words.specs.declared.layout.Layout.{Layout}
+use Rattle.index_words.specs.declared.update.Update.{Update}
 use Rattle.index_words.specs.declared.side.Side.{Side}
 use Rattle.index_words.specs.declared.side.Side.TheVariants.{Left, Right}
 use Rattle.index_words.specs.declared.view.View.{View}
@@ -16,6 +18,7 @@ use Rattle.index_words.specs.Lists.{has}
 use Rattle.core_grace.specs.Batches.{is_number}
 use Rattle.core_rule.specs.Needs.{is_stamp}
 use Rattle.core_rule.specs.LoadNeeds.{is_part}
+use Rattle.core_rule.specs.TreeMoves.{is_tree_step}
 
 abbrev pub side_of : Side → HeldNode → HeldSide
 side_of Left h = h.left
@@ -56,10 +59,18 @@ abbrev pub may_prepare : Memory → View → Word → ℕ → Bool
 may_prepare m v (Node field k) e = may_prepare_head m v field k e
 may_prepare m v _ e = false
 
--- raise, its part on numbers: it has calls left, has not raised, and has an entry pending
-abbrev pub may_raise : View → Word → ℕ → Bool
-may_raise v w value =
+-- raise: the update's tree step is spelled
+abbrev pub is_raise_of : Layout → Memory → List View → View → Option Update → Bool
+is_raise_of z m vs v None = false
+is_raise_of z m vs v (Some u) = is_tree_step z m vs v u
+
+-- and the seat has calls left, has not raised, and has an entry pending
+abbrev pub may_raise_number : View → Word → ℕ → Bool
+may_raise_number v w value =
     is_stamp w && value == 0 && is_none v.update.raised && not (v.history.left == 0) && not (length v.update.pending == 0)
+
+abbrev pub may_raise : Layout → Memory → List View → View → Word → ℕ → Option Update → Bool
+may_raise z m vs v w value update = may_raise_number v w value && is_raise_of z m vs v update
 
 -- finalise: a pending entry of its own, and the number of its raise
 abbrev pub may_finalise : View → Word → ℕ → Bool

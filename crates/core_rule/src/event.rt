@@ -28,7 +28,7 @@ pub enum Kind {
     LoadTs,
     /// Loads the child of that entry.
     LoadPtr,
-    /// Loads the next of that entry, and stands there.
+    /// Loads the next of that entry, and stands at the entry found.
     LoadNext,
     /// Stores an own free entry as the head of a bundle of a locked node. It is pending from then on.
     Prepare,

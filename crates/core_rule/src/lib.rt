@@ -1,6 +1,6 @@
 // The pure machine: a table as plain data, the events that change it, and the rule that every event keeps.
-// It stands on `index_words` and `core_grace`. The running table keeps this very rule: the layers above
-// cite the definitions of `specs/` and the laws of `proofs/`.
+// It stands on `index_words`, `core_grace`, `core_links` and `core_trees`. The running table keeps this very rule: the
+// layers above cite the definitions of `specs/` and the laws of `proofs/`.
 #![tactic(auto)]
 
 mod event;
@@ -15,17 +15,18 @@ mod run;
 mod seat_links;
 mod seat_locks;
 mod seats;
+mod spelled_now;
+mod spelling;
 mod state;
 mod step;
+mod subtrees;
+mod tree_moves;
+mod tree_steps;
 mod updates;
 
 pub use event::{Event, Kind};
 pub use run::{RunError, run_of};
 pub use state::{State, StepError};
 
-#[cfg(test)]
-mod link_tests;
-#[cfg(test)]
-mod lock_tests;
 #[cfg(test)]
 mod tests;

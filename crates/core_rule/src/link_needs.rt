@@ -2,14 +2,15 @@
 ghost use Rattle.std.specs.Prelude.{◌≡◌};
 ghost use Rattle.index_words.specs.Words.{memory};
 ghost use Rattle.index_words.specs.Lists.{has};
-ghost use Rattle.core_grace.specs.Holds.{listed};
 ghost use Rattle.core_rule.specs.LoadNeeds.{reads_tree, may_load_stamp as stamp_needs, is_reachable as reaches, may_load_head as head_needs, stands_at as place_stands_at, is_part as part_is, may_load_part as part_needs, may_go_on as goes_on, may_load_next as next_needs};
-ghost use Rattle.core_rule.specs.UpdateNeeds.{side_of as side_named, is_written as written, is_next_of as next_of, is_ready as ready, held_at as held_named, may_prepare_entry as entry_needs, may_prepare as prepare_needs, may_raise as raise_needs, may_finalise as finalise_needs};
+ghost use Rattle.core_rule.specs.UpdateNeeds.{side_of as side_named, is_written as written, is_next_of as next_of, is_ready as ready, held_at as held_named, may_prepare_entry as entry_needs, may_prepare as prepare_needs, is_raise_of as raises_update, may_raise_number as number_needs, may_raise as raise_needs, may_finalise as finalise_needs};
 
+use crate::event::Event;
 use crate::loads::{is_above, is_locked};
 use crate::needs::{held, is_in, is_stamp_word};
+use crate::tree_steps::is_tree_step;
 use index_words::{
-    Field, HeldNode, HeldSide, Layout, LoadedHead, Part, Place, Side, TreeNode, View, Word,
+    Field, HeldNode, HeldSide, Layout, LoadedHead, Part, Place, Side, TreeNode, Update, View, Word,
 };
 
 /// Whether the stamp may be loaded.
@@ -28,15 +29,6 @@ fn is_in_tree(tree: &[TreeNode], node: u32) -> bool
     tree.iter().any(|own| own.slot == node)
 }
 
-fn is_added(added: Option<u32>, node: u32) -> bool
-    ensures { result ≡ has node (listed added) }
-{
-    match added {
-        None => false,
-        Some(own) => own == node,
-    }
-}
-
 /// Whether the seat may be looking at the node.
 pub(crate) fn is_reachable(view: &View, node: u32) -> bool
     ensures { result ≡ reaches view.now node }
@@ -44,7 +36,6 @@ pub(crate) fn is_reachable(view: &View, node: u32) -> bool
     node == 0
         || is_in_tree(view.reading.tree.as_slice(), node)
         || is_locked(view.held.nodes.as_slice(), node)
-        || is_added(view.update.added, node)
 }
 
 /// Whether this head may be loaded.
@@ -207,15 +198,45 @@ pub(crate) fn may_prepare(
     }
 }
 
-/// Whether the stamp may be raised, but for the update.
-pub(crate) fn may_raise(view: &View, word: Word, value: u64) -> bool
-    ensures { result ≡ raise_needs view.now word value }
+fn is_raise_of(
+    layout: &Layout,
+    words: &[u64],
+    views: &[View],
+    view: &View,
+    update: Option<Update>,
+) -> bool
+    ensures { result ≡ raises_update layout.now (memory layout.now words.now) views.now view.now update }
+{
+    match update {
+        None => false,
+        Some(update) => is_tree_step(layout, words, views, view, update),
+    }
+}
+
+/// Whether the stamp may be raised, but for the tree.
+fn may_raise_number(view: &View, word: Word, value: u64) -> bool
+    ensures { result ≡ number_needs view.now word value }
 {
     is_stamp_word(word)
         && value == 0
         && view.update.raised.is_none()
         && !(view.history.left == 0)
         && !view.update.pending.is_empty()
+}
+
+/// Whether the stamp may be raised, for this update of the view's own pass.
+pub(crate) fn may_raise(
+    layout: &Layout,
+    words: &[u64],
+    views: &[View],
+    view: &View,
+    word: Word,
+    event: &Event,
+) -> bool
+    ensures { result ≡ raise_needs layout.now (memory layout.now words.now) views.now view.now word event.now.value event.now.update }
+{
+    may_raise_number(view, word, event.value)
+        && is_raise_of(layout, words, views, view, event.update)
 }
 
 /// Whether this number may be written into this entry.

@@ -4,12 +4,12 @@ ghost use Rattle.std.specs.List.{list_any};
 ghost use Rattle.index_words.specs.Words.{same_side as same_sides};
 ghost use Rattle.index_words.specs.Lists.{has};
 ghost use Rattle.core_rule.specs.UpdateMoves.{known_at};
-ghost use Rattle.core_rule.specs.LoadMoves.{locks, risen as risen_count, stamp_loaded, has_other_source, has_moved as link_has_moved, remembered_if, bundle_link, head_loaded, stamp_known, side_known, node_known, place_known, ts_loaded, is_selected as selects, ptr_loaded, is_above_at, is_above as above_section, kept_if, next_loaded};
+ghost use Rattle.core_rule.specs.LoadMoves.{locks, risen as risen_count, stamp_loaded, has_other_source, has_moved as link_has_moved, remembered_if, bundle_link, stored_by as is_stored_by, found_again, side_found, found_at, head_loaded, stamp_known, side_known, node_known, place_known, ts_loaded, is_selected as selects, ptr_loaded, is_above_at, is_above as above_section, kept_if, next_loaded};
 ghost use Rattle.core_rule.specs.Steps.{head_from, ts_from, ptr_from, next_from};
 
 use index_words::{
     Field, Held, HeldNext, HeldNode, HeldSide, Items, Link, LinkSource, LoadedHead, NoMemory,
-    Place, Side, Update, View, Word,
+    Place, Side, TreeNode, Update, View, Word,
 };
 use std::alloc::Global;
 
@@ -20,9 +20,15 @@ pub(crate) fn risen(count: u64) -> u64
     if count == u64::MAX { count } else { count + 1 }
 }
 
-/// The view after a load of the stamp. `known` is the whole history.
-pub(crate) fn load_stamp(view: &mut View, known: Items<Update>, stamp: u64, fixes: bool)
-    ensures { view.new ≡ stamp_loaded known view.old stamp fixes }
+/// The view after a load of the stamp. `known` is the whole history, and `nodes` are those of the tree.
+pub(crate) fn load_stamp(
+    view: &mut View,
+    known: Items<Update>,
+    stamp: u64,
+    fixes: bool,
+    nodes: Items<TreeNode>,
+)
+    ensures { view.new ≡ stamp_loaded known view.old stamp fixes nodes }
 {
     view.history.seen = known;
     if fixes {
@@ -31,7 +37,7 @@ pub(crate) fn load_stamp(view: &mut View, known: Items<Update>, stamp: u64, fixe
     }
     view.reading.section = Some(stamp);
     view.reading.opened = if fixes { Some(stamp) } else { None };
-    view.reading.tree.clear();
+    view.reading.tree = nodes;
     view.reading.place = Place::Nowhere;
     view.reading.links.clear();
     view.reading.left_turn = None;
@@ -126,6 +132,56 @@ pub(crate) fn hold_head(alloc: Global, held: &mut Held, node: u32, side: Side, h
     held.nodes = Items::from_vec(nodes);
 }
 
+fn head_again(head: Option<LoadedHead>, entry: u64) -> Option<LoadedHead>
+    ensures { result ≡ found_again entry head }
+{
+    let found = LoadedHead { entry, stamp: None };
+    match head {
+        None => Some(found),
+        Some(head) => Some(if head.entry == entry { head } else { found }),
+    }
+}
+
+fn side_again(side: HeldSide, entry: u64) -> HeldSide
+    ensures { result ≡ side_found entry side }
+{
+    HeldSide {
+        head: head_again(side.head, entry),
+        link: side.link,
+        tag: side.tag,
+    }
+}
+
+fn with_found(held: HeldNode, node: u32, side: Side, entry: u64) -> HeldNode
+    ensures { result ≡ found_at node side entry held }
+{
+    let mut known = held;
+    if held.node == node {
+        match side {
+            Side::Left => known.left = side_again(held.left, entry),
+            Side::Right => known.right = side_again(held.right, entry),
+        }
+    }
+    known
+}
+
+fn find_head(nodes: &mut [HeldNode], node: u32, side: Side, entry: u64)
+    ensures { nodes.new ≡ map (found_at node side entry) nodes.old }
+{
+    for held in nodes.iter_mut() {
+        *held = with_found(*held, node, side, entry);
+    }
+}
+
+/// The locked nodes, after a load of a head that found this entry.
+fn hold_found(alloc: Global, held: &mut Held, node: u32, side: Side, entry: u64)
+    ensures { held.new ≡ record held.old { nodes = map (found_at node side entry) held.old.nodes } }
+{
+    let mut nodes = std::mem::replace(&mut held.nodes, Items::new(alloc)).into_vec();
+    find_head(nodes.as_mut_slice(), node, side, entry);
+    held.nodes = Items::from_vec(nodes);
+}
+
 fn is_pending(view: &View, entry: u64) -> bool
     ensures { result ≡ has entry view.now.update.pending }
 {
@@ -136,18 +192,31 @@ fn is_pending(view: &View, entry: u64) -> bool
         .any(|own| u64::from(*own) == entry)
 }
 
+fn is_mine(mine: &[u64], number: u64) -> bool
+    ensures { result ≡ has number mine.now }
+{
+    mine.contains(&number)
+}
+
+fn stored_by(view: &View, entry: u64, number: u64) -> bool
+    ensures { result ≡ is_stored_by view.now entry number }
+{
+    is_pending(view, entry) || is_mine(view.history.mine.as_slice(), number)
+}
+
 fn stand_at_head(
     alloc: Global,
     view: &mut View,
     node: u32,
     side: Side,
     entry: u64,
+    number: u64,
 ) -> Result<(), NoMemory>
-    ensures ok { OnOk result (view.new ≡ head_loaded view.old node side entry) }
+    ensures ok { OnOk result (view.new ≡ head_loaded view.old node side entry number) }
     ensures err { OnErr result (view.new ≡ view.old) }
 {
     let moved = has_moved(view.reading.links.as_slice(), node, side, entry)
-        && !is_pending(view, entry);
+        && !stored_by(view, entry, number);
     remember(
         &mut view.reading.links,
         entry == 0,
@@ -162,23 +231,25 @@ fn stand_at_head(
         entry,
         stamp: None,
     };
-    let head = LoadedHead { entry, stamp: None };
-    hold_head(alloc, &mut view.held, node, side, head);
+    hold_found(alloc, &mut view.held, node, side, entry);
     Ok(())
 }
 
-/// The view after a load that found `entry` as this head. After a refusal it is unchanged.
+/// The view after a load that found `entry`, with this written number, as this head. After a refusal it is unchanged.
 pub(crate) fn load_head(
     alloc: Global,
     view: &mut View,
     word: Word,
     entry: u64,
+    number: u64,
 ) -> Result<(), NoMemory>
-    ensures ok { OnOk result (view.new ≡ head_from view.old word entry) }
+    ensures ok { OnOk result (view.new ≡ head_from view.old word entry number) }
     ensures err { OnErr result (view.new ≡ view.old) }
 {
     match word {
-        Word::Node(Field::Head(side), node) => stand_at_head(alloc, view, node, side, entry),
+        Word::Node(Field::Head(side), node) => stand_at_head(
+            alloc, view, node, side, entry, number,
+        ),
         _ => Ok(()),
     }
 }

@@ -146,7 +146,10 @@ fn hold_mark(alloc: Global, view: &mut View, node: u32, mark: u64)
 fn finds_mark(view: &View, node: u32, mark: u64) -> bool
     ensures { result ≡ mark_found view.now node mark }
 {
-    mark == 1 && is_reachable(view, node) && !is_in(view.update.taken.as_slice(), node)
+    mark == 1
+        && is_reachable(view, node)
+        && !is_in(view.update.taken.as_slice(), node)
+        && !is_in(view.retired.nodes.as_slice(), node)
 }
 
 fn find_mark(alloc: Global, view: &mut View, node: u32, mark: u64)

@@ -2,6 +2,8 @@
 ghost use Rattle.std.specs.Prelude.{◌≡◌};
 ghost use Rattle.std.specs.List.{list_all};
 ghost use Rattle.index_words.specs.Words.{memory};
+ghost use Rattle.index_words.specs.declared.word.Part.TheVariants.{Stamp as Number};
+ghost use Rattle.index_words.specs.declared.word.Word.TheVariants.{Entry as EntryWord};
 ghost use Rattle.index_words.specs.Lists.{has};
 ghost use Rattle.core_rule.specs.Needs.{is_outside as outside_of, is_marked_node, nothing_pending, is_own_section, is_stamp, may_enter as enter_needs, may_leave as leave_needs, may_look as look_needs, is_lock, may_fill as fill_needs, may_split as split_needs, may_join as join_needs, may_join_view};
 ghost use Rattle.core_rule.specs.Steps.{needs};
@@ -26,6 +28,16 @@ pub(crate) fn held(layout: &Layout, words: &[u64], word: Word) -> u64
         .get(layout.address(word) as usize)
         .copied()
         .unwrap_or(0)
+}
+
+/// The written number of an entry, and 0 for an entry that is not there.
+pub(crate) fn number_of(layout: &Layout, words: &[u64], entry: u64) -> u64
+    ensures { result ≡ memory layout.now words.now (EntryWord Number entry) }
+{
+    if entry > u64::from(layout.entries) {
+        return 0;
+    }
+    held(layout, words, Word::Entry(Part::Stamp, entry as u32))
 }
 
 pub(crate) fn is_in(slots: &[u32], slot: u32) -> bool
@@ -159,7 +171,7 @@ pub(crate) fn are_met(
     word: Word,
     event: &Event,
 ) -> bool
-    ensures { result ≡ needs event.now.kind (memory layout.now words.now) views.now event.now.seat view.now word event.now.value }
+    ensures { result ≡ needs event.now.kind layout.now (memory layout.now words.now) views.now event.now.seat view.now word event.now.value event.now.update }
 {
     let value = event.value;
     match event.kind {
@@ -176,7 +188,7 @@ pub(crate) fn are_met(
         Kind::LoadPtr => may_load_part(Part::Child, view, word, value),
         Kind::LoadNext => may_load_next(view, word, value),
         Kind::Prepare => may_prepare(layout, words, view, word, value),
-        Kind::Raise => may_raise(view, word, value),
+        Kind::Raise => may_raise(layout, words, views, view, word, event),
         Kind::Finalise => may_finalise(view, word, value),
         Kind::TryLock => may_try_lock(view, word, value),
         Kind::Unlock => may_unlock(layout, words, view, word, value),

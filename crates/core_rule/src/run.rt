@@ -2,6 +2,8 @@ ghost use Rattle.std.specs.Prelude.{◌≡◌, IfOk, IfErr, Some, None};
 ghost use Rattle.index_words.specs.Sizes.{FitTable, layout_of};
 ghost use Rattle.core_rule.specs.Openings.{opening};
 ghost use Rattle.core_rule.specs.Rule.{IsRight};
+ghost use Rattle.core_rule.specs.TreeLaw.{SpellsMap};
+ghost use Rattle.core_rule.specs.Remembered.{KeepsRemembered, RemembersSelected};
 ghost use Rattle.core_rule.specs.Runs.{after_all, first_refused, IsRefusal};
 
 use crate::event::Event;
@@ -17,7 +19,8 @@ pub enum RunError {
     NoMemory,
 }
 
-/// The state that the start and then the step of every event give, in order to the last.
+/// The state that the start and then the step of every event give, in order to the last. Its words spell the
+/// maps that it stands for, and its seats remember links as `State::step` says.
 pub fn run_of(
     alloc: Global,
     layout: &Layout,
@@ -29,6 +32,9 @@ pub fn run_of(
     ensures allowed { IfOk result (λ s. first_refused (opening layout.now sizes.now) events.now ≡ None) }
     ensures state { IfOk result (λ s. s ≡ after_all (opening layout.now sizes.now) events.now) }
     ensures rule { IfOk result IsRight }
+    ensures trees { IfOk result SpellsMap }
+    ensures selected { IfOk result RemembersSelected }
+    ensures remembered { IfOk result KeepsRemembered }
     ensures refused { IfErr result (IsRefusal (first_refused (opening layout.now sizes.now) events.now)) }
 {
     let Ok(mut state) = State::start(alloc, layout, sizes) else {

@@ -3,12 +3,20 @@ ghost use Rattle.std.specs.Prelude.{◌≡◌, ◌+◌, ◌<◌, ◌^◌, OnOk, 
 ghost use Rattle.std.specs.List.{slice_get};
 ghost use Rattle.index_words.specs.declared.view.View.{View as SeatView};
 ghost use Rattle.core_rule.specs.LoadMoves.{longest, stamp_loaded};
-ghost use Rattle.core_rule.specs.Steps.{head_from, ts_from, ptr_from, next_from, prepared_from, raised_from, finalised_from};
+ghost use Rattle.index_words.specs.Words.{memory};
+ghost use Rattle.index_words.specs.declared.word.Word.TheVariants.{Stamp};
+ghost use Rattle.core_rule.specs.Versions.{tree_nodes};
+ghost use Rattle.core_rule.specs.SpelledNow.{tree_now};
+ghost use Rattle.core_rule.specs.UpdateMoves.{raised_view};
+ghost use Rattle.core_rule.specs.Steps.{head_from, ts_from, ptr_from, next_from, prepared_from, finalised_from};
 ghost use Rattle.core_rule.specs.Seats.{HasCalls};
 
 use crate::loads::{load_head, load_next, load_ptr, load_stamp, load_ts};
+use crate::needs::held;
+use crate::spelled_now::nodes_now;
+use crate::tree_moves::TreeMove;
 use crate::updates::{finalise, prepare, raise};
-use index_words::{Items, NoMemory, Update, View, Word};
+use index_words::{Items, Layout, NoMemory, Update, View, Word};
 use std::alloc::Global;
 
 fn longest_history(alloc: Global, views: &[View]) -> Result<Items<Update>, NoMemory>
@@ -27,18 +35,21 @@ fn longest_history(alloc: Global, views: &[View]) -> Result<Items<Update>, NoMem
 
 pub(crate) fn load_stamp_seat(
     alloc: Global,
+    layout: &Layout,
+    words: &[u64],
     views: &mut [View],
     seat: usize,
-    stamp: u64,
     fixes: bool,
 ) -> Result<(), NoMemory>
     requires { seat < length views.old }
-    ensures ok { OnOk result ((v : SeatView) → slice_get views.old seat ≡ Some v → views.new ≡ slice_set views.old seat (stamp_loaded (longest views.old) v stamp fixes)) }
+    ensures ok { OnOk result ((v : SeatView) → slice_get views.old seat ≡ Some v → views.new ≡ slice_set views.old seat (stamp_loaded (longest views.old) v (memory layout.now words.now Stamp) fixes (tree_nodes (tree_now layout.now (memory layout.now words.now) views.old)))) }
     ensures err { OnErr result (views.new ≡ views.old) }
 {
+    let stamp = held(layout, words, Word::Stamp);
+    let nodes = nodes_now(alloc, layout, words, views)?;
     let known = longest_history(alloc, views)?;
     let view = &mut views[seat];
-    load_stamp(view, known, stamp, fixes);
+    load_stamp(view, known, stamp, fixes, nodes);
     Ok(())
 }
 
@@ -48,13 +59,14 @@ pub(crate) fn load_head_seat(
     seat: usize,
     word: Word,
     found: u64,
+    number: u64,
 ) -> Result<(), NoMemory>
     requires { seat < length views.old }
-    ensures ok { OnOk result ((v : SeatView) → slice_get views.old seat ≡ Some v → views.new ≡ slice_set views.old seat (head_from v word found)) }
+    ensures ok { OnOk result ((v : SeatView) → slice_get views.old seat ≡ Some v → views.new ≡ slice_set views.old seat (head_from v word found number)) }
     ensures err { OnErr result (views.new ≡ views.old) }
 {
     let view = &mut views[seat];
-    load_head(alloc, view, word, found)
+    load_head(alloc, view, word, found, number)
 }
 
 pub(crate) fn load_ts_seat(alloc: Global, views: &mut [View], seat: usize, word: Word, found: u64)
@@ -114,16 +126,17 @@ pub(crate) fn raise_seat(
     views: &mut [View],
     seat: usize,
     stamp: u64,
-    update: Option<Update>,
+    update: Update,
+    moved: TreeMove,
 ) -> Result<(), NoMemory>
     requires seat { HasCalls views.old seat }
     requires small { stamp + 1 < 2 ^ 64 }
-    ensures ok { OnOk result ((v : SeatView) → slice_get views.old seat ≡ Some v → views.new ≡ slice_set views.old seat (raised_from (longest views.old) v stamp update)) }
+    ensures ok { OnOk result ((v : SeatView) → slice_get views.old seat ≡ Some v → views.new ≡ slice_set views.old seat (raised_view (longest views.old) v stamp update moved)) }
     ensures err { OnErr result (views.new ≡ views.old) }
 {
     let known = longest_history(alloc, views)?;
     let view = &mut views[seat];
-    raise(view, known, stamp, update)
+    raise(alloc, view, known, stamp, update, moved)
 }
 
 pub(crate) fn finalise_seat(alloc: Global, views: &mut [View], seat: usize, word: Word)

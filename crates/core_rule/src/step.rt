@@ -5,16 +5,20 @@ ghost use Rattle.index_words.specs.Words.{word_at, word_count, memory};
 ghost use Rattle.core_rule.specs.Tables.{Table};
 ghost use Rattle.core_rule.specs.declared.event.Kind.TheVariants.{SplitSeat, Raise};
 ghost use Rattle.core_rule.specs.Rule.{InRule};
-ghost use Rattle.core_rule.specs.Steps.{is_own_update as own_update, carries as kind_carries, allowed_at, words_after, IsChange};
+ghost use Rattle.std.specs.Prelude.{slice_set};
+ghost use Rattle.index_words.specs.declared.view.View.{View as SeatView};
+ghost use Rattle.index_words.specs.declared.word.Word.TheVariants.{Stamp};
+ghost use Rattle.core_rule.specs.Steps.{is_own_update as own_update, carries as kind_carries, allowed_at, words_after, raised_from, IsChange};
 
 use crate::event::{Event, Kind};
-use crate::needs::{are_met, held};
+use crate::needs::{are_met, held, number_of};
 use crate::seat_links::{
     finalise_seat, load_head_seat, load_next_seat, load_ptr_seat, load_stamp_seat, load_ts_seat,
     prepare_seat, raise_seat,
 };
 use crate::seat_locks::{load_mark_seat, mark_seat, try_lock_seat, unlock_seat};
 use crate::seats::{enter_seat, join_seats, leave_seat, look_seat, split_seat};
+use crate::tree_moves::tree_move;
 use core_grace::is_own;
 use index_words::{Layout, NoMemory, Update, View, Word};
 use std::alloc::Global;
@@ -84,6 +88,30 @@ pub(crate) fn store(words: &mut Vec<u64>, event: &Event)
     }
 }
 
+/// The views after an allowed raise. After a refusal they are unchanged.
+fn raise_by(
+    alloc: Global,
+    layout: &Layout,
+    words: &[u64],
+    views: &mut [View],
+    event: &Event,
+) -> Result<(), NoMemory>
+    requires kind { event.now.kind ≡ Raise }
+    requires met { allowed_at (record { layout = layout.now; words = words.now; views = views.old }) event.now (slice_get views.old event.now.seat) (Some Stamp) ≡ true }
+    requires right { InRule layout.now words.now views.old }
+    ensures ok { OnOk result ((v : SeatView) → slice_get views.old event.now.seat ≡ Some v → views.new ≡ slice_set views.old event.now.seat (raised_from layout.now (memory layout.now words.now) views.old v (memory layout.now words.now Stamp) event.now.update)) }
+    ensures err { OnErr result (views.new ≡ views.old) }
+{
+    let Some(update) = event.update else {
+        unreachable!()
+    };
+    let seat = event.seat as usize;
+    let shared: &[View] = views;
+    let moved = tree_move(alloc, layout, words, shared, &shared[seat], update)?;
+    let stamp = held(layout, words, Word::Stamp);
+    raise_seat(alloc, views, seat, stamp, update, moved)
+}
+
 /// The views after an allowed event of a kind that makes no seat. After a refusal they are unchanged.
 #[tactic(none)]
 fn change_in_place(
@@ -114,8 +142,15 @@ fn change_in_place(
             Ok(())
         }
         Kind::LookSec => look_seat(alloc, views, seat, layout, word, found),
-        Kind::LoadStamp => load_stamp_seat(alloc, views, seat, found, value == 1),
-        Kind::LoadHead => load_head_seat(alloc, views, seat, word, found),
+        Kind::LoadStamp => load_stamp_seat(alloc, layout, words, views, seat, value == 1),
+        Kind::LoadHead => load_head_seat(
+            alloc,
+            views,
+            seat,
+            word,
+            found,
+            number_of(layout, words, found),
+        ),
         Kind::LoadTs => {
             load_ts_seat(alloc, views, seat, word, found);
             Ok(())
@@ -123,7 +158,7 @@ fn change_in_place(
         Kind::LoadPtr => load_ptr_seat(views, seat, word, found),
         Kind::LoadNext => load_next_seat(views, seat, word, found),
         Kind::Prepare => prepare_seat(alloc, views, seat, word, value),
-        Kind::Raise => raise_seat(alloc, views, seat, found, event.update),
+        Kind::Raise => raise_by(alloc, layout, words, views, event),
         Kind::Finalise => {
             finalise_seat(alloc, views, seat, word);
             Ok(())

@@ -1,4 +1,13 @@
+mod counts;
 mod locks;
+mod needs;
+mod puts;
+mod readers;
+mod removals;
+mod retired;
+mod searches;
+mod seen;
+mod updates;
 
 use crate::*;
 use index_words::{Change, Layout, Link, LinkSource, PassSize, Place, Side, Update};

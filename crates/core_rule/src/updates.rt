@@ -1,10 +1,13 @@
 // The view of a seat after each kind of event of an update.
-ghost use Rattle.std.specs.Prelude.{◌≡◌, ◌+◌, ◌<◌, ◌^◌, OnOk, OnErr};
-ghost use Rattle.core_rule.specs.UpdateMoves.{without, prepared, raised_view};
-ghost use Rattle.core_rule.specs.Steps.{prepared_from, raised_from, finalised_from};
+ghost use Rattle.std.specs.Prelude.{◌≡◌, ◌+◌, ◌<◌, ◌^◌, OnOk, OnErr, IfOk};
+ghost use Rattle.core_grace.specs.Holds.{listed};
+ghost use Rattle.core_rule.specs.UpdateMoves.{without, without_all, prepared, lengthened, raised_view};
+ghost use Rattle.core_rule.specs.Steps.{prepared_from, finalised_from};
 
 use crate::loads::hold_head;
-use index_words::{Field, Items, LoadedHead, NoMemory, Place, Side, Update, View, Word};
+use crate::needs::is_in;
+use crate::tree_moves::TreeMove;
+use index_words::{Field, Items, LoadedHead, NoMemory, Place, Side, Slots, Update, View, Word};
 use std::alloc::Global;
 
 fn keep_others(numbers: &mut Vec<u32>, number: u32)
@@ -61,48 +64,103 @@ pub(crate) fn prepare(
     }
 }
 
-fn add_update(
+fn keep_without(numbers: &mut Vec<u32>, out: &[u32])
+    ensures { numbers.new.items ≡ without_all out.now numbers.old.items }
+{
+    numbers.retain(|own| !is_in(out, *own));
+}
+
+/// The list without these numbers.
+fn drop_numbers(alloc: Global, list: &mut Items<u32>, out: &[u32])
+    ensures { list.new ≡ without_all out.now list.old }
+{
+    let mut numbers = std::mem::replace(list, Items::new(alloc)).into_vec();
+    keep_without(&mut numbers, out);
+    *list = Items::from_vec(numbers);
+}
+
+fn drop_added(alloc: Global, list: &mut Items<u32>, added: Option<u32>)
+    ensures { list.new ≡ without_all (listed added) list.old }
+{
+    match added {
+        None => drop_numbers(alloc, list, &[]),
+        Some(node) => drop_numbers(alloc, list, &[node]),
+    }
+}
+
+/// The lists of a view that a raise makes longer.
+#[derive(Drop)]
+pub(crate) struct Longer {
+    mine: Items<u64>,
+    pending: Items<u32>,
+    retired: Slots,
+}
+
+fn longer_lists(
+    alloc: Global,
+    view: &View,
+    place: u64,
+    moved: &TreeMove,
+) -> Result<Longer, NoMemory>
+    ensures { IfOk result (λ longer. longer ≡ lengthened view.now place moved.now) }
+{
+    let mine = Items::concat(alloc, view.history.mine.as_slice(), &[place])?;
+    let pending = Items::concat(
+        alloc,
+        view.update.pending.as_slice(),
+        moved.entries.as_slice(),
+    )?;
+    let nodes = Items::concat(alloc, view.retired.nodes.as_slice(), moved.taken.as_slice())?;
+    let entries = Items::concat(
+        alloc,
+        view.retired.entries.as_slice(),
+        moved.taken_entries.as_slice(),
+    )?;
+    Ok(Longer {
+        mine,
+        pending,
+        retired: Slots { nodes, entries },
+    })
+}
+
+/// The view after a raise of this update, where `known` is the whole history before it and `stamp` its length.
+/// After a refusal it is unchanged.
+pub(crate) fn raise(
+    alloc: Global,
     view: &mut View,
     known: Items<Update>,
     stamp: u64,
     update: Update,
+    moved: TreeMove,
 ) -> Result<(), NoMemory>
     requires left { 0 < view.old.history.left }
     requires small { stamp + 1 < 2 ^ 64 }
-    ensures ok { OnOk result (view.new ≡ raised_view known view.old stamp update) }
+    ensures ok { OnOk result (view.new ≡ raised_view known view.old stamp update moved) }
     ensures err { OnErr result (view.new ≡ view.old) }
 {
     let mut seen = known;
     seen.push(update)?;
     let place = stamp + 1;
-    view.history.mine.push(place)?;
+    let Longer {
+        mine,
+        pending,
+        retired,
+    } = longer_lists(alloc, view, place, &moved)?;
     view.history.seen = seen;
+    view.history.mine = mine;
     view.history.left -= 1;
     view.reading.place = Place::Nowhere;
     view.reading.links.clear();
     view.reading.left_turn = None;
     view.reading.right_turn = None;
     view.update.raised = Some(place);
+    view.update.added = moved.added;
+    view.update.pending = pending;
+    drop_added(alloc, &mut view.free.nodes, moved.added);
+    drop_numbers(alloc, &mut view.free.entries, moved.entries.as_slice());
+    view.retired = retired;
+    view.update.taken = moved.taken;
     Ok(())
-}
-
-/// The view after a raise of this update, where `known` is the whole history before it and `stamp` its length.
-/// After a refusal it is unchanged.
-pub(crate) fn raise(
-    view: &mut View,
-    known: Items<Update>,
-    stamp: u64,
-    update: Option<Update>,
-) -> Result<(), NoMemory>
-    requires left { 0 < view.old.history.left }
-    requires small { stamp + 1 < 2 ^ 64 }
-    ensures ok { OnOk result (view.new ≡ raised_from known view.old stamp update) }
-    ensures err { OnErr result (view.new ≡ view.old) }
-{
-    match update {
-        None => Ok(()),
-        Some(update) => add_update(view, known, stamp, update),
-    }
 }
 
 /// The view after the entry of this word was finalised.

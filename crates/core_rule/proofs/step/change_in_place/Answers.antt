@@ -1,10 +1,18 @@
 use Rattle.std.proofs.Common.{refl}
 use Rattle.core_rule.specs.declared.event.Kind.TheVariants.{MakeSeat, Enter, Leave, LookSec, Fill, LoadStamp, LoadHead, LoadTs, LoadPtr, LoadNext, Prepare, Raise, Finalise, TryLock, Unlock, LoadMark, Mark, LoadKeyOrVal}
 use Rattle.index_words.specs.declared.view.View.{View}
-use Rattle.std.proofs.Common.{ℕ, eqb}
+use Rattle.std.proofs.Common.{◌≡◌, ◌∙◌, ap, sym, subst, true, Some, ℕ, eqb, slice_set}
+use Rattle.std.specs.List.{slice_get}
+use Rattle.index_words.specs.declared.word.Word.{Word}
+use Rattle.index_words.specs.declared.word.Word.TheVariants.{Entry}
+use Rattle.index_words.specs.declared.word.Part.TheVariants.{Stamp as Number}
 use Rattle.core_rule.specs.LoadMoves.{longest, stamp_loaded}
-use Rattle.core_rule.specs.Steps.{look_from, head_from, ts_from, ptr_from, next_from, raised_from, tried_from, mark_from}
-use Rattle.core_rule.proofs.Allowed.{seat_within, join_other, prepare_small, raises}
+use Rattle.core_rule.specs.Versions.{tree_nodes}
+use Rattle.core_rule.specs.SpelledNow.{tree_now}
+use Rattle.index_words.specs.Words.{memory}
+use Rattle.core_rule.specs.Steps.{allowed_at, look_from, head_from, ts_from, ptr_from, next_from, raised_from, tried_from, mark_from}
+use Rattle.core_rule.specs.Tables.{Table}
+use Rattle.core_rule.proofs.Allowed.{seat_within, join_other, prepare_small, raises, loads_stamp}
 use Rattle.core_rule.proofs.Changes.{on_ok, change_of, join_change, at_found}
 use Rattle.core_rule.proofs.step.change_in_place.Goals as goal
 
@@ -62,11 +70,17 @@ prepare_seat-requires-clause-seat c = seat_within (record { layout = c.args.layo
 pub prepare_seat-requires-clause-small : goal.prepare_seat-requires-clause-small
 prepare_seat-requires-clause-small c = prepare_small (record { layout = c.args.layout.now; words = c.args.words.now; views = c.args.views.now }) c.args.event.now c.args.word c.requires.met c.in-Prepare.is
 
-pub raise_seat-requires-clause-seat : goal.raise_seat-requires-clause-seat
-raise_seat-requires-clause-seat c = (raises (record { layout = c.args.layout.now; words = c.args.words.now; views = c.args.views.now }) c.args.event.now c.args.word c.requires.right c.requires.met c.in-Raise.is).calls
+pub raise_by-requires-clause-kind : goal.raise_by-requires-clause-kind
+raise_by-requires-clause-kind c = c.in-Raise.is
 
-pub raise_seat-requires-clause-small : goal.raise_seat-requires-clause-small
-raise_seat-requires-clause-small c = rw c.held-found.ensures (raises (record { layout = c.args.layout.now; words = c.args.words.now; views = c.args.views.now }) c.args.event.now c.args.word c.requires.right c.requires.met c.in-Raise.is).small
+pub raise_by-requires-clause-right : goal.raise_by-requires-clause-right
+raise_by-requires-clause-right c = c.requires.right
+
+pub raise_by-requires-clause-met : goal.raise_by-requires-clause-met
+raise_by-requires-clause-met c =
+    let t : Table = record { layout = c.args.layout.now; words = c.args.words.now; views = c.args.views.now } in
+    subst (λ (w : Word). allowed_at t c.args.event.now (slice_get c.args.views.now c.args.event.now.seat) (Some w) ≡ true)
+    (raises t c.args.event.now c.args.word c.requires.right c.requires.met c.in-Raise.is).stamp c.requires.met
 
 pub returns-in-MakeSeat-clause-ok : goal.returns-in-MakeSeat-clause-ok
 returns-in-MakeSeat-clause-ok c = change_of c.args.layout.now c.args.words.now c.args.views.now c.args.event.now c.args.word c.args.views.now MakeSeat c.in-MakeSeat.is (λ v found. refl)
@@ -104,8 +118,13 @@ returns-in-LookSec-clause-err c = c.look_seat.ensures.err
 
 pub returns-in-LoadStamp-clause-ok : goal.returns-in-LoadStamp-clause-ok
 returns-in-LoadStamp-clause-ok c =
+    let z = c.args.layout.now in
+    let m = memory c.args.layout.now c.args.words.now in
+    let vs = c.args.views.now in
+    let t : Table = record { layout = z; words = c.args.words.now; views = vs } in
     on_ok c.load_stamp_seat.result
-    (λ step. change_of c.args.layout.now c.args.words.now c.args.views.now c.args.event.now c.args.word c.load_stamp_seat.new.views LoadStamp c.in-LoadStamp.is (at_found c.args.views.now c.args.event.now.seat c.load_stamp_seat.new.views (λ (v : View) (x : ℕ). stamp_loaded (longest c.args.views.now) v x (eqb c.args.event.now.value 1)) c.held-found.result _ c.held-found.ensures step))
+    (λ step. change_of z c.args.words.now vs c.args.event.now c.args.word c.load_stamp_seat.new.views LoadStamp c.in-LoadStamp.is
+    (λ v found. step v found ∙ ap (λ (w : Word). slice_set vs c.args.event.now.seat (stamp_loaded (longest vs) v (m w) (eqb c.args.event.now.value 1) (tree_nodes (tree_now z m vs)))) (sym (loads_stamp t c.args.event.now c.args.word c.requires.met c.in-LoadStamp.is))))
     c.load_stamp_seat.ensures.ok
 
 pub returns-in-LoadStamp-clause-err : goal.returns-in-LoadStamp-clause-err
@@ -114,7 +133,8 @@ returns-in-LoadStamp-clause-err c = c.load_stamp_seat.ensures.err
 pub returns-in-LoadHead-clause-ok : goal.returns-in-LoadHead-clause-ok
 returns-in-LoadHead-clause-ok c =
     on_ok c.load_head_seat.result
-    (λ step. change_of c.args.layout.now c.args.words.now c.args.views.now c.args.event.now c.args.word c.load_head_seat.new.views LoadHead c.in-LoadHead.is (at_found c.args.views.now c.args.event.now.seat c.load_head_seat.new.views (λ (v : View) (x : ℕ). head_from v c.args.word x) c.held-found.result _ c.held-found.ensures step))
+    (λ step. change_of c.args.layout.now c.args.words.now c.args.views.now c.args.event.now c.args.word c.load_head_seat.new.views LoadHead c.in-LoadHead.is (at_found c.args.views.now c.args.event.now.seat c.load_head_seat.new.views (λ (v : View) (x : ℕ). head_from v c.args.word x (memory c.args.layout.now c.args.words.now (Entry Number x))) c.held-found.result _ c.held-found.ensures
+    (λ v found. step v found ∙ ap (λ (n : ℕ). slice_set c.args.views.now c.args.event.now.seat (head_from v c.args.word c.held-found.result n)) c.number_of.ensures)))
     c.load_head_seat.ensures.ok
 
 pub returns-in-LoadHead-clause-err : goal.returns-in-LoadHead-clause-err
@@ -151,12 +171,17 @@ returns-in-Prepare-clause-err c = c.prepare_seat.ensures.err
 
 pub returns-in-Raise-clause-ok : goal.returns-in-Raise-clause-ok
 returns-in-Raise-clause-ok c =
-    on_ok c.raise_seat.result
-    (λ step. change_of c.args.layout.now c.args.words.now c.args.views.now c.args.event.now c.args.word c.raise_seat.new.views Raise c.in-Raise.is (at_found c.args.views.now c.args.event.now.seat c.raise_seat.new.views (λ (v : View) (x : ℕ). raised_from (longest c.args.views.now) v x c.args.event.now.update) c.held-found.result _ c.held-found.ensures step))
-    c.raise_seat.ensures.ok
+    let z = c.args.layout.now in
+    let m = memory c.args.layout.now c.args.words.now in
+    let vs = c.args.views.now in
+    let t : Table = record { layout = z; words = c.args.words.now; views = vs } in
+    on_ok c.raise_by.result
+    (λ step. change_of z c.args.words.now vs c.args.event.now c.args.word c.raise_by.new.views Raise c.in-Raise.is
+    (λ v found. step v found ∙ ap (λ (w : Word). slice_set vs c.args.event.now.seat (raised_from z m vs v (m w) c.args.event.now.update)) (sym (raises t c.args.event.now c.args.word c.requires.right c.requires.met c.in-Raise.is).stamp)))
+    c.raise_by.ensures.ok
 
 pub returns-in-Raise-clause-err : goal.returns-in-Raise-clause-err
-returns-in-Raise-clause-err c = c.raise_seat.ensures.err
+returns-in-Raise-clause-err c = c.raise_by.ensures.err
 
 pub returns-in-Finalise-clause-ok : goal.returns-in-Finalise-clause-ok
 returns-in-Finalise-clause-ok c =

@@ -2,6 +2,7 @@ use Rattle.std.proofs.Common.{ℕ, List, sym, subst}
 use Rattle.core_rule.specs.LinkLaw.{KeepsSelections}
 use Rattle.core_rule.specs.Rule.{InRule}
 use Rattle.core_rule.specs.Tables.{Table}
+use Rattle.core_rule.proofs.Laws.{laws_of, laws_same, laws_refused}
 use Rattle.core_rule.proofs.Stepped.{finished, same_selections, refused_selections, stored_small}
 use Rattle.core_rule.proofs.state.State.step.Goals as goal
 
@@ -46,3 +47,45 @@ returns-clause-links c =
     c.is_allowed.result c.is_err.result c.change.result c.store.new.words.items c.change.new.views.items
     c.self.invariant c.in-Some.ensures.value c.as_slice.ensures.value c.as_slice-2.ensures.value c.is_allowed.ensures c.if-not-is_allowed.false
     c.as_slice-3.ensures.value c.is_err.ensures.value c.if-is_err.false c.change.ensures.ok c.store.ensures).same
+
+pub returns-in_default-clause-trees : goal.returns-in_default-clause-trees
+returns-in_default-clause-trees c = (laws_same _ c.args.self.now c.self.invariant c.self.view_is).trees
+
+pub returns-then-not-is_allowed-clause-trees : goal.returns-then-not-is_allowed-clause-trees
+returns-then-not-is_allowed-clause-trees c = (laws_same _ c.args.self.now c.self.invariant c.self.view_is).trees
+
+pub returns-then-is_err-clause-trees : goal.returns-then-is_err-clause-trees
+returns-then-is_err-clause-trees c =
+    (laws_refused c.self.inside.layout c.self.inside.words.items c.self.inside.views.items c.change.new.views.items c.is_err.result c.change.result
+    c.self.invariant c.is_err.ensures.value c.if-is_err.true c.change.ensures.err).trees
+
+pub returns-clause-trees : goal.returns-clause-trees
+returns-clause-trees c = (laws_of _ (returns-clause-rule c)).trees
+
+pub returns-in_default-clause-selected : goal.returns-in_default-clause-selected
+returns-in_default-clause-selected c = (laws_same _ c.args.self.now c.self.invariant c.self.view_is).selected
+
+pub returns-then-not-is_allowed-clause-selected : goal.returns-then-not-is_allowed-clause-selected
+returns-then-not-is_allowed-clause-selected c = (laws_same _ c.args.self.now c.self.invariant c.self.view_is).selected
+
+pub returns-then-is_err-clause-selected : goal.returns-then-is_err-clause-selected
+returns-then-is_err-clause-selected c =
+    (laws_refused c.self.inside.layout c.self.inside.words.items c.self.inside.views.items c.change.new.views.items c.is_err.result c.change.result
+    c.self.invariant c.is_err.ensures.value c.if-is_err.true c.change.ensures.err).selected
+
+pub returns-clause-selected : goal.returns-clause-selected
+returns-clause-selected c = (laws_of _ (returns-clause-rule c)).selected
+
+pub returns-in_default-clause-remembered : goal.returns-in_default-clause-remembered
+returns-in_default-clause-remembered c = (laws_same _ c.args.self.now c.self.invariant c.self.view_is).remembered
+
+pub returns-then-not-is_allowed-clause-remembered : goal.returns-then-not-is_allowed-clause-remembered
+returns-then-not-is_allowed-clause-remembered c = (laws_same _ c.args.self.now c.self.invariant c.self.view_is).remembered
+
+pub returns-then-is_err-clause-remembered : goal.returns-then-is_err-clause-remembered
+returns-then-is_err-clause-remembered c =
+    (laws_refused c.self.inside.layout c.self.inside.words.items c.self.inside.views.items c.change.new.views.items c.is_err.result c.change.result
+    c.self.invariant c.is_err.ensures.value c.if-is_err.true c.change.ensures.err).remembered
+
+pub returns-clause-remembered : goal.returns-clause-remembered
+returns-clause-remembered c = (laws_of _ (returns-clause-rule c)).remembered

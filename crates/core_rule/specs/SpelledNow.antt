@@ -1,0 +1,58 @@
+-- The tree at the stamp, as it is read from the words. In a bundle only the head may be without a number, so
+-- the newest entry that has one is the head or the entry behind it.
+use Rattle.std.specs.Prelude.{ℕ, zero, suc, List, [], ◌∷◌, cond, nat_lt, nat_le, Bool, not, ◌==◌, ◌&&◌, ◌||◌, is_none}
+use Rattle.std.specs.List.{list_any}
+use Rattle.index_words.specs.declared.layout.Layout.{Layout}
+use Rattle.index_words.specs.declared.side.Side.{Side}
+use Rattle.index_words.specs.declared.side.Side.TheVariants.{Left, Right}
+use Rattle.index_words.specs.declared.view.View.{View}
+use Rattle.index_words.specs.declared.word.Field.TheVariants.{Key, Val, Head}
+use Rattle.index_words.specs.declared.word.Part.TheVariants.{Child, Stamp as Number, Next}
+use Rattle.index_words.specs.declared.word.Word.TheVariants.{Stamp, Node, Entry}
+use Rattle.index_words.specs.Words.{Memory}
+use Rattle.index_words.specs.Lists.{has}
+use Rattle.core_links.specs.Bundle.{child_of_entry}
+use Rattle.core_trees.specs.NamedTree.{NamedTree, Null, Branch}
+use Rattle.core_trees.specs.SpelledTree.{Graph}
+
+-- the entry is pending in a view that has raised
+abbrev pub was_raised : ℕ → List View → Bool
+was_raised e vs = list_any (λ (v : View). not (is_none v.update.raised) && has e v.update.pending) vs
+
+-- the entry has a number: a written one, or that of a raise; those of `more` have one too
+abbrev pub has_number : Memory → List View → List ℕ → ℕ → Bool
+has_number m vs more e = not (m (Entry Number e) == 0) || was_raised e vs || has e more
+
+-- the newest entry that has a number, in a bundle with this head
+abbrev pub newest : (ℕ → Bool) → (ℕ → ℕ) → ℕ → ℕ
+newest numbered next head = cond (head == 0 || numbered head) head (next head)
+
+-- the child of a link, where the entries of `more` have a number too
+abbrev pub child_now : Memory → List View → List ℕ → Side → ℕ → ℕ
+child_now m vs more side k =
+    child_of_entry (λ e. m (Entry Child e)) (newest (has_number m vs more) (λ e. m (Entry Next e)) (m (Node (Head side) k)))
+
+abbrev pub graph_now : Memory → List View → List ℕ → Graph
+graph_now m vs more = record { key = λ k. m (Node Key k); val = λ k. m (Node Val k); child = child_now m vs more }
+
+-- the tree from a child on, at most `depth` links deep, of nodes up to `last`
+abbrev pub tree_from : ℕ → ℕ → Graph → ℕ → NamedTree
+tree_from zero last g c = Null
+tree_from (suc depth) last g c =
+    cond (nat_lt 0 c && nat_le c last)
+    (Branch c (g.key c) (g.val c) (tree_from depth last g (g.child Left c)) (tree_from depth last g (g.child Right c))) Null
+
+-- the tree at the stamp. It has no more nodes than there were updates, so it is followed as many links down
+abbrev pub tree_now : Layout → Memory → List View → NamedTree
+tree_now z m vs = tree_from (m Stamp) z.nodes (graph_now m vs []) (child_now m vs [] Right 0)
+
+-- the graph spells the tree from the child on
+abbrev pub spells : Graph → ℕ → NamedTree → Bool
+spells g c Null = c == 0
+spells g c (Branch slot key val left right) =
+    c == slot && nat_lt 0 slot && g.key slot == key && g.val slot == val && spells g (g.child Left slot) left && spells g (g.child Right slot) right
+
+-- at most so many entries of a bundle, from its head on, of entries up to `last`
+abbrev pub entries_from : ℕ → ℕ → (ℕ → ℕ) → ℕ → List ℕ
+entries_from zero last next head = []
+entries_from (suc n) last next head = cond (nat_lt 0 head && nat_le head last) (head ∷ entries_from n last next (next head)) []
