@@ -1,0 +1,547 @@
+#!/usr/bin/env python3
+"""Runs the pure machine on long random lists of events, and compares it with a model of the words.
+
+    tests/random_runs.py PROGRAM [--runs N] [--events N] [--seed N] [--inserts]
+
+Several seats put, remove and look up keys at once, by the procedures of a Citrus tree with bundled
+references; a scheduler lets one of them make its next step. The model keeps the words by itself. Whenever
+a seat has a section number, and at the stamp, the words must spell the tree of the map after so many
+updates. PROGRAM reads the sizes and the events, and prints the words at the end, or the first event that it
+refuses. The model shares no code with it. The script ends with status 1 at the first difference.
+"""
+import argparse
+import random
+import subprocess
+import sys
+from collections import Counter
+
+LEFT, RIGHT = 0, 1
+KEY, VAL, LOCK, MARK, HEAD = 0, 1, 2, 3, 4
+PTR, TS, NEXT = 0, 1, 2
+
+
+class Refused(Exception):
+    """A look-up of the model failed."""
+
+
+class Table:
+    """The words, the history, and the map after each update."""
+
+    def __init__(self, sizes, inserts):
+        self.sizes, self.passes, self.inserts = sizes, len(sizes), inserts
+        self.nodes = sum(size[0] for size in sizes)
+        self.entries = sum(size[1] for size in sizes)
+        self.words = [0] * (1 + 2 * self.passes + 10 * (self.nodes + 1) + 3 * self.entries)
+        self.maps, self.events, self.raised = [{}], [], {}
+        self.cases, self.freed = Counter(), 0
+
+    def section(self, seat):
+        return 1 + seat
+
+    def node(self, node, field):
+        return 1 + 2 * self.passes + 10 * node + field
+
+    def head(self, node, side):
+        return self.node(node, HEAD + side)
+
+    def entry(self, entry, part):
+        return 1 + 2 * self.passes + 10 * (self.nodes + 1) + 3 * (entry - 1) + part
+
+    def selected(self, node, side, number):
+        """The child that a number selects."""
+        entry = self.words[self.head(node, side)]
+        while entry:
+            stamp = self.words[self.entry(entry, TS)] or self.raised.get(entry, 0)
+            if 0 < stamp <= number:
+                return self.words[self.entry(entry, PTR)]
+            entry = self.words[self.entry(entry, NEXT)]
+        return 0
+
+    def pairs(self, number, node=0, side=RIGHT):
+        """The pairs of the tree that is spelled at a number, from left to right."""
+        child = self.selected(node, side, number)
+        if not child:
+            return []
+        pair = (self.words[self.node(child, KEY)], self.words[self.node(child, VAL)])
+        return self.pairs(number, child, LEFT) + [pair] + self.pairs(number, child, RIGHT)
+
+    def slots(self, number, node=0, side=RIGHT):
+        child = self.selected(node, side, number)
+        return [] if not child else [child] + self.slots(number, child, LEFT) + self.slots(number, child, RIGHT)
+
+
+class Seat:
+    """One pass: its slots, and the procedure that it is in."""
+
+    def __init__(self, table, number, first_node, first_entry):
+        size = table.sizes[number]
+        self.table, self.number, self.left = table, number, size[2]
+        self.free = ([first_node + k for k in range(size[0])], [first_entry + k for k in range(size[1])])
+        self.retired, self.batch, self.found, self.passed = ([], []), ([], []), {}, set()
+        self.at = None
+
+    # ---- steps: each is one event
+
+    def step(self, kind, word, value, update=None):
+        text = "%d %s %d %d" % (self.number, kind, word, value)
+        self.table.events.append(text + (" " + update if update else ""))
+
+    def store(self, kind, word, value):
+        self.step(kind, word, value)
+        self.table.words[word] = value
+
+    def load(self, kind, word, value=0):
+        self.step(kind, word, value)
+        return self.table.words[word]
+
+    def take_batch(self):
+        if not self.batch[0] and not self.batch[1]:
+            self.batch, self.retired = self.retired, ([], [])
+            self.found, self.passed = {}, set()
+
+    def free_passed(self):
+        if len(self.passed) == self.table.passes - 1:
+            for kind in (0, 1):
+                self.table.freed += len(self.batch[kind])
+                self.free[kind].extend(self.batch[kind])
+            self.batch = ([], [])
+
+    def enter(self):
+        word = self.table.section(self.number)
+        self.take_batch()
+        self.store("Enter", word, self.table.words[word] + 1)
+        if self.table.passes == 1:
+            self.free_passed()
+
+    def leave(self):
+        word = self.table.section(self.number)
+        self.store("Leave", word, self.table.words[word] + 1)
+        self.at = None
+
+    def look(self, other):
+        self.take_batch()
+        word = self.load("LookSec", self.table.section(other))
+        if word % 2 == 0 or self.found.get(other, word) != word:
+            self.passed.add(other)
+        self.found.setdefault(other, word)
+        self.free_passed()
+
+    def has_retired(self):
+        return any(self.retired) or any(self.batch)
+
+    def fill_node(self, node, key, val):
+        for field, value in ((KEY, key), (VAL, val), (MARK, 0), (HEAD, 0), (HEAD + 1, 0)):
+            if self.table.words[self.table.node(node, field)] != value:
+                self.store("Fill", self.table.node(node, field), value)
+                yield
+
+    def fill_entry(self, entry, child, behind):
+        for part, value in ((PTR, child), (TS, 0), (NEXT, behind)):
+            if self.table.words[self.table.entry(entry, part)] != value:
+                self.store("Fill", self.table.entry(entry, part), value)
+                yield
+
+    # ---- procedures: a yield lets another seat step
+
+    def child_at(self, node, side):
+        """The entry that the section number selects, and its child; entry 0 where none is selected."""
+        table = self.table
+        entry = self.load("LoadHead", table.head(node, side))
+        yield
+        while entry:
+            stamp = self.load("LoadTs", table.entry(entry, TS))
+            yield
+            if stamp == 0:
+                continue
+            if stamp <= self.at:
+                child = self.load("LoadPtr", table.entry(entry, PTR))
+                yield
+                return entry, child
+            entry = self.load("LoadNext", table.entry(entry, NEXT))
+            yield
+        return 0, 0
+
+    def locked_child(self, node, side):
+        """The newest entry of a locked node's link, and its child."""
+        table = self.table
+        entry = self.load("LoadHead", table.head(node, side))
+        yield
+        if not entry:
+            return 0, 0
+        stamp = self.load("LoadTs", table.entry(entry, TS))
+        yield
+        assert stamp, "a locked node has a pending head"
+        child = self.load("LoadPtr", table.entry(entry, PTR))
+        yield
+        return entry, child
+
+    def search(self, key):
+        """The link at which the search for a key ends: node, side, entry and child."""
+        node, side = 0, RIGHT
+        while True:
+            entry, child = yield from self.child_at(node, side)
+            if not child:
+                return node, side, entry, 0
+            here = self.load("LoadKeyOrVal", self.table.node(child, KEY))
+            yield
+            if here == key:
+                return node, side, entry, child
+            node, side = child, LEFT if key < here else RIGHT
+
+    def lock(self, node):
+        word = self.table.node(node, LOCK)
+        self.step("TryLock", word, self.number + 1)
+        if self.table.words[word]:
+            return False
+        self.table.words[word] = self.number + 1
+        return True
+
+    def unlock(self, node):
+        self.store("Unlock", self.table.node(node, LOCK), 0)
+
+    def lock_all(self, nodes):
+        """Locks these nodes, or none; tells whether they are locked and unmarked."""
+        locked = []
+        for node in nodes:
+            won = self.lock(node)
+            yield
+            if won:
+                locked.append(node)
+                mark = self.load("LoadMark", self.table.node(node, MARK))
+                yield
+            if not won or mark:
+                yield from self.unlock_all(locked)
+                return False
+        return True
+
+    def unlock_all(self, nodes):
+        for node in nodes:
+            self.unlock(node)
+            yield
+
+    def raise_stamp(self, line, key, change, taken, pending):
+        table = self.table
+        text = "Put %d" % change if change is not None else "Remove"
+        self.step("Raise", 0, 0, "%d %d %d %s" % (self.number, line, key, text))
+        entries = [e for node in taken for side in (LEFT, RIGHT) for e in self.chain(node, side)]
+        self.retired[0].extend(taken)
+        self.retired[1].extend(entries)
+        table.words[0] += 1
+        table.raised.update((entry, table.words[0]) for entry in pending)
+        after = dict(table.maps[-1])
+        if change is not None:
+            after[key] = change
+        else:
+            del after[key]
+        table.maps.append(after)
+        self.left -= 1
+
+    def chain(self, node, side):
+        entry = self.table.words[self.table.head(node, side)]
+        while entry:
+            yield entry
+            entry = self.table.words[self.table.entry(entry, NEXT)]
+
+    def finish(self, entries, marked, locked):
+        for entry in entries:
+            self.store("Finalise", self.table.entry(entry, TS), self.table.raised.pop(entry))
+            yield
+        for node in marked:
+            self.store("Mark", self.table.node(node, MARK), 1)
+            yield
+        yield from self.unlock_all(locked)
+
+    def has_slots(self):
+        return self.free[0] and len(self.free[1]) >= 4
+
+    def try_update(self, line, key, change):
+        """One try of a put, or of a removal where the change is None; tells whether it is answered."""
+        self.enter()
+        yield
+        self.at = self.load("LoadStamp", 0)
+        yield
+        answered = yield from self.try_inside(line, key, change)
+        self.leave()
+        yield
+        return answered
+
+    def try_inside(self, line, key, change):
+        node, side, entry, child = yield from self.search(key)
+        if not child and change is None or child and self.table.inserts:
+            return True
+        nodes = [node] + ([child] if child else [])
+        successor = None
+        if child and change is None:
+            left = yield from self.child_at(child, LEFT)
+            right = yield from self.child_at(child, RIGHT)
+            if left[1] and right[1]:
+                successor = yield from self.successor(child, right)
+                if successor[0] != child:
+                    nodes.append(successor[0])
+                nodes.append(successor[1])
+        locked = yield from self.lock_all(nodes)
+        if not locked:
+            return False
+        head, under = yield from self.locked_child(node, side)
+        if (head, under) != (entry, child):
+            yield from self.unlock_all(nodes)
+            return False
+        if not child:
+            yield from self.insert(line, key, change, node, side, head)
+        elif change is not None:
+            yield from self.replace(line, key, change, node, side, head, child)
+        elif successor is None:
+            done = yield from self.cut(line, key, node, side, head, child)
+            return done
+        else:
+            done = yield from self.move(line, key, node, side, head, child, successor)
+            return done
+        return True
+
+    def successor(self, child, right):
+        """The parent and the slot of the first node below the right link."""
+        parent, here = child, right[1]
+        while True:
+            entry, below = yield from self.child_at(here, LEFT)
+            if not below:
+                return parent, here
+            parent, here = here, below
+
+    def prepare(self, node, side, entry):
+        self.store("Prepare", self.table.head(node, side), entry)
+
+    def insert(self, line, key, val, node, side, head):
+        self.table.cases["insert"] += 1
+        slot, entry = self.free[0].pop(), self.free[1].pop()
+        yield from self.fill_node(slot, key, val)
+        yield from self.fill_entry(entry, slot, head)
+        self.prepare(node, side, entry)
+        yield
+        self.raise_stamp(line, key, val, [], [entry])
+        yield
+        yield from self.finish([entry], [], [node])
+
+    def new_children(self, slot, children):
+        """Entries for the children of a new node."""
+        entries = []
+        for side in (LEFT, RIGHT):
+            if children[side]:
+                entry = self.free[1].pop()
+                yield from self.fill_entry(entry, children[side], 0)
+                self.store("Fill", self.table.head(slot, side), entry)
+                yield
+                entries.append(entry)
+        return entries
+
+    def replace(self, line, key, val, node, side, head, child):
+        left = yield from self.locked_child(child, LEFT)
+        right = yield from self.locked_child(child, RIGHT)
+        self.table.cases["replace"] += 1
+        slot, entry = self.free[0].pop(), self.free[1].pop()
+        yield from self.fill_node(slot, key, val)
+        below = yield from self.new_children(slot, (left[1], right[1]))
+        yield from self.fill_entry(entry, slot, head)
+        self.prepare(node, side, entry)
+        yield
+        self.raise_stamp(line, key, val, [child], [entry] + below)
+        yield
+        yield from self.finish([entry] + below, [child], [node, child])
+
+    def cut(self, line, key, node, side, head, child):
+        left = yield from self.locked_child(child, LEFT)
+        right = yield from self.locked_child(child, RIGHT)
+        if left[1] and right[1]:
+            yield from self.unlock_all([node, child])
+            return False
+        self.table.cases["remove, %d children" % bool(left[1] or right[1])] += 1
+        entry = self.free[1].pop()
+        yield from self.fill_entry(entry, left[1] or right[1], head)
+        self.prepare(node, side, entry)
+        yield
+        self.raise_stamp(line, key, None, [child], [entry])
+        yield
+        yield from self.finish([entry], [child], [node, child])
+        return True
+
+    def move(self, line, key, node, side, head, child, successor):
+        parent, first = successor
+        nodes = [node, child] + ([parent] if parent != child else []) + [first]
+        left = yield from self.locked_child(child, LEFT)
+        right = yield from self.locked_child(child, RIGHT)
+        first_left = yield from self.locked_child(first, LEFT)
+        first_right = yield from self.locked_child(first, RIGHT)
+        above = right
+        if parent != child:
+            above = yield from self.locked_child(parent, LEFT)
+        if not left[1] or not right[1] or first_left[1] or above[1] != first:
+            yield from self.unlock_all(nodes)
+            return False
+        first_key = self.load("LoadKeyOrVal", self.table.node(first, KEY))
+        yield
+        first_val = self.load("LoadKeyOrVal", self.table.node(first, VAL))
+        yield
+        self.table.cases["remove, 2 children, " + ("deep" if parent != child else "right child")] += 1
+        slot, entry = self.free[0].pop(), self.free[1].pop()
+        yield from self.fill_node(slot, first_key, first_val)
+        below = yield from self.new_children(slot, (left[1], right[1] if parent != child else first_right[1]))
+        entries = [entry] + below
+        yield from self.fill_entry(entry, slot, head)
+        if parent != child:
+            moved = self.free[1].pop()
+            yield from self.fill_entry(moved, first_right[1], above[0])
+            self.prepare(parent, LEFT, moved)
+            yield
+            entries.append(moved)
+        self.prepare(node, side, entry)
+        yield
+        self.raise_stamp(line, key, None, [child, first], entries)
+        yield
+        yield from self.finish(entries, [child, first], nodes)
+        return True
+
+    def settle(self):
+        """Looks at the other passes until the batch is free, or for some rounds."""
+        for _ in range(3):
+            for other in range(self.table.passes):
+                if other != self.number and self.has_retired() and other not in self.passed:
+                    self.look(other)
+                    yield
+        if self.table.passes == 1 and self.has_retired():
+            self.enter()
+            yield
+            self.leave()
+            yield
+
+    def read(self, key):
+        """A snapshot with one look-up."""
+        self.enter()
+        yield
+        self.at = self.load("LoadStamp", 0, 1)
+        yield
+        node, side, entry, child = yield from self.search(key)
+        found = None
+        if child:
+            found = self.load("LoadKeyOrVal", self.table.node(child, VAL))
+            yield
+        if found != self.table.maps[self.at].get(key):
+            raise Refused("key %d at %d: found %r, and not %r" % (key, self.at, found, self.table.maps[self.at].get(key)))
+        self.leave()
+        yield
+
+    def live(self, rng, keys):
+        """Random requests, one after another."""
+        line = 0
+        while True:
+            line += 1
+            key = rng.randrange(keys)
+            choice = rng.random()
+            if choice < 0.2 or not self.left:
+                yield from self.read(key)
+                continue
+            change = rng.randrange(1000) if choice < 0.6 else None
+            answered = False
+            while not answered and self.left:
+                if not self.has_slots():
+                    yield from self.settle()
+                    if not self.has_slots():
+                        break
+                answered = yield from self.try_update(line, key, change)
+            yield
+
+
+def check(table, seats):
+    """The words spell the map after each number that is read at, and at the stamp."""
+    for number in {table.words[0]} | {seat.at for seat in seats if seat.at is not None}:
+        got, wanted = table.pairs(number), sorted(table.maps[number].items())
+        if got != wanted:
+            raise Refused("at %d the words spell %r, and the map is %r" % (number, got, wanted))
+    slots = table.slots(table.words[0])
+    owned = [slot for seat in seats for slot in seat.free[0] + seat.retired[0] + seat.batch[0]]
+    assert len(set(slots)) == len(slots) and not set(slots) & set(owned)
+
+
+def random_run(rng, count, inserts):
+    most = (40, 90) if inserts else (12, 60)
+    sizes = [(rng.randint(2, most[0]), rng.randint(8, most[1]), count) for _ in range(rng.randint(1, 4))]
+    table, seats, node, entry = Table(sizes, inserts), [], 1, 1
+    for number, size in enumerate(sizes):
+        seats.append(Seat(table, number, node, entry))
+        node, entry = node + size[0], entry + size[1]
+    keys = rng.choice([30, 60, 200] if inserts else [3, 6, 10])
+    lives = [seat.live(rng, keys) for seat in seats]
+    steps = 0
+    while len(table.events) < count:
+        next(lives[rng.randrange(len(seats))])
+        steps += 1
+        if steps % 17 == 0:
+            check(table, seats)
+    return table
+
+
+# An event of the first kind must not be left out before the seat's next event of the second.
+NEEDED_BY = {"Prepare": "Raise", "Mark": "Unlock", "Finalise": "Unlock"}
+CASES = {"insert", "replace", "remove, 0 children", "remove, 1 children", "remove, 2 children, deep", "remove, 2 children, right child"}
+
+
+def answer(program, sizes, events):
+    """What the program says of these events."""
+    text = " ".join("%d,%d,%d" % size for size in sizes) + "\n" + "".join(event + "\n" for event in events)
+    done = subprocess.run([program], input=text, capture_output=True, text=True)
+    return done.stdout + done.stderr
+
+
+def needed_event(rng, events):
+    """A random event that a later one needs, and the place of that one."""
+    places = [place for place, event in enumerate(events) if event.split()[1] in NEEDED_BY]
+    rng.shuffle(places)
+    for place in places:
+        seat, kind = events[place].split()[:2]
+        for later in range(place + 1, len(events)):
+            if events[later].split()[:2] == [seat, NEEDED_BY[kind]]:
+                return place, later
+    return None
+
+
+def compare(program, rng, table, run):
+    """The program's answers to a run, and to the run without one event, are as they must be."""
+    said = answer(program, table.sizes, table.events)
+    if said != " ".join(map(str, table.words)) + "\n":
+        print("run %d: %s" % (run, said[:400]))
+        if said.split()[:1] == ["refused"]:
+            at = int(said.split()[1])
+            print("\n".join(table.events[max(0, at - 12) : at + 1]))
+        sys.exit(1)
+    found = needed_event(rng, table.events)
+    if found:
+        place, later = found
+        said = answer(program, table.sizes, table.events[:place] + table.events[place + 1 :]).split()
+        if said[:1] != ["refused"] or int(said[1]) > later - 1:
+            print("run %d without event %d, %s: %s" % (run, place, table.events[place], " ".join(said)[:400]))
+            sys.exit(1)
+
+
+def main():
+    parser = argparse.ArgumentParser(description=__doc__.split("\n")[0])
+    parser.add_argument("program", nargs="?")
+    parser.add_argument("--runs", type=int, default=20)
+    parser.add_argument("--events", type=int, default=3000)
+    parser.add_argument("--seed", type=int, default=1)
+    parser.add_argument("--inserts", action="store_true", help="puts of absent keys and look-ups alone")
+    options = parser.parse_args()
+    rng = random.Random(options.seed)
+    cases, freed = Counter(), 0
+    for run in range(options.runs):
+        table = random_run(rng, options.events, options.inserts)
+        cases.update(table.cases)
+        freed += table.freed
+        if options.program:
+            compare(options.program, rng, table, run)
+    if not options.inserts and (CASES - set(cases) or not freed):
+        print("not reached: %s" % ", ".join(sorted(CASES - set(cases)) or ["slots that are used again"]))
+        sys.exit(1)
+    counts = ", ".join("%s: %d" % case for case in sorted(cases.items()))
+    print("%d runs of %d events, all as the model (%s; slots freed: %d)" % (options.runs, options.events, counts, freed), file=sys.stderr)
+
+
+if __name__ == "__main__":
+    main()
