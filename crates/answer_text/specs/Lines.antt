@@ -3,9 +3,9 @@ use Rattle.std.specs.Prelude.{ℕ, ◌+◌, ◌==◌, not, Bool, List, [], ◌�
 use Rattle.std.specs.List.{filter_map, flat_map}
 use Rattle.serde_json.specs.Data.{Data, null, boolean, string}
 use Rattle.key_names.specs.Names.{name_at}
-use Rattle.index_words.specs.declared.update.Update.{Update}
-use Rattle.index_words.specs.declared.update.Change.{Change}
-use Rattle.index_words.specs.declared.update.Change.TheVariants.{Put as PutVal, Remove}
+use Rattle.key_map.specs.declared.update.Update.{Update}
+use Rattle.key_map.specs.declared.update.Change.{Change}
+use Rattle.key_map.specs.declared.update.Change.TheVariants.{Put as PutVal, Remove}
 use Rattle.bucket_terms.specs.declared.record.Record.{Record}
 use Rattle.bucket_terms.specs.declared.list_query.ListQuery.{ListQuery}
 use Rattle.bucket_terms.specs.declared.token_point.TokenPoint.{TokenPoint}

@@ -7,7 +7,7 @@ ghost use Rattle.answer_text.specs.Views.{journal_entry, updates_count};
 
 use crate::lines::line_text;
 use crate::members::{send_number, send_text};
-use index_words::{Change, Update};
+use key_map::{Change, Update};
 use key_names::{Directory, NoMemory, Text};
 use serde::{Described, Serialize, Serializer};
 use std::alloc::Global;

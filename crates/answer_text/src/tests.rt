@@ -1,7 +1,7 @@
 // The lines of replies and of the history, byte for byte.
 use super::*;
 use bucket_terms::{ListQuery, Page, PageEntries, PageEntry, Placed, Record, Reply};
-use index_words::{Change, Update};
+use key_map::{Change, Update};
 use key_names::{Directory, Text};
 use std::alloc::Global;
 use std::process::Abort;

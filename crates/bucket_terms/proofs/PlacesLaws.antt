@@ -4,7 +4,7 @@ use Rattle.std.proofs.lemmas.Bool.Decides.{nat_tests}
 use Rattle.std.proofs.lemmas.Bool.{cases_Bool}
 use Rattle.std.proofs.lemmas.Option.{same_Some}
 use Rattle.std.specs.List.{slice_get}
-use Rattle.index_words.specs.declared.update.Update.{Update}
+use Rattle.key_map.specs.declared.update.Update.{Update}
 use Rattle.bucket_terms.specs.PassView.{places_from, own_places}
 
 places_from-own : (number at : ℕ) (us : List Update) (u : Update) → u.client ≡ number

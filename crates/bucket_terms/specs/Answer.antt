@@ -1,7 +1,7 @@
 -- What a request answers on a map.
 use Rattle.std.specs.Prelude.{ℕ, List, Option, Some, None}
-use Rattle.index_words.specs.declared.pair.Pair.{Pair}
-use Rattle.index_words.specs.Map.{map_get}
+use Rattle.key_map.specs.declared.pair.Pair.{Pair}
+use Rattle.key_map.specs.Map.{map_get}
 use Rattle.bucket_terms.specs.declared.reply.Reply.{Reply}
 use Rattle.bucket_terms.specs.declared.reply.Reply.TheVariants.{Found, Missing}
 

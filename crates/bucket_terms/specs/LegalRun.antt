@@ -2,10 +2,10 @@
 -- A session is seen here as each client's list of request lines.
 use Rattle.std.specs.Prelude.{◌≡◌, ◌≢◌, ℕ, zero, suc, ◌+◌, ◌-◌, ◌<◌, ◌≤◌, ◌⊎◌, ⊤, ◌==◌, ◌&&◌, nat_lt, Bool, true, false, List, [], ◌∷◌, ◌++◌, length, count_by, All, Any, Option, Some, None, MatchOption, IfSome, slice_get, slice_index_or}
 use Rattle.key_names.specs.Names.{IsRank}
-use Rattle.index_words.specs.declared.update.Update.{Update}
-use Rattle.index_words.specs.declared.update.Change.TheVariants.{Put as PutVal, Remove}
-use Rattle.index_words.specs.Map.{map_has}
-use Rattle.index_words.specs.History.{after}
+use Rattle.key_map.specs.declared.update.Update.{Update}
+use Rattle.key_map.specs.declared.update.Change.TheVariants.{Put as PutVal, Remove}
+use Rattle.key_map.specs.Map.{map_has}
+use Rattle.key_map.specs.History.{after}
 use Rattle.bucket_terms.specs.declared.list_query.ListQuery.{ListQuery}
 use Rattle.bucket_terms.specs.declared.token_point.TokenPoint.{TokenPoint}
 use Rattle.bucket_terms.specs.declared.page.Page.{Page}

@@ -6,6 +6,6 @@ pub mod LegalRun
 pub mod PassView
 pub mod PlainPass
 pub mod PlainInside
-pub use Rattle.index_words.specs.Map
-pub use Rattle.index_words.specs.History
+pub use Rattle.key_map.specs.Map
+pub use Rattle.key_map.specs.History
 pub use Rattle.key_names.specs.Names

@@ -1,12 +1,12 @@
 -- What a pass of the index is to its caller: its number, the history that it knows, its slots and its
 -- open snapshot. Nothing here says that nobody else changes the map between two calls.
 use Rattle.std.specs.Prelude.{◌≡◌, ℕ, ◌+◌, ◌-◌, ◌<◌, ◌≤◌, ◌^◌, ◌⊎◌, ◌==◌, true, false, MatchBool, if◌then◌else◌, List, [], ◌∷◌, ◌++◌, length, Option, Some, None}
-use Rattle.index_words.specs.declared.update.Update.{Update}
-use Rattle.index_words.specs.declared.update.Change.{Change}
-use Rattle.index_words.specs.declared.update.Change.TheVariants.{Put, Remove}
-use Rattle.index_words.specs.declared.pass.Done.{Done}
-use Rattle.index_words.specs.Map.{map_has}
-use Rattle.index_words.specs.History.{after}
+use Rattle.key_map.specs.declared.update.Update.{Update}
+use Rattle.key_map.specs.declared.update.Change.{Change}
+use Rattle.key_map.specs.declared.update.Change.TheVariants.{Put, Remove}
+use Rattle.key_map.specs.declared.pass.Done.{Done}
+use Rattle.key_map.specs.Map.{map_has}
+use Rattle.key_map.specs.History.{after}
 
 pub record PassView : Type 0 where
   -- the number of the pass, by which its updates are known

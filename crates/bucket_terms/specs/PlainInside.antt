@@ -1,8 +1,8 @@
 -- What a plain pass keeps.
 use Rattle.std.specs.Prelude.{◌≡◌, ◌+◌, ◌^◌, ◌≤◌, length, All, vec_capacity}
 use Rattle.std.specs.Option.{ForSome}
-use Rattle.index_words.specs.declared.update.Update.{Update}
-use Rattle.index_words.specs.History.{after}
+use Rattle.key_map.specs.declared.update.Update.{Update}
+use Rattle.key_map.specs.History.{after}
 use Rattle.bucket_terms.specs.PassView.{PassView, own_places}
 use Rattle.bucket_terms.specs.declared.plain_pass.PlainPass.TheInside.{Inside}
 

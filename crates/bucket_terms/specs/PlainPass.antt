@@ -1,7 +1,7 @@
 -- The plain pass as its caller sees it at the start, and where it looks.
 use Rattle.std.specs.Prelude.{◌≡◌, ℕ, MatchBool, [], None}
-use Rattle.index_words.specs.declared.pass.Done.{Done}
-use Rattle.index_words.specs.declared.pass.PassSize.{PassSize}
+use Rattle.key_map.specs.declared.pass.Done.{Done}
+use Rattle.key_map.specs.declared.pass.PassSize.{PassSize}
 use Rattle.bucket_terms.specs.PassView.{PassView, RoseByOne}
 
 -- nothing was done yet, and all slots and calls are left

@@ -1,11 +1,11 @@
 // One caller's way to the map. A pass is used by one caller at a time. Other passes of the same index may
 // change the map between two of its calls and during them; an open snapshot stays as it is.
 ghost use Rattle.std.specs.Prelude.{◌≡◌, ◌↔◌, ℕ, List, None, Some, IsSome, IfOk, OnErr, IsErrOf};
-ghost use Rattle.index_words.specs.Map.{first_from};
-ghost use Rattle.index_words.specs.History.{after};
+ghost use Rattle.key_map.specs.Map.{first_from};
+ghost use Rattle.key_map.specs.History.{after};
 ghost use Rattle.bucket_terms.specs.PassView.{PassView, MadePut, AnsweredRemoval, Began, KnowsOwn, IsOutOfSlots};
 
-use index_words::{Done, Pair, PassError};
+use key_map::{Done, Pair, PassError};
 use std::sync::Wait;
 
 /// A pass to an ordered map from ranks to values, of which every update has a number.

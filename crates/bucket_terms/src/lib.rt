@@ -1,5 +1,5 @@
 //! The terms in which a bucket answers: requests, replies, pages, what a legal run is, and the trait of a
-//! pass, the one way in which a caller reaches the map. It stands on `index_words`, `key_names` and the
+//! pass, the one way in which a caller reaches the map. It stands on `key_map`, `key_names` and the
 //! crate `base64`, whose encoding tokens have.
 //! The layers above use the definitions of `specs/`, the clauses of `KeyPass`, and `PlainPass`, a pass over
 //! one sorted list.

@@ -1,11 +1,11 @@
 // A pass over one sorted list: the trait's meaning made a program, for one caller.
 ghost use Rattle.std.specs.Prelude.{◌≡◌, ◌<◌, ◌≤◌, ◌↔◌, [], None, All, IfOk, OnOk, OnErr, IsErrOf, IsTrue};
-ghost use Rattle.index_words.specs.declared.update.Update.{Update};
+ghost use Rattle.key_map.specs.declared.update.Update.{Update};
 ghost use Rattle.bucket_terms.specs.PassView.{MadePut, AnsweredRemoval, IsOutOfSlots};
 ghost use Rattle.bucket_terms.specs.PlainPass.{fresh, KeepsLooks, LooksOnceIfAbsent};
 
 use crate::KeyPass;
-use index_words::{Change, Done, Pair, PassError, PassSize, PlainMap, Update};
+use key_map::{Change, Done, Pair, PassError, PassSize, PlainMap, Update};
 use key_names::NoMemory;
 use std::alloc::Global;
 use std::marker::Model;

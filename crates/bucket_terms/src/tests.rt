@@ -1,6 +1,6 @@
 // Answers written by hand from the definitions of a pass and of a page's point.
 use super::*;
-use index_words::{Change, Done, Pair, PassError, PassSize, Update};
+use key_map::{Change, Done, Pair, PassError, PassSize, Update};
 use key_names::{Directory, NoMemory, Text};
 use std::alloc::Global;
 use std::test::Fail;

@@ -6,7 +6,7 @@ use Rattle.std.proofs.lemmas.Grind.{flat_map-append}
 use Rattle.outside_io.specs.Faults.{Rose}
 use Rattle.outside_io.specs.Sink.{IsTaken, TakesStart}
 use Rattle.outside_io.proofs.Pieces.{taken_both}
-use Rattle.index_words.specs.declared.update.Update.{Update}
+use Rattle.key_map.specs.declared.update.Update.{Update}
 use Rattle.bucket_terms.specs.declared.record.Record.{Record}
 use Rattle.bucket_terms.specs.declared.reply.Placed.{Placed}
 use Rattle.answer_text.specs.Objects.{line_of}

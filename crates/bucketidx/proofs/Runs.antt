@@ -5,8 +5,8 @@ use Rattle.std.proofs.lemmas.Option.{slice_get_within, slice_get-get_or, get_or_
 use Rattle.std.proofs.lemmas.List.Elements.{All-nil, All-cons, All-map, All-weaker}
 use Rattle.std.proofs.lemmas.List.Kept.{AllPairs-cons}
 use Rattle.key_names.specs.Names.{HoldsEachOnce}
-use Rattle.index_words.specs.declared.update.Update.{Update}
-use Rattle.index_words.specs.declared.pass.PassSize.{PassSize}
+use Rattle.key_map.specs.declared.update.Update.{Update}
+use Rattle.key_map.specs.declared.pass.PassSize.{PassSize}
 use Rattle.bucket_terms.specs.declared.record.Record.{Record}
 use Rattle.bucket_terms.specs.declared.request.Request.{Request}
 use Rattle.bucket_terms.specs.declared.request.Request.TheVariants.{Put, Delete, Head, List as ListRequest, Next}

@@ -3,12 +3,12 @@ use Rattle.std.proofs.Common.{◌≡◌, ℕ, ◌<◌, All, Any, IfSome, length,
 use Rattle.std.proofs.lemmas.Bool.{cases_Bool}
 use Rattle.std.proofs.lemmas.List.Elements.{All-nil, All-cons, All-head, All-tail, All-map, All-take, All-filter, All-weaker}
 use Rattle.std.proofs.lemmas.List.Filters.{All-dedup}
-use Rattle.index_words.specs.declared.pair.Pair.{Pair}
-use Rattle.index_words.specs.declared.update.Update.{Update}
-use Rattle.index_words.specs.declared.update.Change.{Change}
-use Rattle.index_words.specs.declared.update.Change.TheVariants.{Put as PutVal, Remove}
-use Rattle.index_words.specs.Map.{pair, map_put, map_remove, map_get}
-use Rattle.index_words.specs.History.{changed, updated, after}
+use Rattle.key_map.specs.declared.pair.Pair.{Pair}
+use Rattle.key_map.specs.declared.update.Update.{Update}
+use Rattle.key_map.specs.declared.update.Change.{Change}
+use Rattle.key_map.specs.declared.update.Change.TheVariants.{Put as PutVal, Remove}
+use Rattle.key_map.specs.Map.{pair, map_put, map_remove, map_get}
+use Rattle.key_map.specs.History.{changed, updated, after}
 use Rattle.bucket_terms.specs.declared.record.Record.{Record}
 use Rattle.bucket_terms.specs.declared.list_query.ListQuery.{ListQuery}
 use Rattle.bucket_terms.specs.declared.token_point.TokenPoint.{TokenPoint}

@@ -12,7 +12,7 @@ use crate::stop::Stop;
 use crate::writing::write_run;
 use bucket_terms::{PlainPass, Record};
 use client_run::{Gate, run_client};
-use index_words::PassSize;
+use key_map::PassSize;
 use key_names::Directory;
 use outside_io::Sink;
 use request_lines::{ClientPart, Session};

@@ -1,6 +1,6 @@
 // The text of a run, one write a line.
 ghost use Rattle.std.specs.Prelude.{◌<◌, ◌≤◌, All, length, OnOk, IsErrOf};
-ghost use Rattle.index_words.specs.declared.update.Update.{Update};
+ghost use Rattle.key_map.specs.declared.update.Update.{Update};
 ghost use Rattle.bucket_terms.specs.declared.reply.Placed.{Placed};
 ghost use Rattle.outside_io.specs.Faults.{Rose};
 ghost use Rattle.outside_io.specs.Sink.{IsTaken, TakesStart};
@@ -12,7 +12,7 @@ ghost use Rattle.bucketidx.specs.Served.{client_text};
 use crate::stop::Stop;
 use answer_text::{journal_line, last_line, reply_line};
 use bucket_terms::{Placed, Record};
-use index_words::Update;
+use key_map::Update;
 use key_names::Directory;
 use outside_io::{Sink, write_all};
 use std::alloc::Global;

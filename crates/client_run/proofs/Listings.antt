@@ -10,7 +10,7 @@ use Rattle.bucket_terms.specs.declared.reply.Placed.{Placed}
 use Rattle.bucket_terms.specs.Page.{page_of}
 use Rattle.bucket_terms.specs.PassView.{PassView, KnowsOwn}
 use Rattle.bucket_terms.specs.LegalRun.{Resumed, IsPointOf, IsRight, next_of}
-use Rattle.index_words.specs.History.{after}
+use Rattle.key_map.specs.History.{after}
 use Rattle.client_run.specs.ClientRun.{setting, answered, Answers}
 use Rattle.client_run.specs.Listing.{ListedAs, HasPageInRange}
 use Rattle.client_run.proofs.Steps.{step_looked, step_refused}

@@ -2,13 +2,13 @@
 use Rattle.std.proofs.Common.{◌≡◌, ℕ, zero, suc, All, MatchBool, length, get_or, ◌++◌, ◌+◌, ◌<◌, ◌≤◌, Bool, true, false, not, List, Option, Some, None, inl, inr, refl, sym, ap, ◌∙◌, subst, arith, ◌==◌, ◌&&◌}
 use Rattle.std.proofs.lemmas.Bool.Decides.{nat_tests}
 use Rattle.key_names.specs.Names.{IsRank}
-use Rattle.index_words.specs.declared.pair.Pair.{Pair}
-use Rattle.index_words.specs.declared.pass.Done.{Done}
-use Rattle.index_words.specs.declared.update.Change.TheVariants.{Put as PutVal, Remove}
-use Rattle.index_words.specs.Map.{map_get, first_from, value_at}
-use Rattle.index_words.specs.History.{after}
-use Rattle.index_words.proofs.MapLaws.{map_get-first_from}
-use Rattle.index_words.proofs.HistoryLaws.{IsMap-after}
+use Rattle.key_map.specs.declared.pair.Pair.{Pair}
+use Rattle.key_map.specs.declared.pass.Done.{Done}
+use Rattle.key_map.specs.declared.update.Change.TheVariants.{Put as PutVal, Remove}
+use Rattle.key_map.specs.Map.{map_get, first_from, value_at}
+use Rattle.key_map.specs.History.{after}
+use Rattle.key_map.proofs.MapLaws.{map_get-first_from}
+use Rattle.key_map.proofs.HistoryLaws.{IsMap-after}
 use Rattle.bucket_terms.specs.declared.request.Request.{Request}
 use Rattle.bucket_terms.specs.declared.request.Request.TheVariants.{Put as PutRequest, Delete, Head}
 use Rattle.bucket_terms.specs.declared.reply.Reply.{Reply}
@@ -19,7 +19,7 @@ use Rattle.std.specs.List.{count_by, slice_get}
 use Rattle.std.proofs.lemmas.Bool.{cases_lt, cases_Bool}
 use Rattle.std.proofs.lemmas.List.{get_or_append_left}
 use Rattle.std.proofs.lemmas.Option.{slice_get_within, slice_get-get_or, get_or_from_slice_get}
-use Rattle.index_words.specs.declared.update.Update.{Update}
+use Rattle.key_map.specs.declared.update.Update.{Update}
 use Rattle.bucket_terms.specs.LegalRun.{Setting, IsRight, IsOf, is_earlier_of, update_at}
 use Rattle.client_run.specs.ClientRun.{setting, answered, Answers, IsLaterLine, is_of}
 use Rattle.client_run.proofs.Places.{no_own_added}

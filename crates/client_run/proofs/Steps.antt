@@ -4,8 +4,8 @@ use Rattle.std.specs.List.{slice_get, count_by}
 use Rattle.std.proofs.lemmas.Option.{slice_get_within}
 use Rattle.std.proofs.lemmas.Bool.{false≢true}
 use Rattle.std.proofs.lemmas.List.{length-append, length_push}
-use Rattle.index_words.specs.declared.update.Update.{Update}
-use Rattle.index_words.specs.declared.update.Change.{Change}
+use Rattle.key_map.specs.declared.update.Update.{Update}
+use Rattle.key_map.specs.declared.update.Change.{Change}
 use Rattle.bucket_terms.specs.declared.request.Request.{Request}
 use Rattle.bucket_terms.specs.declared.reply.Reply.{Reply}
 use Rattle.bucket_terms.specs.declared.reply.Reply.TheVariants.{NoSlot}

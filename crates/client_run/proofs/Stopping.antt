@@ -1,7 +1,7 @@
 -- What is left of a pass where a client's run was stopped.
 use Rattle.std.proofs.Common.{ℕ, List, ◌++◌, Option, Result, Ok, Err, ap, ◌∙◌, arith, append_assoc}
 use Rattle.std.specs.Result.{OnErr}
-use Rattle.index_words.specs.declared.update.Update.{Update}
+use Rattle.key_map.specs.declared.update.Update.{Update}
 use Rattle.bucket_terms.specs.declared.reply.Reply.{Reply}
 use Rattle.bucket_terms.specs.PassView.{PassView, Continues}
 use Rattle.bucket_terms.specs.LegalRun.{Answered}

@@ -2,9 +2,9 @@
 use Rattle.std.proofs.Common.{◌≡◌, ℕ, suc, ◌+◌, ◌-◌, ◌<◌, ◌≤◌, List, [], ◌∷◌, length, Option, Some, None, MatchOption, IfSome, IsSome, sym, ap, ◌∙◌, subst, refl, arith}
 use Rattle.std.proofs.lemmas.Bool.{false≢true}
 use Rattle.std.proofs.lemmas.Bool.Decides.{nat_tests}
-use Rattle.index_words.specs.declared.pair.Pair.{Pair}
-use Rattle.index_words.specs.Map.{first_from}
-use Rattle.index_words.specs.History.{after}
+use Rattle.key_map.specs.declared.pair.Pair.{Pair}
+use Rattle.key_map.specs.Map.{first_from}
+use Rattle.key_map.specs.History.{after}
 use Rattle.bucket_terms.specs.PassView.{PassView}
 use Rattle.page_rules.specs.Cursor.{CursorView, IsNext, IsOver, Took}
 

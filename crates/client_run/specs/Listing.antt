@@ -1,6 +1,6 @@
 -- What a listing over a pass has done, by what the pass knows before and after.
 use Rattle.std.specs.Prelude.{◌≡◌, ℕ, ◌≤◌, List, Option, None, Some}
-use Rattle.index_words.specs.History.{after}
+use Rattle.key_map.specs.History.{after}
 use Rattle.bucket_terms.specs.declared.list_query.ListQuery.{ListQuery}
 use Rattle.bucket_terms.specs.declared.token_point.TokenPoint.{TokenPoint}
 use Rattle.bucket_terms.specs.declared.page.Page.{Page}

@@ -1,7 +1,7 @@
 // A listing: one snapshot for its whole page.
 ghost use Rattle.std.specs.Prelude.{◌≡◌, ℕ, None, Some, Option, IsSome, IfOk};
 ghost use Rattle.std.specs.Option.{option_copied};
-ghost use Rattle.index_words.specs.History.{after};
+ghost use Rattle.key_map.specs.History.{after};
 ghost use Rattle.bucket_terms.specs.Page.{page_of, IsInRange};
 ghost use Rattle.client_run.specs.Listing.{ListedAt, LookedOnly};
 

@@ -7,7 +7,7 @@ ghost use Rattle.client_run.specs.Listing.{HasPageInRange};
 
 use super::*;
 use bucket_terms::{ListQuery, Page, PageEntry, Placed, PlainPass, Reply};
-use index_words::PassSize;
+use key_map::PassSize;
 use key_names::Directory;
 use request_lines::{ClientPart, Session, read_session};
 use std::alloc::Global;

@@ -1,7 +1,7 @@
 // PUT, DELETE and HEAD, each answered by calls of the pass.
 ghost use Rattle.std.specs.Prelude.{◌≡◌, ◌<◌, None, Option, Contains};
 ghost use Rattle.key_names.specs.Names.{IsRank};
-ghost use Rattle.index_words.specs.Map.{value_at};
+ghost use Rattle.key_map.specs.Map.{value_at};
 ghost use Rattle.bucket_terms.specs.declared.request.Request.TheVariants.{Put, Delete, Head};
 ghost use Rattle.bucket_terms.specs.declared.reply.Reply.{Reply};
 ghost use Rattle.bucket_terms.specs.Answer.{head_by};
@@ -9,7 +9,7 @@ ghost use Rattle.client_run.specs.ClientRun.{answered, Answers, IsLaterLine};
 ghost use Rattle.client_run.specs.Listing.{HasPageInRange};
 
 use bucket_terms::{KeyPass, Placed, Reply};
-use index_words::{Pair, PassError};
+use key_map::{Pair, PassError};
 use key_names::{Directory, Text};
 use std::sync::Wait;
 

@@ -10,9 +10,9 @@ use Rattle.index_words.specs.declared.view.slots.Slots.{Slots}
 use Rattle.index_words.specs.declared.view.slots.Looks.{Looks}
 use Rattle.index_words.specs.declared.view.slots.SectionFound.{SectionFound}
 use Rattle.index_words.specs.Views.{no_slots, no_looks}
-use Rattle.index_words.specs.Lists.{count, has, Every, IsItem}
+use Rattle.key_map.specs.Lists.{count, has, Every, IsItem}
 use Rattle.index_words.proofs.Seats.{Beside, at_item, all_moved, pairs_moved, one_term}
-use Rattle.index_words.proofs.Counting.{count-append}
+use Rattle.key_map.proofs.Counting.{count-append}
 use Rattle.core_grace.specs.Sections.{is_even}
 use Rattle.core_grace.specs.Batches.{looked_at, lets_pass, first_found, both, is_number, all_passed}
 use Rattle.core_grace.specs.Slots.{nodes_of, entries_in, own, own_free, HoldsNone, GraceRight, KeepsEntries, Linked, SlotRule}

@@ -4,7 +4,7 @@ use Rattle.std.specs.List.{All, sum_by}
 use Rattle.std.proofs.lemmas.List.Sums.{sum_by-le-sum_by}
 use Rattle.index_words.specs.declared.view.View.{View}
 use Rattle.index_words.specs.declared.view.slots.Slots.{Slots}
-use Rattle.index_words.specs.Lists.{IsItem}
+use Rattle.key_map.specs.Lists.{IsItem}
 use Rattle.index_words.proofs.Seats.{sum_moved, sum_kept, at_item, all_moved}
 use Rattle.core_grace.specs.Slots.{own, own_free, SlotsRight, is_slot}
 

@@ -7,7 +7,7 @@ use Rattle.index_words.specs.declared.view.slots.Slots.{Slots}
 use Rattle.index_words.specs.declared.view.slots.Looks.{Looks}
 use Rattle.index_words.specs.declared.view.slots.SectionFound.{SectionFound}
 use Rattle.index_words.specs.Views.{no_slots, no_looks}
-use Rattle.index_words.specs.Lists.{has}
+use Rattle.key_map.specs.Lists.{has}
 use Rattle.core_grace.specs.Sections.{is_even, has_passed}
 
 abbrev pub is_empty : Slots → Bool

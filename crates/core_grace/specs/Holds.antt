@@ -6,7 +6,7 @@ use Rattle.index_words.specs.declared.view.reading.TreeNode.{TreeNode}
 use Rattle.index_words.specs.declared.view.update.HeldNode.{HeldNode}
 use Rattle.index_words.specs.declared.side.Side.{Side}
 use Rattle.index_words.specs.declared.side.Side.TheVariants.{Left, Right}
-use Rattle.index_words.specs.Lists.{count}
+use Rattle.key_map.specs.Lists.{count}
 
 -- the bundle of each link, newest entry first, and the number of each entry
 pub record Bundles : Type 0 where

@@ -4,7 +4,7 @@ use Rattle.index_words.specs.declared.layout.Layout.{Layout}
 use Rattle.index_words.specs.declared.view.View.{View}
 use Rattle.index_words.specs.declared.view.slots.Slots.{Slots}
 use Rattle.index_words.specs.declared.view.slots.SectionFound.{SectionFound}
-use Rattle.index_words.specs.Lists.{count, Every}
+use Rattle.key_map.specs.Lists.{count, Every}
 
 abbrev pub nodes_of : Slots → List ℕ
 nodes_of s = s.nodes

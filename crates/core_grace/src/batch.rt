@@ -1,5 +1,5 @@
 ghost use Rattle.std.specs.Prelude.{◌≡◌, ℕ, OnOk, OnErr, IfOk, Option};
-ghost use Rattle.index_words.specs.Lists.{has};
+ghost use Rattle.key_map.specs.Lists.{has};
 ghost use Rattle.core_grace.specs.Batches.{batch_taken, first_found, lets_pass, looked_at, is_number, all_passed, settled};
 
 use crate::section::passed;

@@ -6,23 +6,23 @@ use Rattle.std.proofs.lemmas.List.{length-replicate, length-append, get_or_push}
 use Rattle.std.proofs.lemmas.List.Elements.{All-nil, All-cons, All-append, All-weaker}
 use Rattle.std.proofs.lemmas.List.Sums.{sum_by-cons, sum_by_push}
 use Rattle.index_words.specs.declared.layout.Layout.{Layout}
-use Rattle.index_words.specs.declared.pass.PassSize.{PassSize}
+use Rattle.key_map.specs.declared.pass.PassSize.{PassSize}
 use Rattle.index_words.specs.declared.view.View.{View}
 use Rattle.index_words.specs.declared.view.slots.Slots.{Slots}
 use Rattle.index_words.specs.declared.word.Word.{Word}
 use Rattle.index_words.specs.declared.view.reading.Reading.{Reading}
 use Rattle.index_words.specs.declared.view.update.Updating.{Updating}
-use Rattle.index_words.specs.declared.update.Update.{Update}
+use Rattle.key_map.specs.declared.update.Update.{Update}
 use Rattle.index_words.specs.declared.word.Field.TheVariants.{Lock, Mark, Head}
 use Rattle.index_words.specs.declared.word.Part.TheVariants.{Child, Stamp as Number}
 use Rattle.index_words.specs.declared.word.Word.TheVariants.{Section, Announced, Stamp, Node, Entry}
 use Rattle.index_words.specs.Sizes.{all_nodes, all_entries, all_calls, layout_of, FitTable}
 use Rattle.index_words.specs.Views.{empty_view, no_slots, no_looks, no_reading, no_update}
 use Rattle.index_words.specs.Words.{memory, word_count, is_there, address}
-use Rattle.index_words.specs.Lists.{count, Every}
-use Rattle.index_words.proofs.Counting.{count-push}
-use Rattle.index_words.proofs.HistoryLaws.{after-none}
-use Rattle.index_words.specs.History.{after}
+use Rattle.key_map.specs.Lists.{count, Every}
+use Rattle.key_map.proofs.Counting.{count-push}
+use Rattle.key_map.proofs.HistoryLaws.{after-none}
+use Rattle.key_map.specs.History.{after}
 use Rattle.core_grace.specs.Holds.{HoldsNode, HoldsEntry}
 use Rattle.core_grace.specs.Slots.{nodes_of, entries_in, own, own_free, is_slot, GraceRight, KeepsEntries}
 use Rattle.core_grace.proofs.RuleMoves.{no_looks_right}

@@ -2,7 +2,7 @@
 use Rattle.std.proofs.Common.{◌≡◌, ℕ, ◌<◌, ◌⊎◌, List, [], ◌∷◌, arith, refl, ◌∙◌, sym, subst, inl, inr}
 use Rattle.std.specs.List.{AllByRecursion}
 use Rattle.std.proofs.lemmas.Bool.{cases_lt}
-use Rattle.index_words.specs.Lists.{count, Every}
+use Rattle.key_map.specs.Lists.{count, Every}
 use Rattle.core_links.specs.Bundle.{IsChain, select, AgreeAt}
 use Rattle.core_links.proofs.Chains.{chain_frame, select-here, select-behind, select-agree}
 use Rattle.core_rule.specs.BundleRule.{BundleRight, IsNumbered, TailWritten, Falls}

@@ -10,7 +10,7 @@ use Rattle.index_words.specs.declared.word.Word.{Word}
 use Rattle.index_words.specs.declared.word.Word.TheVariants.{Stamp, Section, Announced, Node, Entry}
 use Rattle.index_words.specs.Views.{no_reading, no_slots, no_looks}
 use Rattle.index_words.specs.Words.{Memory, written}
-use Rattle.index_words.specs.Lists.{IsItem}
+use Rattle.key_map.specs.Lists.{IsItem}
 use Rattle.index_words.proofs.Seats.{item_set}
 use Rattle.core_grace.specs.Sections.{is_even}
 use Rattle.core_grace.specs.Batches.{is_empty, batch_taken, settled, looked_at, looked, is_number}

@@ -20,8 +20,8 @@ use Rattle.index_words.specs.declared.word.Part.{Part}
 use Rattle.index_words.specs.declared.word.Part.TheVariants.{Child, Stamp as Number, Next}
 use Rattle.index_words.specs.declared.word.Word.TheVariants.{Node, Entry, Stamp}
 use Rattle.index_words.specs.Words.{Memory, written, same_field, same_part}
-use Rattle.index_words.specs.Lists.{count, IsItem}
-use Rattle.index_words.proofs.Counting.{count-append}
+use Rattle.key_map.specs.Lists.{count, IsItem}
+use Rattle.key_map.proofs.Counting.{count-append}
 use Rattle.core_grace.specs.Holds.{HoldsNode, held_slots, listed, work_nodes, tree_slots, entries_of}
 use Rattle.core_links.specs.Bundle.{IsChain, select, child_of_entry}
 use Rattle.core_rule.specs.Versions.{slots_of}

@@ -17,7 +17,7 @@ use Rattle.index_words.specs.declared.word.Part.TheVariants.{Stamp as Number}
 use Rattle.index_words.specs.declared.word.Word.TheVariants.{Stamp, Node, Entry}
 use Rattle.index_words.specs.Words.{Memory, written}
 use Rattle.index_words.specs.Views.{no_update}
-use Rattle.index_words.specs.Lists.{count, IsItem}
+use Rattle.key_map.specs.Lists.{count, IsItem}
 use Rattle.index_words.proofs.Seats.{Beside, sum_moved, sum_kept, two_terms, at_item, all_moved}
 use Rattle.core_grace.specs.Holds.{HoldsNode, HoldsEntry, work_nodes}
 use Rattle.core_grace.proofs.RuleMoves.{quiet, same_looks}

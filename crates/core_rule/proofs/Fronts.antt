@@ -7,8 +7,8 @@ use Rattle.index_words.specs.declared.side.Side.TheVariants.{Left, Right}
 use Rattle.index_words.specs.declared.view.update.HeldNode.{HeldNode}
 use Rattle.index_words.specs.declared.view.update.LoadedHead.{LoadedHead}
 use Rattle.index_words.specs.Words.{same_side}
-use Rattle.index_words.specs.Lists.{count}
-use Rattle.index_words.proofs.Counting.{count-append}
+use Rattle.key_map.specs.Lists.{count}
+use Rattle.key_map.proofs.Counting.{count-append}
 use Rattle.core_grace.specs.Holds.{Bundles, entries_of, linked_in, read_at, Reads, ReadsAt, StandsIn, held_slots}
 use Rattle.core_links.specs.Bundle.{no_number}
 use Rattle.core_rule.specs.LoadMoves.{head_found, found_at}

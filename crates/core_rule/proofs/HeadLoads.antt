@@ -7,7 +7,7 @@ use Rattle.std.proofs.lemmas.List.{take_all}
 use Rattle.index_words.specs.declared.layout.Layout.{Layout}
 use Rattle.index_words.specs.declared.side.Side.{Side}
 use Rattle.index_words.specs.declared.side.Side.TheVariants.{Left, Right}
-use Rattle.index_words.specs.declared.update.Update.{Update}
+use Rattle.key_map.specs.declared.update.Update.{Update}
 use Rattle.index_words.specs.declared.view.View.{View}
 use Rattle.index_words.specs.declared.view.history.Counts.{Counts}
 use Rattle.index_words.specs.declared.view.reading.Place.{Place}
@@ -20,8 +20,8 @@ use Rattle.index_words.specs.declared.word.Field.TheVariants.{Mark, Head}
 use Rattle.index_words.specs.declared.word.Part.TheVariants.{Child, Stamp as Number, Next}
 use Rattle.index_words.specs.declared.word.Word.TheVariants.{Stamp, Node, Entry}
 use Rattle.index_words.specs.Words.{Memory}
-use Rattle.index_words.specs.Lists.{count, Every, IsItem}
-use Rattle.index_words.proofs.Counting.{count-append}
+use Rattle.key_map.specs.Lists.{count, Every, IsItem}
+use Rattle.key_map.proofs.Counting.{count-append}
 use Rattle.core_grace.specs.Sections.{is_even}
 use Rattle.core_grace.specs.Holds.{HoldsNode, HoldsEntry, held_slots, listed, work_nodes, tree_slots, linked_in, read_at}
 use Rattle.core_grace.proofs.RuleMoves.{HoldsFrom, every_push}

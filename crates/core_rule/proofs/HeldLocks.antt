@@ -7,7 +7,7 @@ use Rattle.index_words.specs.declared.view.View.{View}
 use Rattle.index_words.specs.declared.word.Field.TheVariants.{Lock}
 use Rattle.index_words.specs.declared.word.Word.TheVariants.{Node}
 use Rattle.index_words.specs.Words.{Memory}
-use Rattle.index_words.specs.Lists.{IsItem}
+use Rattle.key_map.specs.Lists.{IsItem}
 use Rattle.core_grace.specs.Batches.{is_number}
 use Rattle.core_rule.specs.Meanings.{Meaning}
 use Rattle.core_rule.specs.Locks.{NamesHolder, lock_count}

@@ -8,7 +8,7 @@ use Rattle.index_words.specs.declared.layout.Layout.{Layout}
 use Rattle.index_words.specs.declared.view.View.{View}
 use Rattle.index_words.specs.declared.view.slots.Slots.{Slots}
 use Rattle.index_words.specs.declared.view.slots.SectionFound.{SectionFound}
-use Rattle.index_words.specs.Lists.{count, IsItem}
+use Rattle.key_map.specs.Lists.{count, IsItem}
 use Rattle.index_words.proofs.Seats.{one_term, two_terms, sum_kept, at_item, all_moved, pairs_moved}
 use Rattle.core_grace.specs.Holds.{HoldsNode, HoldsEntry, entries_of}
 use Rattle.core_grace.specs.Slots.{nodes_of, entries_in, own, own_free, SlotsRight, HoldsNone, GraceRight, KeepsEntries, Linked, SlotRule}

@@ -2,12 +2,12 @@
 use Rattle.std.proofs.Common.{◌≡◌, ℕ, ◌+◌, ◌<◌, ◌≤◌, cond, List, [], ◌∷◌, ◌++◌, length, take, Bool, true, false, eqb, ltb, ◌&&◌, set, arith, refl, ap, ◌∙◌, sym, inl, inr, Option, Some, None, map}
 use Rattle.std.proofs.lemmas.Bool.Decides.{nat_tests, eqb_tells}
 use Rattle.std.proofs.lemmas.List.{take_all, length-take}
-use Rattle.index_words.specs.declared.update.Update.{Update}
+use Rattle.key_map.specs.declared.update.Update.{Update}
 use Rattle.index_words.specs.declared.view.View.{View}
 use Rattle.index_words.specs.declared.view.history.SeenHistory.{SeenHistory}
 use Rattle.index_words.specs.declared.view.history.EndedPlace.{EndedPlace}
-use Rattle.index_words.specs.Lists.{count, Every, IsItem}
-use Rattle.index_words.proofs.Counting.{count-append}
+use Rattle.key_map.specs.Lists.{count, Every, IsItem}
+use Rattle.key_map.proofs.Counting.{count-append}
 use Rattle.index_words.proofs.Seats.{item_set, beside_item}
 use Rattle.core_grace.proofs.RuleMoves.{every_weaker}
 use Rattle.core_rule.specs.Moves.{longer, own_number, own_ended, history_with}

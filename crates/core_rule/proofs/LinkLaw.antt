@@ -11,8 +11,8 @@ use Rattle.index_words.specs.declared.word.Field.TheVariants.{Head}
 use Rattle.index_words.specs.declared.word.Part.TheVariants.{Stamp as Number, Next}
 use Rattle.index_words.specs.declared.word.Word.TheVariants.{Stamp, Node, Entry}
 use Rattle.index_words.specs.Words.{Memory}
-use Rattle.index_words.specs.Lists.{count, has, Every}
-use Rattle.index_words.proofs.Counting.{has-count, count-has}
+use Rattle.key_map.specs.Lists.{count, has, Every}
+use Rattle.key_map.proofs.Counting.{has-count, count-has}
 use Rattle.core_links.specs.Bundle.{select}
 use Rattle.core_links.proofs.Chains.{chain-same}
 use Rattle.core_rule.specs.Meanings.{Meaning}

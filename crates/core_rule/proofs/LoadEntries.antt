@@ -14,8 +14,8 @@ use Rattle.index_words.specs.declared.word.Field.TheVariants.{Mark, Head}
 use Rattle.index_words.specs.declared.word.Part.TheVariants.{Child, Stamp as Number, Next}
 use Rattle.index_words.specs.declared.word.Word.TheVariants.{Stamp, Node, Entry}
 use Rattle.index_words.specs.Words.{Memory}
-use Rattle.index_words.specs.Lists.{count, has, Every, IsItem}
-use Rattle.index_words.proofs.Counting.{has-count}
+use Rattle.key_map.specs.Lists.{count, has, Every, IsItem}
+use Rattle.key_map.proofs.Counting.{has-count}
 use Rattle.core_grace.specs.Sections.{is_even}
 use Rattle.core_grace.specs.Holds.{held_slots}
 use Rattle.core_grace.proofs.RuleMoves.{every_push}

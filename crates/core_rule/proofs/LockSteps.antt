@@ -8,8 +8,8 @@ use Rattle.index_words.specs.declared.word.Field.{Field}
 use Rattle.index_words.specs.declared.word.Field.TheVariants.{Key, Val, Lock, Mark, Head, Link, Tag}
 use Rattle.index_words.specs.declared.word.Word.TheVariants.{Stamp, Node}
 use Rattle.index_words.specs.Words.{Memory, written}
-use Rattle.index_words.specs.Lists.{count, has, IsItem}
-use Rattle.index_words.proofs.Counting.{has-count}
+use Rattle.key_map.specs.Lists.{count, has, IsItem}
+use Rattle.key_map.proofs.Counting.{has-count}
 use Rattle.core_grace.specs.Sections.{is_even}
 use Rattle.core_rule.specs.Meanings.{Meaning}
 use Rattle.core_rule.specs.Needs.{is_lock, is_marked_node, nothing_pending}

@@ -8,7 +8,7 @@ use Rattle.index_words.specs.declared.view.View.{View}
 use Rattle.index_words.specs.declared.word.Field.TheVariants.{Mark, Lock}
 use Rattle.index_words.specs.declared.word.Word.TheVariants.{Node}
 use Rattle.index_words.specs.Words.{Memory}
-use Rattle.index_words.specs.Lists.{count, IsItem}
+use Rattle.key_map.specs.Lists.{count, IsItem}
 use Rattle.index_words.proofs.Seats.{Beside, one_term, two_terms}
 use Rattle.core_grace.specs.Slots.{nodes_of, own, own_free, is_slot}
 use Rattle.core_rule.specs.Versions.{slots_of}

@@ -12,7 +12,7 @@ use Rattle.index_words.specs.declared.word.Field.TheVariants.{Mark, Head}
 use Rattle.index_words.specs.declared.word.Part.TheVariants.{Stamp as Number}
 use Rattle.index_words.specs.declared.word.Word.TheVariants.{Stamp, Node, Entry}
 use Rattle.index_words.specs.Words.{Memory, written}
-use Rattle.index_words.specs.Lists.{count, IsItem}
+use Rattle.key_map.specs.Lists.{count, IsItem}
 use Rattle.index_words.proofs.Seats.{Beside, sum_kept, one_term, all_moved}
 use Rattle.core_grace.specs.Sections.{is_even}
 use Rattle.core_grace.specs.Holds.{HoldsNode, HoldsEntry, held_slots, work_nodes}

@@ -6,7 +6,7 @@ use Rattle.std.proofs.lemmas.Bool.Decides.{nat_tests}
 use Rattle.index_words.specs.declared.layout.Layout.{Layout}
 use Rattle.index_words.specs.declared.side.Side.{Side}
 use Rattle.index_words.specs.declared.side.Side.TheVariants.{Left, Right}
-use Rattle.index_words.specs.declared.update.Update.{Update}
+use Rattle.key_map.specs.declared.update.Update.{Update}
 use Rattle.index_words.specs.declared.view.View.{View}
 use Rattle.index_words.specs.declared.view.reading.Place.{Place}
 use Rattle.index_words.specs.declared.view.reading.Place.TheVariants.{Nowhere, Entry as AtEntry, Node as AtNode, Gap}
@@ -20,8 +20,8 @@ use Rattle.index_words.specs.declared.word.Part.TheVariants.{Stamp as Number, Ne
 use Rattle.index_words.specs.declared.word.Word.{Word}
 use Rattle.index_words.specs.declared.word.Word.TheVariants.{Node, Entry}
 use Rattle.index_words.specs.Words.{Memory, word_at}
-use Rattle.index_words.specs.Lists.{count, has, Every}
-use Rattle.index_words.proofs.Counting.{has-count, count-append}
+use Rattle.key_map.specs.Lists.{count, has, Every}
+use Rattle.key_map.proofs.Counting.{has-count, count-append}
 use Rattle.index_words.proofs.Store.{word_there}
 use Rattle.core_grace.specs.Batches.{is_number}
 use Rattle.core_grace.specs.Holds.{HoldsNode, held_slots, listed, tree_slots, work_nodes}

@@ -12,9 +12,9 @@ use Rattle.index_words.specs.declared.word.Field.TheVariants.{Mark}
 use Rattle.index_words.specs.declared.word.Word.TheVariants.{Section, Announced, Node}
 use Rattle.index_words.specs.Views.{no_slots, no_looks}
 use Rattle.index_words.specs.Words.{Memory}
-use Rattle.index_words.specs.Lists.{count, IsItem}
+use Rattle.key_map.specs.Lists.{count, IsItem}
 use Rattle.index_words.proofs.Seats.{sum_kept, at_item, all_moved}
-use Rattle.index_words.proofs.Counting.{count-append}
+use Rattle.key_map.proofs.Counting.{count-append}
 use Rattle.core_grace.specs.Sections.{is_even}
 use Rattle.core_grace.specs.Batches.{is_empty, batch_taken, batch_freed, settled, looked_at, all_passed, is_number, both}
 use Rattle.core_grace.specs.Holds.{HoldsNode, HoldsEntry}

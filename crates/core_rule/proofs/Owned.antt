@@ -9,9 +9,9 @@ use Rattle.index_words.specs.declared.side.Side.{Side}
 use Rattle.index_words.specs.declared.side.Side.TheVariants.{Left, Right}
 use Rattle.index_words.specs.declared.view.View.{View}
 use Rattle.index_words.specs.declared.view.slots.Slots.{Slots}
-use Rattle.index_words.specs.Lists.{count, IsItem}
+use Rattle.key_map.specs.Lists.{count, IsItem}
 use Rattle.index_words.proofs.Seats.{one_term, two_terms, at_item}
-use Rattle.index_words.proofs.Counting.{count-append}
+use Rattle.key_map.proofs.Counting.{count-append}
 use Rattle.core_grace.specs.Holds.{Bundles, entries_of, linked_in, HoldsNode, HoldsEntry}
 use Rattle.core_grace.specs.Slots.{nodes_of, entries_in, own, own_free, is_slot, KeepsEntries, SlotRule}
 use Rattle.core_grace.proofs.SlotMoves.{is_slot-le}

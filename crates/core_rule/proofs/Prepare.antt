@@ -11,9 +11,9 @@ use Rattle.index_words.specs.declared.word.Field.TheVariants.{Mark, Head}
 use Rattle.index_words.specs.declared.word.Part.TheVariants.{Stamp as Number, Next}
 use Rattle.index_words.specs.declared.word.Word.TheVariants.{Node, Entry}
 use Rattle.index_words.specs.Words.{Memory}
-use Rattle.index_words.specs.Lists.{count, IsItem}
+use Rattle.key_map.specs.Lists.{count, IsItem}
 use Rattle.index_words.proofs.Seats.{one_term}
-use Rattle.index_words.proofs.Counting.{count-append}
+use Rattle.key_map.proofs.Counting.{count-append}
 use Rattle.core_grace.specs.Holds.{Bundles, HoldsNode, HoldsEntry, held_slots, listed, work_nodes, tree_slots, linked_in, ReadsAt, StandsIn}
 use Rattle.core_grace.specs.Slots.{nodes_of, entries_in, own, SlotRule}
 use Rattle.core_rule.specs.Versions.{slots_of}

@@ -11,9 +11,9 @@ use Rattle.index_words.specs.declared.word.Field.TheVariants.{Head}
 use Rattle.index_words.specs.declared.word.Part.TheVariants.{Stamp as Number, Next}
 use Rattle.index_words.specs.declared.word.Word.TheVariants.{Stamp, Node, Entry}
 use Rattle.index_words.specs.Words.{Memory, written, same_side}
-use Rattle.index_words.specs.Lists.{count, Every, IsItem}
+use Rattle.key_map.specs.Lists.{count, Every, IsItem}
 use Rattle.index_words.proofs.Seats.{sum_moved, sum_kept, one_term, at_item, all_moved}
-use Rattle.index_words.proofs.Counting.{count-append, count-push}
+use Rattle.key_map.proofs.Counting.{count-append, count-push}
 use Rattle.core_grace.specs.Holds.{held_slots, listed, work_nodes}
 use Rattle.core_links.specs.Bundle.{IsChain, no_number, select}
 use Rattle.core_links.proofs.Chains.{select-behind}

@@ -7,7 +7,7 @@ use Rattle.index_words.specs.declared.view.history.Counts.{Counts}
 use Rattle.index_words.specs.declared.view.reading.Reading.{Reading}
 use Rattle.index_words.specs.declared.view.update.Held.{Held}
 use Rattle.index_words.specs.Words.{Memory}
-use Rattle.index_words.specs.Lists.{count, IsItem}
+use Rattle.key_map.specs.Lists.{count, IsItem}
 use Rattle.index_words.proofs.Seats.{sum_kept, all_moved}
 use Rattle.core_grace.specs.Holds.{HoldsNode, HoldsEntry, held_slots, listed, work_nodes}
 use Rattle.core_grace.proofs.RuleMoves.{HoldsFrom, quiet, same_looks}

@@ -2,11 +2,11 @@
 -- the tree is the one after the update.
 use Rattle.std.proofs.Common.{◌≡◌, ℕ, ◌+◌, List, set, refl, ◌∙◌}
 use Rattle.index_words.specs.declared.layout.Layout.{Layout}
-use Rattle.index_words.specs.declared.update.Update.{Update}
+use Rattle.key_map.specs.declared.update.Update.{Update}
 use Rattle.index_words.specs.declared.view.View.{View}
 use Rattle.index_words.specs.declared.word.Word.TheVariants.{Stamp}
 use Rattle.index_words.specs.Words.{Memory, written}
-use Rattle.index_words.specs.Lists.{IsItem}
+use Rattle.key_map.specs.Lists.{IsItem}
 use Rattle.index_words.proofs.Seats.{sum_kept, all_moved}
 use Rattle.core_trees.specs.NamedTree.{NamedTree}
 use Rattle.core_rule.specs.declared.tree_moves.TreeMove.{TreeMove}

@@ -7,15 +7,15 @@ use Rattle.std.proofs.lemmas.List.{get_or_default}
 use Rattle.index_words.specs.declared.layout.Layout.{Layout}
 use Rattle.index_words.specs.declared.side.Side.{Side}
 use Rattle.index_words.specs.declared.side.Side.TheVariants.{Left, Right}
-use Rattle.index_words.specs.declared.update.Update.{Update}
+use Rattle.key_map.specs.declared.update.Update.{Update}
 use Rattle.index_words.specs.declared.view.View.{View}
 use Rattle.index_words.specs.declared.word.Field.TheVariants.{Head}
 use Rattle.index_words.specs.declared.word.Part.TheVariants.{Stamp as Number, Next}
 use Rattle.index_words.specs.declared.word.Word.TheVariants.{Stamp, Node, Entry}
 use Rattle.index_words.specs.Words.{Memory, written}
-use Rattle.index_words.specs.Lists.{count, has, IsItem}
+use Rattle.key_map.specs.Lists.{count, has, IsItem}
 use Rattle.index_words.proofs.Seats.{sum_moved, one_term, at_item, all_moved}
-use Rattle.index_words.proofs.Counting.{count-has, count-append, has-count}
+use Rattle.key_map.proofs.Counting.{count-has, count-append, has-count}
 use Rattle.core_grace.specs.Holds.{held_slots, listed, work_nodes}
 use Rattle.core_trees.specs.NamedTree.{NamedTree}
 use Rattle.core_rule.specs.declared.tree_moves.TreeMove.{TreeMove}

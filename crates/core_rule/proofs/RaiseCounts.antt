@@ -6,8 +6,8 @@ use Rattle.std.proofs.lemmas.Bool.Decides.{nat_tests, eqb_tells}
 use Rattle.std.proofs.lemmas.List.{map-append}
 use Rattle.std.proofs.lemmas.List.Sums.{sum_by-cons}
 use Rattle.index_words.specs.declared.view.reading.TreeNode.{TreeNode}
-use Rattle.index_words.specs.Lists.{count, has}
-use Rattle.index_words.proofs.Counting.{has-count, count-has}
+use Rattle.key_map.specs.Lists.{count, has}
+use Rattle.key_map.proofs.Counting.{has-count, count-has}
 use Rattle.core_grace.specs.Holds.{Bundles, entries_of, linked_in}
 use Rattle.core_trees.specs.NamedTree.{NamedTree, Null, Branch}
 use Rattle.core_trees.specs.Slots.{tally, one_at, MovesSlots}

@@ -4,14 +4,14 @@ use Rattle.std.specs.List.{slice_get}
 use Rattle.std.proofs.lemmas.Bool.Decides.{nat_tests}
 use Rattle.std.proofs.lemmas.List.{take_all, take-append-le, length-append}
 use Rattle.index_words.specs.declared.layout.Layout.{Layout}
-use Rattle.index_words.specs.declared.update.Update.{Update}
+use Rattle.key_map.specs.declared.update.Update.{Update}
 use Rattle.index_words.specs.declared.view.View.{View}
 use Rattle.index_words.specs.declared.view.history.SeenHistory.{SeenHistory}
 use Rattle.index_words.specs.declared.word.Word.TheVariants.{Stamp}
 use Rattle.index_words.specs.Words.{Memory}
-use Rattle.index_words.specs.Lists.{count, IsItem}
+use Rattle.key_map.specs.Lists.{count, IsItem}
 use Rattle.index_words.proofs.Seats.{sum_moved, item_set}
-use Rattle.index_words.proofs.Counting.{count-push}
+use Rattle.key_map.proofs.Counting.{count-push}
 use Rattle.core_grace.proofs.RuleMoves.{every_push}
 use Rattle.core_rule.specs.declared.tree_moves.TreeMove.{TreeMove}
 use Rattle.core_rule.specs.Meanings.{Meaning}

@@ -5,7 +5,7 @@ use Rattle.std.proofs.lemmas.List.Sums.{sum_by-le-sum_by}
 use Rattle.index_words.specs.declared.view.View.{View}
 use Rattle.index_words.specs.declared.view.slots.Slots.{Slots}
 use Rattle.index_words.specs.declared.view.slots.SectionFound.{SectionFound}
-use Rattle.index_words.specs.Lists.{count, IsItem}
+use Rattle.key_map.specs.Lists.{count, IsItem}
 use Rattle.index_words.proofs.Seats.{Beside, sum_moved, at_item, all_moved}
 use Rattle.core_grace.specs.Slots.{own, own_free, is_slot, SlotsRight, HoldsNone, GraceRight}
 use Rattle.core_grace.proofs.SlotMoves.{is_slot-le}

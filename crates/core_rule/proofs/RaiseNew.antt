@@ -7,15 +7,15 @@ use Rattle.std.proofs.lemmas.List.Sums.{sum_by-le-sum_by}
 use Rattle.index_words.specs.declared.layout.Layout.{Layout}
 use Rattle.index_words.specs.declared.side.Side.{Side}
 use Rattle.index_words.specs.declared.side.Side.TheVariants.{Left, Right}
-use Rattle.index_words.specs.declared.update.Update.{Update}
+use Rattle.key_map.specs.declared.update.Update.{Update}
 use Rattle.index_words.specs.declared.view.View.{View}
 use Rattle.index_words.specs.declared.word.Field.TheVariants.{Head}
 use Rattle.index_words.specs.declared.word.Part.TheVariants.{Stamp as Number, Next}
 use Rattle.index_words.specs.declared.word.Word.TheVariants.{Stamp, Node, Entry}
 use Rattle.index_words.specs.Words.{Memory}
-use Rattle.index_words.specs.Lists.{count, has, IsItem}
+use Rattle.key_map.specs.Lists.{count, has, IsItem}
 use Rattle.index_words.proofs.Seats.{sum_moved, one_term, at_item}
-use Rattle.index_words.proofs.Counting.{count-append, has-count, count-has}
+use Rattle.key_map.proofs.Counting.{count-append, has-count, count-has}
 use Rattle.core_grace.specs.Holds.{Bundles, entries_of, linked_in, listed, work_nodes, tree_slots, HoldsNode}
 use Rattle.core_grace.specs.Slots.{nodes_of, own, own_free, is_slot}
 use Rattle.core_links.specs.Bundle.{IsChain}

@@ -4,15 +4,15 @@ use Rattle.std.proofs.Common.{◌≡◌, ℕ, suc, ◌+◌, ◌<◌, ◌≤◌, 
 use Rattle.std.proofs.lemmas.Bool.{cases_lt}
 use Rattle.index_words.specs.declared.layout.Layout.{Layout}
 use Rattle.index_words.specs.declared.side.Side.{Side}
-use Rattle.index_words.specs.declared.update.Update.{Update}
+use Rattle.key_map.specs.declared.update.Update.{Update}
 use Rattle.index_words.specs.declared.view.View.{View}
 use Rattle.index_words.specs.declared.word.Field.TheVariants.{Head}
 use Rattle.index_words.specs.declared.word.Part.TheVariants.{Stamp as Number}
 use Rattle.index_words.specs.declared.word.Word.TheVariants.{Stamp, Node, Entry}
 use Rattle.index_words.specs.Words.{Memory}
-use Rattle.index_words.specs.Lists.{count, has, Every, IsItem}
+use Rattle.key_map.specs.Lists.{count, has, Every, IsItem}
 use Rattle.index_words.proofs.Seats.{one_term}
-use Rattle.index_words.proofs.Counting.{count-append, has-count, count-has}
+use Rattle.key_map.proofs.Counting.{count-append, has-count, count-has}
 use Rattle.core_links.specs.Bundle.{IsChain, no_number, select, AgreeAt}
 use Rattle.core_links.proofs.Chains.{select-here, select-behind}
 use Rattle.core_trees.specs.NamedTree.{NamedTree}

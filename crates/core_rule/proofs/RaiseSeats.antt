@@ -7,7 +7,7 @@ use Rattle.std.proofs.lemmas.Option.{IfSome_then}
 use Rattle.index_words.specs.declared.layout.Layout.{Layout}
 use Rattle.index_words.specs.declared.side.Side.{Side}
 use Rattle.index_words.specs.declared.side.Side.TheVariants.{Left, Right}
-use Rattle.index_words.specs.declared.update.Update.{Update}
+use Rattle.key_map.specs.declared.update.Update.{Update}
 use Rattle.index_words.specs.declared.view.View.{View}
 use Rattle.index_words.specs.declared.view.reading.Place.{Place}
 use Rattle.index_words.specs.declared.view.reading.Place.TheVariants.{Nowhere, Entry as AtEntry, Node as AtNode, Gap}
@@ -17,9 +17,9 @@ use Rattle.index_words.specs.declared.word.Field.TheVariants.{Mark, Head}
 use Rattle.index_words.specs.declared.word.Part.TheVariants.{Child, Stamp as Number, Next}
 use Rattle.index_words.specs.declared.word.Word.TheVariants.{Stamp, Node, Entry}
 use Rattle.index_words.specs.Words.{Memory, written}
-use Rattle.index_words.specs.Lists.{count, has, Every, IsItem}
+use Rattle.key_map.specs.Lists.{count, has, Every, IsItem}
 use Rattle.index_words.proofs.Seats.{Beside, one_term, two_terms}
-use Rattle.index_words.proofs.Counting.{count-append, has-count}
+use Rattle.key_map.proofs.Counting.{count-append, has-count}
 use Rattle.core_grace.specs.Holds.{entries_of, listed}
 use Rattle.core_grace.specs.Slots.{nodes_of, own, is_slot}
 use Rattle.core_trees.specs.NamedTree.{NamedTree}

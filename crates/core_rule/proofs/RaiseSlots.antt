@@ -5,15 +5,15 @@ use Rattle.std.specs.List.{All}
 use Rattle.std.proofs.lemmas.Bool.{cases_lt, lt-leb}
 use Rattle.index_words.specs.declared.layout.Layout.{Layout}
 use Rattle.index_words.specs.declared.side.Side.{Side}
-use Rattle.index_words.specs.declared.update.Update.{Update}
+use Rattle.key_map.specs.declared.update.Update.{Update}
 use Rattle.index_words.specs.declared.view.View.{View}
 use Rattle.index_words.specs.declared.word.Field.TheVariants.{Head}
 use Rattle.index_words.specs.declared.word.Part.TheVariants.{Stamp as Number}
 use Rattle.index_words.specs.declared.word.Word.TheVariants.{Stamp, Node, Entry}
 use Rattle.index_words.specs.Words.{Memory}
-use Rattle.index_words.specs.Lists.{count, has, IsItem}
+use Rattle.key_map.specs.Lists.{count, has, IsItem}
 use Rattle.index_words.proofs.Seats.{Beside, one_term, at_item, all_moved, pairs_moved}
-use Rattle.index_words.proofs.Counting.{count-append, has-count}
+use Rattle.key_map.proofs.Counting.{count-append, has-count}
 use Rattle.core_grace.specs.Holds.{Bundles, entries_of, linked_in, listed, work_nodes, held_slots, held_nodes, tree_slots, HoldsNode, HoldsEntry, read_at, ReadsAt, StandsIn}
 use Rattle.core_grace.specs.Slots.{nodes_of, entries_in, own, SlotsRight, HoldsNone, GraceRight, KeepsEntries, SlotRule}
 use Rattle.core_links.specs.Bundle.{no_number}

@@ -7,16 +7,16 @@ use Rattle.std.proofs.lemmas.Bool.{cases_lt}
 use Rattle.std.proofs.lemmas.Bool.Decides.{nat_tests}
 use Rattle.index_words.specs.declared.layout.Layout.{Layout}
 use Rattle.index_words.specs.declared.side.Side.{Side}
-use Rattle.index_words.specs.declared.update.Update.{Update}
+use Rattle.key_map.specs.declared.update.Update.{Update}
 use Rattle.index_words.specs.declared.view.View.{View}
 use Rattle.index_words.specs.declared.view.reading.TreeNode.{TreeNode}
 use Rattle.index_words.specs.declared.word.Field.TheVariants.{Key, Val, Mark, Head}
 use Rattle.index_words.specs.declared.word.Part.TheVariants.{Child, Next}
 use Rattle.index_words.specs.declared.word.Word.TheVariants.{Stamp, Node, Entry}
 use Rattle.index_words.specs.Words.{Memory, written}
-use Rattle.index_words.specs.Lists.{count, IsItem}
-use Rattle.index_words.proofs.Counting.{count-append}
-use Rattle.index_words.proofs.HistoryLaws.{after-append}
+use Rattle.key_map.specs.Lists.{count, IsItem}
+use Rattle.key_map.proofs.Counting.{count-append}
+use Rattle.key_map.proofs.HistoryLaws.{after-append}
 use Rattle.core_grace.specs.Holds.{listed, work_nodes, tree_slots}
 use Rattle.core_links.specs.Bundle.{select, child_of_entry}
 use Rattle.core_trees.specs.NamedTree.{NamedTree}

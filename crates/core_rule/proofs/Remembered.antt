@@ -13,7 +13,7 @@ use Rattle.index_words.specs.declared.word.Field.TheVariants.{Key, Val, Head}
 use Rattle.index_words.specs.declared.word.Part.TheVariants.{Child, Stamp as Number, Next}
 use Rattle.index_words.specs.declared.word.Word.TheVariants.{Stamp, Node, Entry}
 use Rattle.index_words.specs.Words.{Memory}
-use Rattle.index_words.specs.Lists.{count, Every, IsItem}
+use Rattle.key_map.specs.Lists.{count, Every, IsItem}
 use Rattle.index_words.proofs.Seats.{one_term}
 use Rattle.core_grace.specs.Slots.{nodes_of, own, own_free}
 use Rattle.core_links.specs.Bundle.{IsChain, no_number, select, child_of_entry}

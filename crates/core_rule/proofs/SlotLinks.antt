@@ -9,7 +9,7 @@ use Rattle.index_words.specs.declared.view.update.Held.{Held}
 use Rattle.index_words.specs.declared.view.update.Updating.{Updating}
 use Rattle.index_words.specs.declared.view.slots.Slots.{Slots}
 use Rattle.index_words.specs.declared.view.slots.SectionFound.{SectionFound}
-use Rattle.index_words.specs.Lists.{count, IsItem}
+use Rattle.key_map.specs.Lists.{count, IsItem}
 use Rattle.index_words.proofs.Seats.{Beside, sum_moved, at_item, all_moved, pairs_moved}
 use Rattle.core_grace.specs.Slots.{nodes_of, entries_in, own, own_free, is_slot, SlotsRight, HoldsNone, GraceRight, KeepsEntries, Linked, SlotRule}
 use Rattle.core_grace.proofs.SlotMoves.{is_slot-le, slots_moved}

@@ -9,7 +9,7 @@ use Rattle.index_words.specs.declared.word.Part.TheVariants.{Child, Stamp as Num
 use Rattle.index_words.specs.declared.word.Word.{Word}
 use Rattle.index_words.specs.declared.word.Word.TheVariants.{Stamp, Section, Announced, Node, Entry}
 use Rattle.index_words.specs.Words.{Memory, memory, word_at}
-use Rattle.index_words.specs.Lists.{IsItem}
+use Rattle.key_map.specs.Lists.{IsItem}
 use Rattle.core_grace.specs.Sections.{is_even}
 use Rattle.core_rule.specs.declared.event.Kind.TheVariants.{LoadStamp, LoadHead, LoadTs, LoadPtr, LoadNext}
 use Rattle.core_rule.specs.Needs.{is_stamp}

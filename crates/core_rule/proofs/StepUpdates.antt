@@ -2,7 +2,7 @@
 use Rattle.std.proofs.Common.{◌≡◌, ℕ, cond, ap, Bool, ◌+◌, List, true, false, eqb, ◌&&◌, set, refl, ◌∙◌, sym, subst, slice_index, Option, Some, None}
 use Rattle.std.proofs.lemmas.Bool.{and_parts, eqb-true}
 use Rattle.index_words.specs.declared.layout.Layout.{Layout}
-use Rattle.index_words.specs.declared.update.Update.{Update}
+use Rattle.key_map.specs.declared.update.Update.{Update}
 use Rattle.index_words.specs.declared.view.View.{View}
 use Rattle.index_words.specs.declared.word.Field.{Field}
 use Rattle.index_words.specs.declared.word.Field.TheVariants.{Key, Val, Lock, Mark, Head, Link, Tag}
@@ -10,8 +10,8 @@ use Rattle.index_words.specs.declared.word.Part.TheVariants.{Child, Stamp as Num
 use Rattle.index_words.specs.declared.word.Word.{Word}
 use Rattle.index_words.specs.declared.word.Word.TheVariants.{Stamp, Section, Announced, Node, Entry}
 use Rattle.index_words.specs.Words.{Memory, memory, address, word_at}
-use Rattle.index_words.specs.Lists.{has, IsItem}
-use Rattle.index_words.proofs.Counting.{has-count}
+use Rattle.key_map.specs.Lists.{has, IsItem}
+use Rattle.key_map.proofs.Counting.{has-count}
 use Rattle.index_words.proofs.Store.{word_there}
 use Rattle.core_grace.specs.Batches.{is_number}
 use Rattle.core_rule.specs.declared.event.Kind.TheVariants.{Prepare, Raise, Finalise, TryLock, Unlock, LoadMark, Mark as MarkNode}

@@ -11,8 +11,8 @@ use Rattle.index_words.specs.declared.word.Field.TheVariants.{Key, Val, Mark, He
 use Rattle.index_words.specs.declared.word.Part.TheVariants.{Child, Stamp as Number, Next}
 use Rattle.index_words.specs.declared.word.Word.TheVariants.{Stamp, Node, Entry}
 use Rattle.index_words.specs.Words.{Memory}
-use Rattle.index_words.specs.Lists.{count, has, IsItem}
-use Rattle.index_words.proofs.Counting.{count-append, has-count, count-has}
+use Rattle.key_map.specs.Lists.{count, has, IsItem}
+use Rattle.key_map.proofs.Counting.{count-append, has-count, count-has}
 use Rattle.index_words.proofs.Seats.{one_term}
 use Rattle.core_grace.specs.Holds.{Bundles, linked_in, listed}
 use Rattle.core_links.specs.Bundle.{no_number, select, child_of_entry}

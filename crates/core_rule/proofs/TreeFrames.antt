@@ -6,15 +6,15 @@ use Rattle.std.proofs.lemmas.List.Sums.{sum_by-le-sum_by}
 use Rattle.index_words.specs.declared.layout.Layout.{Layout}
 use Rattle.index_words.specs.declared.side.Side.{Side}
 use Rattle.index_words.specs.declared.side.Side.TheVariants.{Left, Right}
-use Rattle.index_words.specs.declared.update.Update.{Update}
+use Rattle.key_map.specs.declared.update.Update.{Update}
 use Rattle.index_words.specs.declared.view.View.{View}
 use Rattle.index_words.specs.declared.view.reading.TreeNode.{TreeNode}
 use Rattle.index_words.specs.declared.word.Field.TheVariants.{Key, Val}
 use Rattle.index_words.specs.declared.word.Part.TheVariants.{Child}
 use Rattle.index_words.specs.declared.word.Word.TheVariants.{Node, Entry}
 use Rattle.index_words.specs.Words.{Memory}
-use Rattle.index_words.specs.Lists.{count, IsItem}
-use Rattle.index_words.proofs.Counting.{count-append}
+use Rattle.key_map.specs.Lists.{count, IsItem}
+use Rattle.key_map.proofs.Counting.{count-append}
 use Rattle.core_grace.specs.Holds.{Bundles, HoldsNode, HoldsEntry, tree_slots, work_nodes}
 use Rattle.core_grace.specs.Slots.{nodes_of, own, own_free, is_slot, SlotRule}
 use Rattle.core_links.specs.Bundle.{select, child_of_entry}

@@ -5,7 +5,7 @@ use Rattle.index_words.specs.declared.layout.Layout.{Layout}
 use Rattle.index_words.specs.declared.view.View.{View}
 use Rattle.index_words.specs.declared.word.Word.TheVariants.{Stamp}
 use Rattle.index_words.specs.Words.{Memory}
-use Rattle.index_words.specs.Lists.{count, IsItem}
+use Rattle.key_map.specs.Lists.{count, IsItem}
 use Rattle.core_grace.specs.Holds.{tree_slots}
 use Rattle.core_links.specs.Bundle.{select}
 use Rattle.core_rule.specs.Meanings.{Meaning}

@@ -5,15 +5,15 @@ use Rattle.std.proofs.lemmas.Bool.{and_parts}
 use Rattle.index_words.specs.declared.layout.Layout.{Layout}
 use Rattle.index_words.specs.declared.side.Side.{Side}
 use Rattle.index_words.specs.declared.side.Side.TheVariants.{Right}
-use Rattle.index_words.specs.declared.update.Update.{Update}
+use Rattle.key_map.specs.declared.update.Update.{Update}
 use Rattle.index_words.specs.declared.view.View.{View}
 use Rattle.index_words.specs.declared.word.Field.TheVariants.{Key, Val}
 use Rattle.index_words.specs.declared.word.Part.TheVariants.{Child}
 use Rattle.index_words.specs.declared.word.Word.TheVariants.{Stamp, Node, Entry}
 use Rattle.index_words.specs.Words.{Memory}
-use Rattle.index_words.specs.History.{changed, updated, after}
-use Rattle.index_words.specs.Lists.{count, has, IsItem}
-use Rattle.index_words.proofs.HistoryLaws.{after-push}
+use Rattle.key_map.specs.History.{changed, updated, after}
+use Rattle.key_map.specs.Lists.{count, has, IsItem}
+use Rattle.key_map.proofs.HistoryLaws.{after-push}
 use Rattle.core_grace.specs.Holds.{listed}
 use Rattle.core_trees.specs.NamedTree.{NamedTree, contents}
 use Rattle.core_trees.specs.Gaps.{HasNullLink, IsInGap}

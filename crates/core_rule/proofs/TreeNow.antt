@@ -14,8 +14,8 @@ use Rattle.index_words.specs.declared.word.Field.TheVariants.{Key, Val, Head}
 use Rattle.index_words.specs.declared.word.Part.TheVariants.{Child, Stamp as Number, Next}
 use Rattle.index_words.specs.declared.word.Word.TheVariants.{Stamp, Node, Entry}
 use Rattle.index_words.specs.Words.{Memory}
-use Rattle.index_words.specs.Lists.{count, has, Every}
-use Rattle.index_words.proofs.Counting.{has-count, count-has}
+use Rattle.key_map.specs.Lists.{count, has, Every}
+use Rattle.key_map.proofs.Counting.{has-count, count-has}
 use Rattle.core_grace.specs.Slots.{nodes_of, own, own_free, is_slot}
 use Rattle.core_links.specs.Bundle.{no_number, select, child_of_entry}
 use Rattle.core_trees.specs.Slots.{occurs}

@@ -4,13 +4,13 @@ use Rattle.std.proofs.Common.{◌≡◌, ℕ, zero, suc, ◌+◌, ◌<◌, ◌�
 use Rattle.std.proofs.lemmas.Bool.{eq-eqb, ne_eqb, lt-ltb, le-ltb, le-leb, and_from}
 use Rattle.std.proofs.lemmas.List.{length-append}
 use Rattle.index_words.specs.declared.side.Side.TheVariants.{Left, Right}
-use Rattle.index_words.specs.declared.pair.Pair.{Pair}
-use Rattle.index_words.specs.declared.update.Update.{Update}
-use Rattle.index_words.specs.declared.update.Change.{Change}
-use Rattle.index_words.specs.declared.update.Change.TheVariants.{Put, Remove}
-use Rattle.index_words.specs.Map.{pair, map_put, map_remove}
-use Rattle.index_words.specs.History.{changed, updated, after}
-use Rattle.index_words.specs.Lists.{count}
+use Rattle.key_map.specs.declared.pair.Pair.{Pair}
+use Rattle.key_map.specs.declared.update.Update.{Update}
+use Rattle.key_map.specs.declared.update.Change.{Change}
+use Rattle.key_map.specs.declared.update.Change.TheVariants.{Put, Remove}
+use Rattle.key_map.specs.Map.{pair, map_put, map_remove}
+use Rattle.key_map.specs.History.{changed, updated, after}
+use Rattle.key_map.specs.Lists.{count}
 use Rattle.core_links.specs.Bundle.{IsChain, select}
 use Rattle.core_links.proofs.Chains.{select-here}
 use Rattle.core_trees.specs.NamedTree.{NamedTree, Null, Branch, contents}

@@ -6,11 +6,11 @@ use Rattle.std.proofs.lemmas.Bool.Decides.{nat_tests, eqb_tells}
 use Rattle.std.proofs.lemmas.List.Sums.{sum_by-cons}
 use Rattle.index_words.specs.declared.side.Side.{Side}
 use Rattle.index_words.specs.declared.side.Side.TheVariants.{Left, Right}
-use Rattle.index_words.specs.declared.update.Change.{Change}
-use Rattle.index_words.specs.declared.update.Change.TheVariants.{Put, Remove}
-use Rattle.index_words.specs.History.{changed}
-use Rattle.index_words.specs.Lists.{count, has}
-use Rattle.index_words.proofs.Counting.{count-append}
+use Rattle.key_map.specs.declared.update.Change.{Change}
+use Rattle.key_map.specs.declared.update.Change.TheVariants.{Put, Remove}
+use Rattle.key_map.specs.History.{changed}
+use Rattle.key_map.specs.Lists.{count, has}
+use Rattle.key_map.proofs.Counting.{count-append}
 use Rattle.core_grace.specs.Holds.{listed}
 use Rattle.core_links.specs.Bundle.{no_number}
 use Rattle.core_trees.specs.NamedTree.{NamedTree, Null, Branch, IsLawful, contents}

@@ -15,9 +15,9 @@ use Rattle.index_words.specs.declared.word.Field.TheVariants.{Lock, Mark, Head}
 use Rattle.index_words.specs.declared.word.Part.TheVariants.{Child, Stamp as Number, Next}
 use Rattle.index_words.specs.declared.word.Word.TheVariants.{Stamp, Node, Entry}
 use Rattle.index_words.specs.Words.{Memory, written}
-use Rattle.index_words.specs.Lists.{count, IsItem}
+use Rattle.key_map.specs.Lists.{count, IsItem}
 use Rattle.index_words.proofs.Seats.{Beside, sum_moved, sum_kept, one_term, at_item, all_moved}
-use Rattle.index_words.proofs.Counting.{count-append, count-push}
+use Rattle.key_map.proofs.Counting.{count-append, count-push}
 use Rattle.core_grace.specs.Sections.{is_even}
 use Rattle.core_grace.specs.Holds.{HoldsNode, HoldsEntry, held_slots, listed, work_nodes, tree_slots, entries_of}
 use Rattle.core_grace.specs.Slots.{nodes_of, entries_in, own, own_free, HoldsNone, SlotRule}

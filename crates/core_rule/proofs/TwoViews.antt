@@ -4,7 +4,7 @@ use Rattle.std.proofs.lemmas.Bool.{cases_lt}
 use Rattle.std.proofs.lemmas.List.{take-append-drop, get_or_append_left, length-append}
 use Rattle.std.proofs.lemmas.List.Elements.{All-set, All-push}
 use Rattle.index_words.specs.declared.layout.Layout.{Layout}
-use Rattle.index_words.specs.declared.update.Update.{Update}
+use Rattle.key_map.specs.declared.update.Update.{Update}
 use Rattle.index_words.specs.declared.view.View.{View}
 use Rattle.index_words.specs.declared.view.update.HeldNode.{HeldNode}
 use Rattle.index_words.specs.declared.view.update.Updating.{Updating}
@@ -12,9 +12,9 @@ use Rattle.index_words.specs.declared.word.Field.TheVariants.{Mark}
 use Rattle.index_words.specs.declared.word.Word.TheVariants.{Node}
 use Rattle.index_words.specs.Words.{Memory}
 use Rattle.index_words.specs.Views.{spent_view}
-use Rattle.index_words.specs.Lists.{count, IsItem}
+use Rattle.key_map.specs.Lists.{count, IsItem}
 use Rattle.index_words.proofs.Seats.{at_item, all_moved, sum_moved, sum_kept, sum_split, sum_joined, beside_item}
-use Rattle.index_words.proofs.Counting.{count-append}
+use Rattle.key_map.proofs.Counting.{count-append}
 use Rattle.core_grace.specs.Batches.{both}
 use Rattle.core_grace.specs.Holds.{HoldsNode, HoldsEntry, work_nodes}
 use Rattle.core_grace.specs.Slots.{own_free, nodes_of}

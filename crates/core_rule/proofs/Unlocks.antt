@@ -13,9 +13,9 @@ use Rattle.index_words.specs.declared.word.Part.TheVariants.{Stamp as Number, Ne
 use Rattle.index_words.specs.declared.word.Word.TheVariants.{Stamp, Node, Entry}
 use Rattle.index_words.specs.Words.{Memory, written}
 use Rattle.index_words.specs.Views.{no_update}
-use Rattle.index_words.specs.Lists.{count, Every, IsItem}
+use Rattle.key_map.specs.Lists.{count, Every, IsItem}
 use Rattle.index_words.proofs.Seats.{Beside, sum_moved, sum_kept, one_term, all_moved}
-use Rattle.index_words.proofs.Counting.{count-append}
+use Rattle.key_map.proofs.Counting.{count-append}
 use Rattle.core_grace.specs.Holds.{HoldsNode, HoldsEntry, held_slots, listed, work_nodes, tree_slots}
 use Rattle.core_grace.proofs.RuleMoves.{quiet, same_looks}
 use Rattle.core_rule.specs.Meanings.{Meaning, linked_by}

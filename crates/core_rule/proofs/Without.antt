@@ -2,7 +2,7 @@
 use Rattle.std.proofs.Common.{◌≡◌, ℕ, ◌<◌, ◌≤◌, cond, List, [], ◌∷◌, Bool, true, false, eqb, not, arith, refl, subst, inl, inr}
 use Rattle.std.proofs.lemmas.Bool.{eq-eqb, eqb-true, ne_eqb}
 use Rattle.std.proofs.lemmas.Bool.Decides.{nat_tests, eqb_tells}
-use Rattle.index_words.specs.Lists.{count, Every}
+use Rattle.key_map.specs.Lists.{count, Every}
 use Rattle.core_rule.specs.UpdateMoves.{without}
 use Rattle.core_rule.proofs.Frames.{one_counted}
 

@@ -8,7 +8,7 @@ use Rattle.index_words.specs.declared.word.Field.TheVariants.{Head}
 use Rattle.index_words.specs.declared.word.Part.TheVariants.{Stamp as Number, Next}
 use Rattle.index_words.specs.declared.word.Word.TheVariants.{Stamp, Node, Entry}
 use Rattle.index_words.specs.Words.{Memory}
-use Rattle.index_words.specs.Lists.{count, Every}
+use Rattle.key_map.specs.Lists.{count, Every}
 use Rattle.core_grace.specs.Holds.{work_nodes}
 use Rattle.core_grace.specs.Slots.{own_free, nodes_of}
 use Rattle.core_links.specs.Bundle.{IsChain, no_number}

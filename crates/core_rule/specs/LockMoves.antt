@@ -5,7 +5,7 @@ use Rattle.index_words.specs.declared.view.update.HeldNode.{HeldNode}
 use Rattle.index_words.specs.declared.view.update.HeldNext.{HeldNext}
 use Rattle.index_words.specs.declared.view.update.HeldSide.{HeldSide}
 use Rattle.index_words.specs.declared.view.update.Updating.{Updating}
-use Rattle.index_words.specs.Lists.{has}
+use Rattle.key_map.specs.Lists.{has}
 use Rattle.index_words.specs.Views.{no_update}
 use Rattle.core_rule.specs.Moves.{nowhere}
 use Rattle.core_rule.specs.LoadMoves.{raised_if}

@@ -6,7 +6,7 @@ use Rattle.index_words.specs.declared.word.Field.TheVariants.{Key, Val, Mark}
 use Rattle.index_words.specs.declared.word.Word.{Word}
 use Rattle.index_words.specs.declared.word.Word.TheVariants.{Node}
 use Rattle.index_words.specs.Words.{Memory}
-use Rattle.index_words.specs.Lists.{has}
+use Rattle.key_map.specs.Lists.{has}
 use Rattle.core_grace.specs.Sections.{is_even}
 use Rattle.core_rule.specs.Needs.{is_lock, nothing_pending}
 use Rattle.core_rule.specs.LoadMoves.{locks}

@@ -8,7 +8,7 @@ use Rattle.index_words.specs.declared.view.update.HeldNode.{HeldNode}
 use Rattle.index_words.specs.declared.view.update.HeldNext.{HeldNext}
 use Rattle.index_words.specs.declared.view.update.HeldSide.{HeldSide}
 use Rattle.index_words.specs.declared.view.update.LoadedHead.{LoadedHead}
-use Rattle.index_words.specs.Lists.{count, Every}
+use Rattle.key_map.specs.Lists.{count, Every}
 use Rattle.core_grace.specs.Holds.{Bundles, held_slots, entries_of}
 
 -- how often a view has locked a node

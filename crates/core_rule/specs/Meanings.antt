@@ -1,8 +1,8 @@
 -- What the words of a table mean. It is determined by the words and the views; the rule names it, so that
 -- each part of the rule can speak of it.
 use Rattle.std.specs.Prelude.{List, ◌∷◌}
-use Rattle.index_words.specs.declared.update.Update.{Update}
-use Rattle.index_words.specs.Lists.{count}
+use Rattle.key_map.specs.declared.update.Update.{Update}
+use Rattle.key_map.specs.Lists.{count}
 use Rattle.core_grace.specs.Holds.{Bundles, entries_of, linked_in}
 use Rattle.core_grace.specs.Slots.{Linked}
 use Rattle.core_trees.specs.NamedTree.{NamedTree}

@@ -7,7 +7,7 @@ use Rattle.index_words.specs.declared.word.Field.{Field}
 use Rattle.index_words.specs.declared.word.Word.{Word}
 use Rattle.index_words.specs.declared.word.Word.TheVariants.{Stamp, Section, Node, Entry}
 use Rattle.index_words.specs.Words.{Memory}
-use Rattle.index_words.specs.Lists.{has}
+use Rattle.key_map.specs.Lists.{has}
 use Rattle.core_grace.specs.Sections.{is_even, left_word}
 use Rattle.core_grace.specs.Batches.{is_empty, is_number}
 

@@ -3,7 +3,7 @@
 use Rattle.std.specs.Prelude.{◌≡◌, ℕ, ◌+◌, List, cond, nat_lt, sum_by}
 use Rattle.index_words.specs.declared.layout.Layout.{Layout}
 use Rattle.index_words.specs.declared.view.View.{View}
-use Rattle.index_words.specs.Lists.{count}
+use Rattle.key_map.specs.Lists.{count}
 use Rattle.core_rule.specs.Moves.{own_number}
 
 -- how often a view has a pass number, in one of these ways

@@ -2,7 +2,7 @@
 -- passes stands the emptied first view.
 use Rattle.std.specs.Prelude.{ℕ, zero, suc, ◌+◌, List, [], ◌∷◌, ◌++◌, Some, replicate}
 use Rattle.index_words.specs.declared.layout.Layout.{Layout}
-use Rattle.index_words.specs.declared.pass.PassSize.{PassSize}
+use Rattle.key_map.specs.declared.pass.PassSize.{PassSize}
 use Rattle.index_words.specs.declared.view.View.{View}
 use Rattle.index_words.specs.Views.{empty_view}
 use Rattle.index_words.specs.Words.{word_count}

@@ -8,7 +8,7 @@ use Rattle.index_words.specs.declared.view.reading.Place.TheVariants.{Nowhere, E
 use Rattle.index_words.specs.declared.view.reading.Link.{Link}
 use Rattle.index_words.specs.declared.view.reading.LinkSource.{LinkSource}
 use Rattle.index_words.specs.declared.view.reading.LinkSource.TheVariants.{Bundle, Plain}
-use Rattle.index_words.specs.Lists.{count, Every}
+use Rattle.key_map.specs.Lists.{count, Every}
 use Rattle.core_grace.specs.Holds.{Bundles, HoldsNode, held_slots, tree_slots}
 use Rattle.core_links.specs.Bundle.{select, child_of_entry}
 

@@ -12,7 +12,7 @@ use Rattle.index_words.specs.declared.word.Field.TheVariants.{Mark, Head}
 use Rattle.index_words.specs.declared.word.Part.TheVariants.{Child, Next}
 use Rattle.index_words.specs.declared.word.Word.TheVariants.{Stamp, Node, Entry}
 use Rattle.index_words.specs.Words.{Memory}
-use Rattle.index_words.specs.Lists.{count, IsItem}
+use Rattle.key_map.specs.Lists.{count, IsItem}
 use Rattle.core_links.specs.Bundle.{select, child_of_entry}
 use Rattle.core_trees.specs.NamedTree.{NamedTree}
 use Rattle.core_trees.specs.Gaps.{IsGapLink}

@@ -6,7 +6,7 @@ use Rattle.index_words.specs.declared.word.Field.TheVariants.{Key, Val, Lock, Ma
 use Rattle.index_words.specs.declared.word.Part.TheVariants.{Child, Stamp as Number, Next}
 use Rattle.index_words.specs.declared.word.Word.TheVariants.{Stamp, Section, Announced, Node, Entry}
 use Rattle.index_words.specs.Words.{Memory}
-use Rattle.index_words.specs.Lists.{Every}
+use Rattle.key_map.specs.Lists.{Every}
 use Rattle.core_rule.specs.Meanings.{Meaning}
 use Rattle.core_rule.specs.Histories.{SeenRight}
 use Rattle.core_rule.specs.SectionRule.{SectionRight}

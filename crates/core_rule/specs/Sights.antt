@@ -1,6 +1,6 @@
 -- What a sight sees: the words and views of a table, where some more entries have a number.
 use Rattle.std.specs.Prelude.{◌≡◌, ◌<◌, ◌+◌, ℕ, List, ◌++◌, [], Option, Some, None}
-use Rattle.index_words.specs.declared.pair.Pair.{Pair}
+use Rattle.key_map.specs.declared.pair.Pair.{Pair}
 use Rattle.index_words.specs.Words.{Memory, memory}
 use Rattle.core_trees.specs.NamedTree.{NamedTree, Null, Branch}
 use Rattle.core_trees.specs.SpelledTree.{Graph}

@@ -10,7 +10,7 @@ use Rattle.index_words.specs.declared.word.Field.TheVariants.{Key, Val, Head}
 use Rattle.index_words.specs.declared.word.Part.TheVariants.{Child, Stamp as Number, Next}
 use Rattle.index_words.specs.declared.word.Word.TheVariants.{Stamp, Node, Entry}
 use Rattle.index_words.specs.Words.{Memory}
-use Rattle.index_words.specs.Lists.{has}
+use Rattle.key_map.specs.Lists.{has}
 use Rattle.core_links.specs.Bundle.{child_of_entry}
 use Rattle.core_trees.specs.NamedTree.{NamedTree, Null, Branch}
 use Rattle.core_trees.specs.SpelledTree.{Graph}

@@ -1,13 +1,13 @@
 -- The law on trees: at the stamp, and at each number that a seat reads at, the words spell a search tree whose
 -- contents are the map after so many updates.
 use Rattle.std.specs.Prelude.{◌≡◌, ℕ, ◌+◌, ◌≤◌, List, length, take, IfSome}
-use Rattle.index_words.specs.declared.update.Update.{Update}
+use Rattle.key_map.specs.declared.update.Update.{Update}
 use Rattle.index_words.specs.declared.view.View.{View}
 use Rattle.index_words.specs.declared.view.reading.TreeNode.{TreeNode}
 use Rattle.index_words.specs.declared.word.Field.TheVariants.{Key, Val, Head}
 use Rattle.index_words.specs.declared.word.Part.TheVariants.{Child, Next}
 use Rattle.index_words.specs.declared.word.Word.TheVariants.{Stamp, Node, Entry}
-use Rattle.index_words.specs.Lists.{IsItem}
+use Rattle.key_map.specs.Lists.{IsItem}
 use Rattle.core_grace.specs.Holds.{Bundles}
 use Rattle.core_trees.specs.NamedTree.{NamedTree}
 use Rattle.core_rule.specs.Tables.{Table, held_by}

@@ -1,7 +1,7 @@
 -- The needs of each kind of event of an update, as computed truth values.
 use Rattle.std.specs.Prelude.{ℕ, List, length, Bool, false, not, ◌==◌, ◌&&◌, ◌||◌, Option, Some, None, is_none, find, nat_lt}
 use Rattle.index_words.specs.declared.layout.Layout.{Layout}
-use Rattle.index_words.specs.declared.update.Update.{Update}
+use Rattle.key_map.specs.declared.update.Update.{Update}
 use Rattle.index_words.specs.declared.side.Side.{Side}
 use Rattle.index_words.specs.declared.side.Side.TheVariants.{Left, Right}
 use Rattle.index_words.specs.declared.view.View.{View}
@@ -14,7 +14,7 @@ use Rattle.index_words.specs.declared.word.Part.TheVariants.{Stamp as Number, Ne
 use Rattle.index_words.specs.declared.word.Word.{Word}
 use Rattle.index_words.specs.declared.word.Word.TheVariants.{Node, Entry}
 use Rattle.index_words.specs.Words.{Memory}
-use Rattle.index_words.specs.Lists.{has}
+use Rattle.key_map.specs.Lists.{has}
 use Rattle.core_grace.specs.Batches.{is_number}
 use Rattle.core_rule.specs.Needs.{is_stamp}
 use Rattle.core_rule.specs.LoadNeeds.{is_part}

@@ -2,9 +2,9 @@
 -- contents are the map after so many updates.
 use Rattle.std.specs.Prelude.{◌≡◌, ℕ, ◌<◌, List, [], ◌∷◌, ◌++◌}
 use Rattle.index_words.specs.declared.side.Side.{Side}
-use Rattle.index_words.specs.declared.update.Update.{Update}
+use Rattle.key_map.specs.declared.update.Update.{Update}
 use Rattle.index_words.specs.declared.view.reading.TreeNode.{TreeNode}
-use Rattle.index_words.specs.History.{after}
+use Rattle.key_map.specs.History.{after}
 use Rattle.core_grace.specs.Holds.{Bundles, tree_slots}
 use Rattle.core_links.specs.Bundle.{select, child_of_entry}
 use Rattle.core_trees.specs.NamedTree.{NamedTree, Null, Branch, IsLawful, contents}

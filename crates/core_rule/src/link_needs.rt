@@ -1,7 +1,7 @@
 // The needs of loads and of an update's events, as tests.
 ghost use Rattle.std.specs.Prelude.{◌≡◌};
 ghost use Rattle.index_words.specs.Words.{memory};
-ghost use Rattle.index_words.specs.Lists.{has};
+ghost use Rattle.key_map.specs.Lists.{has};
 ghost use Rattle.core_rule.specs.LoadNeeds.{reads_tree, may_load_stamp as stamp_needs, is_reachable as reaches, may_load_head as head_needs, stands_at as place_stands_at, is_part as part_is, may_load_part as part_needs, may_go_on as goes_on, may_load_next as next_needs};
 ghost use Rattle.core_rule.specs.UpdateNeeds.{side_of as side_named, is_written as written, is_next_of as next_of, is_ready as ready, held_at as held_named, may_prepare_entry as entry_needs, may_prepare as prepare_needs, is_raise_of as raises_update, may_raise_number as number_needs, may_raise as raise_needs, may_finalise as finalise_needs};
 

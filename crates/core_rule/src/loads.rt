@@ -2,7 +2,7 @@
 ghost use Rattle.std.specs.Prelude.{◌≡◌, ◌==◌, ◌&&◌, not, OnOk, OnErr, map};
 ghost use Rattle.std.specs.List.{list_any};
 ghost use Rattle.index_words.specs.Words.{same_side as same_sides};
-ghost use Rattle.index_words.specs.Lists.{has};
+ghost use Rattle.key_map.specs.Lists.{has};
 ghost use Rattle.core_rule.specs.UpdateMoves.{known_at};
 ghost use Rattle.core_rule.specs.LoadMoves.{locks, risen as risen_count, stamp_loaded, has_other_source, has_moved as link_has_moved, remembered_if, bundle_link, stored_by as is_stored_by, found_again, side_found, found_at, head_loaded, stamp_known, side_known, node_known, place_known, ts_loaded, is_selected as selects, ptr_loaded, is_above_at, is_above as above_section, kept_if, next_loaded};
 ghost use Rattle.core_rule.specs.Steps.{head_from, ts_from, ptr_from, next_from};

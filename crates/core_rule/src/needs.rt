@@ -4,7 +4,7 @@ ghost use Rattle.std.specs.List.{list_all};
 ghost use Rattle.index_words.specs.Words.{memory};
 ghost use Rattle.index_words.specs.declared.word.Part.TheVariants.{Stamp as Number};
 ghost use Rattle.index_words.specs.declared.word.Word.TheVariants.{Entry as EntryWord};
-ghost use Rattle.index_words.specs.Lists.{has};
+ghost use Rattle.key_map.specs.Lists.{has};
 ghost use Rattle.core_rule.specs.Needs.{is_outside as outside_of, is_marked_node, nothing_pending, is_own_section, is_stamp, may_enter as enter_needs, may_leave as leave_needs, may_look as look_needs, is_lock, may_fill as fill_needs, may_split as split_needs, may_join as join_needs, may_join_view};
 ghost use Rattle.core_rule.specs.Steps.{needs};
 

@@ -1,7 +1,7 @@
 // The tree at the stamp, as the words spell it.
 ghost use Rattle.std.specs.Prelude.{◌≡◌, OnOk, IfOk, ◌+◌, ◌++◌, nat_lt, nat_le, ◌&&◌, cond, Some, None, []};
 ghost use Rattle.index_words.specs.Words.{memory};
-ghost use Rattle.index_words.specs.Lists.{has};
+ghost use Rattle.key_map.specs.Lists.{has};
 ghost use Rattle.index_words.specs.declared.word.Part.TheVariants.{Next as NextPart};
 ghost use Rattle.index_words.specs.declared.word.Word.TheVariants.{Node as NodeWord, Entry as EntryWord};
 ghost use Rattle.core_rule.specs.Versions.{top_slot, tree_nodes};

@@ -1,7 +1,7 @@
 // What a raise moves: the slots that it brings in and takes out.
 ghost use Rattle.std.specs.Prelude.{◌≡◌, ◌++◌, ◌+◌, ◌<◌, ◌^◌, ◌⊎◌, cond, true, Some, None, IfOk, IfSome, OnOk};
 ghost use Rattle.index_words.specs.Words.{memory};
-ghost use Rattle.index_words.specs.Lists.{has};
+ghost use Rattle.key_map.specs.Lists.{has};
 ghost use Rattle.index_words.specs.declared.word.Word.TheVariants.{Stamp as StampWord};
 ghost use Rattle.core_grace.specs.Holds.{listed};
 ghost use Rattle.core_rule.specs.UpdateMoves.{listed_entry};

@@ -3,7 +3,7 @@
 ghost use Rattle.std.specs.Prelude.{◌≡◌, ◌++◌, ◌&&◌, ◌||◌, ◌==◌, ◌<◌, ◌+◌, None};
 ghost use Rattle.std.specs.List.{list_all};
 ghost use Rattle.index_words.specs.Words.{memory};
-ghost use Rattle.index_words.specs.Lists.{has};
+ghost use Rattle.key_map.specs.Lists.{has};
 ghost use Rattle.index_words.specs.declared.side.Side.TheVariants.{Right};
 ghost use Rattle.core_grace.specs.Holds.{listed};
 ghost use Rattle.core_trees.specs.Search.{end_node, end_side};

@@ -1,6 +1,6 @@
 -- The contents of a put and of a removal are the map's, and the first pair from a key on.
 use Rattle.std.proofs.Common.{◌≡◌, ℕ, ◌+◌, ◌∷◌, ◌++◌, refl, ap, sym, ◌∙◌, arith, append-nil}
-use Rattle.index_words.specs.Map.{pair, map_put, map_remove}
+use Rattle.key_map.specs.Map.{pair, map_put, map_remove}
 use Rattle.core_trees.specs.NamedTree.{NamedTree, Null, Branch, contents, IsWithin}
 use Rattle.core_trees.specs.TreeStep.{put_here, remove_here, tree_put, tree_remove, joined, first_pair, without_first}
 use Rattle.core_links.proofs.Compare.{compared, less, more, same}

@@ -3,7 +3,7 @@ use Rattle.std.proofs.Common.{ℕ, ◌^◌, ◌↔◌, IsTrue, refl, sym, ◌∙
 use Rattle.std.specs.Prelude.{Option, Some, None, IsNone, IfSome, MatchOption}
 use Rattle.std.proofs.lemmas.Bool.{false≢true}
 use Rattle.index_words.specs.declared.side.Side.{Side}
-use Rattle.index_words.specs.Map.{map_has}
+use Rattle.key_map.specs.Map.{map_has}
 use Rattle.core_trees.specs.declared.link.Link.{Link}
 use Rattle.core_trees.specs.NamedTree.{NamedTree, contents, IsLawful}
 use Rattle.core_trees.specs.TreeStep.{subtree_at}

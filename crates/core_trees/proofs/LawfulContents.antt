@@ -1,7 +1,7 @@
 -- A tree is lawful just where its contents are a map.
 use Rattle.std.proofs.Common.{ℕ, ◌+◌, ◌^◌, ◌<◌, ◌≤◌, List, [], ◌∷◌, ◌++◌, arith}
-use Rattle.index_words.specs.declared.pair.Pair.{Pair}
-use Rattle.index_words.specs.Map.{pair, RisesFrom}
+use Rattle.key_map.specs.declared.pair.Pair.{Pair}
+use Rattle.key_map.specs.Map.{pair, RisesFrom}
 use Rattle.core_trees.specs.NamedTree.{NamedTree, Null, Branch, contents, IsWithin, LawfulLaw}
 use Rattle.core_trees.proofs.Bounds.{contents-below}
 use Rattle.core_trees.proofs.MapSteps.{AllBelow}

@@ -5,8 +5,8 @@ use Rattle.std.proofs.lemmas.Bool.{lt-ltb, le-ltb, eq-eqb, ne_eqb, lt-leb, le-le
 use Rattle.std.proofs.lemmas.List.Folds.{find-append}
 use Rattle.std.specs.Option.{option_or}
 use Rattle.std.specs.List.{AllByRecursion}
-use Rattle.index_words.specs.declared.pair.Pair.{Pair}
-use Rattle.index_words.specs.Map.{pair, map_put, map_remove, first_from}
+use Rattle.key_map.specs.declared.pair.Pair.{Pair}
+use Rattle.key_map.specs.Map.{pair, map_put, map_remove, first_from}
 use Rattle.core_links.proofs.Compare.{less, more, same, compared}
 
 -- each key is below `high`

@@ -1,7 +1,7 @@
 -- The laws of the tree step, in the forms that the contracts of `put`, `remove` and `first_from` state.
 use Rattle.std.proofs.Common.{◌≡◌, ℕ, ◌+◌, ◌^◌, ◌<◌, refl, ap, sym, ◌∙◌, subst, arith}
 use Rattle.std.specs.Prelude.{Some}
-use Rattle.index_words.specs.Map.{pair, map_put, map_remove, first_from}
+use Rattle.key_map.specs.Map.{pair, map_put, map_remove, first_from}
 use Rattle.core_trees.specs.NamedTree.{NamedTree, Null, Branch, contents, IsWithin, IsLawful}
 use Rattle.core_trees.specs.TreeStep.{tree_put, tree_remove}
 use Rattle.core_trees.proofs.MapSteps.{AllBelow-more, first_from-right, first_from-left}

@@ -1,8 +1,8 @@
 -- The named tree: a binary search tree whose nodes are named by the slots that they stand in.
 use Rattle.std.specs.Prelude.{ℕ, ◌+◌, ◌^◌, ◌<◌, ◌≤◌, List, [], ◌∷◌, ◌++◌, ◌↔◌}
 use Rattle.std.specs.List.{AllByRecursion}
-use Rattle.index_words.specs.declared.pair.Pair.{Pair}
-use Rattle.index_words.specs.Map.{pair, IsMap}
+use Rattle.key_map.specs.declared.pair.Pair.{Pair}
+use Rattle.key_map.specs.Map.{pair, IsMap}
 
 -- a tree is null, or a node with its slot, its key, its value, and the trees at its left and right link
 pub data NamedTree : Type 0 where

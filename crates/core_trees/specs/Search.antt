@@ -1,10 +1,10 @@
 -- Where a search of the tree comes to.
 use Rattle.std.specs.Prelude.{◌≡◌, ℕ, nat_lt, Option, Some, None, if◌then◌else◌}
 use Rattle.std.specs.Option.{option_or}
-use Rattle.index_words.specs.declared.pair.Pair.{Pair}
+use Rattle.key_map.specs.declared.pair.Pair.{Pair}
 use Rattle.index_words.specs.declared.side.Side.{Side}
 use Rattle.index_words.specs.declared.side.Side.TheVariants.{Left, Right}
-use Rattle.index_words.specs.Map.{pair}
+use Rattle.key_map.specs.Map.{pair}
 use Rattle.core_trees.specs.NamedTree.{NamedTree, Null, Branch}
 
 -- the pair that a search for the first key from `key` on comes to

@@ -1,8 +1,8 @@
 -- The tree step: what a put or a removal makes of a named tree. Each is a change of the subtree at which
 -- the search for the key ends: the null tree at a null link, or the node with the key and what is below.
 use Rattle.std.specs.Prelude.{ℕ, nat_lt, if◌then◌else◌}
-use Rattle.index_words.specs.declared.pair.Pair.{Pair}
-use Rattle.index_words.specs.Map.{pair}
+use Rattle.key_map.specs.declared.pair.Pair.{Pair}
+use Rattle.key_map.specs.Map.{pair}
 use Rattle.core_trees.specs.NamedTree.{NamedTree, Null, Branch}
 
 -- the subtree at which the search for the key ends

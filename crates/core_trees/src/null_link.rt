@@ -4,7 +4,7 @@ ghost use Rattle.core_trees.specs.NamedTree.{contents, IsLawful};
 ghost use Rattle.core_trees.specs.Search.{EndsAt};
 ghost use Rattle.core_trees.specs.Shape.{shape};
 ghost use Rattle.core_trees.specs.TreeStep.{subtree_at};
-ghost use Rattle.index_words.specs.Map.{map_has};
+ghost use Rattle.key_map.specs.Map.{map_has};
 ghost use Rattle.index_words.specs.declared.side.Side.TheVariants.{Right};
 
 use crate::link::{Link, ROOT};

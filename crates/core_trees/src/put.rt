@@ -4,7 +4,7 @@ ghost use Rattle.core_trees.specs.NamedTree.{contents, IsLawful};
 ghost use Rattle.core_trees.specs.Shape.{shape};
 ghost use Rattle.core_trees.specs.Slots.{MovesSlots, put_takes};
 ghost use Rattle.core_trees.specs.TreeStep.{tree_put};
-ghost use Rattle.index_words.specs.Map.{map_put};
+ghost use Rattle.key_map.specs.Map.{map_put};
 
 use crate::tree::{Tree, TreeError, TreeNode};
 use std::alloc::Global;

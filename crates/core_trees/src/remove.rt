@@ -1,5 +1,5 @@
 ghost use Rattle.std.specs.Prelude.{◌≡◌};
-ghost use Rattle.index_words.specs.Map.{map_remove};
+ghost use Rattle.key_map.specs.Map.{map_remove};
 ghost use Rattle.core_trees.specs.Gaps.{WidensGaps};
 ghost use Rattle.core_trees.specs.Slots.{MovesSlots, remove_takes, remove_brings};
 ghost use Rattle.core_trees.specs.NamedTree.{contents, IsLawful};

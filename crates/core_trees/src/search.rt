@@ -2,7 +2,7 @@ ghost use Rattle.std.specs.Prelude.{◌≡◌};
 ghost use Rattle.core_trees.specs.NamedTree.{contents, IsLawful};
 ghost use Rattle.core_trees.specs.Search.{search_from};
 ghost use Rattle.core_trees.specs.Shape.{shape};
-ghost use Rattle.index_words.specs.Map.{first_from};
+ghost use Rattle.key_map.specs.Map.{first_from};
 
 use crate::tree::Tree;
 use index_words::Pair;

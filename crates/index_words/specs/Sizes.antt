@@ -1,6 +1,6 @@
 -- Which sizes a table takes, and the layout of a table of these sizes.
 use Rattle.std.specs.Prelude.{ℕ, ◌<◌, ◌≤◌, List, length, sum_by, All}
-use Rattle.index_words.specs.declared.pass.PassSize.{PassSize}
+use Rattle.key_map.specs.declared.pass.PassSize.{PassSize}
 use Rattle.index_words.specs.declared.layout.Layout.{Layout}
 
 abbrev pub all_nodes : List PassSize → ℕ

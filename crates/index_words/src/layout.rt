@@ -1,7 +1,7 @@
 ghost use Rattle.std.specs.Prelude.{◌≡◌, ◌≤◌, ◌↔◌, IsSome, IfSome, IsTrue, length};
 ghost use Rattle.index_words.specs.Sizes.{FitTable, IsPassSize, layout_of, all_nodes, all_entries, all_calls};
 
-use crate::pass::PassSize;
+use key_map::PassSize;
 
 /// The sizes of a table: how many passes share it, and over all passes the node slots, the entry slots
 /// and the updates that they may make. Node 0 is the root; nodes 1 to `nodes` and entries 1 to `entries`

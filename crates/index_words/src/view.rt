@@ -4,9 +4,9 @@ mod reading;
 mod slots;
 mod update;
 
-use crate::items::Items;
 use crate::layout::Layout;
 pub use history::{Counts, EndedPlace, SeenHistory};
+use key_map::Items;
 pub use reading::{Link, LinkSource, Place, Reading, TreeNode, Turn};
 pub use slots::{Looks, SectionFound, Slots};
 use std::alloc::Global;

@@ -7,7 +7,7 @@ use Rattle.std.proofs.lemmas.List.Elements.{All-nil, All-cons, All-map, All-take
 use Rattle.std.proofs.lemmas.List.Filters.{All-dedup}
 use Rattle.std.proofs.lemmas.Str.{IsUtf8-drop, IsCharBoundary-start, IsCharBoundary-from_take, IsCharBoundary-from_rest}
 use Rattle.key_names.specs.Names.{IsFine, name_at}
-use Rattle.index_words.specs.declared.pair.Pair.{Pair}
+use Rattle.key_map.specs.declared.pair.Pair.{Pair}
 use Rattle.bucket_terms.specs.declared.list_query.ListQuery.{ListQuery}
 use Rattle.bucket_terms.specs.declared.token_point.TokenPoint.{TokenPoint}
 use Rattle.bucket_terms.specs.declared.page.Page.{Page}

@@ -3,8 +3,8 @@ use Rattle.std.proofs.Common.{◌≡◌, ℕ, zero, suc, ◌+◌, ◌-◌, ◌<�
 use Rattle.std.proofs.lemmas.Bool.{cases_Bool, cases_lt, and_from, and_parts, MatchBool-at_true, MatchBool-at_false, lt-ltb, ltb-true, true_from_ne_false, both_ways, not-true}
 use Rattle.std.proofs.lemmas.List.{take-append-drop, take_all, append-nil, length-take, length-drop, get_or-take, get_or-drop}
 use Rattle.key_names.specs.Names.{Rises, name_at}
-use Rattle.index_words.specs.declared.pair.Pair.{Pair}
-use Rattle.index_words.specs.Map.{IsMap}
+use Rattle.key_map.specs.declared.pair.Pair.{Pair}
+use Rattle.key_map.specs.Map.{IsMap}
 use Rattle.bucket_terms.specs.declared.list_query.ListQuery.{ListQuery}
 use Rattle.bucket_terms.specs.declared.token_point.TokenPoint.{TokenPoint}
 use Rattle.bucket_terms.specs.declared.page.PageEntry.{PageEntry}

@@ -5,9 +5,9 @@ use Rattle.std.specs.Cmp.Lexicographic.{pointwise, bytes_decides}
 use Rattle.std.proofs.lemmas.Bool.{cases_Bool, and_from, and_parts, and_right, false_from_ne_true, both_ways, ltb-true}
 use Rattle.std.proofs.lemmas.List.{length-take-le}
 use Rattle.key_names.specs.Names.{Rises, name_at}
-use Rattle.index_words.specs.declared.pair.Pair.{Pair}
-use Rattle.index_words.specs.Map.{RisesFrom}
-use Rattle.index_words.proofs.MapLaws.{RisesFrom-lower}
+use Rattle.key_map.specs.declared.pair.Pair.{Pair}
+use Rattle.key_map.specs.Map.{RisesFrom}
+use Rattle.key_map.proofs.MapLaws.{RisesFrom-lower}
 use Rattle.bucket_terms.specs.declared.list_query.ListQuery.{ListQuery}
 use Rattle.bucket_terms.specs.declared.token_point.TokenPoint.{TokenPoint}
 use Rattle.bucket_terms.specs.declared.page.PageEntry.{PageEntry}

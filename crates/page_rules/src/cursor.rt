@@ -3,7 +3,7 @@
 use crate::resume::{first_rank, rank_behind};
 use crate::rules::{entry_of, is_under};
 use bucket_terms::{ListQuery, Page, PageEntries, PageEntry, TokenPoint};
-use index_words::Pair;
+use key_map::Pair;
 use key_names::{Directory, NoMemory};
 use std::alloc::Global;
 use std::marker::Model;
@@ -34,8 +34,8 @@ impl<'a> Model for PageCursor<'a> {
 impl<'a> PageCursor<'a> {
     ghost use Rattle.std.specs.Prelude.{◌≡◌, ◌≤◌, List, length, Option, IsSome, IfSome, OnOk, OnErr};
     ghost use Rattle.std.specs.Option.{option_copied};
-    ghost use Rattle.index_words.specs.Map.{IsMap};
-    ghost use Rattle.index_words.specs.declared.pair.Pair.{Pair};
+    ghost use Rattle.key_map.specs.Map.{IsMap};
+    ghost use Rattle.key_map.specs.declared.pair.Pair.{Pair};
     ghost use Rattle.bucket_terms.specs.declared.token_point.TokenPoint.{TokenPoint};
     ghost use Rattle.bucket_terms.specs.Page.{page_of, IsInRange};
     ghost use Rattle.page_rules.specs.Cursor.{IsNew, IsOnWay, IsOver, Took, page_so_far};

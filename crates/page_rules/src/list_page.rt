@@ -1,14 +1,14 @@
 ghost use Rattle.std.specs.Prelude.{◌≡◌, IfOk, map, filter};
 ghost use Rattle.std.specs.Option.{option_copied};
 ghost use Rattle.key_names.specs.Names.{name_at};
-ghost use Rattle.index_words.specs.Map.{IsMap};
+ghost use Rattle.key_map.specs.Map.{IsMap};
 ghost use Rattle.bucket_terms.specs.Entries.{is_admitted, is_under, entry_of, entries_of};
 ghost use Rattle.bucket_terms.specs.Page.{cut_at, page_of, IsInRange};
 ghost use Rattle.page_rules.specs.PageLaw.{LeavesTheRest, BeginsAll, RiseByText};
 
 use crate::rules::{entry_of, is_admitted, is_same_group, is_under, name_at};
 use bucket_terms::{ListQuery, Page, PageEntries, PageEntry, TokenPoint};
-use index_words::Pair;
+use key_map::Pair;
 use key_names::{Directory, NoMemory};
 use std::alloc::Global;
 

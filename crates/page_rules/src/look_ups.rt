@@ -1,12 +1,12 @@
 // The cursor over a sorted list. A caller with another kind of map writes the same loop.
 ghost use Rattle.std.specs.Prelude.{◌≡◌, IfOk};
 ghost use Rattle.std.specs.Option.{option_copied};
-ghost use Rattle.index_words.specs.Map.{IsMap};
+ghost use Rattle.key_map.specs.Map.{IsMap};
 ghost use Rattle.bucket_terms.specs.Page.{page_of, IsInRange};
 
 use crate::PageCursor;
 use bucket_terms::{ListQuery, Page, TokenPoint};
-use index_words::{Pair, first_from};
+use key_map::{Pair, first_from};
 use key_names::{Directory, NoMemory};
 use std::alloc::Global;
 

@@ -7,7 +7,7 @@ ghost use Rattle.bucket_terms.specs.Page.{IsEntryInRange};
 ghost use Rattle.bucket_terms.specs.Entries.{is_above, is_admitted, is_under, group_len, entry_of, is_same_group};
 
 use bucket_terms::{ListQuery, PageEntry, TokenPoint};
-use index_words::Pair;
+use key_map::Pair;
 use key_names::Directory;
 use memchr::memmem;
 

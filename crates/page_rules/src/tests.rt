@@ -3,7 +3,7 @@ ghost use Rattle.bucket_terms.specs.Page.{IsInRange};
 
 use super::*;
 use bucket_terms::{ListQuery, Page, PageEntry, TokenPoint};
-use index_words::{Change, Pair, PlainMap, Update};
+use key_map::{Change, Pair, PlainMap, Update};
 use key_names::{Directory, NamesError, NoMemory, Text};
 use std::alloc::Global;
 use std::process::Abort;

@@ -2,7 +2,7 @@
 ghost use Rattle.std.specs.Prelude.{◌≡◌, None};
 
 use crate::KeyPass;
-use index_words::{Done, Pair, PassError};
+use key_map::{Done, Pair, PassError};
 use std::sync::Wait;
 
 pub(crate) fn put<P: KeyPass>(

@@ -1,5 +1,4 @@
-use crate::items::Items;
-use crate::update::Update;
+use key_map::{Items, Update};
 use std::alloc::Global;
 
 /// A place of an update that a joined view had made.

@@ -1,5 +1,5 @@
-use crate::items::Items;
 use crate::side::Side;
+use key_map::Items;
 use std::alloc::Global;
 
 /// A node of the tree at the section number.

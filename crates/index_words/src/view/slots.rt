@@ -1,5 +1,4 @@
-use crate::items::Items;
-use crate::no_memory::NoMemory;
+use key_map::{Items, NoMemory};
 use std::alloc::Global;
 
 /// Node slots and entry slots.

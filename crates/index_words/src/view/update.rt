@@ -1,6 +1,6 @@
-use crate::items::Items;
 use crate::side::Side;
 use crate::view::slots::Looks;
+use key_map::Items;
 use std::alloc::Global;
 
 /// The head of a bundle as it was loaded or stored under the lock.

@@ -1,8 +1,8 @@
 use Rattle.std.proofs.Common.{List, refl, ◌∙◌, subst, arith}
 use Rattle.std.proofs.lemmas.List.{take_all}
 use Rattle.outside_io.specs.Sink.{IsTaken}
-use Rattle.index_words.specs.declared.update.Update.{Update}
-use Rattle.index_words.specs.declared.update.Change.TheVariants.{Put}
+use Rattle.key_map.specs.declared.update.Update.{Update}
+use Rattle.key_map.specs.declared.update.Change.TheVariants.{Put}
 use Rattle.answer_text.specs.Lines.{journal_lines}
 use Rattle.bucketidx.proofs.Lines.{all_started, first_updates, taken_nothing, rose_later, journal_taken, journal_started}
 use Rattle.bucketidx.proofs.writing.write_journal.Goals as goal

@@ -1,7 +1,7 @@
 use Rattle.std.proofs.Common.{Some, None, sym, ap, ◌∙◌}
 use Rattle.std.specs.Option.{option_copied}
-use Rattle.index_words.specs.History.{after}
-use Rattle.index_words.proofs.HistoryLaws.{IsMap-after}
+use Rattle.key_map.specs.History.{after}
+use Rattle.key_map.proofs.HistoryLaws.{IsMap-after}
 use Rattle.bucket_terms.specs.declared.list_query.ListQuery.{ListQuery}
 use Rattle.bucket_terms.specs.Page.{page_of}
 use Rattle.client_run.proofs.Walk.{ranks_smaller, next_is, over_is, some_is, found_at}

@@ -1,6 +1,6 @@
 use Rattle.std.proofs.Common.{◌≡◌, ℕ, ◌+◌, List, length, Option, Some}
 use Rattle.std.specs.Option.{option_copied}
-use Rattle.index_words.specs.History.{after}
+use Rattle.key_map.specs.History.{after}
 use Rattle.bucket_terms.specs.declared.list_query.ListQuery.{ListQuery}
 use Rattle.bucket_terms.specs.declared.token_point.TokenPoint.{TokenPoint}
 use Rattle.bucket_terms.specs.PassView.{PassView}

@@ -1,5 +1,5 @@
 use Rattle.std.proofs.Common.{◌≡◌, cond, Some, None, drop}
-use Rattle.index_words.specs.Lists.{has}
+use Rattle.key_map.specs.Lists.{has}
 use Rattle.core_rule.proofs.tree_moves.own_slot.Given as goal
 
 abbrev pub invariant-loop-slot : goal.invariant-loop-slot

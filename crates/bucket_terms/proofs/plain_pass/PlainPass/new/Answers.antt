@@ -1,6 +1,6 @@
 use Rattle.std.proofs.Common.{◌≡◌, length, ap, arith}
 use Rattle.std.proofs.lemmas.Option.{none-some}
-use Rattle.index_words.proofs.HistoryLaws.{after-none}
+use Rattle.key_map.proofs.HistoryLaws.{after-none}
 use Rattle.bucket_terms.proofs.plain_pass.PlainPass.new.Goals as goal
 
 pub invariant_of-result : goal.invariant_of-result

@@ -2,13 +2,13 @@ use Rattle.std.proofs.Common.{◌≡◌, ℕ, List, ◌+◌, ◌-◌, [], ◌∷
 use Rattle.std.proofs.lemmas.List.{length_push}
 use Rattle.std.proofs.lemmas.Option.{none-some}
 use Rattle.std.proofs.lemmas.List.Elements.{All-push}
-use Rattle.index_words.specs.declared.pair.Pair.{Pair}
-use Rattle.index_words.specs.Map.{map_has}
-use Rattle.index_words.specs.History.{after}
-use Rattle.index_words.specs.declared.update.Update.{Update}
-use Rattle.index_words.specs.declared.update.Change.TheVariants.{Remove}
-use Rattle.index_words.proofs.HistoryLaws.{after-push, after-append}
-use Rattle.index_words.proofs.MapLaws.{map_remove-absent}
+use Rattle.key_map.specs.declared.pair.Pair.{Pair}
+use Rattle.key_map.specs.Map.{map_has}
+use Rattle.key_map.specs.History.{after}
+use Rattle.key_map.specs.declared.update.Update.{Update}
+use Rattle.key_map.specs.declared.update.Change.TheVariants.{Remove}
+use Rattle.key_map.proofs.HistoryLaws.{after-push, after-append}
+use Rattle.key_map.proofs.MapLaws.{map_remove-absent}
 use Rattle.bucket_terms.proofs.PlacesLaws.{own_places-own}
 use Rattle.bucket_terms.proofs.plain_pass.PlainPassKeyPass.remove.Goals as goal
 

@@ -1,5 +1,5 @@
-use Rattle.index_words.proofs.MapLaws.{map_put-present, map_put-absent}
-use Rattle.index_words.proofs.plain_map.put_in_room.Goals as goal
+use Rattle.key_map.proofs.MapLaws.{map_put-present, map_put-absent}
+use Rattle.key_map.proofs.plain_map.put_in_room.Goals as goal
 
 pub returns-in-Ok-clause-items : goal.returns-in-Ok-clause-items
 returns-in-Ok-clause-items c =

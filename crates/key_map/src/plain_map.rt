@@ -1,8 +1,8 @@
 ghost use Rattle.std.specs.Prelude.{◌≡◌, ◌+◌, ◌<◌, ◌≤◌, [], length, vec_len, vec_capacity, insert, slice_get, IfOk, MatchResult, true, false, nat_lt};
 ghost use Rattle.std.specs.List.{prefix_len};
-ghost use Rattle.index_words.specs.Map.{IsMap, pair, map_has, map_put, map_remove, first_from};
-ghost use Rattle.index_words.specs.History.{after, updated};
-ghost use Rattle.index_words.specs.PlainMap.{roomy};
+ghost use Rattle.key_map.specs.Map.{IsMap, pair, map_has, map_put, map_remove, first_from};
+ghost use Rattle.key_map.specs.History.{after, updated};
+ghost use Rattle.key_map.specs.PlainMap.{roomy};
 
 use crate::{Change, NoMemory, Pair, Update};
 use std::alloc::Global;
@@ -18,8 +18,8 @@ pub struct PlainMap {
 
 impl Model for PlainMap {
     ghost use Rattle.std.specs.Prelude.{vec_capacity};
-    ghost use Rattle.index_words.specs.Map.{IsMap};
-    ghost use Rattle.index_words.specs.PlainMap.{RoomyMap, roomy};
+    ghost use Rattle.key_map.specs.Map.{IsMap};
+    ghost use Rattle.key_map.specs.PlainMap.{RoomyMap, roomy};
 
     ghost Value = { RoomyMap };
 

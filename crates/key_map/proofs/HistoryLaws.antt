@@ -2,13 +2,13 @@
 use Rattle.std.proofs.Common.{◌≡◌, ℕ, ◌+◌, ◌<◌, ◌≤◌, get_or, List, [], ◌∷◌, ◌++◌, length, take, fold, sym, ap, ◌∙◌, refl, arith}
 use Rattle.std.proofs.lemmas.List.{take-append-le, take_all, take_more, length_push}
 use Rattle.std.proofs.lemmas.List.Sums.{fold-append}
-use Rattle.index_words.specs.declared.pair.Pair.{Pair}
-use Rattle.index_words.specs.declared.update.Update.{Update}
-use Rattle.index_words.specs.declared.update.Change.{Change}
-use Rattle.index_words.specs.declared.update.Change.TheVariants.{Put, Remove}
-use Rattle.index_words.specs.Map.{IsMap}
-use Rattle.index_words.specs.History.{changed, updated, after}
-use Rattle.index_words.proofs.MapLaws.{RisesFrom-map_put, RisesFrom-map_remove}
+use Rattle.key_map.specs.declared.pair.Pair.{Pair}
+use Rattle.key_map.specs.declared.update.Update.{Update}
+use Rattle.key_map.specs.declared.update.Change.{Change}
+use Rattle.key_map.specs.declared.update.Change.TheVariants.{Put, Remove}
+use Rattle.key_map.specs.Map.{IsMap}
+use Rattle.key_map.specs.History.{changed, updated, after}
+use Rattle.key_map.proofs.MapLaws.{RisesFrom-map_put, RisesFrom-map_remove}
 
 -- a longer history has the same maps
 pub after-append : (us vs : List Update) (t : ℕ) → t ≤ length us → after (us ++ vs) t ≡ after us t

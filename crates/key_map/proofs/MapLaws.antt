@@ -2,8 +2,8 @@
 use Rattle.std.proofs.Common.{◌≡◌, ℕ, zero, suc, ◌+◌, ◌<◌, ◌≤◌, Bool, true, false, find, None, List, [], ◌∷◌, length, get_or, set, insert, remove, nat_lt, ◌==◌, refl, arith}
 use Rattle.std.specs.List.{prefix_len, slice_get}
 use Rattle.std.proofs.lemmas.Bool.Decides.{nat_tests}
-use Rattle.index_words.specs.declared.pair.Pair.{Pair}
-use Rattle.index_words.specs.Map.{pair, RisesFrom, map_has, map_put, map_get, map_remove, first_from, value_at}
+use Rattle.key_map.specs.declared.pair.Pair.{Pair}
+use Rattle.key_map.specs.Map.{pair, RisesFrom, map_has, map_put, map_get, map_remove, first_from, value_at}
 
 -- whether a pair's key is below `key`
 abbrev pub is_below : ℕ → Pair → Bool

@@ -1,10 +1,10 @@
 use Rattle.std.proofs.Common.{rules, tests, arith, sym}
 use Rattle.std.proofs.lemmas.List.Sorted.{IsPartitionPoint-from_clause, IsPartitionedBy-ltb}
 use Rattle.std.proofs.lemmas.List.Sums.{prefix_len_is}
-use Rattle.index_words.specs.declared.pair.Pair.{Pair}
-use Rattle.index_words.specs.Map.{pair}
-use Rattle.index_words.proofs.MapLaws.{is_below, keys_rise}
-use Rattle.index_words.proofs.plain_map.place_of.Goals as goal
+use Rattle.key_map.specs.declared.pair.Pair.{Pair}
+use Rattle.key_map.specs.Map.{pair}
+use Rattle.key_map.proofs.MapLaws.{is_below, keys_rise}
+use Rattle.key_map.proofs.plain_map.place_of.Goals as goal
 
 pub returns-clause-front : goal.returns-clause-front
 returns-clause-front c =

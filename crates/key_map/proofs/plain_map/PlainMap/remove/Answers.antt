@@ -1,5 +1,5 @@
-use Rattle.index_words.proofs.MapLaws.{RisesFrom-map_remove, length-map_remove-le}
-use Rattle.index_words.proofs.plain_map.PlainMap.remove.Goals as goal
+use Rattle.key_map.proofs.MapLaws.{RisesFrom-map_remove, length-map_remove-le}
+use Rattle.key_map.proofs.plain_map.PlainMap.remove.Goals as goal
 
 pub invariant_of-self : goal.invariant_of-self
 invariant_of-self c =

@@ -1,10 +1,10 @@
 -- The history of updates, and the map after the first updates of it. Updates are numbered from 1.
 use Rattle.std.specs.Prelude.{ℕ, List, [], fold, take}
-use Rattle.index_words.specs.declared.pair.Pair.{Pair}
-use Rattle.index_words.specs.declared.update.Update.{Update}
-use Rattle.index_words.specs.declared.update.Change.{Change}
-use Rattle.index_words.specs.declared.update.Change.TheVariants.{Put, Remove}
-use Rattle.index_words.specs.Map.{map_put, map_remove}
+use Rattle.key_map.specs.declared.pair.Pair.{Pair}
+use Rattle.key_map.specs.declared.update.Update.{Update}
+use Rattle.key_map.specs.declared.update.Change.{Change}
+use Rattle.key_map.specs.declared.update.Change.TheVariants.{Put, Remove}
+use Rattle.key_map.specs.Map.{map_put, map_remove}
 
 -- the map after one change of a key
 abbrev pub changed : ℕ → Change → List Pair → List Pair

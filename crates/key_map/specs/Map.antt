@@ -3,7 +3,7 @@
 use Rattle.std.specs.Prelude.{ℕ, ◌+◌, ◌≤◌, Bool, List, [], ◌∷◌, nat_lt, nat_le, ◌==◌, if◌then◌else◌, Option, Some, None, find}
 use Rattle.std.specs.List.{list_any}
 use Rattle.std.specs.Option.{option_map}
-use Rattle.index_words.specs.declared.pair.Pair.{Pair}
+use Rattle.key_map.specs.declared.pair.Pair.{Pair}
 
 abbrev pub pair : ℕ → ℕ → Pair
 pair key val = record { key = key; val = val }

@@ -1,6 +1,6 @@
 -- What contracts see of a map kept as one sorted list.
 use Rattle.std.specs.Prelude.{ℕ, List}
-use Rattle.index_words.specs.declared.pair.Pair.{Pair}
+use Rattle.key_map.specs.declared.pair.Pair.{Pair}
 
 -- the pairs, in order, and how many pairs there is memory for
 pub record RoomyMap : Type 0 where

@@ -1,9 +1,9 @@
 use Rattle.std.proofs.Common.{◌≡◌, ℕ, ◌+◌, ◌<◌, List, length, get_or, arith, sym, ap, ◌∙◌}
-use Rattle.index_words.specs.PlainMap.{roomy, RoomyMap}
-use Rattle.index_words.specs.declared.update.Update.{Update}
-use Rattle.index_words.specs.History.{after, updated}
-use Rattle.index_words.proofs.HistoryLaws.{after-none, after-more}
-use Rattle.index_words.proofs.plain_map.PlainMap.replayed.Goals as goal
+use Rattle.key_map.specs.PlainMap.{roomy, RoomyMap}
+use Rattle.key_map.specs.declared.update.Update.{Update}
+use Rattle.key_map.specs.History.{after, updated}
+use Rattle.key_map.proofs.HistoryLaws.{after-none, after-more}
+use Rattle.key_map.proofs.plain_map.PlainMap.replayed.Goals as goal
 
 pub loop-update-init : goal.loop-update-init
 loop-update-init c =

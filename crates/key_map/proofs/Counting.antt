@@ -1,6 +1,6 @@
 -- How often a number stands in a list.
 use Rattle.std.proofs.Common.{◌≡◌, ℕ, ◌+◌, ◌<◌, cond, List, [], ◌∷◌, ◌++◌, Bool, true, false, eqb, arith, refl, ◌||◌}
-use Rattle.index_words.specs.Lists.{count, has}
+use Rattle.key_map.specs.Lists.{count, has}
 
 pub count-append : (x : ℕ) (xs ys : List ℕ) → count x (xs ++ ys) ≡ count x xs + count x ys
 count-append x [] ys = omega arith

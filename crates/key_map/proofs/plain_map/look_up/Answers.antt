@@ -1,9 +1,9 @@
 use Rattle.std.proofs.Common.{arith}
 use Rattle.std.proofs.lemmas.Grind.{common_steps}
 use Rattle.std.proofs.lemmas.Option.{gets}
-use Rattle.index_words.specs.Map.{pair}
-use Rattle.index_words.proofs.MapLaws.{map_has-at_place, map_has-past}
-use Rattle.index_words.proofs.plain_map.look_up.Goals as goal
+use Rattle.key_map.specs.Map.{pair}
+use Rattle.key_map.proofs.MapLaws.{map_has-at_place, map_has-past}
+use Rattle.key_map.proofs.plain_map.look_up.Goals as goal
 
 pub returns-in_default-clause-found : goal.returns-in_default-clause-found
 returns-in_default-clause-found c =

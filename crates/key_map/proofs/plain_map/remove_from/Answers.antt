@@ -1,6 +1,6 @@
 use Rattle.std.proofs.Common.{sym}
-use Rattle.index_words.proofs.MapLaws.{map_remove-present, map_remove-absent}
-use Rattle.index_words.proofs.plain_map.remove_from.Goals as goal
+use Rattle.key_map.proofs.MapLaws.{map_remove-present, map_remove-absent}
+use Rattle.key_map.proofs.plain_map.remove_from.Goals as goal
 
 pub returns-in-Ok-clause-items : goal.returns-in-Ok-clause-items
 returns-in-Ok-clause-items c =

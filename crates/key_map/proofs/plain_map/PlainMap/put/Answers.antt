@@ -1,6 +1,6 @@
 use Rattle.std.proofs.Common.{arith}
-use Rattle.index_words.proofs.MapLaws.{RisesFrom-map_put, length-map_put-le}
-use Rattle.index_words.proofs.plain_map.PlainMap.put.Goals as goal
+use Rattle.key_map.proofs.MapLaws.{RisesFrom-map_put, length-map_put-le}
+use Rattle.key_map.proofs.plain_map.PlainMap.put.Goals as goal
 
 pub invariant_of-self : goal.invariant_of-self
 invariant_of-self c =

@@ -1,0 +1,4 @@
+pub mod Map
+pub mod History
+pub mod PlainMap
+pub mod Lists
