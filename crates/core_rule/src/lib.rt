@@ -27,6 +27,3 @@ mod updates;
 pub use event::{Event, Kind};
 pub use run::{RunError, run_of};
 pub use state::{State, StepError};
-
-#[cfg(test)]
-mod tests;

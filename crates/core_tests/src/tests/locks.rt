@@ -1,5 +1,5 @@
 use super::{Answer, answer_of, place_of, raise};
-use crate::*;
+use core_rule::*;
 use index_words::{Layout, PassSize};
 use std::alloc::Global;
 use std::test::Fail;

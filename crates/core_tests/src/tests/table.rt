@@ -1,5 +1,5 @@
 // A table that is stepped by the names of its words, and the events of each kind of update.
-use crate::*;
+use core_rule::*;
 use index_words::{Change, Field, Layout, Part, PassSize, Side, TreeNode, Update, View, Word};
 use std::alloc::{AllocError, Global};
 

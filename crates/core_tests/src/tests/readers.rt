@@ -1,6 +1,6 @@
 // Seats that read bundles, or have entries pending, while another one makes an update.
-use super::updates::{NONE, NewNode, Table, Turn, left_of, right_of, row, table_of};
-use crate::*;
+use super::table::{NONE, NewNode, Table, Turn, left_of, right_of, row, table_of};
+use core_rule::*;
 use index_words::{Change, Field, Link, LinkSource, Part, PassSize, Place, Side, Word};
 use std::alloc::Global;
 use std::test::Fail;

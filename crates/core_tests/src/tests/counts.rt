@@ -1,6 +1,6 @@
 // The count of moves: it rises for what another pass did, and not for what the seat itself has stored or taken out.
-use super::updates::{NONE, NewNode, Table, left_of, right_of, table_of};
-use crate::*;
+use super::table::{NONE, NewNode, Table, left_of, right_of, table_of};
+use core_rule::*;
 use index_words::{Change, Field, Link, LinkSource, Part, PassSize, Side, Word};
 use std::alloc::Global;
 use std::test::Fail;

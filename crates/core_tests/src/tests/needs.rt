@@ -1,8 +1,8 @@
 // Each need of a raise, refused once. What is refused leaves the words and the views as they were.
 use super::puts::{WRITER_AND_READER, five};
 use super::removals::Removed;
-use super::updates::{NONE, NewNode, Table, Turn, left_of, right_of, table_of};
-use crate::*;
+use super::table::{NONE, NewNode, Table, Turn, left_of, right_of, table_of};
+use core_rule::*;
 use index_words::{Change, Field, Part, PassSize, Side, Update, Word};
 use std::alloc::Global;
 use std::test::Fail;

@@ -1,8 +1,8 @@
 // A seat that searches a gap and remembers its null link, while another one makes an update: under the lock of the
 // gap's node it finds another head or a mark exactly where the gap has gone.
 use super::removals::Removed;
-use super::updates::{NONE, NewNode, Table, left_of, right_of, row, table_of};
-use crate::*;
+use super::table::{NONE, NewNode, Table, left_of, right_of, row, table_of};
+use core_rule::*;
 use index_words::{Change, Field, HeldNode, Link, LinkSource, LoadedHead, PassSize, Side, Word};
 use std::alloc::Global;
 use std::test::Fail;

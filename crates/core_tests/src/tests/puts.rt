@@ -1,7 +1,7 @@
 // Puts, and the trees that the words spell after each.
-use super::updates::{NONE, NewNode, Table, left_of, right_of, row, table_of};
+use super::table::{NONE, NewNode, Table, left_of, right_of, row, table_of};
 use super::{Answer, answer_of, place_of};
-use crate::*;
+use core_rule::*;
 use index_words::{Change, Field, PassSize, Side, TreeNode, Word};
 use std::alloc::Global;
 use std::test::Fail;

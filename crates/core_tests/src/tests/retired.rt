@@ -1,6 +1,6 @@
 // A retired node with an older reader on it, until its slot is used again.
-use super::updates::{Table, left_of, right_of, row, table_of};
-use crate::*;
+use super::table::{Table, left_of, right_of, row, table_of};
+use core_rule::*;
 use index_words::{Field, Link, LinkSource, Part, PassSize, Side, Word};
 use std::alloc::Global;
 use std::test::Fail;

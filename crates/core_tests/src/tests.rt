@@ -7,9 +7,9 @@ mod removals;
 mod retired;
 mod searches;
 mod seen;
-mod updates;
+mod table;
 
-use crate::*;
+use core_rule::*;
 use index_words::{Change, Layout, Link, LinkSource, PassSize, Place, Side, Update};
 use std::alloc::Global;
 use std::test::Fail;

@@ -1,7 +1,7 @@
 // Removals, and the trees that the words spell after each.
 use super::puts::{WRITER_AND_READER, five};
-use super::updates::{NewNode, Table, Turn, left_of, right_of, row, table_of};
-use crate::*;
+use super::table::{NewNode, Table, Turn, left_of, right_of, row, table_of};
+use core_rule::*;
 use index_words::{Change, Field, Part, Word};
 use std::alloc::Global;
 use std::test::Fail;
