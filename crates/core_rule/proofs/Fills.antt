@@ -206,7 +206,7 @@ module _ (z : Layout) (m : Memory) (vs : List View) (g : Meaning) (rule : Rule z
     entry_place : (n : ℕ) (u : View) (place : Place) → IsItem vs n u → PlaceRight z (λ d. m (Entry Number d)) g.bundles u place
         → PlaceRight z (λ d. written m (Entry p e) x (Entry Number d)) g.bundles u place
     entry_place n u Nowhere of right = tt
-    entry_place n u (AtNode node) of right = tt
+    entry_place n u (AtNode node key) of right = tt
     entry_place n u (Gap node side) of right = tt
     entry_place n u (AtEntry node side entry found) of right = (
       right.0,

@@ -123,7 +123,7 @@ module _ (z : Layout) (m : Memory) (vs : List View) (g : Meaning) (rule : Rule z
 
   place_kept : (u : View) (place : Place) → PlaceRight z stamp g.bundles u place → PlaceRight z stamp' g.bundles u place
   place_kept u Nowhere right = tt
-  place_kept u (AtNode node) right = tt
+  place_kept u (AtNode node key) right = tt
   place_kept u (Gap node side) right = tt
   place_kept u (AtEntry node side entry found) right = (
     right.0,

@@ -264,10 +264,10 @@ module _ (z : Layout) (m : Memory) (vs : List View) (g : Meaning) (rule : Rule z
   locked_has is = locks-count node v.held.nodes is
 
   nexts_by : (c : Bool) → (c ≡ true → IsLocked v node)
-      → Every (NextRight (λ d. m (Entry Next d)) g.bundles v.held.nodes) (cond c (v.held.nexts ++ record { node = node; entry = e; next = m (Entry Next e) } ∷ []) v.held.nexts)
+      → Every (NextRight (λ d. m (Entry Next d)) g.bundles v.held.nodes) (cond c (v.held.nexts ++ record { node = node; entry = e; stamp = None; next = m (Entry Next e) } ∷ []) v.held.nexts)
   nexts_by false locked = seat.loaded.nexts
   nexts_by true locked =
-      every_push (NextRight (λ d. m (Entry Next d)) g.bundles v.held.nodes) v.held.nexts (record { node = node; entry = e; next = m (Entry Next e) }) seat.loaded.nexts
+      every_push (NextRight (λ d. m (Entry Next d)) g.bundles v.held.nodes) v.held.nexts (record { node = node; entry = e; stamp = None; next = m (Entry Next e) }) seat.loaded.nexts
       (refl, locked refl, in_entries g.bundles node e side member)
 
   abbrev next_word : ℕ

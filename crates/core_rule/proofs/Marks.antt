@@ -64,7 +64,7 @@ module _ (z : Layout) (m : Memory) (vs : List View) (g : Meaning) (rule : Rule z
 
   place_known : (c : Counts) (p : Place) → PlaceRight z stamp g.bundles v p → PlaceRight z stamp g.bundles (known_view c) p
   place_known c Nowhere right = tt
-  place_known c (AtNode j) right = tt
+  place_known c (AtNode j key) right = tt
   place_known c (Gap j side) right = tt
   place_known c (AtEntry j side e found) right = (
     reach_back z m vs g rule i v at c known_nodes v.held.nexts v.reading.place v.reading.links same j right.0,

@@ -108,7 +108,7 @@ pub record Standing (v : View) (e : ℕ) : Type 0 where
 
 standing_by : (v : View) (e : ℕ) (p : Place) → v.reading.place ≡ p → stands_at p e ≡ true → Standing v e
 standing_by v e Nowhere is at = cc
-standing_by v e (AtNode n) is at = cc
+standing_by v e (AtNode n key) is at = cc
 standing_by v e (Gap n s) is at = cc
 standing_by v e (AtEntry n s d f) is at =
     let same : d ≡ e = eqb-true d e at in

@@ -157,7 +157,7 @@ module _ (z : Layout) (m : Memory) (vs : List View) (g : Meaning) (rule : Rule z
 
     place_now : (place : Place) → PlaceRight z stamp g.bundles u place → PlaceRight z stamp g'.bundles u' place
     place_now Nowhere right = tt
-    place_now (AtNode n) right = tt
+    place_now (AtNode n key) right = tt
     place_now (Gap n s) right = tt
     place_now (AtEntry n s entry found) right =
         (reach n right.0, λ above. stands_by n entry found (g.bundles.bundle s n) (same_side s side && eqb n k) (right.1 above))

@@ -249,7 +249,7 @@ module _ (z : Layout) (m : Memory) (vs : List View) (g : Meaning) (rule : Rule z
 
   place_now : (j : ℕ) (y : View) (place : Place) → IsItem vs j y → IfSome y.reading.section (λ t. t ≤ s) → PlaceRight z stamp g.bundles y place → PlaceRight z stamp g'.bundles y place
   place_now j y Nowhere of past right = tt
-  place_now j y (AtNode k) of past right = tt
+  place_now j y (AtNode k key) of past right = tt
   place_now j y (Gap k w) of past right = tt
   place_now j y (AtEntry k w e found) of past right = (
     right.0,

@@ -86,7 +86,7 @@ ptr_joined v (Node f k) x = refl
 next_at_joined : (v : View) (place : Place) (e x : ℕ) → (next_at v place e x).joined ≡ v.joined
 next_at_joined v (AtEntry node side entry found) e x = refl
 next_at_joined v Nowhere e x = refl
-next_at_joined v (AtNode node) e x = refl
+next_at_joined v (AtNode node key) e x = refl
 next_at_joined v (Gap node side) e x = refl
 
 next_joined : (v : View) (w : Word) (x : ℕ) → (next_from v w x).joined ≡ v.joined

@@ -194,7 +194,7 @@ module _ (z : Layout) (m : Memory) (vs : List View) (g : Meaning) (rule : Rule z
 
   place_now : (p : Place) → PlaceRight z stamp g.bundles v p → PlaceRight z stamp g.bundles w p
   place_now Nowhere right = tt
-  place_now (AtNode j) right = tt
+  place_now (AtNode j key) right = tt
   place_now (Gap j side) right = tt
   place_now (AtEntry j side e found) right = (
     reach_now j right.0,

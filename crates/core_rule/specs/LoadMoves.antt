@@ -115,7 +115,7 @@ node_known e x h = record h { left = side_known e x h.left; right = side_known e
 abbrev pub place_known : ℕ → Place → Place
 place_known x (Entry node side entry found) = Entry node side entry (Some x)
 place_known x Nowhere = Nowhere
-place_known x (Node node) = Node node
+place_known x (Node node key) = Node node key
 place_known x (Gap node side) = Gap node side
 
 -- load of a stamp: what was found is kept with the place, and with the heads of locked nodes
@@ -135,7 +135,7 @@ abbrev pub child_links : View → Place → ℕ → List Link
 child_links v (Entry node side entry found) child =
     remembered_if (is_selected v.reading.section found (locks node v.held.nodes)) v.reading.links (bundle_link node side child entry)
 child_links v Nowhere child = v.reading.links
-child_links v (Node node) child = v.reading.links
+child_links v (Node node key) child = v.reading.links
 child_links v (Gap node side) child = v.reading.links
 
 -- load of a child: the link is remembered at the selected entry
@@ -155,7 +155,7 @@ abbrev pub kept_if : Bool → List HeldNext → HeldNext → List HeldNext
 kept_if b nexts next = cond b (nexts ++ next ∷ []) nexts
 
 abbrev pub next_nexts : View → ℕ → ℕ → ℕ → List HeldNext
-next_nexts v node e next = kept_if (locks node v.held.nodes) v.held.nexts (record { node = node; entry = e; next = next })
+next_nexts v node e next = kept_if (locks node v.held.nodes) v.held.nexts (record { node = node; entry = e; stamp = None; next = next })
 
 -- load of a next: the seat stands at the entry behind; behind the last one the link is remembered as null
 abbrev pub next_at : View → Place → ℕ → ℕ → View
@@ -163,7 +163,7 @@ next_at v (Entry node side entry found) e next =
     with_place (with_held v v.held.nodes (next_nexts v node e next)) (Entry node side next None)
     (remembered_if (next == 0 && is_above v e found) v.reading.links (bundle_link node side 0 0))
 next_at v Nowhere e next = v
-next_at v (Node node) e next = v
+next_at v (Node node key) e next = v
 next_at v (Gap node side) e next = v
 
 abbrev pub next_loaded : View → ℕ → ℕ → View

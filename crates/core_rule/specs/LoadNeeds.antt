@@ -39,7 +39,7 @@ may_load_head v _ value = false
 abbrev pub stands_at : Place → ℕ → Bool
 stands_at (AtEntry node side entry found) e = entry == e
 stands_at Nowhere e = false
-stands_at (AtNode node) e = false
+stands_at (AtNode node key) e = false
 stands_at (Gap node side) e = false
 
 abbrev pub is_part : Part → Part → Bool
@@ -57,7 +57,7 @@ may_load_part part v _ value = false
 abbrev pub may_go_on : View → Place → ℕ → Bool
 may_go_on v (AtEntry node side entry found) e = locks node v.held.nodes || is_above v e found
 may_go_on v Nowhere e = false
-may_go_on v (AtNode node) e = false
+may_go_on v (AtNode node key) e = false
 may_go_on v (Gap node side) e = false
 
 abbrev pub may_load_next : View → Word → ℕ → Bool

@@ -16,7 +16,7 @@ nothing_loaded = record { head = None; link = None; tag = None }
 
 -- a node that was locked just now: nothing of it has been loaded
 abbrev pub just_locked : ℕ → HeldNode
-just_locked k = record { node = k; mark = None; left = nothing_loaded; right = nothing_loaded }
+just_locked k = record { node = k; key = None; val = None; mark = None; left = nothing_loaded; right = nothing_loaded }
 
 -- try lock, where the word was found free
 abbrev pub locked_view : View → ℕ → View

@@ -45,7 +45,7 @@ abbrev pub PlaceRight : Layout → (ℕ → ℕ) → Bundles → View → Place 
 PlaceRight z stamp b v Nowhere = Unit {0}
 PlaceRight z stamp b v (Entry node side entry found) =
     IsReachable z v node × (0 < entry → StandsAt stamp (b.bundle side node) entry found (IsPassed b.number v node))
-PlaceRight z stamp b v (Node node) = Unit {0}
+PlaceRight z stamp b v (Node node key) = Unit {0}
 PlaceRight z stamp b v (Gap node side) = Unit {0}
 
 -- a link is remembered with the entry that the section number selects, and with its child; without a section

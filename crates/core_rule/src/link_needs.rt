@@ -56,7 +56,7 @@ fn stands_at(place: Place, entry: u32) -> bool
     match place {
         Place::Entry { entry: at, .. } => at == u64::from(entry),
         Place::Nowhere => false,
-        Place::Node(_) => false,
+        Place::Node { .. } => false,
         Place::Gap { .. } => false,
     }
 }
@@ -92,7 +92,7 @@ fn may_go_on(view: &View, place: Place, entry: u32) -> bool
             is_locked(view.held.nodes.as_slice(), node) || is_above(view, entry, stamp)
         }
         Place::Nowhere => false,
-        Place::Node(_) => false,
+        Place::Node { .. } => false,
         Place::Gap { .. } => false,
     }
 }

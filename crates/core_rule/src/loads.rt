@@ -287,6 +287,8 @@ fn node_with_stamp(held: HeldNode, entry: u32, stamp: u64) -> HeldNode
 {
     HeldNode {
         node: held.node,
+        key: held.key,
+        val: held.val,
         mark: held.mark,
         left: side_with_stamp(held.left, entry, stamp),
         right: side_with_stamp(held.right, entry, stamp),
@@ -317,7 +319,7 @@ fn place_with_stamp(place: Place, found: u64) -> Place
             stamp: Some(found),
         },
         Place::Nowhere => Place::Nowhere,
-        Place::Node(node) => Place::Node(node),
+        Place::Node { node, key } => Place::Node { node, key },
         Place::Gap { node, side } => Place::Gap { node, side },
     }
 }
@@ -427,7 +429,12 @@ fn stand_at_next(view: &mut View, entry: u32, next: u64) -> Result<(), NoMemory>
             let last = next == 0 && is_above(view, entry, stamp);
             let count = view.reading.links.len();
             remember(&mut view.reading.links, last, link_of(node, side, 0, 0))?;
-            let found = HeldNext { node, entry, next };
+            let found = HeldNext {
+                node,
+                entry,
+                stamp: None,
+                next,
+            };
             if keep_next(&mut view.held.nexts, locked, found).is_err() {
                 view.reading.links.truncate(count);
                 return Err(NoMemory);

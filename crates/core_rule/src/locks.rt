@@ -21,6 +21,8 @@ fn just_locked(node: u32) -> HeldNode
     };
     HeldNode {
         node,
+        key: None,
+        val: None,
         mark: None,
         left: side,
         right: side,

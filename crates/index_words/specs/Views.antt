@@ -34,13 +34,14 @@ no_reading = record {
   right_turn = None;
   least = None;
   looked = [];
+  filled = [];
 }
 
 abbrev pub no_held : Held
 no_held = record { nodes = []; nexts = [] }
 
 abbrev pub no_update : Updating
-no_update = record { raised = None; added = None; taken = []; pending = []; owed = []; unlinking = None; waiting = no_looks }
+no_update = record { raised = None; added = None; taken = []; pending = []; unset = []; owed = []; unlinking = None; waiting = no_looks }
 
 -- a view without a number that knows and owns nothing
 abbrev pub empty_view : Layout → View

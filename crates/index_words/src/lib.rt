@@ -14,9 +14,9 @@ pub use key_map::{
 pub use layout::Layout;
 pub use side::Side;
 pub use view::{
-    Counts, EndedPlace, Held, HeldNext, HeldNode, HeldSide, Link, LinkSource, LoadedHead, Looks,
-    OwedTag, Place, Reading, SectionFound, SeenHistory, Slots, TreeNode, Turn, Unlinking, Updating,
-    View,
+    Counts, EndedPlace, Filled, Held, HeldNext, HeldNode, HeldSide, Link, LinkSource, LoadedHead,
+    Looks, OwedTag, Place, Reading, SectionFound, SeenHistory, Slots, TreeNode, Turn, Unlinking,
+    UnsetLink, Updating, View,
 };
 pub use word::{Field, Part, Word};
 

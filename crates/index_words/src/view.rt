@@ -7,10 +7,12 @@ mod update;
 use crate::layout::Layout;
 pub use history::{Counts, EndedPlace, SeenHistory};
 use key_map::Items;
-pub use reading::{Link, LinkSource, Place, Reading, TreeNode, Turn};
+pub use reading::{Filled, Link, LinkSource, Place, Reading, TreeNode, Turn};
 pub use slots::{Looks, SectionFound, Slots};
 use std::alloc::Global;
-pub use update::{Held, HeldNext, HeldNode, HeldSide, LoadedHead, OwedTag, Unlinking, Updating};
+pub use update::{
+    Held, HeldNext, HeldNode, HeldSide, LoadedHead, OwedTag, Unlinking, UnsetLink, Updating,
+};
 
 /// What a seat knows and owns: plain data, which only the seat's own steps change. It is the view of a
 /// seat of the pure machine and, as ghost data, of a seat of the running table.

@@ -1,4 +1,5 @@
 use crate::side::Side;
+use crate::word::Word;
 use key_map::Items;
 use std::alloc::Global;
 
@@ -26,8 +27,12 @@ pub enum Place {
         entry: u64,
         stamp: Option<u64>,
     },
-    /// At a node that a search on plain links has come to.
-    Node(u32),
+    /// At a node that a search on plain links has come to, as a word was found to name it, with its key where
+    /// that was loaded.
+    Node {
+        node: u64,
+        key: Option<u64>,
+    },
     /// At a null link at which a search on plain links ended.
     Gap {
         node: u32,
@@ -42,7 +47,8 @@ pub enum LinkSource {
     Bundle {
         entry: u64,
     },
-    /// As a plain link: its tag where that was loaded, and the keys of the two turns.
+    /// As a plain link: its tag where that was loaded, and the keys of the two turns: `above` that of the left
+    /// turn and `below` that of the right turn.
     Plain {
         tag: Option<u64>,
         above: Option<u64>,
@@ -67,6 +73,14 @@ pub struct Turn {
     pub key: u64,
 }
 
+/// A word into which a seat has put a value: one of a free slot of its own, or of an entry that it has had
+/// pending since.
+#[derive(Clone, Copy, Debug, PartialEq, Eq)]
+pub struct Filled {
+    pub word: Word,
+    pub value: u64,
+}
+
 /// What a seat has read in its section.
 #[derive(Drop)]
 pub struct Reading {
@@ -85,6 +99,8 @@ pub struct Reading {
     pub least: Option<u64>,
     /// The passes at whose announcements it has looked.
     pub looked: Items<u32>,
+    /// What it has put into the words of its free slots, each word with the last value.
+    pub filled: Items<Filled>,
 }
 
 impl Reading {
@@ -105,6 +121,7 @@ impl Reading {
             right_turn: None,
             least: None,
             looked: Items::new(alloc),
+            filled: Items::new(alloc),
         }
     }
 }

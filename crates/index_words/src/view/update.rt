@@ -15,7 +15,8 @@ pub struct LoadedHead {
 #[derive(Clone, Copy, Debug, PartialEq, Eq)]
 pub struct HeldSide {
     pub head: Option<LoadedHead>,
-    pub link: Option<u32>,
+    /// The plain link's word, as it was found.
+    pub link: Option<u64>,
     pub tag: Option<u64>,
 }
 
@@ -23,6 +24,8 @@ pub struct HeldSide {
 #[derive(Clone, Copy, Debug, PartialEq, Eq)]
 pub struct HeldNode {
     pub node: u32,
+    pub key: Option<u64>,
+    pub val: Option<u64>,
     pub mark: Option<u64>,
     pub left: HeldSide,
     pub right: HeldSide,
@@ -33,6 +36,8 @@ pub struct HeldNode {
 pub struct HeldNext {
     pub node: u32,
     pub entry: u32,
+    /// The entry's stamp word where it was loaded.
+    pub stamp: Option<u64>,
     pub next: u64,
 }
 
@@ -43,6 +48,15 @@ pub struct Held {
     pub nexts: Items<HeldNext>,
 }
 
+/// A plain link that an update has still to set: what it holds until then, and the child that it is to have.
+#[derive(Clone, Copy, Debug, PartialEq, Eq)]
+pub struct UnsetLink {
+    pub node: u32,
+    pub side: Side,
+    pub was: u64,
+    pub child: u64,
+}
+
 /// A link whose tag an update has still to raise.
 #[derive(Clone, Copy, Debug, PartialEq, Eq)]
 pub struct OwedTag {
@@ -50,12 +64,13 @@ pub struct OwedTag {
     pub side: Side,
 }
 
-/// A successor that a removal has still to unlink, and the link to it.
+/// A successor that a removal has still to unlink, the link to it, and the node that its copy replaced.
 #[derive(Clone, Copy, Debug, PartialEq, Eq)]
 pub struct Unlinking {
     pub successor: u32,
     pub parent: u32,
     pub side: Side,
+    pub replaced: u32,
 }
 
 /// The update that a seat is making.
@@ -69,6 +84,8 @@ pub struct Updating {
     pub taken: Items<u32>,
     /// Its entries without a written number.
     pub pending: Items<u32>,
+    /// The plain links that it has still to set.
+    pub unset: Items<UnsetLink>,
     /// The links whose tags it has still to raise.
     pub owed: Items<OwedTag>,
     /// The successor that waits to be unlinked.
@@ -105,6 +122,7 @@ impl Updating {
             added: None,
             taken: Items::new(alloc),
             pending: Items::new(alloc),
+            unset: Items::new(alloc),
             owed: Items::new(alloc),
             unlinking: None,
             waiting: Looks::none(alloc),
