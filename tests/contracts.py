@@ -297,4 +297,5 @@ def main():
     print("CONTRACTS.md has the %d clauses of the public functions" % clauses)
 
 
-main()
+if __name__ == "__main__":
+    main()
