@@ -53,6 +53,11 @@ def trusted(source):
     return sorted(seen)
 
 
+def hundreds(paths):
+    """The lines of these files, rounded, so that not every change of a line changes the figure."""
+    return round(lines_in(paths), -2)
+
+
 def count(number):
     return "{:,}".format(number)
 
@@ -66,11 +71,13 @@ def compared(script, option):
 def figures():
     src = [path for path in files("src/**/*.rt") if not is_test(path)]
     edits = lambda folder: len(files(folder + "/*.edit"))
+    clauses = [clause for name in crates() for found in public_functions(name).values() for clause in found]
+    promised = sum(kind == "ensures" for kind, _, _ in clauses)
     headline = trusted(CRATES / "bucketidx" / "src" / "serving.rt")
     rows = [
-        ("Clauses of public functions, each proved", sum(len(c) for n in crates() for c in public_functions(n).values())),
-        ("Lines of code, without tests", lines_in(src)),
-        ("Lines of definitions; of proofs", (lines_in(files("specs/**/*.antt")), lines_in(files("proofs/**/*.antt")))),
+        ("Clauses that public functions promise, each proved", promised),
+        ("Lines of code with its contracts, to the nearest hundred", hundreds(src)),
+        ("Lines of definitions; of proofs", (hundreds(files("specs/**/*.antt")), hundreds(files("proofs/**/*.antt")))),
         ("Lines of definitions that the headline rests on; files", (lines_in(headline), len(headline))),
         ("Wrong bodies that the gate tries; others kept beside them", (edits("must-fail"), edits("more-edits"))),
         ("Tests", len(re.findall(r"^\s*#\[test\]", text_of(files("src/**/*.rt")), re.M))),
