@@ -82,8 +82,11 @@ def figures():
         ("Wrong bodies that the gate tries; others kept beside them", (edits("must-fail"), edits("more-edits"))),
         ("Tests", len(re.findall(r"^\s*#\[test\]", text_of(files("src/**/*.rt")), re.M))),
         ("Random sessions compared with a model at each gate", compared("random_sessions.py", "sessions")),
+        ("Random inputs, most of them faulty, compared with a model at each gate", compared("random_inputs.py", "inputs")),
         ("Random lists of events compared with a model at each gate", compared("random_runs.py", "runs")),
     ]
+    # A script that .ci/run does not run has no row.
+    rows = [row for row in rows if row[1]]
     shown = lambda value: "; ".join(map(count, value)) if isinstance(value, tuple) else count(value)
     return "\n".join(["| What | How many |", "|---|---|"] + ["| %s | %s |" % (name, shown(value)) for name, value in rows])
 
