@@ -79,11 +79,11 @@ def figures():
         ("Lines of code with its contracts, to the nearest hundred", hundreds(src)),
         ("Lines of definitions; of proofs", (hundreds(files("specs/**/*.antt")), hundreds(files("proofs/**/*.antt")))),
         ("Lines of definitions that the headline rests on; files", (lines_in(headline), len(headline))),
-        ("Wrong bodies that the gate tries; others kept beside them", (edits("must-fail"), edits("more-edits"))),
+        ("Wrong bodies that `.ci/run` tries; others kept beside them", (edits("must-fail"), edits("more-edits"))),
         ("Tests", len(re.findall(r"^\s*#\[test\]", text_of(files("src/**/*.rt")), re.M))),
-        ("Random sessions compared with a model at each gate", compared("random_sessions.py", "sessions")),
-        ("Random inputs, most of them faulty, compared with a model at each gate", compared("random_inputs.py", "inputs")),
-        ("Random lists of events compared with a model at each gate", compared("random_runs.py", "runs")),
+        ("Random sessions that `.ci/run` compares with a model", compared("random_sessions.py", "sessions")),
+        ("Random inputs, most of them faulty, that `.ci/run` compares with a model", compared("random_inputs.py", "inputs")),
+        ("Random lists of events that `.ci/run` compares with a model", compared("random_runs.py", "runs")),
     ]
     # A script that .ci/run does not run has no row.
     rows = [row for row in rows if row[1]]
