@@ -1,0 +1,263 @@
+#!/usr/bin/env python3
+"""Draws the pictures of the documents, docs/*.svg.
+
+    docs/pictures.py            draws them
+    docs/pictures.py --check    says whether they are as drawn here
+
+The picture of the crates is made from crates.txt. Colours follow the reader's light or dark scheme.
+"""
+import re
+import sys
+from pathlib import Path
+
+DOCS = Path(__file__).resolve().parent
+STYLE = """
+.t{fill:#24292f}.s{fill:#57606a}.b{font-weight:600}.m{font-family:ui-monospace,monospace}
+.box{fill:#f6f8fa;stroke:#8c959f}.key{fill:#ddf4ff;stroke:#218bff}.good{fill:#dafbe1;stroke:#2da44e}
+.warn{fill:#fff8c5;stroke:#bf8700}.line{fill:none;stroke:#6e7781}.dash{fill:none;stroke:#6e7781;stroke-dasharray:4 4}
+.head{fill:#6e7781}.span{fill:none;stroke:#218bff}
+@media (prefers-color-scheme:dark){
+.t{fill:#e6edf3}.s{fill:#9ea7b3}.box{fill:#21262d;stroke:#6e7681}.key{fill:#10304f;stroke:#58a6ff}
+.good{fill:#12361f;stroke:#3fb950}.warn{fill:#3b2f0b;stroke:#d29922}.line,.dash{stroke:#8b949e}.head{fill:#8b949e}
+.span{stroke:#58a6ff}}
+"""
+
+
+class Picture:
+    """Shapes and texts, by their places in units of one pixel."""
+
+    def __init__(self, width, height, title):
+        self.width, self.height, self.title, self.parts = width, height, title, []
+
+    def box(self, x, y, width, height, kind="box"):
+        shape = '<rect x="%g" y="%g" width="%g" height="%g" rx="5" class="%s"/>'
+        self.parts.append(shape % (x, y, width, height, kind))
+
+    def text(self, x, y, text, kind="t", size=12, anchor="middle"):
+        escaped = text.replace("&", "&amp;").replace("<", "&lt;")
+        shape = '<text x="%g" y="%g" class="%s" font-size="%g" text-anchor="%s">%s</text>'
+        self.parts.append(shape % (x, y, kind, size, anchor, escaped))
+
+    def labelled(self, x, y, width, height, lines, kind="box"):
+        """A box with lines of text in its middle, each a text or a text with its kind and size."""
+        self.box(x, y, width, height, kind)
+        lines = [line if isinstance(line, tuple) else (line, "t", 12) for line in lines]
+        step = 16
+        first = y + height / 2 - step * (len(lines) - 1) / 2 + 4
+        for at, (text, style, size) in enumerate(lines):
+            self.text(x + width / 2, first + step * at, text, style, size)
+
+    def line(self, x, y, to_x, to_y, kind="line"):
+        self.parts.append('<path d="M%g %gL%g %g" class="%s"/>' % (x, y, to_x, to_y, kind))
+
+    def arrow(self, x, y, to_x, to_y):
+        self.line(x, y, to_x, to_y)
+        length = ((to_x - x) ** 2 + (to_y - y) ** 2) ** 0.5
+        along, across = ((to_x - x) / length, (to_y - y) / length), ((y - to_y) / length, (to_x - x) / length)
+        corners = [(to_x - 7 * along[0] + side * 3.5 * across[0], to_y - 7 * along[1] + side * 3.5 * across[1]) for side in (1, -1)]
+        self.parts.append('<path d="M%.1f %.1fL%.1f %.1fL%.1f %.1fZ" class="head"/>' % (to_x, to_y, *corners[0], *corners[1]))
+
+    def svg(self):
+        head = '<svg xmlns="http://www.w3.org/2000/svg" viewBox="0 0 %d %d" width="%d" height="%d" role="img" font-family="system-ui,sans-serif">'
+        head = head % (self.width, self.height, self.width, self.height)
+        style = re.sub(r"\n", "", STYLE)
+        return "\n".join([head, "<title>%s</title>" % self.title, "<style>%s</style>" % style, *self.parts, "</svg>"]) + "\n"
+
+
+MONO, SMALL = "t m", "s"
+
+
+def history():
+    """The session of README: the journal, and each answer at its place."""
+    p = Picture(800, 306, "A journal of six changes, and each answer at its place")
+    updates = [
+        ("PUT", "…/January/", "sample.jpg"), ("PUT", "…/February/", "sample2.jpg"), ("PUT", "…/February/", "sample3.jpg"),
+        ("PUT", "photos/2006/", "index.html"), ("PUT", "", "sample.jpg"), ("DELETE", "", "sample.jpg"),
+    ]
+    p.text(10, 22, "the journal", "s", 12, "start")
+    left, step = 24, 120
+    for at, (verb, folder, name) in enumerate(updates):
+        x = left + step * at
+        lines = [(str(at + 1) + "  " + verb, "t b", 13)] + [(part, "t m", 11) for part in (folder, name) if part]
+        p.labelled(x + 8, 34, step - 16, 64, lines)
+    p.text(left, 226, "the answers, each at its place:", "s", 12, "start")
+    p.text(left, 242, "it is true after so many changes", "s", 12, "start")
+    for at in range(7):
+        x = left + step * at
+        p.line(x, 34, x, 114, "dash")
+        p.text(x, 130, str(at), "t b", 13)
+    answers = {
+        1: [("line 2", "200")], 2: [("line 3", "200")], 3: [("line 4", "200")], 4: [("line 5", "200")],
+        5: [("line 6", "200"), ("7 LIST", "200"), ("8 NEXT", "200"), ("9 HEAD", "200")],
+        6: [("10 DELETE", "204"), ("11 HEAD", "404")],
+    }
+    for place, rows in answers.items():
+        for row, (line, status) in enumerate(rows):
+            kind = "key" if "LIST" in line or "NEXT" in line else "box"
+            p.labelled(left + step * place - 52, 142 + 30 * row, 104, 24, [(line + "  " + status, "t", 12)], kind)
+    p.line(left, 274, left + 5 * step, 274, "span")
+    for x in (left, left + 5 * step):
+        p.line(x, 268, x, 280, "span")
+    p.text(left + 2.5 * step, 294, "both pages are read from the bucket after these five changes, and from no other moment", "s", 12)
+    return p
+
+
+def headline():
+    p = Picture(800, 400, "From the headline down to the files of its definitions")
+    p.labelled(220, 12, 360, 46, [("clause headline of serve", "t b", 13), ("crates/bucketidx/src/serving.rt", "s m", 11)], "good")
+    p.arrow(400, 58, 400, 92)
+    p.labelled(170, 92, 460, 62, [
+        ("HoldsOfInput", "t b", 13), ("some session and one legal run of it: the input is the one,", "t", 12),
+        ("what was written is the text of the other", "t", 12)], "key")
+    p.text(645, 127, "bucketidx/specs/Served", "s m", 11, "start")
+    columns = [
+        (20, "IsSessionOf", ["the session that", "the input's text says"], "request_lines/specs", ["Input, Session", "Grammar, Queries", "Lines, Texts, Reads", "key_names: Names"]),
+        (285, "IsLegal", ["one journal; each answer", "right at its place"], "bucket_terms/specs", ["LegalRun, Answer", "Page, Entries, Token", "key_map: Map, History", "key_names: Names"]),
+        (550, "session_text", ["its lines of JSON,", "byte for byte"], "answer_text/specs", ["Lines", "Objects, Escaping", "bucket_terms: Page, Token", "key_names: Names"]),
+    ]
+    for x, name, about, folder, files in columns:
+        p.arrow(400 + (x - 285) * 0.45, 154, x + 115, 196)
+        p.labelled(x, 196, 230, 64, [(name, "t b", 13), *about], "key")
+        p.arrow(x + 115, 260, x + 115, 288)
+        p.labelled(x, 288, 230, 100, [(folder, "s m", 11)] + [(file, "t", 12) for file in files])
+    return p
+
+
+def grace():
+    p = Picture(800, 300, "A grace period in time")
+    rows = [("pass 0 removes a node", 78), ("pass 1", 148), ("pass 2", 218)]
+    for name, y in rows:
+        p.text(12, y + 4, name, "t", 12, "start")
+        p.line(170, y, 780, y, "line")
+    p.text(12, 262, "the node's slot", "t", 12, "start")
+
+    def section(y, start, end, word, after):
+        p.box(start, y - 13, end - start, 26, "box")
+        p.text((start + end) / 2, y + 4, "reads; word " + word, "t", 11)
+        p.text(end + 7, y + 4 - 14, after, "s", 11, "start")
+
+    section(148, 190, 300, "5", "6")
+    section(218, 205, 520, "9", "10")
+    section(218, 590, 760, "11", "")
+    events = [(240, "raise: takes", "it out"), (330, "makes it", "the batch"), (440, "looks at 1 and 2:", "finds 6 and 9"), (625, "looks at 2:", "finds 11")]
+    for x, first, second in events:
+        p.line(x, 70, x, 86, "line")
+        p.text(x, 42, first, "t", 11)
+        p.text(x, 57, second, "t", 11)
+    p.line(440, 86, 440, 218, "dash")
+    p.line(625, 86, 625, 218, "dash")
+    p.text(447, 120, "6 is even: pass 1 is outside", "s", 11, "start")
+    p.text(447, 190, "9 is odd: not yet", "s", 11, "start")
+    p.text(632, 187, "not 9: it has been", "s", 11, "start")
+    p.text(632, 200, "outside since", "s", 11, "start")
+    for start, end, name, kind in [(170, 240, "linked", "box"), (240, 330, "retired", "warn"), (330, 625, "in the batch: waits for all other passes", "warn"), (625, 780, "free again", "good")]:
+        p.labelled(start, 246, end - start, 26, [(name, "t", 11)], kind)
+    p.text(780, 292, "time", "s", 11, "end")
+    return p
+
+
+def session():
+    p = Picture(800, 290, "The life of a session")
+    stages = [
+        (20, 50, "bytes", ["of the input"]),
+        (215, 50, "Session", ["names, records,", "requests by client"]),
+        (410, 50, "Directory", ["each name once, in", "order: rank ↔ name"]),
+        (605, 50, "Request", ["by rank; one", "after another"]),
+        (605, 190, "Placed reply", ["answer and place;", "pages as ranks"]),
+        (410, 190, "Run", ["the replies, and", "the journal"]),
+        (215, 190, "lines", ["of JSON"]),
+        (20, 190, "bytes", ["of the output"]),
+    ]
+    for at, (x, y, name, about) in enumerate(stages):
+        kind = "key" if name == "bytes" else "box"
+        p.labelled(x, y, 150, 66, [(name, "t b", 13)] + [(line, "s", 12) for line in about], kind)
+    steps = [
+        (170, 83, 215, 83, "read_session", 192, 38), (365, 83, 410, 83, "Directory::new", 387, 38), (560, 83, 605, 83, "run_client", 582, 38),
+        (680, 116, 680, 190, "KeyPass", 0, 0), (605, 223, 560, 223, "", 0, 0),
+        (410, 223, 365, 223, "", 387, 0), (215, 223, 170, 223, "write_all", 192, 274),
+    ]
+    for x, y, to_x, to_y, name, label_x, label_y in steps:
+        p.arrow(x, y, to_x, to_y)
+        if label_y:
+            p.text(label_x, label_y, name, "t m", 11)
+    p.text(95, 38, "read_all", "t m", 11)
+    p.text(688, 148, "put, remove,", "t m", 11, "start")
+    p.text(688, 163, "begin, next_from", "t m", 11, "start")
+    p.text(387, 274, "reply_line, journal_line, last_line", "t m", 11)
+    return p
+
+
+def crate_lines():
+    """Each crate with the crates of this repository that it stands on."""
+    lines = [line for line in (DOCS.parent / "crates.txt").read_text().splitlines() if line.strip() and line[0] != "#"]
+    heads = [(line.split(":")[0].split()[0], line.split(":")[1].split()) for line in lines]
+    names = [name for name, _ in heads]
+    return {name: [dep for dep in deps if dep in names] for name, deps in heads}
+
+
+def layers():
+    """The crates, each above all that it stands on; lines lead to those that no other crate between stands on."""
+    below = crate_lines()
+
+    def all_below(name):
+        return set().union(*[{dep} | all_below(dep) for dep in below[name]])
+
+    def level(name):
+        return max([level(dep) + 1 for dep in below[name]], default=0)
+
+    is_core = lambda name: name.startswith("core_") or name == "index_words"
+    rows = {}
+    for name in below:
+        rows.setdefault(level(name), []).append(name)
+    tracks = [max(sum(is_core(n) is core for n in row) for row in rows.values()) for core in (False, True)]
+    width, height, gap = 124, 34, 34
+    split = 30 + tracks[0] * (width + 14)
+    p = Picture(split + 20 + tracks[1] * (width + 14), 64 + len(rows) * (height + gap), "The crates in layers")
+    # Those that a crate of the other track stands on come last in their row, beside it.
+    crossed = {dep for name in below for dep in below[name] if is_core(name) and not is_core(dep)}
+    places, crossings = {}, 0
+    for at, row in rows.items():
+        y = 44 + (max(rows) - at) * (height + gap)
+        for core, start, count in ((False, 16, tracks[0]), (True, split + 14, tracks[1])):
+            own = sorted((name for name in row if is_core(name) is core), key=lambda name: (name in crossed, name))
+            free = (count - len(own)) * (width + 14) / 2
+            for i, name in enumerate(own):
+                places[name] = (start + free + i * (width + 14), y)
+    for name, deps in below.items():
+        for dep in deps:
+            if not any(dep in all_below(other) for other in deps if other != dep):
+                (x, y), (to_x, to_y) = places[name], places[dep]
+                if is_core(name) and not is_core(dep):
+                    crossings += 1
+                    bend, end = split - 4 - 8 * crossings, to_y + height / 2 + 6 - 4 * crossings
+                    p.line(x, y + height / 2, bend, y + height / 2)
+                    p.line(bend, y + height / 2, bend, end)
+                    p.line(bend, end, to_x + width, end)
+                    continue
+                p.line(x + width / 2, y + height, to_x + width / 2, to_y)
+    for name, (x, y) in places.items():
+        kind = "good" if name == "bucketidx" else "key" if is_core(name) else "box"
+        p.labelled(x, y, width, height, [(name, "t m", 12)], kind)
+    p.text(16, 24, "from bytes to bytes: the program", "s", 12, "start")
+    p.text(split + 14, 24, "the core of the shared tree", "s", 12, "start")
+    p.line(split, 14, split, p.height - 20, "dash")
+    return p
+
+
+PICTURES = {"history": history, "headline": headline, "grace": grace, "session": session, "layers": layers}
+
+
+def main():
+    wrong = []
+    for name, draw in PICTURES.items():
+        path, svg = DOCS / (name + ".svg"), draw().svg()
+        if sys.argv[1:] == ["--check"]:
+            if not path.exists() or path.read_text() != svg:
+                wrong.append("docs/%s.svg is not what docs/pictures.py draws" % name)
+        else:
+            path.write_text(svg)
+    print("\n".join(wrong) or "%d pictures" % len(PICTURES))
+    sys.exit(len(wrong) > 0)
+
+
+main()

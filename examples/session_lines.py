@@ -1,0 +1,24 @@
+"""How a record is written as a line of a session."""
+import re
+import sys
+
+
+def escaped(name):
+    """The name as a field of a line: `%`, spaces and control characters are escaped."""
+    return re.sub(r"[\x00-\x20%\x7f]", lambda found: "%%%02X" % ord(found.group()), name)
+
+
+def put_line(name, size, etag, modified):
+    """The PUT line of a record, or None, with a note on standard error, where a session cannot have it."""
+    bare = etag.strip('"')
+    fault = (
+        "its name is empty" if not name
+        else "its name has more than 1024 bytes" if len(name.encode()) > 1024
+        else "its tag is not 1 to 64 letters, digits and -" if not re.fullmatch("[A-Za-z0-9-]{1,64}", bare)
+        else "its time is before 1970" if modified < 0
+        else None
+    )
+    if fault:
+        print("left out %r: %s" % (name, fault), file=sys.stderr)
+        return None
+    return "PUT %s %d %s %d" % (escaped(name), size, bare, modified)

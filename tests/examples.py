@@ -1,0 +1,130 @@
+#!/usr/bin/env python3
+"""Runs all examples, and compares what the program writes with what stands beside them.
+
+    tests/examples.py PROGRAM
+    tests/examples.py --write     writes the answers of examples/ anew: by the model, and never by the program
+
+- Each session examples/NAME.txt is answered by examples/NAME.out, which is also what the model of
+  session_model.py answers. The pair that the program's crate is checked with is that of examples/photos.
+- Each session examples/refused/CAUSE.txt is refused for this cause, at the line that the model names.
+- In README.md, docs/ and examples/README.md, each block marked `sh` that a block marked `output` follows
+  prints just that, run at the top of the repository; and each block marked `session` is answered by the
+  block marked `output` behind it. Lines that use jq are run where jq is there.
+"""
+import re
+import shutil
+import subprocess
+import sys
+from pathlib import Path
+
+from session_model import Refused, answers
+
+TOP = Path(__file__).resolve().parent.parent
+EXAMPLES = TOP / "examples"
+PAGES = [TOP / "README.md", EXAMPLES / "README.md", *sorted((TOP / "docs").glob("*.md"))]
+# Sessions with these causes are long, and so they stand nowhere as a file.
+LONG = {
+    "TooManyLines": b"CLIENT\n" + b"HEAD a\n" * 200001,
+    "TooManyEntries": b"CLIENT\n" + b"LIST\n" * 4001,
+}
+
+
+class Tally:
+    """Counts what agrees, and prints what does not."""
+
+    def __init__(self):
+        self.passed, self.failed, self.left_out = 0, 0, 0
+
+    def compare(self, what, got, wanted):
+        if got == wanted:
+            self.passed += 1
+            return
+        self.failed += 1
+        print("%s\n  got    %s\n  wanted %s" % (what, first_other(got, wanted), first_other(wanted, got)))
+
+
+def first_other(text, other):
+    if not isinstance(text, str):
+        return text
+    lines, others = text.split("\n"), other.split("\n") if isinstance(other, str) else []
+    return next((line for at, line in enumerate(lines) if others[at : at + 1] != [line]), "(the start of it)")
+
+
+def run(program, raw):
+    ran = subprocess.run([program, "run"], input=raw, capture_output=True)
+    return ran.stdout.decode(), ran.stderr.decode(), ran.returncode
+
+
+def model(raw):
+    """What the program is to write, to say and to end with."""
+    try:
+        return answers(raw), "", 0
+    except Refused as refusal:
+        return "", "bucketidx: %s\n" % refusal, 3
+
+
+def check_sessions(program, tally):
+    for path in sorted(EXAMPLES.glob("*.txt")):
+        raw, beside = path.read_bytes(), path.with_suffix(".out").read_text()
+        tally.compare("%s and the model" % path.name, model(raw), (beside, "", 0))
+        tally.compare(path.name, run(program, raw), (beside, "", 0))
+    crate = TOP / "crates" / "bucketidx"
+    tally.compare("crates/bucketidx/stdin", (crate / "stdin").read_text(), (EXAMPLES / "photos.txt").read_text())
+    tally.compare("crates/bucketidx/stdout", (crate / "stdout").read_text(), (EXAMPLES / "photos.out").read_text())
+
+
+def check_refused(program, tally):
+    sessions = {path.stem: path.read_bytes() for path in sorted((EXAMPLES / "refused").glob("*.txt"))}
+    for cause, raw in {**sessions, **LONG}.items():
+        wanted = model(raw)
+        tally.compare("the cause of %s by the model" % cause, wanted[1].split(": ")[-1].strip(), cause)
+        tally.compare("refused/" + cause, run(program, raw), wanted)
+
+
+def blocks(path):
+    """The fenced blocks of a page as (line, mark, text)."""
+    found = re.finditer(r"^```(\w*)\n(.*?)^```$", path.read_text(), re.M | re.S)
+    text = path.read_text()
+    return [(text[: block.start()].count("\n") + 1, block.group(1), block.group(2)) for block in found]
+
+
+def check_pages(program, tally):
+    for path in PAGES:
+        found = blocks(path) if path.exists() else []
+        for (line, mark, text), (_, mark_behind, wanted) in zip(found, found[1:]):
+            where = "%s:%d" % (path.relative_to(TOP), line)
+            if mark == "session" and mark_behind == "output":
+                # A page shows what standard output gets, or what standard error does.
+                tally.compare(where + " and the model", "".join(model(text.encode())[:2]), wanted)
+                tally.compare(where, "".join(run(program, text.encode())[:2]), wanted)
+            if mark == "sh" and mark_behind == "output":
+                if re.search(r"\bjq\b", text) and not shutil.which("jq"):
+                    tally.left_out += 1
+                    continue
+                ran = subprocess.run(["sh", "-c", text], cwd=TOP, stdin=subprocess.DEVNULL, capture_output=True)
+                tally.compare(where, ran.stdout.decode(), wanted)
+
+
+def write():
+    for path in sorted(EXAMPLES.glob("*.txt")):
+        path.with_suffix(".out").write_text(answers(path.read_bytes()))
+    crate = TOP / "crates" / "bucketidx"
+    shutil.copyfile(EXAMPLES / "photos.txt", crate / "stdin")
+    shutil.copyfile(EXAMPLES / "photos.out", crate / "stdout")
+
+
+def main():
+    if sys.argv[1:] == ["--write"]:
+        return write()
+    if len(sys.argv) != 2:
+        sys.exit(__doc__)
+    program, tally = str(Path(sys.argv[1]).resolve()), Tally()
+    check_sessions(program, tally)
+    check_refused(program, tally)
+    check_pages(program, tally)
+    left_out = ", %d left out for want of jq" % tally.left_out if tally.left_out else ""
+    print("examples: %d comparisons agree, %d do not%s" % (tally.passed, tally.failed, left_out))
+    sys.exit(tally.failed > 0)
+
+
+main()

@@ -1,0 +1,135 @@
+#!/usr/bin/env python3
+"""Counts what README says of the repository in figures.
+
+    tests/figures.py            prints them
+    tests/figures.py --check    compares them with README.md and docs/PROVED.md
+    tests/figures.py --write    puts them in there
+
+The tables of README and of PROVED.md stand between the lines `<!-- NAME: .. -->` and `<!-- end -->`.
+"""
+import re
+import sys
+from pathlib import Path
+
+from contracts import crates, public_functions
+
+TOP = Path(__file__).resolve().parent.parent
+CRATES = TOP / "crates"
+
+
+def text_of(paths):
+    return "".join(path.read_text() for path in paths)
+
+
+def lines_in(paths):
+    return sum(len(path.read_text().splitlines()) for path in paths)
+
+
+def files(kind):
+    """All files of a crate below this folder of it, such as src/**/*.rt."""
+    return [path for crate in crates() for path in sorted((CRATES / crate).glob(kind)) if path.is_file()]
+
+
+def is_test(path):
+    return "tests" in path.parts or path.name == "tests.rt" or path.parts[-3] == "core_tests"
+
+
+def imports(text):
+    """The files of specs/ that this text imports from crates of this repository."""
+    for crate, module in re.findall(r"\buse Rattle\.(\w+)\.specs\.(\w+)", text):
+        path = CRATES / crate / "specs" / (module + ".antt")
+        if module != "declared" and path.exists():
+            yield path
+
+
+def trusted(source):
+    """The files of specs/ that the contracts of a source file rest on."""
+    todo, seen = list(imports(source.read_text())), []
+    while todo:
+        path = todo.pop()
+        if path not in seen:
+            seen.append(path)
+            todo.extend(imports(path.read_text()))
+    return sorted(seen)
+
+
+def hundreds(paths):
+    """The lines of these files, rounded, so that not every change of a line changes the figure."""
+    return round(lines_in(paths), -2)
+
+
+def count(number):
+    return "{:,}".format(number)
+
+
+def compared(script, option):
+    """How many sessions or runs .ci/run gives this script."""
+    found = re.search(r"tests/%s\b.*--%s (\d+)" % (re.escape(script), option), (TOP / ".ci" / "run").read_text())
+    return int(found.group(1)) if found else 0
+
+
+def figures():
+    src = [path for path in files("src/**/*.rt") if not is_test(path)]
+    edits = lambda folder: len(files(folder + "/*.edit"))
+    clauses = [clause for name in crates() for found in public_functions(name).values() for clause in found]
+    promised = sum(kind == "ensures" for kind, _, _ in clauses)
+    headline = trusted(CRATES / "bucketidx" / "src" / "serving.rt")
+    rows = [
+        ("Clauses that public functions promise, each proved", promised),
+        ("Lines of code with its contracts, to the nearest hundred", hundreds(src)),
+        ("Lines of definitions; of proofs", (hundreds(files("specs/**/*.antt")), hundreds(files("proofs/**/*.antt")))),
+        ("Lines of definitions that the headline rests on; files", (lines_in(headline), len(headline))),
+        ("Wrong bodies that `.ci/run` tries; others kept beside them", (edits("must-fail"), edits("more-edits"))),
+        ("Tests", len(re.findall(r"^\s*#\[test\]", text_of(files("src/**/*.rt")), re.M))),
+        ("Random sessions that `.ci/run` compares with a model", compared("random_sessions.py", "sessions")),
+        ("Random inputs, most of them faulty, that `.ci/run` compares with a model", compared("random_inputs.py", "inputs")),
+        ("Random lists of events that `.ci/run` compares with a model", compared("random_runs.py", "runs")),
+    ]
+    # A script that .ci/run does not run has no row.
+    rows = [row for row in rows if row[1]]
+    shown = lambda value: "; ".join(map(count, value)) if isinstance(value, tuple) else count(value)
+    return "\n".join(["| What | How many |", "|---|---|"] + ["| %s | %s |" % (name, shown(value)) for name, value in rows])
+
+
+def files_of_headline():
+    """The files that the headline rests on, each with its first comment and its lines."""
+    paths = trusted(CRATES / "bucketidx" / "src" / "serving.rt")
+    rows = ["| File | What it defines | Lines |", "|---|---|---|"]
+    for path in paths:
+        about = re.match(r"(?:-- .*\n)*", path.read_text()).group().replace("-- ", "").replace("\n", " ")
+        said = re.split(r"(?<=\.) ", about)[0].strip().replace("|", "\\|")
+        rows.append("| `%s` | %s | %d |" % (path.relative_to(TOP), said, lines_in([path])))
+    return "\n".join(rows)
+
+
+def parts():
+    yield TOP / "README.md", "figures", figures()
+    yield TOP / "docs" / "PROVED.md", "headline", files_of_headline()
+
+
+def main():
+    if sys.argv[1:] == []:
+        print(figures() + "\n\n" + files_of_headline())
+    elif sys.argv[1:] in (["--check"], ["--write"]):
+        wrong = [error for part in parts() for error in held(*part)]
+        print("\n".join(wrong) or "the figures are those of the source")
+        sys.exit(len(wrong) > 0)
+    else:
+        sys.exit(__doc__)
+
+
+def held(path, name, wanted):
+    """Compares the part of the page with what it should have, and writes it where that is asked."""
+    text = path.read_text()
+    found = re.search(r"(<!-- %s: [^\n]*-->\n)(.*?)(\n<!-- end -->)" % name, text, re.S)
+    if not found:
+        return ["%s has no part %s" % (path.name, name)]
+    if found.group(2) == wanted:
+        return []
+    if sys.argv[1:] == ["--write"]:
+        path.write_text(text[: found.start(2)] + wanted + text[found.end(2) :])
+        return []
+    return ["%s: the part %s differs; tests/figures.py --write mends it" % (path.name, name)]
+
+
+main()

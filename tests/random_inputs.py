@@ -1,0 +1,84 @@
+#!/usr/bin/env python3
+"""Compares the program with a model of the grammar on random inputs, most of them faulty.
+
+    tests/random_inputs.py PROGRAM [--inputs N] [--seed N]
+
+The model is that of session_model.py. The first input that the program answers or refuses otherwise is printed,
+and the status is 1 then.
+"""
+import argparse
+import collections
+import random
+import subprocess
+import sys
+
+from random_sessions import Session
+from session_model import PARAMETERS, Refused, answers
+
+ODD_FIELDS = [
+    b"", b"%", b"%4", b"%zz", b"%41", b"%ff", b"%c3%a9", b"a+b", b'"', b'""', b'"e1"', b"e_1", b"e-1", b"x" * 64, b"x" * 65,
+    b"0", b"007", b"1k", b"-1", b"+1", b"18446744073709551615", b"18446744073709551616", b"n" * 1024, b"n" * 1025,
+    b"%61" * 1024, b"%61" * 1025, b"\xe9", b"\xc3\xa9", b"?", b"??a", b"a\tb", b"\r",
+]
+ODD_VALUES = [
+    b"", b"2", b"1", b"url", b"URL", b"true", b"false", b"yes", b"ten", b"0", b"0005", b"2147483647", b"2147483648", b"%32",
+    b"%", b"a=b", b"%26", b"/", b"S2E", b"v" * 1025,
+]
+ODD_LINES = [
+    b"", b"\r", b"\r\r", b" ", b"CLIENT", b"CLIENT ", b"client", b"LIST", b"LIST ", b"LIST  ", b"LIST ?", b"LIST &&", b"LIST =",
+    b"NEXT", b"NEXT ", b"PUT", b"PUT a 1 e1 1 1", b"HEAD", b"HEAD  a", b"DELETE a b", b"\xff", b"HEAD a\r", b"HEAD a\r\r", b"GET a",
+]
+
+
+def odd_query(rng):
+    names = [name.encode() for name in PARAMETERS] + [b"marker", b"", b"Prefix"]
+    pieces = [rng.choice(names) + rng.choice([b"=", b"=", b"=", b""]) + rng.choice(ODD_VALUES) for _ in range(rng.randint(0, 4))]
+    return rng.choice([b"", b"", b"?"]) + rng.choice([b"&", b"&", b"&&"]).join(pieces)
+
+
+def odd_line(rng):
+    verb = rng.choice([b"PUT", b"PUT", b"DELETE", b"HEAD", b"LIST", b"LIST", b"LIST", b"ANY"])
+    if verb == b"ANY":
+        return rng.choice(ODD_LINES)
+    if verb == b"LIST":
+        return b"LIST " + odd_query(rng)
+    good = {b"PUT": [b"key", b"1", b"e1", b"2"], b"DELETE": [b"key"], b"HEAD": [b"key"]}[verb]
+    fields = [rng.choice(ODD_FIELDS) if rng.random() < 0.4 else field for field in good]
+    return b" ".join([verb, *fields])
+
+
+def odd_input(rng):
+    """A session with a few lines that may be faulty, and now and then some bytes changed."""
+    lines = Session(rng).input().encode().split(b"\n")[: rng.randint(1, 12)]
+    for _ in range(rng.randint(1, 3)):
+        lines.insert(rng.randint(0 if rng.random() < 0.2 else 1, len(lines)), odd_line(rng))
+    raw = bytearray(rng.choice([b"\n", b"\n", b"\n", b"\r\n"]).join(lines) + rng.choice([b"", b"\n", b"\r", b"\n\n"]))
+    for _ in range(rng.choice([0, 0, 0, 1, 2])):
+        raw[rng.randrange(len(raw))] = rng.choice(b"\n\r %&=?\x00\xc3\xa9aZ09")
+    return bytes(raw)
+
+
+def main():
+    parser = argparse.ArgumentParser(description=__doc__.split("\n")[0])
+    parser.add_argument("program")
+    parser.add_argument("--inputs", type=int, default=1000)
+    parser.add_argument("--seed", type=int, default=7)
+    options = parser.parse_args()
+    rng, causes = random.Random(options.seed), collections.Counter()
+    for _ in range(options.inputs):
+        raw = odd_input(rng)
+        try:
+            wanted = answers(raw).encode(), b"", 0
+        except Refused as refusal:
+            wanted = b"", b"bucketidx: %s\n" % str(refusal).encode(), 3
+        causes[wanted[1].decode().strip().split(": ")[-1]] += 1
+        ran = subprocess.run([options.program, "run"], input=raw, capture_output=True)
+        if (ran.stdout, ran.stderr, ran.returncode) != wanted:
+            print("input   %r\ngot     %r\nwanted  %r" % (raw, (ran.stderr, ran.stdout, ran.returncode), wanted))
+            sys.exit(1)
+    answered = causes.pop("", 0)
+    told = ", ".join("%d %s" % (count, cause) for cause, count in sorted(causes.items()))
+    print("%d inputs, %d answered, all as the model does; refused: %s" % (options.inputs, answered, told), file=sys.stderr)
+
+
+main()
