@@ -1,6 +1,15 @@
-"""How a record is written as a line of a session."""
+"""How a record is written as a line of a session, and what the scripts beside it share."""
 import re
+import signal
 import sys
+
+
+def ready():
+    """Writes UTF-8 and LF; a reader that has enough, such as `head`, ends the script without a word."""
+    sys.stdin.reconfigure(encoding="utf-8")
+    sys.stdout.reconfigure(encoding="utf-8", newline="\n")
+    if hasattr(signal, "SIGPIPE"):
+        signal.signal(signal.SIGPIPE, signal.SIG_DFL)
 
 
 def escaped(name):

@@ -17,6 +17,7 @@ import subprocess
 import sys
 from pathlib import Path
 
+from random_sessions import make_ready
 from session_model import Refused, answers
 
 TOP = Path(__file__).resolve().parent.parent
@@ -119,6 +120,7 @@ def main():
     if len(sys.argv) != 2:
         sys.exit(__doc__)
     program, tally = str(Path(sys.argv[1]).resolve()), Tally()
+    make_ready(program)
     check_sessions(program, tally)
     check_refused(program, tally)
     check_pages(program, tally)

@@ -12,7 +12,7 @@ import random
 import subprocess
 import sys
 
-from random_sessions import Session
+from random_sessions import Session, make_ready
 from session_model import PARAMETERS, Refused, answers
 
 ODD_FIELDS = [
@@ -64,6 +64,7 @@ def main():
     parser.add_argument("--inputs", type=int, default=1000)
     parser.add_argument("--seed", type=int, default=7)
     options = parser.parse_args()
+    make_ready(options.program)
     rng, causes = random.Random(options.seed), collections.Counter()
     for _ in range(options.inputs):
         raw = odd_input(rng)

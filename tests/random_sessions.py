@@ -220,6 +220,11 @@ class Session:
         return "".join(line + "\n" for line in self.lines)
 
 
+def make_ready(program):
+    """Runs the program once, so that it is built, and tells of that, before its answers are compared."""
+    subprocess.run([program, "run"], input=b"", stdout=subprocess.DEVNULL)
+
+
 def first_difference(got, wanted):
     for place, (here, there) in enumerate(zip(got.split("\n"), wanted.split("\n")), 1):
         if here != there:
@@ -233,6 +238,7 @@ def main():
     parser.add_argument("--sessions", type=int, default=1000)
     parser.add_argument("--seed", type=int, default=7)
     options = parser.parse_args()
+    make_ready(options.program)
     rng = random.Random(options.seed)
     requests = 0
     for _ in range(options.sessions):

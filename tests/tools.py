@@ -12,6 +12,8 @@ import sys
 import tempfile
 from pathlib import Path
 
+from random_sessions import make_ready
+
 EXAMPLES = Path(__file__).resolve().parent.parent / "examples"
 FILES = {
     "readme.md": b"hello\n",
@@ -53,6 +55,7 @@ def main():
     if len(sys.argv) != 2:
         sys.exit(__doc__)
     program = [str(Path(sys.argv[1]).resolve()), "run"]
+    make_ready(program[0])
     with tempfile.TemporaryDirectory() as top:
         made_folder(top)
         session = text_of([EXAMPLES / "from_folder", top])
