@@ -4,13 +4,16 @@
     tests/tools.py PROGRAM
 
 A folder becomes a session, the program lists it page by page, the pages become the JSON that
-`aws s3api list-objects-v2` prints, and that becomes a session again: the same PUT lines, in byte order.
+`aws s3api list-objects-v2` prints, and that becomes a session again: the same PUT lines, in byte order. And so
+does a listing whose names are escaped, as the service escapes them.
 """
+import json
 import os
 import subprocess
 import sys
 import tempfile
 from pathlib import Path
+from urllib.parse import quote_plus
 
 from random_sessions import make_ready
 
@@ -51,6 +54,14 @@ def sorted_lines(session):
     return sorted(session.split("\n"))
 
 
+def escaped(listing):
+    """The listing with its names escaped as the service does it, where it is asked to."""
+    document = json.loads(listing)
+    for item in document["Contents"]:
+        item["Key"] = quote_plus(item["Key"], safe="/")
+    return json.dumps(document)
+
+
 def main():
     if len(sys.argv) != 2:
         sys.exit(__doc__)
@@ -67,7 +78,11 @@ def main():
         back = text_of([EXAMPLES / "from_listing"], listings)
         if sorted_lines(back) != sorted_lines(session):
             sys.exit("another session came back behind %r:\n%s\n%s" % (asked, session, back))
-    print("from_folder, to_listing and from_listing: %d files there and back, in three ways" % len(FILES))
+    listing = text_of([EXAMPLES / "to_listing"], text_of(program, session + "LIST\n"))
+    back = text_of([EXAMPLES / "from_listing", "--url"], escaped(listing))
+    if sorted_lines(back) != sorted_lines(session):
+        sys.exit("another session came back from a listing with escaped names:\n%s\n%s" % (session, back))
+    print("from_folder, to_listing and from_listing: %d files there and back, in four ways" % len(FILES))
 
 
 main()
