@@ -51,6 +51,9 @@ def wrong_files(page):
         # What a build makes is not there in a clean clone.
         if "/out/" not in name and not (TOP / name).exists():
             yield "there is no file `%s`" % name
+    for name in re.findall(r"(?<![\w/])(\w+/(?:specs|proofs|src)/[\w/]+\.\w+)", page.read_text()):
+        if not (TOP / "crates" / name).exists():
+            yield "there is no file %s in crates/" % name
 
 
 def main():
