@@ -65,8 +65,12 @@ pub record StandsIn (b : Bundles) (nodes : List ℕ) (e : ℕ) : Type 0 where
   pub of : 0 < count node nodes
   pub here : 0 < count e (b.bundle side node)
 
+abbrev pub ReadsNode : View → ℕ → Type 0
+ReadsNode v k = 0 < count k (held_nodes v)
+
+-- what it holds is what it reads or works on
 abbrev pub HoldsNode : View → ℕ → Type 0
-HoldsNode v k = 0 < count k (held_nodes v)
+HoldsNode v k = ReadsNode v k
 
 -- the entries that it may be reading, and all those of the nodes that it works on
 abbrev pub HoldsEntry : Bundles → View → ℕ → Type 0

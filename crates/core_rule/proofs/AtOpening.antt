@@ -35,6 +35,7 @@ use Rattle.core_rule.specs.Histories.{IsGiven, SeenRight, place_count, calls_lef
 use Rattle.core_rule.specs.Locks.{lock_count}
 use Rattle.core_rule.specs.BundleRule.{UpdateRight, IsPending, pending_count}
 use Rattle.core_rule.specs.Readers.{VersionRight, PlaceRight, LinkRight}
+use Rattle.core_rule.specs.FilledRule.{FilledRight}
 use Rattle.core_rule.specs.SeatRule.{TreeRight, SeatRight}
 use Rattle.core_rule.specs.Rule.{InRule, IsRight}
 use Rattle.core_rule.specs.Openings.{from_up, pass_view, pass_views, opening}
@@ -207,7 +208,8 @@ module _ (z : Layout) (sizes : List PassSize) where
   sections_right v fresh = record {
     section = zero_word (λ n. memory z ws (Section n)) v.number v.section_word (λ n. zero_memory z (word_count z) (Section n)) fresh.section_word;
     announced = zero_word (λ n. memory z ws (Announced n)) v.number v.announced (λ n. zero_memory z (word_count z) (Announced n)) fresh.announced;
-    outside = λ even. fresh.idle;
+    outside = λ even. fresh.idle.reading;
+    unlocked = λ even. fresh.idle.held;
     done = λ _. fresh.idle.update;
   }
 
@@ -232,6 +234,7 @@ module _ (z : Layout) (sizes : List PassSize) where
         };
         pending = subst (λ (x : Updating). Every (IsPending z (λ s k. memory z ws (Node (Head s) k)) (λ e. memory z ws (Entry Number e)) nothing_linked.bundles.number v) x.pending) (sym update) tt;
         place = subst (λ (r : Reading). PlaceRight z (λ e. memory z ws (Entry Number e)) nothing_linked.bundles v r.place) (sym read) tt;
+        filled = subst (λ (r : Reading). Every (FilledRight (memory z ws) v.free v.update) r.filled) (sym read) tt;
         links = subst (λ (r : Reading). Every (LinkRight z (λ e. memory z ws (Entry Child e)) nothing_linked.bundles v) r.links) (sym read) tt;
       }
 

@@ -61,7 +61,10 @@ own_section None (Entry p k) e = cc
 module _ (z : Layout) (m : Memory) (vs : List View) (g : Meaning) where
   pub outside_idle : (i : ℕ) (v : View) → IsItem vs i v → Rule z m vs g → is_outside v ≡ true → IsIdle v
   outside_idle i v at rule out =
-      (seat_at z m vs g i v at rule).section.outside (and_parts (is_even v.section_word) (eqb (length v.held.nodes) 0) out).0
+      let section = (seat_at z m vs g i v at rule).section in
+      let parts = and_parts (is_even v.section_word) (eqb (length v.held.nodes) 0) out in
+      let none = length_empty v.held.nodes parts.1 in
+      record { reading = section.outside parts.0; held = none; update = section.done none }
 
   -- enter keeps the rule
   pub enter_kept : (i n value : ℕ) (v : View) → IsItem vs i v → Rule z m vs g → v.number ≡ Some n → is_outside v ≡ true

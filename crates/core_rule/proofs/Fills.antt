@@ -1,6 +1,6 @@
 -- A store to a word of a free slot keeps the rule: no part of it reads such a word.
 use Rattle.std.proofs.Common.{◌≡◌, ℕ, ◌<◌, ◌≤◌, ◌⊎◌, cond, List, [], ◌∷◌, ◌++◌, Bool, true, false, eqb, ◌&&◌, arith, refl, ap, ◌∙◌, sym, subst, inl, inr, Option, Some, None}
-use Rattle.std.proofs.lemmas.Bool.{ne_eqb}
+use Rattle.std.proofs.lemmas.Bool.Decides.{eqb_tells}
 use Rattle.std.proofs.lemmas.Option.{IfSome_then}
 use Rattle.index_words.specs.declared.layout.Layout.{Layout}
 use Rattle.index_words.specs.declared.side.Side.{Side}
@@ -20,36 +20,26 @@ use Rattle.index_words.specs.declared.word.Part.{Part}
 use Rattle.index_words.specs.declared.word.Part.TheVariants.{Child, Stamp as Number, Next}
 use Rattle.index_words.specs.declared.word.Word.TheVariants.{Node, Entry, Stamp}
 use Rattle.index_words.specs.Words.{Memory, written, same_field, same_part}
-use Rattle.key_map.specs.Lists.{count, IsItem}
+use Rattle.key_map.specs.Lists.{count, Every, IsItem}
+use Rattle.index_words.proofs.Seats.{two_terms}
 use Rattle.key_map.proofs.Counting.{count-append}
 use Rattle.core_grace.specs.Holds.{HoldsNode, held_slots, listed, work_nodes, tree_slots, entries_of}
+use Rattle.core_grace.specs.Slots.{own, nodes_of, entries_in}
 use Rattle.core_links.specs.Bundle.{IsChain, select, child_of_entry}
 use Rattle.core_rule.specs.Versions.{slots_of}
 use Rattle.core_rule.specs.Meanings.{Meaning}
 use Rattle.core_rule.specs.Needs.{is_lock}
-use Rattle.core_rule.specs.Locks.{NamesHolder, lock_count, HeadRight, SideRight, NodeRight, NextRight, IsTakenOut}
+use Rattle.core_rule.specs.Locks.{NamesHolder, lock_count, HeadRight, SideRight, IsNodeAt, IsNextAt, IsTakenOut}
 use Rattle.core_rule.specs.BundleRule.{IsLive, IsPendingAt, IsBundle, BundleRight, IsPending}
-use Rattle.core_rule.specs.Readers.{StandsAt, IsPassed, PlaceRight, SourceRight, LinkRight}
+use Rattle.core_rule.specs.Readers.{IsReachable, StandsAt, IsPassed, PlaceRight, EntryRight, SourceRight, LinkRight}
+use Rattle.core_rule.specs.FilledRule.{FilledRight}
 use Rattle.core_rule.specs.SeatRule.{SeatRight}
 use Rattle.core_rule.specs.Rule.{Rule}
-use Rattle.core_rule.proofs.Frames.{every_map, every_named, all_items, one_counted}
+use Rattle.core_rule.proofs.Frames.{every_map, every_named, every_at, all_items, one_counted, same_item}
+use Rattle.core_rule.proofs.Filled.{node_other, entry_other, every_filled, node_apart, entry_apart, IsNotAmong, not_among}
 use Rattle.core_rule.proofs.BundleFrames.{bundle_frame, select_in}
-use Rattle.core_rule.proofs.Owned.{in_entries, free_node_alone, free_node_waits, free_entry_some, not_in_bundle, held_live, free_not_live, reachable_live}
+use Rattle.core_rule.proofs.Owned.{in_entries, once_node, once_entry, free_node_alone, free_node_waits, free_entry_some, not_in_bundle, held_live, free_not_live, reachable_live}
 use Rattle.core_rule.proofs.TreeFrames.{SameNode, child_at, version_frame, reads_frame, linked_live, read_live}
-
-and_false : (b : Bool) → (b && false) ≡ false
-and_false true = refl
-and_false false = refl
-
--- a word of another node
-pub node_other : (m : Memory) (f h : Field) (k j x : ℕ) → (j ≡ k → ⊥) → written m (Node f k) x (Node h j) ≡ m (Node h j)
-node_other m f h k j x other =
-    ap (λ b. cond (same_field h f && b) x (m (Node h j))) (ne_eqb j k other) ∙ ap (λ b. cond b x (m (Node h j))) (and_false (same_field h f))
-
--- a word of another entry
-pub entry_other : (m : Memory) (p q : Part) (e d x : ℕ) → (d ≡ e → ⊥) → written m (Entry p e) x (Entry q d) ≡ m (Entry q d)
-entry_other m p q e d x other =
-    ap (λ b. cond (same_part q p && b) x (m (Entry q d))) (ne_eqb d e other) ∙ ap (λ b. cond b x (m (Entry q d))) (and_false (same_part q p))
 
 -- the lock words are not filled
 lock_other : (m : Memory) (f : Field) (k j x : ℕ) → is_lock f ≡ false → written m (Node f k) x (Node Lock j) ≡ m (Node Lock j)
@@ -98,14 +88,25 @@ module _ (z : Layout) (m : Memory) (vs : List View) (g : Meaning) (rule : Rule z
       let other : j ≡ k → ⊥ = apart i k j v at free live in
       record { key = sym (node_other m f Key k j x other); val = sym (node_other m f Val k j x other); entry = λ side. refl; child = λ side. refl }
 
-  node_seat : (i k n : ℕ) (v u : View) (f : Field) (x : ℕ) → IsItem vs i v → 0 < count k v.free.nodes → is_lock f ≡ false → IsItem vs n u
+  -- what another seat has filled, and what the seat itself has put into other words
+  node_filled : (i k n : ℕ) (v u : View) (f : Field) (x : ℕ) → IsItem vs i v → 0 < count k v.free.nodes → IsNotAmong (Node f k) v.reading.filled → IsItem vs n u
+      → Every (FilledRight m u.free u.update) u.reading.filled → Every (FilledRight (written m (Node f k) x) u.free u.update) u.reading.filled
+  node_filled i k n v u f x at free fresh of right =
+      elim (eqb_tells n i) as (λ _. Every (FilledRight (written m (Node f k) x) u.free u.update) u.reading.filled) [
+        | inl same ↦ not_among m u.free u.update (Node f k) x u.reading.filled (subst (λ (y : View). IsNotAmong (Node f k) y.reading.filled) (same_item vs i n v u at of same.1) fresh) right
+        | inr other ↦ every_filled m (written m (Node f k) x) u.free u.free u.update u.update u.reading.filled (λ w is. is)
+            (node_apart m u.free u.update f k x
+            (λ also. omega (arith, once_node z vs g rule.slots k, two_terms (own nodes_of k) vs i v u at (record { place = n; at = of; other = other.1 }), free, also))) right
+      ]
+
+  node_seat : (i k n : ℕ) (v u : View) (f : Field) (x : ℕ) → IsItem vs i v → 0 < count k v.free.nodes → is_lock f ≡ false → IsNotAmong (Node f k) v.reading.filled → IsItem vs n u
       → SeatRight z m g u → SeatRight z (written m (Node f k) x) g u
-  node_seat i k n v u f x at free other of seat =
+  node_seat i k n v u f x at free other fresh of seat =
       let held : (j : ℕ) → 0 < lock_count j u → j ≡ k → ⊥ = λ j some. held_apart i k j n v u at free of (held_holds u j some) (seat.locks j some).0 in
       let waits = free_node_waits z vs g rule.slots i n k v u at of free in
       record {
         layout = seat.layout;
-        section = record { section = seat.section.section; announced = seat.section.announced; outside = seat.section.outside; done = seat.section.done };
+        section = record { section = seat.section.section; announced = seat.section.announced; outside = seat.section.outside; unlocked = seat.section.unlocked; done = seat.section.done };
         seen = seat.seen;
         update = seat.update;
         version = seat.version;
@@ -114,14 +115,16 @@ module _ (z : Layout) (m : Memory) (vs : List View) (g : Meaning) (rule : Rule z
         locks = λ j some. ((seat.locks j some).0, subst (λ l. NamesHolder l u.number) (sym (lock_other m f k j x other)) (seat.locks j some).1);
         loaded = record {
           nodes = every_named (λ (h : HeldNode). h.node)
-              (NodeRight (λ j. m (Node Mark j)) (λ s j. m (Node (Head s) j)) (λ e. m (Entry Number e)))
-              (NodeRight (λ j. written m (Node f k) x (Node Mark j)) (λ s j. written m (Node f k) x (Node (Head s) j)) (λ e. m (Entry Number e)))
+              (IsNodeAt m)
+              (IsNodeAt (written m (Node f k) x))
               u.held.nodes
-              (λ h some right. (
-                IfSome_then h.mark right.0 (λ y is. node_other m f Mark k h.node x (held h.node some) ∙ is),
-                head_frame _ _ (λ e. m (Entry Number e)) h.left (node_other m f (Head Left) k h.node x (held h.node some)) right.1,
-                head_frame _ _ (λ e. m (Entry Number e)) h.right (node_other m f (Head Right) k h.node x (held h.node some)) right.2,
-              )) seat.loaded.nodes;
+              (λ h some right. record {
+                key = IfSome_then h.key right.key (λ y is. node_other m f Key k h.node x (held h.node some) ∙ is);
+                val = IfSome_then h.val right.val (λ y is. node_other m f Val k h.node x (held h.node some) ∙ is);
+                mark = IfSome_then h.mark right.mark (λ y is. node_other m f Mark k h.node x (held h.node some) ∙ is);
+                left = head_frame _ _ (λ e. m (Entry Number e)) h.left (node_other m f (Head Left) k h.node x (held h.node some)) right.left;
+                right = head_frame _ _ (λ e. m (Entry Number e)) h.right (node_other m f (Head Right) k h.node x (held h.node some)) right.right;
+              }) seat.loaded.nodes;
           nexts = seat.loaded.nexts;
         };
         marks = record {
@@ -149,13 +152,14 @@ module _ (z : Layout) (m : Memory) (vs : List View) (g : Meaning) (rule : Rule z
               },
             )) seat.pending;
         place = seat.place;
+        filled = node_filled i k n v u f x at free fresh of seat.filled;
         links = seat.links;
       }
 
   -- a store to a word of a free node, but for its lock
-  pub node_stored : (i k : ℕ) (v : View) (f : Field) (x : ℕ) → IsItem vs i v → 0 < count k v.free.nodes → is_lock f ≡ false
+  pub node_stored : (i k : ℕ) (v : View) (f : Field) (x : ℕ) → IsItem vs i v → 0 < count k v.free.nodes → is_lock f ≡ false → IsNotAmong (Node f k) v.reading.filled
       → Rule z (written m (Node f k) x) vs g
-  node_stored i k v f x at free other =
+  node_stored i k v f x at free other fresh =
       let alone = free_node_alone z vs g rule.slots i k v at free in
       record {
         numbers = rule.numbers;
@@ -172,7 +176,7 @@ module _ (z : Layout) (m : Memory) (vs : List View) (g : Meaning) (rule : Rule z
             subst (λ h. BundleRight (m Stamp) (λ e. m (Entry Next e)) (λ e. m (Entry Number e)) g.bundles.number (IsPendingAt vs j) h (g.bundles.bundle side j))
             (sym (node_other m f (Head side) k j x (apart i k j v at free live))) (rule.bundles j live side);
         single = rule.single;
-        seats = all_items (SeatRight z m g) (SeatRight z (written m (Node f k) x) g) vs rule.seats (λ n u of seat. node_seat i k n v u f x at free other of seat);
+        seats = all_items (SeatRight z m g) (SeatRight z (written m (Node f k) x) g) vs rule.seats (λ n u of seat. node_seat i k n v u f x at free other fresh of seat);
       }
 
   -- a free entry is not the head of a live node, and not 0
@@ -201,26 +205,26 @@ module _ (z : Layout) (m : Memory) (vs : List View) (g : Meaning) (rule : Rule z
 
     entry_side : (k : ℕ) (side : Side) (s : HeldSide) → IsLive z vs k → SideRight (m (Node (Head side) k)) (λ d. m (Entry Number d)) s
         → SideRight (m (Node (Head side) k)) (λ d. written m (Entry p e) x (Entry Number d)) s
-    entry_side k side s live right = IfSome_then s.head right (λ l known. entry_head (m (Node (Head side) k)) l (head_apart i e k v side at free live) known)
+    entry_side k side s live right = record { head = IfSome_then s.head right.head (λ l known. entry_head (m (Node (Head side) k)) l (head_apart i e k v side at free live) known) }
 
     entry_place : (n : ℕ) (u : View) (place : Place) → IsItem vs n u → PlaceRight z (λ d. m (Entry Number d)) g.bundles u place
         → PlaceRight z (λ d. written m (Entry p e) x (Entry Number d)) g.bundles u place
     entry_place n u Nowhere of right = tt
     entry_place n u (AtNode node key) of right = tt
     entry_place n u (Gap node side) of right = tt
-    entry_place n u (AtEntry node side entry found) of right = (
-      right.0,
-      λ some.
-          let stands : StandsAt (λ d. m (Entry Number d)) (g.bundles.bundle side node) entry found (IsPassed g.bundles.number u node) = right.1 some in
+    entry_place n u (AtEntry node side entry found) of right = record {
+      reach = right.reach;
+      stands = λ some watched.
+          let stands : StandsAt (λ d. m (Entry Number d)) (g.bundles.bundle side node) entry found (IsPassed g.bundles.number u node) = right.stands some watched in
           let here : 0 < count entry (g.bundles.bundle side node) = subst (λ es. 0 < count entry es) (sym stands.splits) (count-middle entry stands.front stands.back) in
           record {
             front = stands.front;
             back = stands.back;
             splits = stands.splits;
             passed = stands.passed;
-            found = IfSome_then found stands.found (λ y known low. entry_other m p Number e entry x (member_apart i e node entry v side at free (reachable_live z vs g rule.slots n node u of right.0) here) ∙ known low);
-          },
-    )
+            found = IfSome_then found stands.found (λ y known low. entry_other m p Number e entry x (member_apart i e node entry v side at free (reachable_live z vs g rule.slots n node u of right.reach) here) ∙ known low);
+          };
+    }
 
     entry_same : (t k : ℕ) → IsLive z vs k → SameNode m (written m (Entry p e) x) g.bundles g.bundles t k
     entry_same t k live = record { key = refl; val = refl; entry = λ side. refl; child = λ side. child_by side (select_in g.bundles.number t (g.bundles.bundle side k)) }
@@ -232,28 +236,47 @@ module _ (z : Layout) (m : Memory) (vs : List View) (g : Meaning) (rule : Rule z
             let d : ℕ = select g.bundles.number t (g.bundles.bundle side k) in
             ap (λ c. cond (eqb d 0) 0 c) (sym (entry_other m p Child e d x (member_apart i e k d v side at free live some)))
 
-    entry_source : (k c : ℕ) (side : Side) (o : Option ℕ) (source : LinkSource) → IsLive z vs k
-        → SourceRight (λ d. m (Entry Child d)) g.bundles.number (g.bundles.bundle side k) o c source
-        → SourceRight (λ d. written m (Entry p e) x (Entry Child d)) g.bundles.number (g.bundles.bundle side k) o c source
-    entry_source k c side o (Plain tag above below) live right = tt
-    entry_source k c side None (Bundle entry) live right = right
-    entry_source k c side (Some t) (Bundle entry) live right = (
+    entry_right : (k c entry : ℕ) (side : Side) (o : Option ℕ) → IsLive z vs k
+        → EntryRight (λ d. m (Entry Child d)) g.bundles.number (g.bundles.bundle side k) o c entry
+        → EntryRight (λ d. written m (Entry p e) x (Entry Child d)) g.bundles.number (g.bundles.bundle side k) o c entry
+    entry_right k c entry side None live right = right
+    entry_right k c entry side (Some t) live right = (
       right.0,
       subst (λ d. child_of_entry (λ y. written m (Entry p e) x (Entry Child y)) d ≡ c) right.0
           (sym ((entry_same t k live).child side) ∙ ap (child_of_entry (λ d. m (Entry Child d))) right.0 ∙ right.1),
     )
 
+    entry_source : (n k c : ℕ) (side : Side) (u : View) (source : LinkSource) → IsItem vs n u
+        → SourceRight (IsReachable z u k) (λ d. m (Entry Child d)) g.bundles.number (g.bundles.bundle side k) u.reading.section c source
+        → SourceRight (IsReachable z u k) (λ d. written m (Entry p e) x (Entry Child d)) g.bundles.number (g.bundles.bundle side k) u.reading.section c source
+    entry_source n k c side u (Plain tag above below) of right = tt
+    entry_source n k c side u (Bundle entry) of right = record {
+      reach = right.reach;
+      selected = entry_right k c entry side u.reading.section (reachable_live z vs g rule.slots n k u of right.reach) right.selected;
+    }
+
     entry_link : (n : ℕ) (u : View) (l : Link) → IsItem vs n u → LinkRight z (λ d. m (Entry Child d)) g.bundles u l
         → LinkRight z (λ d. written m (Entry p e) x (Entry Child d)) g.bundles u l
-    entry_link n u l of right =
-        (right.0, entry_source l.node l.child l.side u.reading.section l.source (reachable_live z vs g rule.slots n l.node u of right.0) right.1)
+    entry_link n u l of right = entry_source n l.node l.child l.side u l.source of right
 
-    entry_seat : (n : ℕ) (u : View) → IsItem vs n u → SeatRight z m g u → SeatRight z (written m (Entry p e) x) g u
-    entry_seat n u of seat =
+    entry_filled : IsNotAmong (Entry p e) v.reading.filled → (n : ℕ) (u : View) → IsItem vs n u → SeatRight z m g u → Every (FilledRight (written m (Entry p e) x) u.free u.update) u.reading.filled
+    entry_filled fresh n u of seat =
+        elim (eqb_tells n i) as (λ _. Every (FilledRight (written m (Entry p e) x) u.free u.update) u.reading.filled) [
+          | inl same ↦ not_among m u.free u.update (Entry p e) x u.reading.filled (subst (λ (y : View). IsNotAmong (Entry p e) y.reading.filled) (same_item vs i n v u at of same.1) fresh) seat.filled
+          | inr other ↦ every_filled m (written m (Entry p e) x) u.free u.free u.update u.update u.reading.filled (λ w is. is)
+              (entry_apart m u.free u.update p e x
+              (λ also. omega (arith, once_entry z vs g rule.slots e, two_terms (own entries_in e) vs i v u at (record { place = n; at = of; other = other.1 }), free, also))
+              (λ also.
+              let head = (every_at (IsPending z (λ s k. m (Node (Head s) k)) (λ d. m (Entry Number d)) g.bundles.number u) e u.update.pending seat.pending also).2 in
+              head_apart i e head.node v head.side at free (held_live z vs g rule.slots n head.node u of (work_holds u head.node head.of) head.there) head.is)) seat.filled
+        ]
+
+    entry_seat : IsNotAmong (Entry p e) v.reading.filled → (n : ℕ) (u : View) → IsItem vs n u → SeatRight z m g u → SeatRight z (written m (Entry p e) x) g u
+    entry_seat fresh n u of seat =
         let locked : (k : ℕ) → 0 < lock_count k u → IsLive z vs k = λ k some. held_live z vs g rule.slots n k u of (held_holds u k some) (seat.locks k some).0 in
         record {
           layout = seat.layout;
-          section = record { section = seat.section.section; announced = seat.section.announced; outside = seat.section.outside; done = seat.section.done };
+          section = record { section = seat.section.section; announced = seat.section.announced; outside = seat.section.outside; unlocked = seat.section.unlocked; done = seat.section.done };
           seen = seat.seen;
           update = seat.update;
           version = seat.version;
@@ -262,16 +285,29 @@ module _ (z : Layout) (m : Memory) (vs : List View) (g : Meaning) (rule : Rule z
           locks = seat.locks;
           loaded = record {
             nodes = every_named (λ (h : HeldNode). h.node)
-                (NodeRight (λ j. m (Node Mark j)) (λ s j. m (Node (Head s) j)) (λ d. m (Entry Number d)))
-                (NodeRight (λ j. m (Node Mark j)) (λ s j. m (Node (Head s) j)) (λ d. written m (Entry p e) x (Entry Number d)))
+                (IsNodeAt m)
+                (IsNodeAt (written m (Entry p e) x))
                 u.held.nodes
-                (λ h some right. (right.0, entry_side h.node Left h.left (locked h.node some) right.1, entry_side h.node Right h.right (locked h.node some) right.2))
+                (λ h some right. record {
+                  key = right.key;
+                  val = right.val;
+                  mark = right.mark;
+                  left = entry_side h.node Left h.left (locked h.node some) right.left;
+                  right = entry_side h.node Right h.right (locked h.node some) right.right;
+                })
                 seat.loaded.nodes;
             nexts = every_map
-                (NextRight (λ d. m (Entry Next d)) g.bundles u.held.nodes)
-                (NextRight (λ d. written m (Entry p e) x (Entry Next d)) g.bundles u.held.nodes)
+                (IsNextAt m g.bundles u.held.nodes)
+                (IsNextAt (written m (Entry p e) x) g.bundles u.held.nodes)
                 u.held.nexts
-                (λ h right. (entry_other m p Next e h.entry x (λ same. not_in_bundle z vs g rule.slots i h.node e v at free (locked h.node right.1) (subst (λ d. 0 < count d (entries_of g.bundles h.node)) same right.2)) ∙ right.0, right.1, right.2))
+                (λ h right.
+                let other : h.entry ≡ e → ⊥ = λ same. not_in_bundle z vs g rule.slots i h.node e v at free (locked h.node right.locked) (subst (λ d. 0 < count d (entries_of g.bundles h.node)) same right.here) in
+                record {
+                  is = entry_other m p Next e h.entry x other ∙ right.is;
+                  locked = right.locked;
+                  here = right.here;
+                  found = IfSome_then h.stamp right.found (λ y known low. entry_other m p Number e h.entry x other ∙ known low);
+                })
                 seat.loaded.nexts;
           };
           marks = record { retired = seat.marks.retired; batch = seat.marks.batch; taken = seat.marks.taken };
@@ -285,12 +321,13 @@ module _ (z : Layout) (m : Memory) (vs : List View) (g : Meaning) (rule : Rule z
                 right.2,
               )) seat.pending;
           place = entry_place n u u.reading.place of seat.place;
+          filled = entry_filled fresh n u of seat;
           links = every_map (LinkRight z (λ d. m (Entry Child d)) g.bundles u) (LinkRight z (λ d. written m (Entry p e) x (Entry Child d)) g.bundles u) u.reading.links (λ l right. entry_link n u l of right) seat.links;
         }
 
     -- a store to a word of a free entry
-    pub entry_stored : Rule z (written m (Entry p e) x) vs g
-    entry_stored = record {
+    pub entry_stored : IsNotAmong (Entry p e) v.reading.filled → Rule z (written m (Entry p e) x) vs g
+    entry_stored fresh = record {
       numbers = rule.numbers;
       history = rule.history;
       slots = rule.slots;
@@ -300,5 +337,5 @@ module _ (z : Layout) (m : Memory) (vs : List View) (g : Meaning) (rule : Rule z
       marks = record { root = rule.marks.root; nodes = rule.marks.nodes };
       bundles = λ k live side. entry_bundle k live side (rule.bundles k live side);
       single = rule.single;
-      seats = all_items (SeatRight z m g) (SeatRight z (written m (Entry p e) x) g) vs rule.seats (λ n u of seat. entry_seat n u of seat);
+      seats = all_items (SeatRight z m g) (SeatRight z (written m (Entry p e) x) g) vs rule.seats (λ n u of seat. entry_seat fresh n u of seat);
     }

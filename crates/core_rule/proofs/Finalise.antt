@@ -1,5 +1,5 @@
 -- Finalise keeps the rule: the number of the raise is written into a pending entry.
-use Rattle.std.proofs.Common.{◌≡◌, ℕ, ◌<◌, ◌≤◌, cond, List, [], ◌∷◌, set, arith, refl, ap, ◌∙◌, sym, subst, inl, inr, Option, Some}
+use Rattle.std.proofs.Common.{◌≡◌, ℕ, ◌<◌, ◌≤◌, cond, List, [], ◌∷◌, set, arith, refl, ap, ◌∙◌, sym, subst, inl, inr, Option, Some, None}
 use Rattle.std.specs.Prelude.{IfSome}
 use Rattle.std.proofs.lemmas.Bool.{eq-eqb}
 use Rattle.std.proofs.lemmas.Bool.Decides.{eqb_tells}
@@ -9,23 +9,26 @@ use Rattle.index_words.specs.declared.side.Side.{Side}
 use Rattle.index_words.specs.declared.view.View.{View}
 use Rattle.index_words.specs.declared.view.update.HeldNode.{HeldNode}
 use Rattle.index_words.specs.declared.view.update.HeldSide.{HeldSide}
+use Rattle.index_words.specs.declared.view.update.HeldNext.{HeldNext}
 use Rattle.index_words.specs.declared.view.update.Updating.{Updating}
 use Rattle.index_words.specs.declared.view.reading.Place.{Place}
 use Rattle.index_words.specs.declared.view.reading.Place.TheVariants.{Nowhere, Entry as AtEntry, Node as AtNode, Gap}
 use Rattle.index_words.specs.declared.word.Field.TheVariants.{Mark, Head}
 use Rattle.index_words.specs.declared.word.Part.TheVariants.{Stamp as Number}
-use Rattle.index_words.specs.declared.word.Word.TheVariants.{Stamp, Node, Entry}
+use Rattle.index_words.specs.declared.word.Word.{Word}
+use Rattle.index_words.specs.declared.word.Word.TheVariants.{Stamp, Section, Announced, Node, Entry}
 use Rattle.index_words.specs.Words.{Memory, written}
 use Rattle.index_words.specs.Views.{no_update}
-use Rattle.key_map.specs.Lists.{count, IsItem}
+use Rattle.key_map.specs.Lists.{count, Every, IsItem}
 use Rattle.index_words.proofs.Seats.{Beside, sum_moved, sum_kept, two_terms, at_item, all_moved}
 use Rattle.core_grace.specs.Holds.{HoldsNode, HoldsEntry, work_nodes}
 use Rattle.core_grace.proofs.RuleMoves.{quiet, same_looks}
 use Rattle.core_rule.specs.Meanings.{Meaning, linked_by}
 use Rattle.core_rule.specs.Numbers.{number_count}
-use Rattle.core_rule.specs.Locks.{lock_count, SideRight, NodeRight}
+use Rattle.core_rule.specs.Locks.{lock_count, SideRight, IsNodeAt, IsNextAt}
 use Rattle.core_rule.specs.BundleRule.{IsLive, IsPendingAt, IsBundle, IsNumbered, TailWritten, IsPending, pending_count, shown}
 use Rattle.core_rule.specs.Readers.{StandsAt, IsPassed, PlaceRight}
+use Rattle.core_rule.specs.FilledRule.{IsOwnSlotWord}
 use Rattle.core_rule.specs.SeatRule.{SeatRight}
 use Rattle.core_rule.specs.UpdateMoves.{finalised}
 use Rattle.core_rule.specs.Rule.{Rule}
@@ -33,7 +36,9 @@ use Rattle.core_rule.specs.LinkLaw.{Kept}
 use Rattle.core_rule.proofs.Frames.{every_map, every_listed, every_at, live_moved}
 use Rattle.core_rule.proofs.Without.{count-without_other, count-without-le, every_without}
 use Rattle.core_rule.proofs.OneView.{history_kept, seat_at}
-use Rattle.core_rule.proofs.Fills.{entry_other}
+use Rattle.core_rule.proofs.Owned.{held_live}
+use Rattle.core_rule.proofs.Filled.{entry_other, every_filled, entry_apart}
+use Rattle.core_rule.proofs.Fills.{work_holds, head_apart}
 
 entry_same : (m : Memory) (e x : ℕ) → written m (Entry Number e) x (Entry Number e) ≡ x
 entry_same m e x = ap (λ b. cond b x (m (Entry Number e))) (eq-eqb e e refl)
@@ -50,7 +55,7 @@ found_kept stamp stamp' d found same right =
 
 side_kept : (stamp stamp' : ℕ → ℕ) (head : ℕ) (s : HeldSide) → ((d : ℕ) → 0 < stamp d → stamp' d ≡ stamp d) → SideRight head stamp s → SideRight head stamp' s
 side_kept stamp stamp' head s same right =
-    IfSome_then s.head right (λ l known. (known.0, found_kept stamp stamp' l.entry l.stamp (same l.entry) known.1))
+    record { head = IfSome_then s.head right.head (λ l known. (known.0, found_kept stamp stamp' l.entry l.stamp (same l.entry) known.1)) }
 
 module _ (z : Layout) (m : Memory) (vs : List View) (g : Meaning) (rule : Rule z m vs g) (i e r : ℕ) (v : View) (at : IsItem vs i v) (raised : v.update.raised ≡ Some r) (some : 0 < count e v.update.pending) where
   abbrev stamp : ℕ → ℕ
@@ -125,15 +130,56 @@ module _ (z : Layout) (m : Memory) (vs : List View) (g : Meaning) (rule : Rule z
   place_kept u Nowhere right = tt
   place_kept u (AtNode node key) right = tt
   place_kept u (Gap node side) right = tt
-  place_kept u (AtEntry node side entry found) right = (
-    right.0,
-    λ low.
-        let stands : StandsAt stamp (g.bundles.bundle side node) entry found (IsPassed g.bundles.number u node) = right.1 low in
-        record { front = stands.front; back = stands.back; splits = stands.splits; passed = stands.passed; found = found_kept stamp stamp' entry found (kept_stamp entry) stands.found },
-  )
+  place_kept u (AtEntry node side entry found) right = record {
+    reach = right.reach;
+    stands = λ low watched.
+        let stands : StandsAt stamp (g.bundles.bundle side node) entry found (IsPassed g.bundles.number u node) = right.stands low watched in
+        record { front = stands.front; back = stands.back; splits = stands.splits; passed = stands.passed; found = found_kept stamp stamp' entry found (kept_stamp entry) stands.found };
+  }
 
-  node_kept : (h : HeldNode) → NodeRight (λ j. m (Node Mark j)) (λ s j. m (Node (Head s) j)) stamp h → NodeRight (λ j. m (Node Mark j)) (λ s j. m (Node (Head s) j)) stamp' h
-  node_kept h right = (right.0, side_kept stamp stamp' _ h.left kept_stamp right.1, side_kept stamp stamp' _ h.right kept_stamp right.2)
+  node_kept : (h : HeldNode) → IsNodeAt m h → IsNodeAt m' h
+  node_kept h right = record {
+    key = right.key;
+    val = right.val;
+    mark = right.mark;
+    left = side_kept stamp stamp' _ h.left kept_stamp right.left;
+    right = side_kept stamp stamp' _ h.right kept_stamp right.right;
+  }
+
+  next_kept : (locked : List HeldNode) (l : HeldNext) → IsNextAt m g.bundles locked l → IsNextAt m' g.bundles locked l
+  next_kept locked l right = record { is = right.is; locked = right.locked; here = right.here; found = found_kept stamp stamp' l.entry l.stamp (kept_stamp l.entry) right.found }
+
+  nexts_kept : (u : View) → Every (IsNextAt m g.bundles u.held.nodes) u.held.nexts → Every (IsNextAt m' g.bundles u.held.nodes) u.held.nexts
+  nexts_kept u right = every_map (IsNextAt m g.bundles u.held.nodes) (IsNextAt m' g.bundles u.held.nodes) u.held.nexts (next_kept u.held.nodes) right
+
+  -- the pending entry is the head of a live node's bundle, and so not free
+  unfree : (j : ℕ) (u : View) → IsItem vs j u → 0 < count e u.free.entries → ⊥
+  unfree j u of free =
+      let head = known.2 in
+      head_apart z m vs g rule j e head.node u head.side of free (held_live z vs g rule.slots i head.node v at (work_holds v head.node head.of) head.there) head.is
+
+  not_yet : v.update.raised ≡ None → ⊥
+  not_yet none = apart v.update.raised none raised
+    where
+      apart : (o : Option ℕ) → o ≡ None → o ≡ Some r → ⊥
+      apart None is one = cc
+      apart (Some n) is one = cc
+
+  own_before : (y : Word) → IsOwnSlotWord v.free w.update y → IsOwnSlotWord v.free v.update y
+  own_before (Node f k) is = is
+  own_before (Entry p d) (inl free) = inl free
+  own_before (Entry p d) (inr yet) = absurd (not_yet yet.0)
+  own_before Stamp is = absurd is
+  own_before (Section n) is = absurd is
+  own_before (Announced n) is = absurd is
+
+  own_apart : (y : Word) → IsOwnSlotWord v.free w.update y → m' y ≡ m y
+  own_apart (Node f k) is = refl
+  own_apart (Entry p d) (inl free) = entry_other m Number p e d r (λ same. unfree i v at (subst (λ x. 0 < count x v.free.entries) same free))
+  own_apart (Entry p d) (inr yet) = absurd (not_yet yet.0)
+  own_apart Stamp is = absurd is
+  own_apart (Section n) is = absurd is
+  own_apart (Announced n) is = absurd is
 
   own_kept : SeatRight z m' g w
   own_kept = record {
@@ -141,7 +187,8 @@ module _ (z : Layout) (m : Memory) (vs : List View) (g : Meaning) (rule : Rule z
     section = record {
       section = own.section.section;
       announced = own.section.announced;
-      outside = λ even. absurd (not_done e v.update some (own.section.outside even).update);
+      outside = λ even. absurd (not_done e v.update some (own.section.done (own.section.unlocked even)));
+      unlocked = own.section.unlocked;
       done = λ none. absurd (not_done e v.update some (own.section.done none));
     };
     seen = own.seen;
@@ -149,12 +196,13 @@ module _ (z : Layout) (m : Memory) (vs : List View) (g : Meaning) (rule : Rule z
     version = own.version;
     tree = own.tree;
     locks = own.locks;
-    loaded = record { nodes = every_map _ _ v.held.nodes node_kept own.loaded.nodes; nexts = own.loaded.nexts };
+    loaded = record { nodes = every_map _ _ v.held.nodes node_kept own.loaded.nodes; nexts = nexts_kept v own.loaded.nexts };
     marks = record { retired = own.marks.retired; batch = own.marks.batch; taken = own.marks.taken };
     pending = every_without
         (IsPending z (λ s k. m (Node (Head s) k)) stamp g.bundles.number v) (IsPending z (λ s k. m (Node (Head s) k)) stamp' g.bundles.number w)
         e v.update.pending (λ d within apart right. (other_stamp d apart ∙ right.0, right.1, right.2)) own.pending;
     place = place_kept v v.reading.place own.place;
+    filled = every_filled m m' v.free v.free v.update w.update v.reading.filled own_before own_apart own.filled;
     links = own.links;
   }
 
@@ -166,18 +214,20 @@ module _ (z : Layout) (m : Memory) (vs : List View) (g : Meaning) (rule : Rule z
   other_kept : (u : View) → Beside vs i u → SeatRight z m g u → SeatRight z m' g u
   other_kept u beside of = record {
     layout = of.layout;
-    section = record { section = of.section.section; announced = of.section.announced; outside = of.section.outside; done = of.section.done };
+    section = record { section = of.section.section; announced = of.section.announced; outside = of.section.outside; unlocked = of.section.unlocked; done = of.section.done };
     seen = of.seen;
     update = of.update;
     version = of.version;
     tree = of.tree;
     locks = of.locks;
-    loaded = record { nodes = every_map _ _ u.held.nodes node_kept of.loaded.nodes; nexts = of.loaded.nexts };
+    loaded = record { nodes = every_map _ _ u.held.nodes node_kept of.loaded.nodes; nexts = nexts_kept u of.loaded.nexts };
     marks = record { retired = of.marks.retired; batch = of.marks.batch; taken = of.marks.taken };
     pending = every_listed
         (IsPending z (λ s k. m (Node (Head s) k)) stamp g.bundles.number u) (IsPending z (λ s k. m (Node (Head s) k)) stamp' g.bundles.number u)
         u.update.pending (λ d within right. (other_stamp d (pending_apart u d beside within) ∙ right.0, right.1, right.2)) of.pending;
     place = place_kept u u.reading.place of.place;
+    filled = every_filled m m' u.free u.free u.update u.update u.reading.filled (λ y is. is)
+        (entry_apart m u.free u.update Number e r (unfree beside.place u beside.at) (λ more. pending_apart u e beside more refl)) of.filled;
     links = of.links;
   }
 

@@ -11,7 +11,10 @@ use Rattle.key_map.specs.declared.update.Update.{Update}
 use Rattle.index_words.specs.declared.view.View.{View}
 use Rattle.index_words.specs.declared.view.history.Counts.{Counts}
 use Rattle.index_words.specs.declared.view.reading.Place.{Place}
+use Rattle.index_words.specs.declared.view.reading.Place.TheVariants.{Nowhere, Entry as AtEntry, Node as AtNode, Gap}
 use Rattle.index_words.specs.declared.view.reading.Link.{Link}
+use Rattle.index_words.specs.declared.view.reading.LinkSource.{LinkSource}
+use Rattle.index_words.specs.declared.view.reading.LinkSource.TheVariants.{Bundle, Plain}
 use Rattle.index_words.specs.declared.view.reading.TreeNode.{TreeNode}
 use Rattle.index_words.specs.declared.view.update.HeldNode.{HeldNode}
 use Rattle.index_words.specs.declared.view.update.HeldNext.{HeldNext}
@@ -29,9 +32,9 @@ use Rattle.core_links.specs.Bundle.{IsChain, select}
 use Rattle.core_rule.specs.Versions.{tree_nodes, slots_of}
 use Rattle.core_rule.specs.Meanings.{Meaning, linked_by}
 use Rattle.core_rule.specs.Histories.{SeenRight, KnowsAll}
-use Rattle.core_rule.specs.Locks.{IsTakenOut, HeadRight, NodeRight, NextRight}
+use Rattle.core_rule.specs.Locks.{IsTakenOut, HeadRight, IsNodeAt, IsNextAt}
 use Rattle.core_rule.specs.BundleRule.{IsPending}
-use Rattle.core_rule.specs.Readers.{IsReachable, IsLocked, StandsAt, IsPassed, PlaceRight, EntryRight, LinkRight}
+use Rattle.core_rule.specs.Readers.{IsReachable, IsLocked, IsWatched, StandsAt, IsPassed, PlaceRight, EntryRight, SourceRight, LinkRight}
 use Rattle.core_rule.specs.SeatRule.{SeatRight}
 use Rattle.core_rule.specs.Moves.{longer}
 use Rattle.core_rule.specs.LoadMoves.{longest_from, longest, stamp_loaded, with_held, with_place, found_again, head_found, found_at, head_loaded, remembered_if, bundle_link, stamp_known, node_known}
@@ -181,7 +184,7 @@ module _ (z : Layout) (m : Memory) (vs : List View) (g : Meaning) (rule : Rule z
       (stamp_holds v known fixes nodes whole)
       (record {
         layout = seat.layout;
-        section = record { section = seat.section.section; announced = seat.section.announced; outside = λ even. absurd (inside_only v inside even); done = seat.section.done };
+        section = record { section = seat.section.section; announced = seat.section.announced; outside = λ even. absurd (inside_only v inside even); unlocked = λ even. absurd (inside_only v inside even); done = seat.section.done };
         seen = stamp_seen v known fixes nodes seat all;
         update = seat.update;
         version = record { past = omega arith; opened = opened_by fixes; bare = λ none. cc; there = λ k here. slot_there k (omega (arith, here, read_slots nodes k whole)) };
@@ -191,6 +194,7 @@ module _ (z : Layout) (m : Memory) (vs : List View) (g : Meaning) (rule : Rule z
         marks = record { retired = seat.marks.retired; batch = seat.marks.batch; taken = seat.marks.taken };
         pending = seat.pending;
         place = tt;
+        filled = tt;
         links = tt;
       })
     where
@@ -221,6 +225,9 @@ module _ (z : Layout) (m : Memory) (vs : List View) (g : Meaning) (rule : Rule z
     pub reach_back : (k : ℕ) → IsReachable z v k → IsReachable z w k
     reach_back k reach = (reach.0, elim reach.1 as (λ _. (k ≡ 0) ⊎ HoldsNode w k) [ inl root ↦ inl root | inr holds ↦ inr (holds_back k holds) ])
 
+    pub watched_back : (k : ℕ) → IsWatched w k → IsWatched v k
+    watched_back k watched = elim watched as (λ _. IsWatched v k) [ inl locked ↦ inl (subst (λ xs. 0 < count k xs) same locked) | inr reads ↦ inr reads ]
+
     pub passed_back : (k d : ℕ) → IsPassed g.bundles.number v k d → IsPassed g.bundles.number w k d
     passed_back k d passed = passed_by v.reading.section passed
       where
@@ -229,6 +236,23 @@ module _ (z : Layout) (m : Memory) (vs : List View) (g : Meaning) (rule : Rule z
         passed_by (Some t) (inl locked) = inl (subst (λ xs. 0 < count k xs) (sym same) locked)
         passed_by (Some t) (inr above) = inr above
 
+    pub place_back : (p : Place) → PlaceRight z (λ e. m (Entry Number e)) g.bundles v p → PlaceRight z (λ e. m (Entry Number e)) g.bundles w p
+    place_back Nowhere right = tt
+    place_back (AtNode k key) right = tt
+    place_back (Gap k side) right = tt
+    place_back (AtEntry k side e found) right = record {
+      reach = reach_back k right.reach;
+      stands = λ some watched.
+          let stood : StandsAt (λ d. m (Entry Number d)) (g.bundles.bundle side k) e found (IsPassed g.bundles.number v k) = right.stands some (watched_back k watched) in
+          record {
+            front = stood.front;
+            back = stood.back;
+            splits = stood.splits;
+            passed = every_map (IsPassed g.bundles.number v k) (IsPassed g.bundles.number w k) stood.front (passed_back k) stood.passed;
+            found = stood.found;
+          };
+    }
+
     moved_holds : HoldsFrom z (linked_by g) HoldsNode (HoldsEntry g.bundles) v w
     moved_holds = record { nodes = λ k holds. inl (holds_same k holds); entries = λ x holds. inl (entries_by x holds) }
       where
@@ -236,15 +260,18 @@ module _ (z : Layout) (m : Memory) (vs : List View) (g : Meaning) (rule : Rule z
         entries_by x (inl reads) = inl reads
         entries_by x (inr stands) = inr (record { node = stands.node; side = stands.side; of = subst (λ xs. 0 < count stands.node xs) work_same stands.of; here = stands.here })
 
-    link_back : (l : Link) → LinkRight z (λ e. m (Entry Child e)) g.bundles v l → LinkRight z (λ e. m (Entry Child e)) g.bundles w l
-    link_back l old = (reach_back l.node old.0, old.1)
+    source_back : (k c : ℕ) (es : List ℕ) (source : LinkSource) → SourceRight (IsReachable z v k) (λ e. m (Entry Child e)) g.bundles.number es v.reading.section c source
+        → SourceRight (IsReachable z w k) (λ e. m (Entry Child e)) g.bundles.number es v.reading.section c source
+    source_back k c es (Bundle entry) old = record { reach = reach_back k old.reach; selected = old.selected }
+    source_back k c es (Plain tag above below) old = tt
 
     pub links_back : Every (LinkRight z (λ e. m (Entry Child e)) g.bundles w) v.reading.links
-    links_back = every_map (LinkRight z (λ e. m (Entry Child e)) g.bundles v) (LinkRight z (λ e. m (Entry Child e)) g.bundles w) v.reading.links link_back seat.links
+    links_back = every_map (LinkRight z (λ e. m (Entry Child e)) g.bundles v) (LinkRight z (λ e. m (Entry Child e)) g.bundles w) v.reading.links
+        (λ l old. source_back l.node l.child (g.bundles.bundle l.side l.node) l.source old) seat.links
 
-    pub nexts_back : Every (NextRight (λ e. m (Entry Next e)) g.bundles nodes) v.held.nexts
-    nexts_back = every_map (NextRight (λ e. m (Entry Next e)) g.bundles v.held.nodes) (NextRight (λ e. m (Entry Next e)) g.bundles nodes) v.held.nexts
-        (λ l old. (old.0, subst (λ xs. 0 < count l.node xs) (sym same) old.1, old.2)) seat.loaded.nexts
+    pub nexts_back : Every (IsNextAt m g.bundles nodes) v.held.nexts
+    nexts_back = every_map (IsNextAt m g.bundles v.held.nodes) (IsNextAt m g.bundles nodes) v.held.nexts
+        (λ l old. record { is = old.is; locked = subst (λ xs. 0 < count l.node xs) (sym same) old.locked; here = old.here; found = old.found }) seat.loaded.nexts
 
     none_held : nodes ≡ [] → v.held.nodes ≡ []
     none_held none = no_slots v.held.nodes (sym same ∙ ap held_slots none)
@@ -255,8 +282,8 @@ module _ (z : Layout) (m : Memory) (vs : List View) (g : Meaning) (rule : Rule z
 
     -- such a move keeps the rule
     pub read_kept : is_even v.section_word ≡ false
-        → Every (NodeRight (λ j. m (Node Mark j)) (λ s j. m (Node (Head s) j)) (λ e. m (Entry Number e))) nodes
-        → Every (NextRight (λ e. m (Entry Next e)) g.bundles nodes) nexts
+        → Every (IsNodeAt m) nodes
+        → Every (IsNextAt m g.bundles nodes) nexts
         → PlaceRight z (λ e. m (Entry Number e)) g.bundles w place
         → Every (LinkRight z (λ e. m (Entry Child e)) g.bundles w) links
         → Rule z m (set vs i w) g
@@ -264,7 +291,7 @@ module _ (z : Layout) (m : Memory) (vs : List View) (g : Meaning) (rule : Rule z
         quiet_kept z m vs g rule i v at w.history w.counts w.reading w.held (record { mine = refl; ended = refl; ended_places = refl; left = refl }) (λ known. known) same moved_holds
         (record {
           layout = seat.layout;
-          section = record { section = seat.section.section; announced = seat.section.announced; outside = λ even. absurd (inside_only v inside even); done = λ none. seat.section.done (none_held none) };
+          section = record { section = seat.section.section; announced = seat.section.announced; outside = λ even. absurd (inside_only v inside even); unlocked = λ even. absurd (inside_only v inside even); done = λ none. seat.section.done (none_held none) };
           seen = seat.seen;
           update = seat.update;
           version = record { past = seat.version.past; opened = seat.version.opened; bare = seat.version.bare; there = seat.version.there };
@@ -282,6 +309,7 @@ module _ (z : Layout) (m : Memory) (vs : List View) (g : Meaning) (rule : Rule z
           pending = every_map (IsPending z (λ s k. m (Node (Head s) k)) (λ e. m (Entry Number e)) g.bundles.number v) (IsPending z (λ s k. m (Node (Head s) k)) (λ e. m (Entry Number e)) g.bundles.number w) v.update.pending
               (λ d old. (old.0, old.1, record { node = old.2.node; side = old.2.side; there = old.2.there; is = old.2.is; some = old.2.some; of = subst (λ xs. 0 < count old.2.node xs) (sym work_same) old.2.of })) seat.pending;
           place = place_right;
+          filled = seat.filled;
           links = links_right;
         })
 
@@ -295,11 +323,23 @@ module _ (z : Layout) (m : Memory) (vs : List View) (g : Meaning) (rule : Rule z
   again_right e head stamp (Some l) is right = again_by e head stamp l (eqb l.entry e) is right
 
   known_now : (node : ℕ) (side : Side) (h : HeldNode) (b : Bool) → eqb h.node node ≡ b
-      → NodeRight (λ j. m (Node Mark j)) (λ s j. m (Node (Head s) j)) (λ e. m (Entry Number e)) h
-      → NodeRight (λ j. m (Node Mark j)) (λ s j. m (Node (Head s) j)) (λ e. m (Entry Number e)) (cond b (head_found side (m (Node (Head side) node)) h) h)
+      → IsNodeAt m h
+      → IsNodeAt m (cond b (head_found side (m (Node (Head side) node)) h) h)
   known_now node side h false is right = right
-  known_now node Left h true is right = (right.0, again_right (m (Node (Head Left) node)) (m (Node (Head Left) h.node)) (λ e. m (Entry Number e)) h.left.head (ap (λ n. m (Node (Head Left) n)) (eqb-true h.node node is)) right.1, right.2)
-  known_now node Right h true is right = (right.0, right.1, again_right (m (Node (Head Right) node)) (m (Node (Head Right) h.node)) (λ e. m (Entry Number e)) h.right.head (ap (λ n. m (Node (Head Right) n)) (eqb-true h.node node is)) right.2)
+  known_now node Left h true is right = record {
+    key = right.key;
+    val = right.val;
+    mark = right.mark;
+    left = record { head = again_right (m (Node (Head Left) node)) (m (Node (Head Left) h.node)) (λ e. m (Entry Number e)) h.left.head (ap (λ n. m (Node (Head Left) n)) (eqb-true h.node node is)) right.left.head };
+    right = right.right;
+  }
+  known_now node Right h true is right = record {
+    key = right.key;
+    val = right.val;
+    mark = right.mark;
+    left = right.left;
+    right = record { head = again_right (m (Node (Head Right) node)) (m (Node (Head Right) h.node)) (λ e. m (Entry Number e)) h.right.head (ap (λ n. m (Node (Head Right) n)) (eqb-true h.node node is)) right.right.head };
+  }
 
   -- a load of a head
   pub load_head_kept : (i node : ℕ) (side : Side) (number : ℕ) (v : View) → IsItem vs i v → is_even v.section_word ≡ false → IsReachable z v node
@@ -312,13 +352,13 @@ module _ (z : Layout) (m : Memory) (vs : List View) (g : Meaning) (rule : Rule z
       let chain = (rule.bundles node (reachable_live z vs g rule.slots i node v at reach) side).chain in
       let back = λ (k : ℕ). reach_back i v at w.counts w.held.nodes w.held.nexts w.reading.place w.reading.links same k in
       read_kept i v at w.counts w.held.nodes w.held.nexts w.reading.place w.reading.links same inside
-      (every_mapped (NodeRight (λ j. m (Node Mark j)) (λ s j. m (Node (Head s) j)) (λ e. m (Entry Number e))) (NodeRight (λ j. m (Node Mark j)) (λ s j. m (Node (Head s) j)) (λ e. m (Entry Number e)))
+      (every_mapped (IsNodeAt m) (IsNodeAt m)
       (found_at node side x) v.held.nodes (λ h right. known_now node side h (eqb h.node node) refl right) seat.loaded.nodes)
       (nexts_back i v at w.counts w.held.nodes w.held.nexts w.reading.place w.reading.links same)
-      (back node reach, (λ some. first_stands (λ e. m (Entry Next e)) (λ e. m (Entry Number e)) x (g.bundles.bundle side node) (IsPassed g.bundles.number w node) chain some))
+      (record { reach = back node reach; stands = λ some watched. first_stands (λ e. m (Entry Next e)) (λ e. m (Entry Number e)) x (g.bundles.bundle side node) (IsPassed g.bundles.number w node) chain some })
       (links_push (LinkRight z (λ e. m (Entry Child e)) g.bundles w) (eqb x 0) v.reading.links (bundle_link node side 0 0)
       (links_back i v at w.counts w.held.nodes w.held.nexts w.reading.place w.reading.links same)
-      (λ none. (back node reach, null_by v.reading.section (empty_chain (λ e. m (Entry Next e)) x (g.bundles.bundle side node) chain (eqb-true x 0 none)))))
+      (λ none. record { reach = back node reach; selected = null_by v.reading.section (empty_chain (λ e. m (Entry Next e)) x (g.bundles.bundle side node) chain (eqb-true x 0 none)) }))
     where
       null_by : (o : Option ℕ) → g.bundles.bundle side node ≡ [] → EntryRight (λ e. m (Entry Child e)) g.bundles.number (g.bundles.bundle side node) o 0 0
       null_by None none = (refl, refl)

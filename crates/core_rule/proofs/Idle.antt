@@ -31,14 +31,18 @@ idle_none b s v idle = record {
   entries = λ e some holds. idle_entry b v e idle holds;
 }
 
--- a view without a number is idle
 own_none : (word : ℕ → ℕ) (number : Option ℕ) (held : ℕ) → number ≡ None → IsOwnWord word number held → held ≡ 0
 own_none word None held is own = own
 own_none word (Some n) held is own = cc
 
+-- a view outside a section is idle
+pub outside_idle : (s a : ℕ → ℕ) (v : View) → SectionRight s a v → is_even v.section_word ≡ true → IsIdle v
+outside_idle s a v right even = record { reading = right.outside even; held = right.unlocked even; update = right.done (right.unlocked even) }
+
+-- so is one without a number
 pub nameless_idle : (s a : ℕ → ℕ) (v : View) → SectionRight s a v → v.number ≡ None → IsIdle v
 nameless_idle s a v right none =
-    right.outside (ap is_even (own_none s v.number v.section_word none right.section))
+    outside_idle s a v right (ap is_even (own_none s v.number v.section_word none right.section))
 
 own_some : (word : ℕ → ℕ) (number : Option ℕ) (n held : ℕ) → number ≡ Some n → IsOwnWord word number held → word n ≡ held
 own_some word None n held is own = cc

@@ -6,16 +6,19 @@ use Rattle.core_rule.specs.Rule.{InRule, IsRight}
 use Rattle.core_rule.specs.Tables.{Table}
 use Rattle.core_rule.specs.TreeLaw.{SpellsMap}
 use Rattle.core_rule.specs.Remembered.{KeepsRemembered, RemembersSelected}
+use Rattle.core_rule.specs.FilledRule.{KnowsFilled}
 use Rattle.core_rule.proofs.TreeLaw.{spells_map}
 use Rattle.core_rule.proofs.Remembered.{remembers_selected, remembered_right}
+use Rattle.core_rule.proofs.FillViews.{filled_known}
 
 pub record HasLaws (t : Table) : Type 0 where
   pub trees : SpellsMap t
   pub selected : RemembersSelected t
   pub remembered : KeepsRemembered t
+  pub filled : KnowsFilled t
 
 pub laws_of : (t : Table) → IsRight t → HasLaws t
-laws_of t right = record { trees = spells_map t right; selected = remembers_selected t right; remembered = remembered_right t right }
+laws_of t right = record { trees = spells_map t right; selected = remembers_selected t right; remembered = remembered_right t right; filled = filled_known t right }
 
 -- so they hold of a table that a refusal leaves as it was
 pub laws_same : (t u : Table) → IsRight t → t ≡ u → HasLaws u

@@ -1,10 +1,12 @@
 pub mod Frames
 pub mod BundleFrames
+pub mod Filled
 pub mod Idle
 pub mod OneView
 pub mod Owned
 pub mod Stores
 pub mod Fills
+pub mod FillViews
 pub mod Joins
 pub mod TwoViews
 pub mod EachKind

@@ -18,7 +18,7 @@ use Rattle.core_links.proofs.Chains.{chain-same}
 use Rattle.core_rule.specs.Meanings.{Meaning}
 use Rattle.core_rule.specs.BundleRule.{IsLive, IsPendingAt, IsNumbered, IsPending, pending_count, shown}
 use Rattle.core_rule.specs.Rule.{Rule}
-use Rattle.core_rule.specs.LinkLaw.{raised_number, entry_number, IsBundleOf, SelectsSame}
+use Rattle.core_rule.specs.LinkLaw.{raised_number, entry_number, IsBundleOf, IsRead, SelectsSame}
 use Rattle.core_rule.proofs.Frames.{every_at}
 use Rattle.core_rule.proofs.BundleFrames.{select_frame}
 
@@ -70,8 +70,8 @@ module _ (z : Layout) (m : Memory) (g : Meaning) where
         ∙ select_frame n (entry_number m vs) g.bundles.number (g.bundles.bundle side k) (λ d here. inl (number_is k d side live here))
 
 -- where two meanings select the same, so do the words
-pub selections_kept : (z : Layout) (m m' : Memory) (vs ws : List View) (g h : Meaning) → Rule z m vs g → Rule z m' ws h → SelectsSame z (m Stamp) vs g ws h
-    → (n k : ℕ) (side : Side) (es fs : List ℕ) → n ≤ m Stamp → IsLive z vs k → IsLive z ws k → IsBundleOf m side k es → IsBundleOf m' side k fs
+pub selections_kept : (z : Layout) (m m' : Memory) (vs ws : List View) (g h : Meaning) → Rule z m vs g → Rule z m' ws h → SelectsSame z (IsRead (m Stamp) vs) vs g ws h
+    → (n k : ℕ) (side : Side) (es fs : List ℕ) → IsRead (m Stamp) vs n → IsLive z vs k → IsLive z ws k → IsBundleOf m side k es → IsBundleOf m' side k fs
     → select (entry_number m vs) n es ≡ select (entry_number m' ws) n fs
 selections_kept z m m' vs ws g h rule rule' same n k side es fs past live live' chain chain' =
     selection_is z m g vs rule n k side es live chain ∙ same n k side past live live' ∙ sym (selection_is z m' h ws rule' n k side fs live' chain')

@@ -1,5 +1,5 @@
 -- Loads of the words of an entry at which the seat stands keep the rule.
-use Rattle.std.proofs.Common.{◌≡◌, ℕ, suc, ◌+◌, ◌<◌, ◌≤◌, ◌⊎◌, cond, List, [], ◌∷◌, ◌++◌, Bool, true, false, eqb, ltb, leb, ◌&&◌, ◌||◌, not, is_none, set, arith, refl, ap, ◌∙◌, sym, subst, inl, inr, Option, Some, None, append_assoc}
+use Rattle.std.proofs.Common.{◌≡◌, ℕ, suc, ◌+◌, ◌<◌, ◌≤◌, ◌⊎◌, cond, List, [], ◌∷◌, ◌++◌, Bool, true, false, eqb, ltb, leb, ◌&&◌, ◌||◌, not, is_none, is_some, set, arith, refl, ap, ◌∙◌, sym, subst, inl, inr, Option, Some, None, append_assoc}
 use Rattle.std.specs.Prelude.{IfSome}
 use Rattle.std.proofs.lemmas.Bool.{eqb-true, and_parts}
 use Rattle.std.proofs.lemmas.Bool.Decides.{nat_tests}
@@ -22,9 +22,9 @@ use Rattle.core_grace.proofs.RuleMoves.{every_push}
 use Rattle.core_links.specs.Bundle.{IsChain, no_number, select, child_of_entry}
 use Rattle.core_links.proofs.Chains.{select-here, select-behind}
 use Rattle.core_rule.specs.Meanings.{Meaning}
-use Rattle.core_rule.specs.Locks.{NodeRight, NextRight}
+use Rattle.core_rule.specs.Locks.{IsNodeAt, IsNextAt}
 use Rattle.core_rule.specs.BundleRule.{IsLive, IsBundle, IsNumbered, Falls, IsPending, shown}
-use Rattle.core_rule.specs.Readers.{IsLocked, StandsAt, IsPassed, PlaceRight, EntryRight, LinkRight}
+use Rattle.core_rule.specs.Readers.{IsWatched, IsLocked, StandsAt, IsPassed, PlaceRight, EntryRight, LinkRight}
 use Rattle.core_rule.specs.SeatRule.{SeatRight}
 use Rattle.core_rule.specs.LoadMoves.{locks, ts_loaded, node_known, place_known, ptr_loaded, child_links, is_selected, is_above, is_above_at, next_at, next_loaded, bundle_link}
 use Rattle.core_rule.specs.Rule.{Rule}
@@ -33,7 +33,7 @@ use Rattle.core_rule.proofs.OneView.{seat_at}
 use Rattle.core_rule.proofs.Owned.{in_entries, reachable_live}
 use Rattle.core_rule.proofs.Fills.{count-middle}
 use Rattle.core_rule.proofs.PrepareSeats.{every_mapped}
-use Rattle.core_rule.proofs.HeadLoads.{side_node, side_at, links_push, reach_back, passed_back, links_back, nexts_back, read_kept}
+use Rattle.core_rule.proofs.HeadLoads.{watched_back, side_node, side_at, links_push, reach_back, passed_back, links_back, nexts_back, read_kept}
 
 lock_step : (node x : ℕ) (b c : Bool) (n : ℕ) → eqb x node ≡ b → (b || c) ≡ true → (c ≡ true → 0 < n) → 0 < cond (eqb x node) 1 0 + n
 lock_step node x true c n is met rest = counted (eqb x node) is
@@ -110,22 +110,26 @@ module _ (z : Layout) (m : Memory) (vs : List View) (g : Meaning) (rule : Rule z
     where
       inside_by : (c : Bool) → is_even v.section_word ≡ c → c ≡ false
       inside_by false is = refl
-      inside_by true is = let none : v.reading.place ≡ Nowhere = ap (λ (r : Reading). r.place) (seat.section.outside is).reading in absurd (cc)
+      inside_by true is = let none : v.reading.place ≡ Nowhere = ap (λ (r : Reading). r.place) (seat.section.outside is) in absurd (cc)
 
   live : IsLive z vs node
-  live = reachable_live z vs g rule.slots i node v at right.0
+  live = reachable_live z vs g rule.slots i node v at right.reach
 
   bundle : IsBundle m vs g node side
   bundle = rule.bundles node live side
 
-  stands : StandsAt stamp es e found (IsPassed g.bundles.number v node)
-  stands = right.1 some
+  stands : IsWatched v node → StandsAt stamp es e found (IsPassed g.bundles.number v node)
+  stands watched = right.stands some watched
 
-  member : 0 < count e es
-  member = subst (λ xs. 0 < count e xs) (sym stands.splits) (count-middle e stands.front stands.back)
+  member : IsWatched v node → 0 < count e es
+  member watched = let stood = stands watched in subst (λ xs. 0 < count e xs) (sym stood.splits) (count-middle e stood.front stood.back)
 
-  numbered : 0 < stamp e → g.bundles.number e ≡ stamp e
-  numbered above = (every_at (IsNumbered (m Stamp) stamp g.bundles.number) e es bundle.numbers member above).0
+  -- a seat with a section number sees the place
+  reads_at : (t : ℕ) → v.reading.section ≡ Some t → IsWatched v node
+  reads_at t section = inr (ap is_some section)
+
+  numbered : IsWatched v node → 0 < stamp e → g.bundles.number e ≡ stamp e
+  numbered watched above = (every_at (IsNumbered (m Stamp) stamp g.bundles.number) e es bundle.numbers (member watched) above).0
 
   -- a load of the entry's stamp
   pub load_ts_kept : Rule z m (set vs i (ts_loaded v e (m (Entry Number e)))) g
@@ -134,21 +138,28 @@ module _ (z : Layout) (m : Memory) (vs : List View) (g : Meaning) (rule : Rule z
       let w : View = ts_loaded v e x in
       let same = side_node e x v.held.nodes in
       read_kept z m vs g rule i v at w.counts w.held.nodes w.held.nexts w.reading.place w.reading.links same inside
-      (every_mapped (NodeRight (λ j. m (Node Mark j)) (λ s j. m (Node (Head s) j)) stamp) (NodeRight (λ j. m (Node Mark j)) (λ s j. m (Node (Head s) j)) stamp)
-      (node_known e x) v.held.nodes (λ h known. (known.0, side_at e x _ stamp h.left.head refl known.1, side_at e x _ stamp h.right.head refl known.2)) seat.loaded.nodes)
+      (every_mapped (IsNodeAt m) (IsNodeAt m)
+      (node_known e x) v.held.nodes (λ h known. record {
+        key = known.key;
+        val = known.val;
+        mark = known.mark;
+        left = record { head = side_at e x _ stamp h.left.head refl known.left.head };
+        right = record { head = side_at e x _ stamp h.right.head refl known.right.head };
+      }) seat.loaded.nodes)
       (nexts_back z m vs g rule i v at w.counts w.held.nodes w.held.nexts w.reading.place w.reading.links same)
-      (subst (λ (p : Place). PlaceRight z stamp g.bundles w (place_known x p)) (sym here) (
-        reach_back z m vs g rule i v at w.counts w.held.nodes w.held.nexts w.reading.place w.reading.links same node right.0,
-        λ above.
+      (subst (λ (p : Place). PlaceRight z stamp g.bundles w (place_known x p)) (sym here) (record {
+        reach = reach_back z m vs g rule i v at w.counts w.held.nodes w.held.nexts w.reading.place w.reading.links same node right.reach;
+        stands = λ above watched.
+            let stood = stands (watched_back z m vs g rule i v at w.counts w.held.nodes w.held.nexts w.reading.place w.reading.links same node watched) in
             record {
-              front = stands.front;
-              back = stands.back;
-              splits = stands.splits;
-              passed = every_map (IsPassed g.bundles.number v node) (IsPassed g.bundles.number w node) stands.front
-                  (λ d is. passed_back z m vs g rule i v at w.counts w.held.nodes w.held.nexts w.reading.place w.reading.links same node d is) stands.passed;
+              front = stood.front;
+              back = stood.back;
+              splits = stood.splits;
+              passed = every_map (IsPassed g.bundles.number v node) (IsPassed g.bundles.number w node) stood.front
+                  (λ d is. passed_back z m vs g rule i v at w.counts w.held.nodes w.held.nexts w.reading.place w.reading.links same node d is) stood.passed;
               found = λ _. refl;
-            },
-      ))
+            };
+      }))
       (links_back z m vs g rule i v at w.counts w.held.nodes w.held.nexts w.reading.place w.reading.links same)
 
   -- at the selected entry
@@ -159,11 +170,11 @@ module _ (z : Layout) (m : Memory) (vs : List View) (g : Meaning) (rule : Rule z
   selected_by (Some t) (Some x) locked free is section same =
       let one = and_parts (ltb 0 x && leb x t) (not locked) is in
       let two = and_parts (ltb 0 x) (leb x t) one.0 in
-      let stood = stands in
+      let stood = stands (reads_at t section) in
       let low : 0 < x = grind (arith, nat_tests) in
       let past : x ≤ t = grind (arith, nat_tests) in
       let is_stamp : stamp e ≡ x = subst (λ (y : Option ℕ). IfSome y (λ n. 0 < n → stamp e ≡ n)) same stood.found low in
-      let number : g.bundles.number e ≡ x = numbered (omega (arith, is_stamp, low)) ∙ is_stamp in
+      let number : g.bundles.number e ≡ x = numbered (reads_at t section) (omega (arith, is_stamp, low)) ∙ is_stamp in
       let above : Every (λ d. t < g.bundles.number d) stood.front = every_map (IsPassed g.bundles.number v node) (λ d. t < g.bundles.number d) stood.front
       (λ d passed. unlocked d (subst (λ (y : Option ℕ). IfSome y (λ n. IsLocked v node ⊎ (n < g.bundles.number d))) section passed) (not_locked locked one.1)) stood.passed in
       ap (select g.bundles.number t) stood.splits ∙ select_past g.bundles.number t stood.front (e ∷ stood.back) above ∙ select-here g.bundles.number t e stood.back (omega (arith, number, past))
@@ -201,7 +212,7 @@ module _ (z : Layout) (m : Memory) (vs : List View) (g : Meaning) (rule : Rule z
       (subst (λ (p : Place). Every (LinkRight z (λ d. m (Entry Child d)) g.bundles w) (child_links v p c)) (sym here)
       (links_push (LinkRight z (λ d. m (Entry Child d)) g.bundles w) (is_selected v.reading.section found (locks node v.held.nodes)) v.reading.links (bundle_link node side c e)
       seat.links
-      (λ is. (right.0, entry_by v.reading.section found (locks node v.held.nodes) is (selected_by v.reading.section found (locks node v.held.nodes) unlocked_is is refl refl)))))
+      (λ is. record { reach = right.reach; selected = entry_by v.reading.section found (locks node v.held.nodes) is (selected_by v.reading.section found (locks node v.held.nodes) unlocked_is is refl refl) })))
     where
       entry_by : (o f : Option ℕ) (locked : Bool) → is_selected o f locked ≡ true → IfSome o (λ t. select g.bundles.number t es ≡ e)
           → EntryRight (λ d. m (Entry Child d)) g.bundles.number es o (m (Entry Child e)) e
@@ -220,8 +231,8 @@ module _ (z : Layout) (m : Memory) (vs : List View) (g : Meaning) (rule : Rule z
       elim (either (ltb t x) unnumbered is) as (λ _. t < g.bundles.number e) [
         | inl over ↦
             let up : t < x = grind (arith, nat_tests) in
-            let is_stamp : stamp e ≡ x = subst (λ (y : Option ℕ). IfSome y (λ n. 0 < n → stamp e ≡ n)) same stands.found (omega (arith, up)) in
-            omega (arith, numbered (omega (arith, is_stamp, up)), is_stamp, up)
+            let is_stamp : stamp e ≡ x = subst (λ (y : Option ℕ). IfSome y (λ n. 0 < n → stamp e ≡ n)) same (stands (reads_at t section)).found (omega (arith, up)) in
+            omega (arith, numbered (reads_at t section) (omega (arith, is_stamp, up)), is_stamp, up)
         | inr yet ↦ omega (arith, none yet, past, rule.history.calls, rule.history.few)
       ]
     where
@@ -252,7 +263,7 @@ module _ (z : Layout) (m : Memory) (vs : List View) (g : Meaning) (rule : Rule z
   last_by : (o : Option ℕ) → v.reading.section ≡ o → m (Entry Next e) ≡ 0 → IfSome o (λ t. t < g.bundles.number e) → IfSome o (λ t. select g.bundles.number t es ≡ 0)
   last_by None section none above = tt
   last_by (Some t) section none above =
-      let stood = stands in
+      let stood = stands (reads_at t section) in
       let chain = subst (IsChain (λ d. m (Entry Next d)) (m (Node (Head side) node))) stood.splits bundle.chain in
       let last = behind_none (λ d. m (Entry Next d)) e stood.back (chain_behind (λ d. m (Entry Next d)) (m (Node (Head side) node)) e stood.front stood.back chain) none in
       let falls = front_above g.bundles.number (suc no_number) e stood.front stood.back (subst (Falls g.bundles.number (suc no_number)) stood.splits bundle.falls) in
@@ -264,11 +275,11 @@ module _ (z : Layout) (m : Memory) (vs : List View) (g : Meaning) (rule : Rule z
   locked_has is = locks-count node v.held.nodes is
 
   nexts_by : (c : Bool) → (c ≡ true → IsLocked v node)
-      → Every (NextRight (λ d. m (Entry Next d)) g.bundles v.held.nodes) (cond c (v.held.nexts ++ record { node = node; entry = e; stamp = None; next = m (Entry Next e) } ∷ []) v.held.nexts)
+      → Every (IsNextAt m g.bundles v.held.nodes) (cond c (v.held.nexts ++ record { node = node; entry = e; stamp = found; next = m (Entry Next e) } ∷ []) v.held.nexts)
   nexts_by false locked = seat.loaded.nexts
   nexts_by true locked =
-      every_push (NextRight (λ d. m (Entry Next d)) g.bundles v.held.nodes) v.held.nexts (record { node = node; entry = e; stamp = None; next = m (Entry Next e) }) seat.loaded.nexts
-      (refl, locked refl, in_entries g.bundles node e side member)
+      every_push (IsNextAt m g.bundles v.held.nodes) v.held.nexts (record { node = node; entry = e; stamp = found; next = m (Entry Next e) }) seat.loaded.nexts
+      (record { is = refl; locked = locked refl; here = in_entries g.bundles node e side (member (inl (locked refl))); found = (stands (inl (locked refl))).found })
 
   abbrev next_word : ℕ
   next_word = m (Entry Next e)
@@ -284,19 +295,19 @@ module _ (z : Layout) (m : Memory) (vs : List View) (g : Meaning) (rule : Rule z
       (read_kept z m vs g rule i v at next_view.counts next_view.held.nodes next_view.held.nexts next_view.reading.place next_view.reading.links refl inside
       seat.loaded.nodes
       (nexts_by (locks node v.held.nodes) locked_has)
-      (right.0, stands_behind)
+      (record { reach = right.reach; stands = stands_behind })
       (links_push (LinkRight z (λ d. m (Entry Child d)) g.bundles next_view) (eqb next_word 0 && is_above v e found) v.reading.links (bundle_link node side 0 0)
       seat.links
       (λ is. let parts = and_parts (eqb next_word 0) (is_above v e found) is in
-      (right.0, entry_by v.reading.section (last_by v.reading.section refl (eqb-true next_word 0 parts.0) (above_is parts.1))))))
+      record { reach = right.reach; selected = entry_by v.reading.section (last_by v.reading.section refl (eqb-true next_word 0 parts.0) (above_is parts.1)) })))
     where
       entry_by : (o : Option ℕ) → IfSome o (λ t. select g.bundles.number t es ≡ 0) → EntryRight (λ d. m (Entry Child d)) g.bundles.number es o 0 0
       entry_by None is = (refl, refl)
       entry_by (Some t) is = (is, refl)
 
-      stands_behind : 0 < next_word → StandsAt stamp es next_word None (IsPassed g.bundles.number next_view node)
-      stands_behind low =
-          let stood = stands in
+      stands_behind : 0 < next_word → IsWatched v node → StandsAt stamp es next_word None (IsPassed g.bundles.number next_view node)
+      stands_behind low watched =
+          let stood = stands watched in
           let chain = subst (IsChain (λ d. m (Entry Next d)) (m (Node (Head side) node))) stood.splits bundle.chain in
           let behind = behind_of (λ d. m (Entry Next d)) e stood.back (chain_behind (λ d. m (Entry Next d)) (m (Node (Head side) node)) e stood.front stood.back chain) low in
           record {

@@ -5,10 +5,9 @@ use Rattle.std.proofs.lemmas.Option.{IfSome_then}
 use Rattle.index_words.specs.declared.layout.Layout.{Layout}
 use Rattle.index_words.specs.declared.view.View.{View}
 use Rattle.index_words.specs.declared.view.history.Counts.{Counts}
-use Rattle.index_words.specs.declared.view.reading.Place.{Place}
-use Rattle.index_words.specs.declared.view.reading.Place.TheVariants.{Nowhere, Entry as AtEntry, Node as AtNode, Gap}
 use Rattle.index_words.specs.declared.view.update.HeldNode.{HeldNode}
-use Rattle.index_words.specs.declared.word.Field.TheVariants.{Mark, Head}
+use Rattle.index_words.specs.declared.word.Field.{Field}
+use Rattle.index_words.specs.declared.word.Field.TheVariants.{Key, Val, Lock, Mark, Head, Link, Tag}
 use Rattle.index_words.specs.declared.word.Part.TheVariants.{Stamp as Number}
 use Rattle.index_words.specs.declared.word.Word.TheVariants.{Stamp, Node, Entry}
 use Rattle.index_words.specs.Words.{Memory, written}
@@ -21,20 +20,19 @@ use Rattle.core_grace.proofs.RuleMoves.{quiet, same_looks}
 use Rattle.core_rule.specs.Versions.{slots_of}
 use Rattle.core_rule.specs.Meanings.{Meaning, linked_by}
 use Rattle.core_rule.specs.Numbers.{number_count}
-use Rattle.core_rule.specs.Locks.{lock_count, NodeRight, IsTakenOut}
+use Rattle.core_rule.specs.Locks.{lock_count, IsNodeAt, IsTakenOut}
 use Rattle.core_rule.specs.BundleRule.{IsPendingAt, IsPending, pending_count}
-use Rattle.core_rule.specs.Readers.{StandsAt, IsPassed, PlaceRight}
 use Rattle.core_rule.specs.SeatRule.{SeatRight}
-use Rattle.core_rule.specs.LockMoves.{mark_known, with_mark}
+use Rattle.core_rule.specs.LockMoves.{mark_known, with_mark, pair_known, pair_loaded}
 use Rattle.core_rule.specs.Rule.{Rule}
 use Rattle.core_rule.specs.LinkLaw.{Kept}
 use Rattle.core_rule.proofs.Frames.{every_map, every_named, live_moved, pending_moved, bundle_weaker}
-use Rattle.core_rule.proofs.OneView.{history_kept, seat_at, set_same}
-use Rattle.core_rule.proofs.Owned.{once_node}
-use Rattle.core_rule.proofs.Fills.{node_other}
-use Rattle.core_rule.proofs.Locked.{locked_apart}
+use Rattle.core_rule.proofs.OneView.{history_kept, seat_at}
+use Rattle.core_rule.proofs.Owned.{once_node, free_not_live}
+use Rattle.core_rule.proofs.Filled.{node_other, every_filled, node_apart}
+use Rattle.core_rule.proofs.Locked.{locked_apart, locked_live}
 use Rattle.core_rule.proofs.PrepareSeats.{every_mapped}
-use Rattle.core_rule.proofs.HeadLoads.{read_kept, reach_back, passed_back, links_back, nexts_back, work_same, holds_same}
+use Rattle.core_rule.proofs.HeadLoads.{read_kept, place_back, links_back, nexts_back, work_same, holds_same}
 
 node_by : (b : Bool) (x : ℕ) (h : HeldNode) → (cond b (record h { mark = Some x }) h).node ≡ h.node
 node_by true x h = refl
@@ -62,43 +60,80 @@ module _ (z : Layout) (m : Memory) (vs : List View) (g : Meaning) (rule : Rule z
   same : held_slots known_nodes ≡ held_slots v.held.nodes
   same = slots_marked k x v.held.nodes
 
-  place_known : (c : Counts) (p : Place) → PlaceRight z stamp g.bundles v p → PlaceRight z stamp g.bundles (known_view c) p
-  place_known c Nowhere right = tt
-  place_known c (AtNode j key) right = tt
-  place_known c (Gap j side) right = tt
-  place_known c (AtEntry j side e found) right = (
-    reach_back z m vs g rule i v at c known_nodes v.held.nexts v.reading.place v.reading.links same j right.0,
-    λ some.
-        let stands : StandsAt stamp (g.bundles.bundle side j) e found (IsPassed g.bundles.number v j) = right.1 some in
-        record {
-          front = stands.front;
-          back = stands.back;
-          splits = stands.splits;
-          passed = every_map (IsPassed g.bundles.number v j) (IsPassed g.bundles.number (known_view c) j) stands.front
-              (passed_back z m vs g rule i v at c known_nodes v.held.nexts v.reading.place v.reading.links same j) stands.passed;
-          found = stands.found;
-        },
-  )
-
   known_by : (h : HeldNode) (b : Bool) → eqb h.node k ≡ b → x ≡ m (Node Mark k)
-      → NodeRight (λ j. m (Node Mark j)) (λ s j. m (Node (Head s) j)) stamp h
-      → NodeRight (λ j. m (Node Mark j)) (λ s j. m (Node (Head s) j)) stamp (cond b (record h { mark = Some x }) h)
+      → IsNodeAt m h
+      → IsNodeAt m (cond b (record h { mark = Some x }) h)
   known_by h false is found right = right
-  known_by h true is found right = (ap (λ n. m (Node Mark n)) (eqb-true h.node k is) ∙ sym found, right.1, right.2)
+  known_by h true is found right = record {
+    key = right.key;
+    val = right.val;
+    mark = ap (λ n. m (Node Mark n)) (eqb-true h.node k is) ∙ sym found;
+    left = right.left;
+    right = right.right;
+  }
 
   -- a load of a mark
   pub load_mark_kept : (c : Counts) → is_even v.section_word ≡ false → x ≡ m (Node Mark k) → Rule z m (set vs i (known_view c)) g
   load_mark_kept c inside found =
       read_kept z m vs g rule i v at c known_nodes v.held.nexts v.reading.place v.reading.links same inside
-      (every_mapped (NodeRight (λ j. m (Node Mark j)) (λ s j. m (Node (Head s) j)) stamp) (NodeRight (λ j. m (Node Mark j)) (λ s j. m (Node (Head s) j)) stamp)
+      (every_mapped (IsNodeAt m) (IsNodeAt m)
       (mark_known k x) v.held.nodes (λ h right. known_by h (eqb h.node k) refl found right) own_seat.loaded.nodes)
       (nexts_back z m vs g rule i v at c known_nodes v.held.nexts v.reading.place v.reading.links same)
-      (place_known c v.reading.place own_seat.place)
+      (place_back z m vs g rule i v at c known_nodes v.held.nexts v.reading.place v.reading.links same v.reading.place own_seat.place)
       (links_back z m vs g rule i v at c known_nodes v.held.nexts v.reading.place v.reading.links same)
 
-  -- a load of a key or a value
-  pub load_pair_kept : Rule z m (set vs i v) g
-  load_pair_kept = subst (λ ws. Rule z m ws g) (sym (set_same vs i v at)) rule
+field_node : (f : Field) (k x : ℕ) (h : HeldNode) → (pair_known f k x h).node ≡ h.node
+field_node Key k x h = key_by (eqb h.node k)
+  where
+    key_by : (b : Bool) → (cond b (record h { key = Some x }) h).node ≡ h.node
+    key_by true = refl
+    key_by false = refl
+field_node Val k x h = val_by (eqb h.node k)
+  where
+    val_by : (b : Bool) → (cond b (record h { val = Some x }) h).node ≡ h.node
+    val_by true = refl
+    val_by false = refl
+field_node Lock k x h = refl
+field_node Mark k x h = refl
+field_node (Head s) k x h = refl
+field_node (Link s) k x h = refl
+field_node (Tag s) k x h = refl
+
+slots_paired : (f : Field) (k x : ℕ) (hs : List HeldNode) → held_slots (map (pair_known f k x) hs) ≡ held_slots hs
+slots_paired f k x [] = refl
+slots_paired f k x (h ∷ hs) =
+    ap (λ n. n ∷ held_slots (map (pair_known f k x) hs)) (field_node f k x h) ∙ ap (λ ns. h.node ∷ ns) (slots_paired f k x hs)
+
+pair_right : (m : Memory) (f : Field) (k x : ℕ) (h : HeldNode) → x ≡ m (Node f k) → IsNodeAt m h → IsNodeAt m (pair_known f k x h)
+pair_right m Key k x h found right = key_by (eqb h.node k) refl
+  where
+    key_by : (b : Bool) → eqb h.node k ≡ b → IsNodeAt m (cond b (record h { key = Some x }) h)
+    key_by true is = record { key = ap (λ n. m (Node Key n)) (eqb-true h.node k is) ∙ sym found; val = right.val; mark = right.mark; left = right.left; right = right.right }
+    key_by false is = right
+pair_right m Val k x h found right = val_by (eqb h.node k) refl
+  where
+    val_by : (b : Bool) → eqb h.node k ≡ b → IsNodeAt m (cond b (record h { val = Some x }) h)
+    val_by true is = record { key = right.key; val = ap (λ n. m (Node Val n)) (eqb-true h.node k is) ∙ sym found; mark = right.mark; left = right.left; right = right.right }
+    val_by false is = right
+pair_right m Lock k x h found right = right
+pair_right m Mark k x h found right = right
+pair_right m (Head s) k x h found right = right
+pair_right m (Link s) k x h found right = right
+pair_right m (Tag s) k x h found right = right
+
+-- a load of a key or a value
+pub load_pair_kept : (z : Layout) (m : Memory) (vs : List View) (g : Meaning) (i k : ℕ) (f : Field) (v : View) → Rule z m vs g → IsItem vs i v → is_even v.section_word ≡ false
+    → Rule z m (set vs i (pair_loaded v f k (m (Node f k)))) g
+load_pair_kept z m vs g i k f v rule at inside =
+    let x : ℕ = m (Node f k) in
+    let seat = seat_at z m vs g i v at rule in
+    let nodes : List HeldNode = map (pair_known f k x) v.held.nodes in
+    let same = slots_paired f k x v.held.nodes in
+    read_kept z m vs g rule i v at v.counts nodes v.held.nexts v.reading.place v.reading.links same inside
+    (every_mapped (IsNodeAt m) (IsNodeAt m) (pair_known f k x) v.held.nodes (λ h right. pair_right m f k x h refl right) seat.loaded.nodes)
+    (nexts_back z m vs g rule i v at v.counts nodes v.held.nexts v.reading.place v.reading.links same)
+    (place_back z m vs g rule i v at v.counts nodes v.held.nexts v.reading.place v.reading.links same v.reading.place seat.place)
+    (links_back z m vs g rule i v at v.counts nodes v.held.nexts v.reading.place v.reading.links same)
 
 module _ (z : Layout) (m : Memory) (vs : List View) (g : Meaning) (rule : Rule z m vs g) (i k : ℕ) (v : View) (at : IsItem vs i v) (locked : 0 < lock_count k v) (taken : 0 < count k v.update.taken) where
   abbrev m' : Memory
@@ -146,10 +181,20 @@ module _ (z : Layout) (m : Memory) (vs : List View) (g : Meaning) (rule : Rule z
   entry_same x (inr stands) = inr (record { node = stands.node; side = stands.side; of = subst (λ xs. 0 < count stands.node xs) works_same stands.of; here = stands.here })
 
   node_now : (h : HeldNode) (b : Bool) → eqb h.node k ≡ b
-      → NodeRight (λ j. m (Node Mark j)) (λ s j. m (Node (Head s) j)) (λ d. m (Entry Number d)) h
-      → NodeRight (λ j. m' (Node Mark j)) (λ s j. m (Node (Head s) j)) (λ d. m (Entry Number d)) (cond b (record h { mark = Some 1 }) h)
-  node_now h true is right = (ap (λ b. cond b 1 (m (Node Mark h.node))) is, right.1, right.2)
-  node_now h false is right = (IfSome_then h.mark right.0 (λ y known. ap (λ b. cond b 1 (m (Node Mark h.node))) is ∙ known), right.1, right.2)
+      → IsNodeAt m h
+      → IsNodeAt m' (cond b (record h { mark = Some 1 }) h)
+  node_now h true is right = record { key = right.key; val = right.val; mark = ap (λ b. cond b 1 (m (Node Mark h.node))) is; left = right.left; right = right.right }
+  node_now h false is right = record {
+    key = right.key;
+    val = right.val;
+    mark = IfSome_then h.mark right.mark (λ y known. ap (λ b. cond b 1 (m (Node Mark h.node))) is ∙ known);
+    left = right.left;
+    right = right.right;
+  }
+
+  -- the node is not free
+  unfree : (j : ℕ) (u : View) → IsItem vs j u → 0 < count k u.free.nodes → ⊥
+  unfree j u of free = free_not_live z vs g rule.slots j k u of free (locked_live z m vs g rule i k v at locked)
 
   own_now : SeatRight z m' g w
   own_now = record {
@@ -157,7 +202,8 @@ module _ (z : Layout) (m : Memory) (vs : List View) (g : Meaning) (rule : Rule z
     section = record {
       section = seat.section.section;
       announced = seat.section.announced;
-      outside = λ even. absurd (omega (arith, locked, ap (λ (hs : List HeldNode). count k (held_slots hs)) (seat.section.outside even).held));
+      outside = λ even. absurd (omega (arith, locked, ap (λ (hs : List HeldNode). count k (held_slots hs)) (seat.section.unlocked even)));
+      unlocked = λ even. absurd (omega (arith, locked, ap (λ (hs : List HeldNode). count k (held_slots hs)) (seat.section.unlocked even)));
       done = λ none. absurd (omega (arith, locked, ap (count k) locks_same, ap (λ (hs : List HeldNode). count k (held_slots hs)) none));
     };
     seen = seat.seen;
@@ -166,7 +212,7 @@ module _ (z : Layout) (m : Memory) (vs : List View) (g : Meaning) (rule : Rule z
     tree = seat.tree;
     locks = λ j held. seat.locks j (subst (λ xs. 0 < count j xs) locks_same held);
     loaded = record {
-      nodes = every_mapped (NodeRight (λ j. m (Node Mark j)) (λ s j. m (Node (Head s) j)) (λ d. m (Entry Number d))) (NodeRight (λ j. m' (Node Mark j)) (λ s j. m (Node (Head s) j)) (λ d. m (Entry Number d)))
+      nodes = every_mapped (IsNodeAt m) (IsNodeAt m')
           (mark_known k 1) v.held.nodes (λ h right. node_now h (eqb h.node k) refl right) seat.loaded.nodes;
       nexts = nexts_back z m vs g rule i v at v.counts nodes v.held.nexts v.reading.place v.reading.links locks_same;
     };
@@ -180,27 +226,34 @@ module _ (z : Layout) (m : Memory) (vs : List View) (g : Meaning) (rule : Rule z
     };
     pending = every_map (IsPending z (λ s j. m (Node (Head s) j)) (λ d. m (Entry Number d)) g.bundles.number v) (IsPending z (λ s j. m (Node (Head s) j)) (λ d. m (Entry Number d)) g.bundles.number w) v.update.pending
         (λ d old. (old.0, old.1, record { node = old.2.node; side = old.2.side; there = old.2.there; is = old.2.is; some = old.2.some; of = subst (λ xs. 0 < count old.2.node xs) (sym works_same) old.2.of })) seat.pending;
-    place = place_known z m vs g rule i k 1 v at v.counts v.reading.place seat.place;
+    place = place_back z m vs g rule i v at v.counts nodes v.held.nexts v.reading.place v.reading.links locks_same v.reading.place seat.place;
+    filled = every_filled m m' v.free v.free v.update v.update v.reading.filled (λ y is. is) (node_apart m v.free v.update Mark k 1 (unfree i v at)) seat.filled;
     links = links_back z m vs g rule i v at v.counts nodes v.held.nexts v.reading.place v.reading.links locks_same;
   }
 
-  node_apart : (u : View) (h : HeldNode) → Beside vs i u → 0 < lock_count h.node u → h.node ≡ k → ⊥
-  node_apart u h beside held is =
+  holder_apart : (u : View) (h : HeldNode) → Beside vs i u → 0 < lock_count h.node u → h.node ≡ k → ⊥
+  holder_apart u h beside held is =
       omega (arith, locked_apart z m vs g rule i k v u at beside locked, subst (λ n. 0 < lock_count n u) is held)
 
   other_now : (u : View) → Beside vs i u → SeatRight z m g u → SeatRight z m' g u
   other_now u beside of = record {
     layout = of.layout;
-    section = record { section = of.section.section; announced = of.section.announced; outside = of.section.outside; done = of.section.done };
+    section = record { section = of.section.section; announced = of.section.announced; outside = of.section.outside; unlocked = of.section.unlocked; done = of.section.done };
     seen = of.seen;
     update = of.update;
     version = of.version;
     tree = of.tree;
     locks = of.locks;
     loaded = record {
-      nodes = every_named (λ (h : HeldNode). h.node) (NodeRight (λ j. m (Node Mark j)) (λ s j. m (Node (Head s) j)) (λ d. m (Entry Number d)))
-          (NodeRight (λ j. m' (Node Mark j)) (λ s j. m (Node (Head s) j)) (λ d. m (Entry Number d))) u.held.nodes
-          (λ h held is. (IfSome_then h.mark is.0 (λ y known. node_other m Mark Mark k h.node 1 (node_apart u h beside held) ∙ known), is.1, is.2)) of.loaded.nodes;
+      nodes = every_named (λ (h : HeldNode). h.node) (IsNodeAt m)
+          (IsNodeAt m') u.held.nodes
+          (λ h held is. record {
+            key = is.key;
+            val = is.val;
+            mark = IfSome_then h.mark is.mark (λ y known. node_other m Mark Mark k h.node 1 (holder_apart u h beside held) ∙ known);
+            left = is.left;
+            right = is.right;
+          }) of.loaded.nodes;
       nexts = of.loaded.nexts;
     };
     marks = record {
@@ -213,6 +266,7 @@ module _ (z : Layout) (m : Memory) (vs : List View) (g : Meaning) (rule : Rule z
     };
     pending = of.pending;
     place = of.place;
+    filled = every_filled m m' u.free u.free u.update u.update u.reading.filled (λ y is. is) (node_apart m u.free u.update Mark k 1 (unfree beside.place u beside.at)) of.filled;
     links = of.links;
   }
 

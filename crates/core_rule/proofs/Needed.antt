@@ -25,7 +25,7 @@ use Rattle.key_map.proofs.Counting.{has-count, count-append}
 use Rattle.index_words.proofs.Store.{word_there}
 use Rattle.core_grace.specs.Batches.{is_number}
 use Rattle.core_grace.specs.Holds.{HoldsNode, held_slots, listed, tree_slots, work_nodes}
-use Rattle.core_rule.specs.Locks.{HeadRight, SideRight, NodeRight}
+use Rattle.core_rule.specs.Locks.{HeadRight, SideRight, IsNodeAt}
 use Rattle.core_rule.specs.Readers.{IsReachable, IsLocked}
 use Rattle.core_rule.specs.Needs.{is_stamp}
 use Rattle.core_rule.specs.LoadMoves.{is_above, locks}
@@ -173,21 +173,21 @@ record NodeReady (m : Memory) (side : Side) (k e : ℕ) (hs : List HeldNode) : T
   unmarked : m (Node Mark k) ≡ 0
   head : HeadReady m (m (Node (Head side) k)) e
 
-side_right : (m : Memory) (side : Side) (h : HeldNode) → NodeRight (λ j. m (Node Mark j)) (λ s j. m (Node (Head s) j)) (λ d. m (Entry Number d)) h
+side_right : (m : Memory) (side : Side) (h : HeldNode) → IsNodeAt m h
     → SideRight (m (Node (Head side) h.node)) (λ d. m (Entry Number d)) (side_of side h)
-side_right m Left h right = right.1
-side_right m Right h right = right.2
+side_right m Left h right = right.left
+side_right m Right h right = right.right
 
 node_ready : (m : Memory) (side : Side) (k e : ℕ) (hs : List HeldNode) (o : Option HeldNode) → find (λ (y : HeldNode). eqb y.node k) hs ≡ o
-    → Every (NodeRight (λ j. m (Node Mark j)) (λ s j. m (Node (Head s) j)) (λ d. m (Entry Number d))) hs → is_ready m side e o ≡ true → NodeReady m side k e hs
+    → Every (IsNodeAt m) hs → is_ready m side e o ≡ true → NodeReady m side k e hs
 node_ready m side k e hs None found all is = cc
 node_ready m side k e hs (Some h) found all is =
-    let held = found_held (NodeRight (λ j. m (Node Mark j)) (λ s j. m (Node (Head s) j)) (λ d. m (Entry Number d))) k h hs all found in
+    let held = found_held (IsNodeAt m) k h hs all found in
     let parts = and_parts (is_number 0 h.mark) (is_next_of m e (side_of side h).head) is in
     record {
       locked = held.locked;
-      unmarked = ap (λ n. m (Node Mark n)) (sym held.same) ∙ subst (λ (f : Option ℕ). IfSome f (λ x. m (Node Mark h.node) ≡ x)) (number_of_is 0 h.mark parts.0) held.known.0;
-      head = subst (λ n. HeadReady m (m (Node (Head side) n)) e) held.same (head_ready m (m (Node (Head side) h.node)) e (side_of side h).head (side_right m side h held.known) parts.1);
+      unmarked = ap (λ n. m (Node Mark n)) (sym held.same) ∙ subst (λ (f : Option ℕ). IfSome f (λ x. m (Node Mark h.node) ≡ x)) (number_of_is 0 h.mark parts.0) held.known.mark;
+      head = subst (λ n. HeadReady m (m (Node (Head side) n)) e) held.same (head_ready m (m (Node (Head side) h.node)) e (side_of side h).head (side_right m side h held.known).head parts.1);
     }
 
 -- what a prepare needs

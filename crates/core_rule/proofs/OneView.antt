@@ -1,5 +1,6 @@
 -- Moves of one view's slots that keep the rule.
 use Rattle.std.proofs.Common.{◌≡◌, ℕ, ◌<◌, ◌≤◌, cond, List, [], ◌∷◌, length, Bool, true, false, eqb, set, arith, refl, ap, ◌∙◌, sym, subst, inl, inr, Option, Some, None}
+use Rattle.std.specs.Prelude.{IfSome}
 use Rattle.std.specs.List.{All}
 use Rattle.std.proofs.lemmas.List.{set-get_or}
 use Rattle.std.proofs.lemmas.Bool.{and_parts, eq-eqb, eqb-true}
@@ -7,12 +8,13 @@ use Rattle.index_words.specs.declared.layout.Layout.{Layout}
 use Rattle.index_words.specs.declared.view.View.{View}
 use Rattle.index_words.specs.declared.view.slots.Slots.{Slots}
 use Rattle.index_words.specs.declared.view.slots.Looks.{Looks}
+use Rattle.index_words.specs.declared.view.reading.Reading.{Reading}
 use Rattle.index_words.specs.declared.view.update.Updating.{Updating}
 use Rattle.index_words.specs.declared.word.Field.TheVariants.{Mark}
-use Rattle.index_words.specs.declared.word.Word.TheVariants.{Section, Announced, Node}
+use Rattle.index_words.specs.declared.word.Word.TheVariants.{Stamp, Section, Announced, Node}
 use Rattle.index_words.specs.Views.{no_slots, no_looks}
 use Rattle.index_words.specs.Words.{Memory}
-use Rattle.key_map.specs.Lists.{count, IsItem}
+use Rattle.key_map.specs.Lists.{count, Every, IsItem}
 use Rattle.index_words.proofs.Seats.{sum_kept, at_item, all_moved}
 use Rattle.key_map.proofs.Counting.{count-append}
 use Rattle.core_grace.specs.Sections.{is_even}
@@ -26,10 +28,12 @@ use Rattle.core_rule.specs.Histories.{HistoryRight, place_count, calls_left}
 use Rattle.core_rule.specs.SectionRule.{IsIdle, SectionRight}
 use Rattle.core_rule.specs.Locks.{lock_count, MarksRight}
 use Rattle.core_rule.specs.BundleRule.{IsPendingAt, pending_count}
+use Rattle.core_rule.specs.FilledRule.{FilledRight}
 use Rattle.core_rule.specs.SeatRule.{SeatRight}
 use Rattle.core_rule.specs.Rule.{Rule}
+use Rattle.core_rule.specs.LinkLaw.{IsRead}
 use Rattle.core_rule.proofs.Frames.{live_moved, pending_moved, bundle_weaker, knows_moved}
-use Rattle.core_rule.proofs.Idle.{idle_none, nameless_idle, section_of, number_low, number_apart}
+use Rattle.core_rule.proofs.Idle.{idle_none, outside_idle, nameless_idle, section_of, number_low, number_apart}
 
 -- putting an item at its own place
 pub set_same : {X : Type 0} (xs : List X) (i : ℕ) (x : X) → IsItem xs i x → set xs i x ≡ xs
@@ -58,17 +62,24 @@ module _ (z : Layout) (m : Memory) (vs : List View) (g : Meaning) where
   abbrev pub seat_at : (i : ℕ) (v : View) → IsItem vs i v → Rule z m vs g → Seat v
   seat_at i v at rule = at_item Seat vs i v at rule.seats
 
+  -- a number that is read is at most the stamp
+  pub read_past : Rule z m vs g → (n : ℕ) → IsRead (m Stamp) vs n → n ≤ m Stamp
+  read_past rule n (inl is) = omega (arith, is)
+  read_past rule n (inr by) = subst (λ (o : Option ℕ). IfSome o (λ t. t ≤ m Stamp)) by.reads (seat_at by.seat by.view by.at rule).version.past
+
   slots_section : (v : View) (f r b : Slots) (l : Looks) → SectionRight (λ n. m (Section n)) (λ n. m (Announced n)) v
       → SectionRight (λ n. m (Section n)) (λ n. m (Announced n)) (with_slots v f r b l)
   slots_section v f r b l right = record {
     section = right.section;
     announced = right.announced;
-    outside = λ even. let idle = right.outside even in record { reading = idle.reading; held = idle.held; update = idle.update };
+    outside = right.outside;
+    unlocked = right.unlocked;
     done = right.done;
   }
 
-  slots_seat : (v : View) (f r b : Slots) (l : Looks) → MarksRight (λ k. m (Node Mark k)) (with_slots v f r b l) → Seat v → Seat (with_slots v f r b l)
-  slots_seat v f r b l marks seat = record {
+  slots_seat : (v : View) (f r b : Slots) (l : Looks) → MarksRight (λ k. m (Node Mark k)) (with_slots v f r b l) → Every (FilledRight m f v.update) v.reading.filled
+      → Seat v → Seat (with_slots v f r b l)
+  slots_seat v f r b l marks filled seat = record {
     layout = seat.layout;
     section = slots_section v f r b l seat.section;
     seen = seat.seen;
@@ -80,15 +91,16 @@ module _ (z : Layout) (m : Memory) (vs : List View) (g : Meaning) where
     marks = marks;
     pending = seat.pending;
     place = seat.place;
+    filled = filled;
     links = seat.links;
   }
 
   -- where a view moves only its slots, and frees no less, the rules on slots and on marks are all that is left
   pub moved_slots : (i : ℕ) (v : View) (f r b : Slots) (l : Looks) → IsItem vs i v → Rule z m vs g
       → ((k : ℕ) → count k v.free.nodes ≤ count k f.nodes) → MarksRight (λ k. m (Node Mark k)) (with_slots v f r b l)
-      → SlotRule z (linked_by g) HoldsNode (HoldsEntry g.bundles) (set vs i (with_slots v f r b l))
+      → Every (FilledRight m f v.update) v.reading.filled → SlotRule z (linked_by g) HoldsNode (HoldsEntry g.bundles) (set vs i (with_slots v f r b l))
       → Rule z m (set vs i (with_slots v f r b l)) g
-  moved_slots i v f r b l at rule more marks slots =
+  moved_slots i v f r b l at rule more marks filled slots =
       let w : View = with_slots v f r b l in
       record {
         numbers = λ n. sum_kept (number_count n) vs i v w at refl ∙ rule.numbers n;
@@ -100,7 +112,7 @@ module _ (z : Layout) (m : Memory) (vs : List View) (g : Meaning) where
         bundles = λ k live side. bundle_weaker _ _ _ _ (IsPendingAt vs k) (IsPendingAt (set vs i w) k) _ _
             (λ e. pending_moved vs i k e v w at refl (λ works. works)) (rule.bundles k (live_moved z vs i k v w at (more k) live) side);
         single = λ e. omega (arith, sum_kept (pending_count e) vs i v w at refl, rule.single e);
-        seats = all_moved Seat Seat vs i v w at rule.seats (slots_seat v f r b l marks (seat_at i v at rule)) (λ u beside of. of);
+        seats = all_moved Seat Seat vs i v w at rule.seats (slots_seat v f r b l marks filled (seat_at i v at rule)) (λ u beside of. of);
       }
 
   holds_slots : (v : View) (f r b : Slots) (l : Looks) → HoldsFrom z (linked_by g) HoldsNode (HoldsEntry g.bundles) v (with_slots v f r b l)
@@ -130,11 +142,16 @@ module _ (z : Layout) (m : Memory) (vs : List View) (g : Meaning) where
   idle_taken : (v : View) (k : ℕ) → IsIdle v → 0 < count k v.update.taken → ⊥
   idle_taken v k idle some = omega (arith, some, ap (λ (u : Updating). count k u.taken) idle.update)
 
+  -- an idle view has filled nothing that it knows
+  idle_filled : (f : Slots) (v : View) → IsIdle v → Every (FilledRight m f v.update) v.reading.filled
+  idle_filled f v idle = subst (λ (r : Reading). Every (FilledRight m f v.update) r.filled) (sym idle.reading) tt
+
   taken_by : (i : ℕ) (v : View) (b : Bool) → is_empty v.batch ≡ b → IsItem vs i v → Rule z m vs g → IsIdle v
       → Rule z m (set vs i (cond b (record v { retired = no_slots; batch = v.retired; grace = no_looks }) v)) g
   taken_by i v true empty at rule idle =
       moved_slots i v v.free no_slots v.retired no_looks at rule (λ k. omega arith)
       (record { retired = λ k some. absurd (omega (arith, some)); batch = λ k some. idle_marked v k (seat_at i v at rule) idle some; taken = λ k some. absurd (idle_taken v k idle some) })
+      (idle_filled v.free v idle)
       (take_batch z (linked_by g) HoldsNode (HoldsEntry g.bundles) vs i v (with_slots v v.free no_slots v.retired no_looks) at rule.slots (batch_none v.batch empty) refl refl refl refl
       (holds_slots v v.free no_slots v.retired no_looks) (keeps_slots v v.free no_slots v.retired no_looks))
   taken_by i v false empty at rule idle = subst (λ ws. Rule z m ws g) (sym (set_same vs i v at)) rule
@@ -161,6 +178,7 @@ module _ (z : Layout) (m : Memory) (vs : List View) (g : Meaning) where
       let f : Slots = both v.free v.batch in
       moved_slots i v f v.retired no_slots no_looks at rule (λ k. omega (arith, count-append k v.free.nodes v.batch.nodes))
       (record { retired = λ k some. inl (idle_marked v k (seat_at i v at rule) idle some); batch = λ k some. absurd (omega (arith, some)); taken = (seat_at i v at rule).marks.taken })
+      (idle_filled f v idle)
       (free_batch z (linked_by g) HoldsNode (HoldsEntry g.bundles) vs i v (with_slots v f v.retired no_slots no_looks) at rule.slots (none_holds i v at rule idle done) refl refl refl refl (λ k h. h) (λ e h. h)
       (keeps_slots v f v.retired no_slots no_looks))
   settled_by i v false done at rule idle = subst (λ ws. Rule z m ws g) (sym (set_same vs i v at)) rule
@@ -183,9 +201,10 @@ module _ (z : Layout) (m : Memory) (vs : List View) (g : Meaning) where
       let a : ℕ → ℕ = λ n. m (Announced n) in
       let marks = (seat_at i v at rule).marks in
       moved_slots i v v.free v.retired v.batch l at rule (λ k. omega arith) (record { retired = marks.retired; batch = marks.batch; taken = marks.taken })
+      (seat_at i v at rule).filled
       (quiet z (linked_by g) HoldsNode (HoldsEntry g.bundles) vs i v w at rule.slots refl refl refl (holds_slots v v.free v.retired v.batch l) (keeps_slots v v.free v.retired v.batch l)
       (λ known. look_row z (linked_by g) HoldsNode (HoldsEntry g.bundles) v w pass (m (Section pass)) (λ is. absurd (not_both pass v.number is other)) (λ is even. absurd (not_both pass v.number is other)) known)
       (λ u beside known.
       let right : SectionRight s a u = (seat_at beside.place u beside.at rule).section in
       look_row z (linked_by g) HoldsNode (HoldsEntry g.bundles) v u pass (m (Section pass)) (λ is. sym (section_of s a u pass right is))
-      (λ is even. idle_none g.bundles v.batch u (right.outside (ap is_even (sym (section_of s a u pass right is)) ∙ even))) known))
+      (λ is even. idle_none g.bundles v.batch u (outside_idle s a u right (ap is_even (sym (section_of s a u pass right is)) ∙ even))) known))

@@ -17,8 +17,10 @@ use Rattle.index_words.specs.declared.view.update.Held.{Held}
 use Rattle.index_words.specs.declared.view.update.HeldNode.{HeldNode}
 use Rattle.index_words.specs.declared.view.update.Updating.{Updating}
 use Rattle.index_words.specs.declared.word.Field.TheVariants.{Mark, Head}
+use Rattle.index_words.specs.declared.word.Part.{Part}
 use Rattle.index_words.specs.declared.word.Part.TheVariants.{Child, Stamp as Number, Next}
-use Rattle.index_words.specs.declared.word.Word.TheVariants.{Stamp, Node, Entry}
+use Rattle.index_words.specs.declared.word.Word.{Word}
+use Rattle.index_words.specs.declared.word.Word.TheVariants.{Stamp, Section, Announced, Node, Entry}
 use Rattle.index_words.specs.Words.{Memory, written, same_side}
 use Rattle.key_map.specs.Lists.{count, Every, IsItem}
 use Rattle.index_words.proofs.Seats.{Beside, sum_kept, one_term, all_moved}
@@ -28,18 +30,20 @@ use Rattle.core_grace.proofs.RuleMoves.{every_push}
 use Rattle.core_links.specs.Bundle.{no_number}
 use Rattle.core_rule.specs.Meanings.{Meaning}
 use Rattle.core_rule.specs.Numbers.{number_count}
-use Rattle.core_rule.specs.Locks.{lock_count, SideRight, NodeRight, NextRight, IsTakenOut}
+use Rattle.core_rule.specs.Locks.{lock_count, SideRight, IsNodeAt, IsNextAt, IsTakenOut}
 use Rattle.core_rule.specs.BundleRule.{IsLive, IsHeadOf, IsPending, pending_count, shown}
-use Rattle.core_rule.specs.Readers.{IsReachable, IsLocked, StandsAt, IsPassed, PlaceRight, SourceRight, LinkRight}
+use Rattle.core_rule.specs.Readers.{IsReachable, IsLocked, IsWatched, StandsAt, IsPassed, PlaceRight, EntryRight, SourceRight, LinkRight}
+use Rattle.core_rule.specs.FilledRule.{IsOwnSlotWord}
 use Rattle.core_rule.specs.SeatRule.{TreeRight, SeatRight}
 use Rattle.core_rule.specs.UpdateMoves.{head_known, known_at, in_front, unnumbered, prepared, prepared_meaning}
 use Rattle.core_rule.specs.Rule.{Rule}
 use Rattle.core_rule.specs.LinkLaw.{Kept}
 use Rattle.core_rule.proofs.Frames.{every_map, every_listed, every_named}
-use Rattle.core_rule.proofs.OneView.{history_kept, seat_at}
-use Rattle.core_rule.proofs.Owned.{reachable_live, free_entry_some}
+use Rattle.core_rule.proofs.Filled.{node_other, every_filled, node_apart}
+use Rattle.core_rule.proofs.Without.{count-without-le}
+use Rattle.core_rule.proofs.OneView.{history_kept, seat_at, read_past}
+use Rattle.core_rule.proofs.Owned.{reachable_live, free_entry_some, free_not_live}
 use Rattle.core_rule.proofs.TreeFrames.{SameNode, version_frame, reads_frame, linked_live, read_live}
-use Rattle.core_rule.proofs.Fills.{node_other}
 use Rattle.core_rule.proofs.Fronts.{count-fronted, numbered_other, numbered_new}
 use Rattle.core_rule.proofs.Locked.{locked_live, locked_apart}
 use Rattle.core_rule.proofs.Prepare.{Ready, same_locks, same_work, prepared_slots}
@@ -50,16 +54,36 @@ every_mapped P Q f [] step all = tt
 every_mapped P Q f (x ∷ xs) step all = (step x all.0, every_mapped P Q f xs step all.1)
 
 -- the heads that are known of a locked node once one of them is stored
-node_now : (m : Memory) (side : Side) (k e : ℕ) (h : HeldNode) (c : Bool) → eqb h.node k ≡ c
-    → NodeRight (λ j. m (Node Mark j)) (λ s j. m (Node (Head s) j)) (λ d. m (Entry Number d)) h
-    → NodeRight (λ j. m (Node Mark j)) (λ s j. written m (Node (Head side) k) e (Node (Head s) j)) (λ d. m (Entry Number d))
-    (cond c (head_known side (record { entry = e; stamp = None }) h) h)
-node_now m Left k e h true is right = (right.0, (ap (λ b. cond b e (m (Node (Head Left) h.node))) is, tt), right.2)
-node_now m Right k e h true is right = (right.0, right.1, (ap (λ b. cond b e (m (Node (Head Right) h.node))) is, tt))
-node_now m Left k e h false is right =
-    (right.0, subst (λ x. SideRight x (λ d. m (Entry Number d)) h.left) (sym (ap (λ b. cond b e (m (Node (Head Left) h.node))) is)) right.1, right.2)
-node_now m Right k e h false is right =
-    (right.0, right.1, subst (λ x. SideRight x (λ d. m (Entry Number d)) h.right) (sym (ap (λ b. cond b e (m (Node (Head Right) h.node))) is)) right.2)
+node_now : (m : Memory) (side : Side) (k e : ℕ) (h : HeldNode) (c : Bool) → eqb h.node k ≡ c → IsNodeAt m h
+    → IsNodeAt (written m (Node (Head side) k) e) (cond c (head_known side (record { entry = e; stamp = None }) h) h)
+node_now m Left k e h true is right = record {
+  key = right.key;
+  val = right.val;
+  mark = right.mark;
+  left = record { head = (ap (λ b. cond b e (m (Node (Head Left) h.node))) is, tt) };
+  right = right.right;
+}
+node_now m Right k e h true is right = record {
+  key = right.key;
+  val = right.val;
+  mark = right.mark;
+  left = right.left;
+  right = record { head = (ap (λ b. cond b e (m (Node (Head Right) h.node))) is, tt) };
+}
+node_now m Left k e h false is right = record {
+  key = right.key;
+  val = right.val;
+  mark = right.mark;
+  left = subst (λ x. SideRight x (λ d. m (Entry Number d)) h.left) (sym (ap (λ b. cond b e (m (Node (Head Left) h.node))) is)) right.left;
+  right = right.right;
+}
+node_now m Right k e h false is right = record {
+  key = right.key;
+  val = right.val;
+  mark = right.mark;
+  left = right.left;
+  right = subst (λ x. SideRight x (λ d. m (Entry Number d)) h.right) (sym (ap (λ b. cond b e (m (Node (Head Right) h.node))) is)) right.right;
+}
 
 module _ (z : Layout) (m : Memory) (vs : List View) (g : Meaning) (rule : Rule z m vs g) (i k e : ℕ) (side : Side) (v : View) (at : IsItem vs i v) (ready : Ready m v side k e) where
   abbrev stamp : ℕ → ℕ
@@ -125,6 +149,9 @@ module _ (z : Layout) (m : Memory) (vs : List View) (g : Meaning) (rule : Rule z
       ],
     )
 
+    watched_before : (n : ℕ) → IsWatched u' n → IsWatched u n
+    watched_before n watched = elim watched as (λ _. IsWatched u n) [ inl locked ↦ inl (subst (λ xs. 0 < count n xs) locks locked) | inr reads ↦ inr reads ]
+
     passed_by : (n d : ℕ) (o : Option ℕ) → IfSome o (λ t. t ≤ m Stamp) → IfSome o (λ t. IsLocked u n ⊎ (t < g.bundles.number d)) → IfSome o (λ t. IsLocked u' n ⊎ (t < number' d))
     passed_by n d None past old = tt
     passed_by n d (Some t) past (inl locked) = inl (subst (λ xs. 0 < count n xs) (sym locks) locked)
@@ -159,19 +186,29 @@ module _ (z : Layout) (m : Memory) (vs : List View) (g : Meaning) (rule : Rule z
     place_now Nowhere right = tt
     place_now (AtNode n key) right = tt
     place_now (Gap n s) right = tt
-    place_now (AtEntry n s entry found) right =
-        (reach n right.0, λ above. stands_by n entry found (g.bundles.bundle s n) (same_side s side && eqb n k) (right.1 above))
+    place_now (AtEntry n s entry found) right = record {
+      reach = reach n right.reach;
+      stands = λ above watched. stands_by n entry found (g.bundles.bundle s n) (same_side s side && eqb n k) (right.stands above (watched_before n watched));
+    }
 
-    source_now : (n c : ℕ) (s : Side) (o : Option ℕ) (source : LinkSource) → IfSome o (λ t. t ≤ m Stamp) → IsLive z vs n
-        → SourceRight (λ d. m (Entry Child d)) g.bundles.number (g.bundles.bundle s n) o c source
-        → SourceRight (λ d. m (Entry Child d)) number' (in_front g.bundles.bundle side k e s n) o c source
-    source_now n c s o (Plain tag above below) past live right = tt
-    source_now n c s None (Bundle entry) past live right = right
-    source_now n c s (Some t) (Bundle entry) past live right = ((selects z m vs g rule i k e side v at ready) t n s past live ∙ right.0, right.1)
+    entry_now : (n c entry : ℕ) (s : Side) (o : Option ℕ) → IfSome o (λ t. t ≤ m Stamp) → IsLive z vs n
+        → EntryRight (λ d. m (Entry Child d)) g.bundles.number (g.bundles.bundle s n) o c entry
+        → EntryRight (λ d. m (Entry Child d)) number' (in_front g.bundles.bundle side k e s n) o c entry
+    entry_now n c entry s None past live right = right
+    entry_now n c entry s (Some t) past live right = ((selects z m vs g rule i k e side v at ready) t n s past live ∙ right.0, right.1)
+
+    source_now : (n c : ℕ) (s : Side) (source : LinkSource)
+        → SourceRight (IsReachable z u n) (λ d. m (Entry Child d)) g.bundles.number (g.bundles.bundle s n) u.reading.section c source
+        → SourceRight (IsReachable z u' n) (λ d. m (Entry Child d)) number' (in_front g.bundles.bundle side k e s n) u.reading.section c source
+    source_now n c s (Plain tag above below) right = tt
+    source_now n c s (Bundle entry) right = record {
+      reach = reach n right.reach;
+      selected = entry_now n c entry s u.reading.section seat.version.past (reachable_live z vs g rule.slots j n u of right.reach) right.selected;
+    }
 
     links_now : Every (LinkRight z (λ d. m (Entry Child d)) g'.bundles u') u.reading.links
     links_now = every_map (LinkRight z (λ d. m (Entry Child d)) g.bundles u) (LinkRight z (λ d. m (Entry Child d)) g'.bundles u') u.reading.links
-        (λ l old. (reach l.node old.0, source_now l.node l.child l.side u.reading.section l.source seat.version.past (reachable_live z vs g rule.slots j l.node u of old.0) old.1)) seat.links
+        (λ l old. source_now l.node l.child l.side l.source old) seat.links
 
     tree_now : TreeRight m' g' u.reading.section u.reading.tree
     tree_now = reads_frame m m' g.bundles g'.bundles g.updates (m Stamp) g.tree u.reading.tree u.reading.section
@@ -180,9 +217,9 @@ module _ (z : Layout) (m : Memory) (vs : List View) (g : Meaning) (rule : Rule z
     entries_more : (n x : ℕ) → 0 < count x (entries_of g.bundles n) → 0 < count x (entries_of g'.bundles n)
     entries_more n x here = omega (arith, count-fronted g.bundles side k e n x, here)
 
-    nexts_now : Every (NextRight (λ d. m (Entry Next d)) g'.bundles h.nodes) u.held.nexts
-    nexts_now = every_map (NextRight (λ d. m (Entry Next d)) g.bundles u.held.nodes) (NextRight (λ d. m (Entry Next d)) g'.bundles h.nodes) u.held.nexts
-        (λ l old. (old.0, subst (λ xs. 0 < count l.node xs) (sym locks) old.1, entries_more l.node l.entry old.2)) seat.loaded.nexts
+    nexts_now : Every (IsNextAt m g'.bundles h.nodes) u.held.nexts
+    nexts_now = every_map (IsNextAt m g.bundles u.held.nodes) (IsNextAt m g'.bundles h.nodes) u.held.nexts
+        (λ l old. record { is = old.is; locked = subst (λ xs. 0 < count l.node xs) (sym locks) old.locked; here = entries_more l.node l.entry old.here; found = old.found }) seat.loaded.nexts
 
     pending_now : Every (IsPending z head' stamp number' u) u.update.pending
     pending_now = every_listed (IsPending z head stamp g.bundles.number u) (IsPending z head' stamp number' u) u.update.pending
@@ -198,6 +235,29 @@ module _ (z : Layout) (m : Memory) (vs : List View) (g : Meaning) (rule : Rule z
   held_there : v.held.nodes ≡ [] → ⊥
   held_there none = lock_there v.held.nodes ready.locked none
 
+  -- the node is not free
+  unfree : (j : ℕ) (u : View) → IsItem vs j u → 0 < count k u.free.nodes → ⊥
+  unfree j u of free = free_not_live z vs g rule.slots j k u of free live_k
+
+  -- a word of the seat's slots was one before: the entry was free, and is pending now
+  entry_before : (p : Part) (d : ℕ) → (0 < count d v'.free.entries) ⊎ ((v'.update.raised ≡ None) × (0 < count d v'.update.pending)) → IsOwnSlotWord v.free v.update (Entry p d)
+  entry_before p d (inl free) = inl (omega (arith, free, count-without-le d e v.free.entries))
+  entry_before p d (inr yet) =
+      elim (eqb_tells d e) as (λ _. IsOwnSlotWord v.free v.update (Entry p d)) [
+        | inl same ↦ inl (subst (λ x. 0 < count x v.free.entries) (sym same.1) ready.free)
+        | inr other ↦ inr (yet.0, omega (arith, yet.1, pushed_other d other.1))
+      ]
+    where
+      pushed_other : (x : ℕ) → (x ≡ e → ⊥) → count x v'.update.pending ≡ count x v.update.pending
+      pushed_other x other = (pending_same z m vs g rule i k e side v at ready) x other
+
+  own_before : (w : Word) → IsOwnSlotWord v'.free v'.update w → IsOwnSlotWord v.free v.update w
+  own_before (Node f j) is = is
+  own_before (Entry p d) is = entry_before p d is
+  own_before Stamp is = absurd is
+  own_before (Section n) is = absurd is
+  own_before (Announced n) is = absurd is
+
   own_now : SeatRight z m' g' v'
   own_now =
       let h : Held = v'.held in
@@ -206,7 +266,8 @@ module _ (z : Layout) (m : Memory) (vs : List View) (g : Meaning) (rule : Rule z
         section = record {
           section = own.section.section;
           announced = own.section.announced;
-          outside = λ even. absurd (held_there (own.section.outside even).held);
+          outside = λ even. absurd (held_there (own.section.unlocked even));
+          unlocked = λ even. absurd (held_there (own.section.unlocked even));
           done = λ none. absurd (lock_there v'.held.nodes (subst (λ xs. 0 < count k xs) (sym locks_same) ready.locked) none);
         };
         seen = own.seen;
@@ -215,7 +276,7 @@ module _ (z : Layout) (m : Memory) (vs : List View) (g : Meaning) (rule : Rule z
         tree = tree_now i v at h v'.update v'.free locks_same work_same;
         locks = λ j held. own.locks j (subst (λ xs. 0 < count j xs) locks_same held);
         loaded = record {
-          nodes = every_mapped (NodeRight (λ j. m (Node Mark j)) head stamp) (NodeRight (λ j. m (Node Mark j)) head' stamp)
+          nodes = every_mapped (IsNodeAt m) (IsNodeAt m')
               (known_at k side (record { entry = e; stamp = None })) v.held.nodes (λ x is. node_now m side k e x (eqb x.node k) refl is) own.loaded.nodes;
           nexts = nexts_now i v at h v'.update v'.free locks_same work_same;
         };
@@ -236,6 +297,7 @@ module _ (z : Layout) (m : Memory) (vs : List View) (g : Meaning) (rule : Rule z
             )) own.pending)
             (ready.unnumbered, numbered_new g.bundles.number e ∙ sym (ap shown ready.raised), new_head);
         place = place_now i v at h v'.update v'.free locks_same work_same v.reading.place own.place;
+        filled = every_filled m m' v.free v'.free v.update v'.update v.reading.filled own_before (node_apart m v'.free v'.update (Head side) k e (unfree i v at)) own.filled;
         links = links_now i v at h v'.update v'.free locks_same work_same;
       }
     where
@@ -258,31 +320,34 @@ module _ (z : Layout) (m : Memory) (vs : List View) (g : Meaning) (rule : Rule z
           stored true false p q = cc
           stored false b p q = cc
 
-  node_apart : (u : View) (h : HeldNode) → Beside vs i u → 0 < lock_count h.node u → h.node ≡ k → ⊥
-  node_apart u h beside held same =
+  holder_apart : (u : View) (h : HeldNode) → Beside vs i u → 0 < lock_count h.node u → h.node ≡ k → ⊥
+  holder_apart u h beside held same =
       omega (arith, locked_apart z m vs g rule i k v u at beside ready.locked, subst (λ n. 0 < lock_count n u) same held)
 
   other_now : (u : View) → Beside vs i u → SeatRight z m g u → SeatRight z m' g' u
   other_now u beside of = record {
     layout = of.layout;
-    section = record { section = of.section.section; announced = of.section.announced; outside = of.section.outside; done = of.section.done };
+    section = record { section = of.section.section; announced = of.section.announced; outside = of.section.outside; unlocked = of.section.unlocked; done = of.section.done };
     seen = of.seen;
     update = of.update;
     version = of.version;
     tree = tree_now beside.place u beside.at u.held u.update u.free refl refl;
     locks = of.locks;
     loaded = record {
-      nodes = every_named (λ (h : HeldNode). h.node) (NodeRight (λ j. m (Node Mark j)) head stamp) (NodeRight (λ j. m (Node Mark j)) head' stamp) u.held.nodes
-          (λ h held is. (
-            is.0,
-            subst (λ x. SideRight x stamp h.left) (sym (node_other m (Head side) (Head Left) k h.node e (node_apart u h beside held))) is.1,
-            subst (λ x. SideRight x stamp h.right) (sym (node_other m (Head side) (Head Right) k h.node e (node_apart u h beside held))) is.2,
-          )) of.loaded.nodes;
+      nodes = every_named (λ (h : HeldNode). h.node) (IsNodeAt m) (IsNodeAt m') u.held.nodes
+          (λ h held is. record {
+            key = is.key;
+            val = is.val;
+            mark = is.mark;
+            left = subst (λ x. SideRight x stamp h.left) (sym (node_other m (Head side) (Head Left) k h.node e (holder_apart u h beside held))) is.left;
+            right = subst (λ x. SideRight x stamp h.right) (sym (node_other m (Head side) (Head Right) k h.node e (holder_apart u h beside held))) is.right;
+          }) of.loaded.nodes;
       nexts = nexts_now beside.place u beside.at u.held u.update u.free refl refl;
     };
     marks = record { retired = of.marks.retired; batch = of.marks.batch; taken = of.marks.taken };
     pending = pending_now beside.place u beside.at u.held u.update u.free refl refl;
     place = place_now beside.place u beside.at u.held u.update u.free refl refl u.reading.place of.place;
+    filled = every_filled m m' u.free u.free u.update u.update u.reading.filled (λ w is. is) (node_apart m u.free u.update (Head side) k e (unfree beside.place u beside.at)) of.filled;
     links = links_now beside.place u beside.at u.held u.update u.free refl refl;
   }
 
@@ -308,5 +373,5 @@ module _ (z : Layout) (m : Memory) (vs : List View) (g : Meaning) (rule : Rule z
       single = single_now;
       seats = all_moved (SeatRight z m g) (SeatRight z m' g') vs i v v' at rule.seats own_now other_now;
     };
-    same = λ t j s past live live'. sym ((selects z m vs g rule i k e side v at ready) t j s past live);
+    same = λ t j s read live live'. sym ((selects z m vs g rule i k e side v at ready) t j s (read_past z m vs g rule t read) live);
   }

@@ -18,6 +18,7 @@ use Rattle.core_rule.specs.UpdateMoves.{raised_view}
 use Rattle.core_rule.specs.Rule.{Rule}
 use Rattle.core_rule.specs.LinkLaw.{Kept}
 use Rattle.core_rule.proofs.TreeMoved.{MovesTree, meaning_after}
+use Rattle.core_rule.proofs.OneView.{read_past}
 pub use Rattle.core_rule.proofs.RaiseHistory.{CanRaise}
 use Rattle.core_rule.proofs.RaiseHistory.{history_now}
 use Rattle.core_rule.proofs.RaiseNumbers.{selects}
@@ -56,5 +57,5 @@ module _ (z : Layout) (m : Memory) (vs : List View) (g : Meaning) (rule : Rule z
           (own_now z m vs g rule i v u known move tree at can all moves)
           (other_now z m vs g rule i v u known move tree at can all moves);
     };
-    same = λ t k w past live live'. selects z m vs g rule i v u move tree at can moves t k w past live;
+    same = λ t k w read live live'. selects z m vs g rule i v u move tree at can moves t k w (read_past z m vs g rule t read) live;
   }

@@ -25,15 +25,16 @@ use Rattle.core_grace.specs.Slots.{nodes_of, own, is_slot}
 use Rattle.core_trees.specs.NamedTree.{NamedTree}
 use Rattle.core_rule.specs.declared.tree_moves.TreeMove.{TreeMove}
 use Rattle.core_rule.specs.Meanings.{Meaning}
-use Rattle.core_rule.specs.Locks.{NextRight, MarksRight, IsTakenOut}
+use Rattle.core_rule.specs.Locks.{IsNextAt, MarksRight, IsTakenOut}
 use Rattle.core_rule.specs.BundleRule.{IsLive, IsPending, pending_count}
-use Rattle.core_rule.specs.Readers.{IsLocked, StandsAt, IsPassed, PlaceRight, SourceRight, LinkRight}
+use Rattle.core_rule.specs.Readers.{IsReachable, IsLocked, StandsAt, IsPassed, PlaceRight, EntryRight, SourceRight, LinkRight}
 use Rattle.core_rule.specs.SeatRule.{SeatRight}
 use Rattle.core_rule.specs.TreeMoves.{new_entries}
 use Rattle.core_rule.specs.UpdateMoves.{raised_view, raised_numbers, listed_entry, with_added}
 use Rattle.core_rule.specs.Rule.{Rule}
 use Rattle.core_rule.proofs.TreeMoved.{MovesTree, meaning_after}
 use Rattle.core_rule.proofs.Frames.{every_map, every_listed, one_counted}
+use Rattle.core_rule.proofs.Filled.{every_filled, stamp_apart}
 use Rattle.core_rule.proofs.OneView.{seat_at}
 use Rattle.core_rule.proofs.Owned.{reachable_live, free_entry_some}
 use Rattle.core_rule.proofs.Locked.{locked_live}
@@ -184,10 +185,15 @@ module _ (z : Layout) (m : Memory) (vs : List View) (g : Meaning) (rule : Rule z
       ap (λ es. es ++ bundle' Right k) (live_bundle z m vs g rule i v u move tree at moves k Left live)
       ∙ ap (λ es. g.bundles.bundle Left k ++ es) (live_bundle z m vs g rule i v u move tree at moves k Right live)
 
-  nexts_now : (j : ℕ) (y : View) → IsItem vs j y → SeatRight z m g y → Every (NextRight next g'.bundles y.held.nodes) y.held.nexts
+  nexts_now : (j : ℕ) (y : View) → IsItem vs j y → SeatRight z m g y → Every (IsNextAt m g'.bundles y.held.nodes) y.held.nexts
   nexts_now j y of seat =
-      every_map (NextRight next g.bundles y.held.nodes) (NextRight next g'.bundles y.held.nodes) y.held.nexts
-      (λ h is. (is.0, is.1, subst (λ es. 0 < count h.entry es) (sym (entries_same h.node (locked_live z m vs g rule j h.node y of is.1))) is.2)) seat.loaded.nexts
+      every_map (IsNextAt m g.bundles y.held.nodes) (IsNextAt m g'.bundles y.held.nodes) y.held.nexts
+      (λ h is. record {
+        is = is.is;
+        locked = is.locked;
+        here = subst (λ es. 0 < count h.entry es) (sym (entries_same h.node (locked_live z m vs g rule j h.node y of is.locked))) is.here;
+        found = is.found;
+      }) seat.loaded.nexts
 
   -- what was taken out is retired, and is still to be marked
   marks_now : MarksRight (λ k. m (Node Mark k)) v'
@@ -211,7 +217,8 @@ module _ (z : Layout) (m : Memory) (vs : List View) (g : Meaning) (rule : Rule z
     section = record {
       section = own_seat.section.section;
       announced = own_seat.section.announced;
-      outside = λ even. absurd (not_done can.entry v.update can.some (own_seat.section.outside even).update);
+      outside = λ even. absurd (not_done can.entry v.update can.some (own_seat.section.done (own_seat.section.unlocked even)));
+      unlocked = own_seat.section.unlocked;
       done = λ none. absurd (not_done can.entry v.update can.some (own_seat.section.done none));
     };
     seen = own_seen z m vs g rule i v u known move at can all;
@@ -228,6 +235,7 @@ module _ (z : Layout) (m : Memory) (vs : List View) (g : Meaning) (rule : Rule z
     marks = marks_now;
     pending = pending_now;
     place = tt;
+    filled = tt;
     links = tt;
   }
 
@@ -251,23 +259,31 @@ module _ (z : Layout) (m : Memory) (vs : List View) (g : Meaning) (rule : Rule z
   place_now j y Nowhere of past right = tt
   place_now j y (AtNode k key) of past right = tt
   place_now j y (Gap k w) of past right = tt
-  place_now j y (AtEntry k w e found) of past right = (
-    right.0,
-    λ above. subst (λ es. StandsAt stamp es e found (IsPassed number' y k))
-        (sym (live_bundle z m vs g rule i v u move tree at moves k w (reachable_live z vs g rule.slots j k y of right.0)))
-        (stands_now y k e found (g.bundles.bundle w k) past (right.1 above)),
-  )
+  place_now j y (AtEntry k w e found) of past right = record {
+    reach = right.reach;
+    stands = λ above watched. subst (λ es. StandsAt stamp es e found (IsPassed number' y k))
+        (sym (live_bundle z m vs g rule i v u move tree at moves k w (reachable_live z vs g rule.slots j k y of right.reach)))
+        (stands_now y k e found (g.bundles.bundle w k) past (right.stands above watched));
+  }
 
-  source_now : (k c : ℕ) (w : Side) (o : Option ℕ) (source : LinkSource) → IfSome o (λ t. t ≤ s) → IsLive z vs k
-      → SourceRight child g.bundles.number (g.bundles.bundle w k) o c source → SourceRight child number' (bundle' w k) o c source
-  source_now k c w o (Plain tag above below) past live right = tt
-  source_now k c w None (Bundle entry) past live right = right
-  source_now k c w (Some t) (Bundle entry) past live right = (sym (selects z m vs g rule i v u move tree at can moves t k w past live) ∙ right.0, right.1)
+  entry_now : (k c entry : ℕ) (w : Side) (o : Option ℕ) → IfSome o (λ t. t ≤ s) → IsLive z vs k
+      → EntryRight child g.bundles.number (g.bundles.bundle w k) o c entry → EntryRight child number' (bundle' w k) o c entry
+  entry_now k c entry w None past live right = right
+  entry_now k c entry w (Some t) past live right = (sym (selects z m vs g rule i v u move tree at can moves t k w past live) ∙ right.0, right.1)
+
+  source_now : (j k c : ℕ) (w : Side) (y : View) (source : LinkSource) → IsItem vs j y → IfSome y.reading.section (λ t. t ≤ s)
+      → SourceRight (IsReachable z y k) child g.bundles.number (g.bundles.bundle w k) y.reading.section c source
+      → SourceRight (IsReachable z y k) child number' (bundle' w k) y.reading.section c source
+  source_now j k c w y (Plain tag above below) of past right = tt
+  source_now j k c w y (Bundle entry) of past right = record {
+    reach = right.reach;
+    selected = entry_now k c entry w y.reading.section past (reachable_live z vs g rule.slots j k y of right.reach) right.selected;
+  }
 
   pub other_now : (y : View) → Beside vs i y → SeatRight z m g y → SeatRight z m' g' y
   other_now y beside of = record {
     layout = of.layout;
-    section = record { section = of.section.section; announced = of.section.announced; outside = of.section.outside; done = of.section.done };
+    section = record { section = of.section.section; announced = of.section.announced; outside = of.section.outside; unlocked = of.section.unlocked; done = of.section.done };
     seen = seen_more z m vs g rule i v u known move at can all y.history of.seen;
     update = record { raised = IfSome_then y.update.raised of.update.raised (λ r is. (is.0, omega (arith, is.1))); first = of.update.first };
     version = record { past = IfSome_then y.reading.section of.version.past (λ t past. omega (arith, past)); opened = of.version.opened; bare = of.version.bare; there = of.version.there };
@@ -278,6 +294,7 @@ module _ (z : Layout) (m : Memory) (vs : List View) (g : Meaning) (rule : Rule z
     pending = every_listed (IsPending z head stamp g.bundles.number y) (IsPending z head stamp number' y) y.update.pending
         (λ d here is. (is.0, other_number y d beside here ∙ is.1, is.2)) of.pending;
     place = place_now beside.place y y.reading.place beside.at of.version.past of.place;
+    filled = every_filled m m' y.free y.free y.update y.update y.reading.filled (λ w is. is) (stamp_apart m y.free y.update (s + 1)) of.filled;
     links = every_map (LinkRight z child g.bundles y) (LinkRight z child g'.bundles y) y.reading.links
-        (λ l old. (old.0, source_now l.node l.child l.side y.reading.section l.source of.version.past (reachable_live z vs g rule.slots beside.place l.node y beside.at old.0) old.1)) of.links;
+        (λ l old. source_now beside.place l.node l.child l.side y l.source beside.at of.version.past old) of.links;
   }

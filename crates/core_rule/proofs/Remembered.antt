@@ -27,7 +27,7 @@ use Rattle.core_rule.specs.Tables.{Table, held_by}
 use Rattle.core_rule.specs.Meanings.{Meaning}
 use Rattle.core_rule.specs.Versions.{top_slot, tree_nodes}
 use Rattle.core_rule.specs.BundleRule.{IsLive, IsPending, shown}
-use Rattle.core_rule.specs.Readers.{IsReachable, EntryRight, SourceRight, LinkRight}
+use Rattle.core_rule.specs.Readers.{IsReachable, EntryRight, BundleLink, SourceRight, LinkRight}
 use Rattle.core_rule.specs.SeatRule.{SeatRight}
 use Rattle.core_rule.specs.Rule.{Rule, IsRight}
 use Rattle.core_rule.specs.SpelledNow.{child_now}
@@ -42,7 +42,7 @@ use Rattle.core_rule.proofs.LinkLaw.{selection_is}
 use Rattle.core_rule.proofs.TreeNow.{tree_is, child_is}
 
 -- what holds of each holds of the one at a place
-every_item : {X : Type 0} (P : X → Type 0) (xs : List X) (n : ℕ) (x : X) → IsItem xs n x → Every P xs → P x
+pub every_item : {X : Type 0} (P : X → Type 0) (xs : List X) (n : ℕ) (x : X) → IsItem xs n x → Every P xs → P x
 every_item P [] n x at all = absurd (omega (arith, at.within))
 every_item P (y ∷ xs) zero x at all = subst P (at.is y) all.0
 every_item P (y ∷ xs) (suc n) x at all = every_item P xs n x (record { within = omega (arith, at.within); is = λ d. at.is d }) all.1
@@ -114,18 +114,21 @@ module _ (z : Layout) (m : Memory) (vs : List View) (g : Meaning) (i : ℕ) (v :
   Reads t = ReadsIn m g.bundles g.updates (m Stamp) g.tree t v.reading.tree
 
   -- what the rule says of the link
-  right : IsReachable z v l.node × SourceRight child_in g.bundles.number bundle v.reading.section l.child l.source
+  right : LinkRight z child_in g.bundles v l
   right = every_item (LinkRight z child_in g.bundles v) v.reading.links known.place l known.link seat.links
 
+  bundled : BundleLink (IsReachable z v l.node) child_in g.bundles.number bundle v.reading.section l.child entry
+  bundled = subst (SourceRight (IsReachable z v l.node) child_in g.bundles.number bundle v.reading.section l.child) known.source right
+
   selected_then : Selected v.reading.section
-  selected_then = subst (SourceRight child_in g.bundles.number bundle v.reading.section l.child) known.source right.1
+  selected_then = bundled.selected
 
   child_then : (o : Option ℕ) → Selected o → child_of_entry child_in entry ≡ l.child
   child_then None is = ap (child_of_entry child_in) is.0 ∙ sym is.1
   child_then (Some t) is = is.1
 
   remembered_live : IsLive z vs l.node
-  remembered_live = reachable_live z vs g rule.slots i l.node v at right.0
+  remembered_live = reachable_live z vs g rule.slots i l.node v at bundled.reach
 
   -- a pending entry has no number before the raise
   pending_above : (d : ℕ) → 0 < count d v.update.pending → m Stamp < g.bundles.number d

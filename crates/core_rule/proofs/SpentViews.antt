@@ -14,13 +14,15 @@ use Rattle.index_words.specs.declared.word.Word.{Word}
 use Rattle.index_words.specs.declared.word.Word.TheVariants.{Stamp, Section, Announced, Node, Entry}
 use Rattle.index_words.specs.Words.{Memory}
 use Rattle.index_words.specs.Views.{spent_view, no_slots, no_looks}
+use Rattle.core_grace.specs.Sections.{is_even}
 use Rattle.core_grace.specs.Batches.{is_empty, batch_taken, batch_freed, all_passed, settled, looked, looked_at}
 use Rattle.core_rule.specs.declared.event.Kind.{Kind}
 use Rattle.core_rule.specs.declared.event.Kind.TheVariants.{MakeSeat, SplitSeat, JoinSeat, Enter, Leave, LookSec, Fill, LoadStamp, LoadHead, LoadTs, LoadPtr, LoadNext, Prepare, Raise, Finalise, TryLock, Unlock, LoadMark, Mark as MarkNode, LoadKeyOrVal}
 use Rattle.core_rule.specs.Moves.{in_section, split_left, split_right, joined_with}
+use Rattle.core_rule.specs.FillMoves.{filled_with, with_filled}
 use Rattle.core_rule.specs.LoadMoves.{next_at}
 use Rattle.core_rule.specs.LockMoves.{locked_view, met_lock}
-use Rattle.core_rule.specs.Steps.{view_after, views_after, join_found, look_from, head_at, head_from, ts_from, ptr_from, next_from, prepared_at, prepared_from, raised_from, finalised_from, tried_from, unlocked_from, mark_from, marked_from}
+use Rattle.core_rule.specs.Steps.{view_after, views_after, join_found, look_from, head_at, head_from, ts_from, ptr_from, next_from, prepared_at, prepared_from, raised_from, finalised_from, tried_from, unlocked_from, mark_from, marked_from, pair_from}
 use Rattle.core_rule.specs.SpentViews.{IsSpent}
 
 -- a view that was not joined
@@ -151,6 +153,13 @@ marked_joined v (Section k) = refl
 marked_joined v (Announced k) = refl
 marked_joined v (Entry p e) = refl
 
+pair_joined : (v : View) (w : Word) (x : ℕ) → (pair_from v w x).joined ≡ v.joined
+pair_joined v (Node f k) x = refl
+pair_joined v Stamp x = refl
+pair_joined v (Section k) x = refl
+pair_joined v (Announced k) x = refl
+pair_joined v (Entry p e) x = refl
+
 pub joined_kept : (kind : Kind) (z : Layout) (m : Memory) (vs : List View) (v : View) (w : Word) (x value : ℕ) (o : Option Update) → (view_after kind z m vs v w x value o).joined ≡ v.joined
 joined_kept Enter z m vs v w x value o = settled_joined z.passes (batch_taken (in_section v value)) ∙ taken_joined (in_section v value)
 joined_kept Leave z m vs v w x value o = refl
@@ -170,8 +179,8 @@ joined_kept MarkNode z m vs v w x value o = marked_joined v w
 joined_kept MakeSeat z m vs v w x value o = refl
 joined_kept SplitSeat z m vs v w x value o = refl
 joined_kept JoinSeat z m vs v w x value o = refl
-joined_kept Fill z m vs v w x value o = refl
-joined_kept LoadKeyOrVal z m vs v w x value o = refl
+joined_kept Fill z m vs v w x value o = either_joined (is_even v.section_word) v.joined v (with_filled v (filled_with v.reading.filled w value)) refl refl
+joined_kept LoadKeyOrVal z m vs v w x value o = pair_joined v w x
 
 module _ (z : Layout) (m : Memory) (vs : List View) (i : ℕ) (v : View) (w : Word) (value : ℕ) (o : Option Update) (all : All IsSpent vs) (live : v.joined ≡ false) where
   moved_spent : (kind : Kind) → All IsSpent (set vs i (view_after kind z m vs v w (m w) value o))
@@ -191,8 +200,8 @@ module _ (z : Layout) (m : Memory) (vs : List View) (i : ℕ) (v : View) (w : Wo
   -- the views that were joined are spent after an event of a live one
   pub spent_after : (kind : Kind) → All IsSpent (views_after kind z m vs i v w value o)
   spent_after MakeSeat = all
-  spent_after Fill = all
-  spent_after LoadKeyOrVal = all
+  spent_after Fill = moved_spent Fill
+  spent_after LoadKeyOrVal = moved_spent LoadKeyOrVal
   spent_after SplitSeat = split_spent
   spent_after JoinSeat = join_spent (slice_get vs value)
   spent_after Enter = moved_spent Enter

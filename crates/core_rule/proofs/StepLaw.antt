@@ -1,14 +1,15 @@
 -- An event that is allowed keeps the rule, and what each number up to the stamp selects.
-use Rattle.std.proofs.Common.{◌≡◌, ℕ, ◌+◌, List, [], ◌∷◌, ◌++◌, length, true, false, not, eqb, ◌&&◌, ◌||◌, inl, inr, set, refl, sym, subst, Option, Some, None, is_none}
+use Rattle.std.proofs.Common.{◌≡◌, ℕ, ◌+◌, ◌<◌, List, [], ◌∷◌, ◌++◌, length, true, false, not, eqb, ◌&&◌, ◌||◌, inl, inr, set, refl, sym, subst, Option, Some, None, is_none}
 use Rattle.std.specs.List.{All, slice_get}
 use Rattle.std.proofs.lemmas.Bool.{and_parts}
 use Rattle.index_words.specs.declared.layout.Layout.{Layout}
 use Rattle.key_map.specs.declared.update.Update.{Update}
 use Rattle.index_words.specs.declared.view.View.{View}
+use Rattle.index_words.specs.declared.view.slots.Slots.{Slots}
 use Rattle.index_words.specs.declared.word.Word.{Word}
 use Rattle.index_words.specs.declared.word.Word.TheVariants.{Stamp, Section, Announced, Node, Entry}
 use Rattle.index_words.specs.Words.{Memory, memory, written, word_at}
-use Rattle.key_map.specs.Lists.{has, IsItem}
+use Rattle.key_map.specs.Lists.{count, has, IsItem}
 use Rattle.key_map.proofs.Counting.{has-count}
 use Rattle.index_words.specs.Views.{spent_view}
 use Rattle.core_grace.specs.Sections.{is_even, left_word}
@@ -17,6 +18,7 @@ use Rattle.core_rule.specs.declared.event.Event.{Event}
 use Rattle.core_rule.specs.declared.event.Kind.{Kind}
 use Rattle.core_rule.specs.declared.event.Kind.TheVariants.{MakeSeat, SplitSeat, JoinSeat, Enter, Leave, LookSec, Fill, LoadStamp, LoadHead, LoadTs, LoadPtr, LoadNext, Prepare, Raise, Finalise, TryLock, Unlock, LoadMark, Mark as MarkNode, LoadKeyOrVal}
 use Rattle.core_rule.specs.Needs.{is_outside, is_own_section, may_enter, may_leave, may_look, may_fill, may_join, may_join_found, may_join_view, nothing_pending, is_stamp, is_lock}
+use Rattle.core_rule.specs.FillMoves.{filled_view}
 use Rattle.core_rule.specs.Moves.{entered, left, split_left, split_right, joined_with}
 use Rattle.core_rule.specs.Tables.{Table, held_by}
 use Rattle.core_rule.specs.Rule.{Rule, InRule, IsRight}
@@ -28,13 +30,14 @@ use Rattle.core_rule.proofs.EachKind.{item_from_get, own_section, outside_idle, 
 use Rattle.core_rule.proofs.Idle.{nameless_idle}
 use Rattle.core_rule.proofs.OneView.{seat_at}
 use Rattle.core_rule.proofs.Fills.{node_stored, entry_stored}
+use Rattle.core_rule.proofs.FillViews.{fill_kept}
 use Rattle.core_rule.proofs.TwoViews.{split_kept, join_kept}
 use Rattle.core_rule.proofs.LinkLaw.{selections_kept}
 use Rattle.core_rule.proofs.Needed.{never, not_equal, either_true, not_true, none_of}
 use Rattle.core_rule.proofs.SpentViews.{spent_after}
 use Rattle.core_rule.proofs.StepGives.{After, kept_same, store_right, load_right}
 use Rattle.core_rule.proofs.StepLoads.{stamp_found, head_found, ts_found, ptr_found, next_found}
-use Rattle.core_rule.proofs.StepUpdates.{prepare_found, finalise_found, raise_found, try_lock_found, unlock_found, load_mark_found, mark_found}
+use Rattle.core_rule.proofs.StepUpdates.{prepare_found, finalise_found, raise_found, try_lock_found, unlock_found, load_mark_found, mark_found, load_pair_found}
 
 module _ (z : Layout) (words : List ℕ) (vs : List View) (right : InRule z words vs) (i : ℕ) (v : View) (at : IsItem vs i v) (live : v.joined ≡ false) (n : ℕ) (w : Word) (found : word_at z n ≡ Some w) (value : ℕ) where
   abbrev m : Memory
@@ -86,14 +89,20 @@ module _ (z : Layout) (words : List ℕ) (vs : List View) (right : InRule z word
   look_found (Node f k) met = absurd (never met)
   look_found (Entry p e) met = absurd (never met)
 
-  fill_found : (u : Word) → word_at z n ≡ Some u → may_fill v u ≡ true → Gives (set words n value) vs
+  fill_found : (u : Word) → word_at z n ≡ Some u → may_fill v u ≡ true → Gives (set words n value) (set vs i (filled_view v u value))
   fill_found (Node f k) is met =
       let parts = and_parts (not (is_lock f)) (has k v.free.nodes) met in
-      store_right z words vs n value (Node f k) right vs is
-      (one_kept (written m (Node f k) value) vs (node_stored z m vs right.meaning right.rule i k v f value at (has-count k v.free.nodes parts.1) (not_true (is_lock f) parts.0)))
+      let free = has-count k v.free.nodes parts.1 in
+      store_right z words vs n value (Node f k) right (set vs i (filled_view v (Node f k) value)) is
+      (one_kept (written m (Node f k) value) (set vs i (filled_view v (Node f k) value))
+      (fill_kept z m right.meaning i (Node f k) value vs right.rule v at
+      (λ us u rule here same fresh. node_stored z m us right.meaning rule i k u f value here (subst (λ (s : Slots). 0 < count k s.nodes) (sym same) free) (not_true (is_lock f) parts.0) fresh)))
   fill_found (Entry p e) is met =
-      store_right z words vs n value (Entry p e) right vs is
-      (one_kept (written m (Entry p e) value) vs (entry_stored z m vs right.meaning right.rule i e v at (has-count e v.free.entries met) p value))
+      let free = has-count e v.free.entries met in
+      store_right z words vs n value (Entry p e) right (set vs i (filled_view v (Entry p e) value)) is
+      (one_kept (written m (Entry p e) value) (set vs i (filled_view v (Entry p e) value))
+      (fill_kept z m right.meaning i (Entry p e) value vs right.rule v at
+      (λ us u rule here same fresh. entry_stored z m us right.meaning rule i e u here (subst (λ (s : Slots). 0 < count e s.entries) (sym same) free) p value fresh)))
   fill_found Stamp is met = absurd (never met)
   fill_found (Section k) is met = absurd (never met)
   fill_found (Announced k) is met = absurd (never met)
@@ -144,7 +153,7 @@ module _ (z : Layout) (words : List ℕ) (vs : List View) (right : InRule z word
   kind_right Unlock o own met = unlock_found z words vs right i v at live n w found value w found met
   kind_right LoadMark o own met = load_mark_found z words vs right i v at live n w found value w met
   kind_right MarkNode o own met = mark_found z words vs right i v at live n w found value w found met
-  kind_right LoadKeyOrVal o own met = load_right z words vs right vs right.rule
+  kind_right LoadKeyOrVal o own met = load_pair_found z words vs right i v at live n w found value w met
 
 -- the table after an event, and the rule of it
 pub record AfterTable (t u : Table) : Type 0 where

@@ -1,5 +1,5 @@
 -- An event of an update or of a lock that is allowed keeps the rule.
-use Rattle.std.proofs.Common.{◌≡◌, ℕ, cond, ap, Bool, ◌+◌, List, true, false, eqb, ◌&&◌, set, refl, ◌∙◌, sym, subst, slice_index, Option, Some, None}
+use Rattle.std.proofs.Common.{◌≡◌, ℕ, cond, ap, Bool, ◌+◌, List, true, false, eqb, ◌&&◌, not, set, refl, ◌∙◌, sym, subst, slice_index, Option, Some, None}
 use Rattle.std.proofs.lemmas.Bool.{and_parts, eqb-true}
 use Rattle.index_words.specs.declared.layout.Layout.{Layout}
 use Rattle.key_map.specs.declared.update.Update.{Update}
@@ -13,12 +13,13 @@ use Rattle.index_words.specs.Words.{Memory, memory, address, word_at}
 use Rattle.key_map.specs.Lists.{has, IsItem}
 use Rattle.key_map.proofs.Counting.{has-count}
 use Rattle.index_words.proofs.Store.{word_there}
+use Rattle.core_grace.specs.Sections.{is_even}
 use Rattle.core_grace.specs.Batches.{is_number}
-use Rattle.core_rule.specs.declared.event.Kind.TheVariants.{Prepare, Raise, Finalise, TryLock, Unlock, LoadMark, Mark as MarkNode}
+use Rattle.core_rule.specs.declared.event.Kind.TheVariants.{Prepare, Raise, Finalise, TryLock, Unlock, LoadMark, Mark as MarkNode, LoadKeyOrVal}
 use Rattle.core_rule.specs.LoadNeeds.{is_part}
 use Rattle.core_rule.specs.UpdateNeeds.{may_prepare_head, may_prepare, may_raise_number, may_raise, may_finalise}
-use Rattle.core_rule.specs.LockNeeds.{may_try_lock, may_unlock, may_load_mark, may_mark}
-use Rattle.core_rule.specs.LockMoves.{locked_view, met_lock, tried, unlocked_view, with_mark, mark_loaded}
+use Rattle.core_rule.specs.LockNeeds.{is_pair, may_try_lock, may_unlock, may_load_mark, may_mark, may_load_pair}
+use Rattle.core_rule.specs.LockMoves.{locked_view, met_lock, tried, unlocked_view, with_mark, mark_loaded, pair_loaded}
 use Rattle.core_rule.specs.LoadMoves.{longest}
 use Rattle.core_rule.specs.UpdateMoves.{prepared, raised_view, finalised}
 use Rattle.core_rule.specs.SpelledNow.{tree_now}
@@ -32,7 +33,8 @@ use Rattle.core_rule.proofs.TreeNeeds.{moves_tree}
 use Rattle.core_rule.proofs.Raise.{raise_kept}
 use Rattle.core_rule.proofs.Finalise.{finalise_kept}
 use Rattle.core_rule.proofs.LockSteps.{lock_by, met_by, unlock_by, load_mark_by, mark_by}
-use Rattle.core_rule.proofs.Needed.{never, number_of_is, node_there, ready_is, can_raise}
+use Rattle.core_rule.proofs.Marks.{load_pair_kept}
+use Rattle.core_rule.proofs.Needed.{never, not_true, number_of_is, node_there, ready_is, can_raise}
 use Rattle.core_rule.proofs.StepGives.{After, store_right, load_right}
 
 module _ (z : Layout) (words : List ℕ) (vs : List View) (right : InRule z words vs) (i : ℕ) (v : View) (at : IsItem vs i v) (live : v.joined ≡ false) (n : ℕ) (w : Word) (found : word_at z n ≡ Some w) (value : ℕ) where
@@ -137,3 +139,14 @@ module _ (z : Layout) (words : List ℕ) (vs : List View) (right : InRule z word
   mark_found (Section k) is met = absurd (never met)
   mark_found (Announced k) is met = absurd (never met)
   mark_found (Entry p e) is met = absurd (never met)
+
+  pub load_pair_found : (u : Word) → may_load_pair v u value ≡ true → Gives words (views_after LoadKeyOrVal z m vs i v u value None)
+  load_pair_found (Node f k) met =
+      let b = not (is_even v.section_word) in
+      let one = and_parts (is_pair f && b) (eqb value 0) met in
+      load_right z words vs right (set vs i (pair_loaded v f k (m (Node f k))))
+      (load_pair_kept z m vs right.meaning i k f v right.rule at (not_true (is_even v.section_word) (and_parts (is_pair f) b one.0).1))
+  load_pair_found Stamp met = absurd (never met)
+  load_pair_found (Section k) met = absurd (never met)
+  load_pair_found (Announced k) met = absurd (never met)
+  load_pair_found (Entry p e) met = absurd (never met)

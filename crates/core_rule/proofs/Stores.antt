@@ -19,9 +19,11 @@ use Rattle.core_rule.specs.SectionRule.{IsIdle, IsOwnWord}
 use Rattle.core_rule.specs.Locks.{lock_count}
 use Rattle.core_rule.specs.BundleRule.{IsPendingAt, pending_count}
 use Rattle.core_rule.specs.Readers.{VersionRight, PlaceRight, LinkRight}
+use Rattle.core_rule.specs.FilledRule.{FilledRight}
 use Rattle.core_rule.specs.SeatRule.{TreeRight, SeatRight}
 use Rattle.core_rule.specs.Rule.{Rule}
 use Rattle.core_rule.proofs.Frames.{live_moved, pending_moved, bundle_weaker}
+use Rattle.core_rule.proofs.Filled.{every_filled, section_apart}
 use Rattle.core_rule.proofs.Idle.{idle_nodes, idle_entry, number_apart}
 use Rattle.core_rule.proofs.OneView.{history_kept, seat_at}
 
@@ -90,7 +92,7 @@ module _ (z : Layout) (m : Memory) (vs : List View) (g : Meaning) where
         seats = all_moved (SeatRight z m g) (SeatRight z m' g) vs i v w at rule.seats
             (record {
               layout = own.layout;
-              section = record { section = own_written m v.number n word named; announced = own.section.announced; outside = λ even. idle; done = own.section.done };
+              section = record { section = own_written m v.number n word named; announced = own.section.announced; outside = λ even. idle.reading; unlocked = λ even. idle.held; done = own.section.done };
               seen = own.seen;
               update = own.update;
               version = idle_version (m Stamp) w idle;
@@ -100,6 +102,7 @@ module _ (z : Layout) (m : Memory) (vs : List View) (g : Meaning) where
               marks = record { retired = own.marks.retired; batch = own.marks.batch; taken = own.marks.taken };
               pending = own.pending;
               place = idle_place (λ e. m (Entry Number e)) w idle;
+              filled = subst (λ (x : Reading). Every (FilledRight m' w.free w.update) x.filled) (sym idle.reading) tt;
               links = idle_links (λ e. m (Entry Child e)) w idle;
             })
             (λ u beside of. record {
@@ -109,6 +112,7 @@ module _ (z : Layout) (m : Memory) (vs : List View) (g : Meaning) where
                     (λ k is. apart_from v.number n k named (number_apart z vs i v u k rule.numbers at beside is)) of.section.section;
                 announced = of.section.announced;
                 outside = of.section.outside;
+                unlocked = of.section.unlocked;
                 done = of.section.done;
               };
               seen = of.seen;
@@ -120,6 +124,7 @@ module _ (z : Layout) (m : Memory) (vs : List View) (g : Meaning) where
               marks = record { retired = of.marks.retired; batch = of.marks.batch; taken = of.marks.taken };
               pending = of.pending;
               place = of.place;
+              filled = every_filled m m' u.free u.free u.update u.update u.reading.filled (λ y own. own) (section_apart m u.free u.update n word) of.filled;
               links = of.links;
             });
       }

@@ -1,5 +1,5 @@
 -- Try lock keeps the rule: a free lock word names the pass, and a held one stays.
-use Rattle.std.proofs.Common.{◌≡◌, ℕ, ◌+◌, ◌<◌, ◌≤◌, ◌⊎◌, cond, List, [], ◌∷◌, ◌++◌, Bool, true, false, eqb, set, arith, refl, ap, ◌∙◌, sym, subst, inl, inr, Option, Some, None}
+use Rattle.std.proofs.Common.{◌≡◌, ℕ, ◌+◌, ◌<◌, ◌≤◌, ◌⊎◌, cond, List, [], ◌∷◌, ◌++◌, Bool, true, false, eqb, set, arith, refl, ap, ◌∙◌, sym, subst, inl, inr, Option, Some, None, is_some}
 use Rattle.std.specs.Prelude.{IfSome}
 use Rattle.std.specs.List.{sum_by}
 use Rattle.std.proofs.lemmas.Bool.{eq-eqb, ne_eqb, cases_lt}
@@ -9,7 +9,8 @@ use Rattle.index_words.specs.declared.view.View.{View}
 use Rattle.index_words.specs.declared.view.history.Counts.{Counts}
 use Rattle.index_words.specs.declared.view.reading.Place.{Place}
 use Rattle.index_words.specs.declared.view.reading.Place.TheVariants.{Nowhere, Entry as AtEntry, Node as AtNode, Gap}
-use Rattle.index_words.specs.declared.view.reading.Link.{Link}
+use Rattle.index_words.specs.declared.view.reading.LinkSource.{LinkSource}
+use Rattle.index_words.specs.declared.view.reading.LinkSource.TheVariants.{Bundle, Plain}
 use Rattle.index_words.specs.declared.view.update.HeldNode.{HeldNode}
 use Rattle.index_words.specs.declared.word.Field.TheVariants.{Lock, Mark, Head}
 use Rattle.index_words.specs.declared.word.Part.TheVariants.{Child, Stamp as Number, Next}
@@ -24,17 +25,17 @@ use Rattle.core_grace.specs.Slots.{nodes_of, entries_in, own, own_free, HoldsNon
 use Rattle.core_grace.proofs.RuleMoves.{every_push}
 use Rattle.core_rule.specs.Meanings.{Meaning, linked_by}
 use Rattle.core_rule.specs.Numbers.{number_count}
-use Rattle.core_rule.specs.Locks.{NamesHolder, lock_count, NodeRight, NextRight, IsTakenOut}
+use Rattle.core_rule.specs.Locks.{NamesHolder, lock_count, IsNodeAt, IsNextAt, IsTakenOut}
 use Rattle.core_rule.specs.BundleRule.{IsLive, IsPendingAt, IsPending, pending_count}
-use Rattle.core_rule.specs.Readers.{IsReachable, IsLocked, IsPassed, StandsAt, PlaceRight, LinkRight}
+use Rattle.core_rule.specs.Readers.{IsReachable, IsLocked, IsWatched, IsPassed, StandsAt, PlaceRight, SourceRight, LinkRight}
 use Rattle.core_rule.specs.SeatRule.{SeatRight}
-use Rattle.core_rule.specs.LockMoves.{just_locked, locked_view}
+use Rattle.core_rule.specs.LockMoves.{just_locked, place_locked, locked_view}
 use Rattle.core_rule.specs.Rule.{Rule}
 use Rattle.core_rule.specs.LinkLaw.{Kept}
 use Rattle.core_rule.proofs.Frames.{every_map, Term, term_of, live_moved, pending_moved, bundle_weaker}
 use Rattle.core_rule.proofs.OneView.{history_kept, seat_at}
 use Rattle.core_rule.proofs.Owned.{in_entries, not_in_bundle, reachable_live}
-use Rattle.core_rule.proofs.Fills.{node_other}
+use Rattle.core_rule.proofs.Filled.{node_other, every_filled, lock_apart}
 use Rattle.core_rule.proofs.Holding.{holding_more, waits_with}
 use Rattle.core_rule.proofs.HeadLoads.{inside_only, read_kept}
 
@@ -192,25 +193,51 @@ module _ (z : Layout) (m : Memory) (vs : List View) (g : Meaning) (rule : Rule z
       passed_by (Some t) (inl locked) = inl (still_locked j locked)
       passed_by (Some t) (inr above) = inr above
 
-  place_now : (p : Place) → PlaceRight z stamp g.bundles v p → PlaceRight z stamp g.bundles w p
-  place_now Nowhere right = tt
-  place_now (AtNode j key) right = tt
-  place_now (Gap j side) right = tt
-  place_now (AtEntry j side e found) right = (
-    reach_now j right.0,
-    λ some.
-        let stands : StandsAt stamp (g.bundles.bundle side j) e found (IsPassed g.bundles.number v j) = right.1 some in
-        record {
-          front = stands.front;
-          back = stands.back;
-          splits = stands.splits;
-          passed = every_map (IsPassed g.bundles.number v j) (IsPassed g.bundles.number w j) stands.front (passed_now j) stands.passed;
-          found = stands.found;
-        },
-  )
+  stands_now : (j e : ℕ) (found : Option ℕ) (es : List ℕ) → StandsAt stamp es e found (IsPassed g.bundles.number v j) → StandsAt stamp es e found (IsPassed g.bundles.number w j)
+  stands_now j e found es stands = record {
+    front = stands.front;
+    back = stands.back;
+    splits = stands.splits;
+    passed = every_map (IsPassed g.bundles.number v j) (IsPassed g.bundles.number w j) stands.front (passed_now j) stands.passed;
+    found = stands.found;
+  }
 
-  link_now : (l : Link) → LinkRight z (λ d. m (Entry Child d)) g.bundles v l → LinkRight z (λ d. m (Entry Child d)) g.bundles w l
-  link_now l old = (reach_now l.node old.0, old.1)
+  -- without a section number, a seat that stands at an entry watches its node only where it had locked it before
+  watched_before : (j : ℕ) → v.reading.section ≡ None → (j ≡ k → ⊥) → IsWatched w j → IsWatched v j
+  watched_before j none other (inl locked) = inl (omega (arith, locked, locked_other j other))
+  watched_before j none other (inr reads) = inr reads
+
+  place_now : (o : Option ℕ) (p : Place) → v.reading.section ≡ o → PlaceRight z stamp g.bundles v p → PlaceRight z stamp g.bundles w (place_locked o k p)
+  place_now None Nowhere is right = tt
+  place_now None (AtNode j key) is right = tt
+  place_now None (Gap j side) is right = tt
+  place_now None (AtEntry j side e found) is right = at_by (eqb j k) refl
+    where
+      not_same : (x : ℕ) → eqb x k ≡ false → x ≡ k → ⊥
+      not_same x off same = apart (eqb x k) off (eq-eqb x k same)
+        where
+          apart : (c : Bool) → c ≡ false → c ≡ true → ⊥
+          apart true f t = cc
+          apart false f t = cc
+
+      at_by : (c : Bool) → eqb j k ≡ c → PlaceRight z stamp g.bundles w (cond c (AtEntry j side 0 None) (AtEntry j side e found))
+      at_by true same = record { reach = reach_now j right.reach; stands = λ some watched. absurd (omega (arith, some)) }
+      at_by false off = record {
+        reach = reach_now j right.reach;
+        stands = λ some watched. stands_now j e found (g.bundles.bundle side j) (right.stands some (watched_before j is (not_same j off) watched));
+      }
+  place_now (Some t) Nowhere is right = tt
+  place_now (Some t) (AtNode j key) is right = tt
+  place_now (Some t) (Gap j side) is right = tt
+  place_now (Some t) (AtEntry j side e found) is right = record {
+    reach = reach_now j right.reach;
+    stands = λ some watched. stands_now j e found (g.bundles.bundle side j) (right.stands some (inr (ap is_some is)));
+  }
+
+  source_now : (j c : ℕ) (es : List ℕ) (source : LinkSource) → SourceRight (IsReachable z v j) (λ d. m (Entry Child d)) g.bundles.number es v.reading.section c source
+      → SourceRight (IsReachable z w j) (λ d. m (Entry Child d)) g.bundles.number es v.reading.section c source
+  source_now j c es (Bundle entry) old = record { reach = reach_now j old.reach; selected = old.selected }
+  source_now j c es (Plain tag above below) old = tt
 
   named_now : NamesHolder (m' (Node Lock k)) v.number
   named_now = subst (NamesHolder (m' (Node Lock k))) (sym named) lock_now
@@ -222,11 +249,12 @@ module _ (z : Layout) (m : Memory) (vs : List View) (g : Meaning) (rule : Rule z
       section = own_seat.section.section;
       announced = own_seat.section.announced;
       outside = λ even. absurd (inside_only z m vs g rule v inside even);
+      unlocked = λ even. absurd (inside_only z m vs g rule v inside even);
       done = λ none. absurd (omega (arith, locked_here, ap (λ (hs : List HeldNode). count k (held_slots hs)) none));
     };
     seen = own_seat.seen;
     update = own_seat.update;
-    version = own_seat.version;
+    version = record { past = own_seat.version.past; opened = own_seat.version.opened; bare = own_seat.version.bare; there = own_seat.version.there };
     tree = own_seat.tree;
     locks = λ j locked. elim (eqb_tells j k) as (λ _. (j ≤ z.nodes) × NamesHolder (m' (Node Lock j)) v.number) [
       | inl same ↦ subst (λ x. (x ≤ z.nodes) × NamesHolder (m' (Node Lock x)) v.number) (sym same.1) (reach.0, named_now)
@@ -235,9 +263,10 @@ module _ (z : Layout) (m : Memory) (vs : List View) (g : Meaning) (rule : Rule z
           (old.0, subst (λ x. NamesHolder x v.number) (sym (node_other m Lock Lock k j (n + 1) other.1)) old.1)
     ];
     loaded = record {
-      nodes = every_push (NodeRight (λ j. m (Node Mark j)) (λ s j. m (Node (Head s) j)) stamp) v.held.nodes (just_locked k) own_seat.loaded.nodes (tt, tt, tt);
-      nexts = every_map (NextRight (λ d. m (Entry Next d)) g.bundles v.held.nodes) (NextRight (λ d. m (Entry Next d)) g.bundles w.held.nodes) v.held.nexts
-          (λ l old. (old.0, still_locked l.node old.1, old.2)) own_seat.loaded.nexts;
+      nodes = every_push (IsNodeAt m) v.held.nodes (just_locked k) own_seat.loaded.nodes
+          (record { key = tt; val = tt; mark = tt; left = record { head = tt }; right = record { head = tt } });
+      nexts = every_map (IsNextAt m g.bundles v.held.nodes) (IsNextAt m g.bundles w.held.nodes) v.held.nexts
+          (λ l old. record { is = old.is; locked = still_locked l.node old.locked; here = old.here; found = old.found }) own_seat.loaded.nexts;
     };
     marks = record {
       retired = λ j waits. elim (own_seat.marks.retired j waits) as (λ _. (m (Node Mark j) ≡ 1) ⊎ IsTakenOut w j) [
@@ -249,8 +278,10 @@ module _ (z : Layout) (m : Memory) (vs : List View) (g : Meaning) (rule : Rule z
     };
     pending = every_map (IsPending z (λ s j. m (Node (Head s) j)) stamp g.bundles.number v) (IsPending z (λ s j. m (Node (Head s) j)) stamp g.bundles.number w) v.update.pending
         (λ d old. (old.0, old.1, record { node = old.2.node; side = old.2.side; there = old.2.there; is = old.2.is; some = old.2.some; of = works old.2.node old.2.of })) own_seat.pending;
-    place = place_now v.reading.place own_seat.place;
-    links = every_map (LinkRight z (λ d. m (Entry Child d)) g.bundles v) (LinkRight z (λ d. m (Entry Child d)) g.bundles w) v.reading.links link_now own_seat.links;
+    place = place_now v.reading.section v.reading.place refl own_seat.place;
+    filled = every_filled m m' v.free v.free v.update v.update v.reading.filled (λ y is. is) (lock_apart m v.free v.update k (n + 1)) own_seat.filled;
+    links = every_map (LinkRight z (λ d. m (Entry Child d)) g.bundles v) (LinkRight z (λ d. m (Entry Child d)) g.bundles w) v.reading.links
+        (λ l old. source_now l.node l.child (g.bundles.bundle l.side l.node) l.source old) own_seat.links;
   }
 
   -- another view has not locked the node
@@ -261,7 +292,7 @@ module _ (z : Layout) (m : Memory) (vs : List View) (g : Meaning) (rule : Rule z
   other_now : (u : View) → Beside vs i u → SeatRight z m g u → SeatRight z m' g u
   other_now u beside of = record {
     layout = of.layout;
-    section = record { section = of.section.section; announced = of.section.announced; outside = of.section.outside; done = of.section.done };
+    section = record { section = of.section.section; announced = of.section.announced; outside = of.section.outside; unlocked = of.section.unlocked; done = of.section.done };
     seen = of.seen;
     update = of.update;
     version = of.version;
@@ -271,6 +302,7 @@ module _ (z : Layout) (m : Memory) (vs : List View) (g : Meaning) (rule : Rule z
     marks = record { retired = of.marks.retired; batch = of.marks.batch; taken = of.marks.taken };
     pending = of.pending;
     place = of.place;
+    filled = every_filled m m' u.free u.free u.update u.update u.reading.filled (λ y is. is) (lock_apart m u.free u.update k (n + 1)) of.filled;
     links = of.links;
   }
 

@@ -6,10 +6,12 @@ use Rattle.std.proofs.lemmas.List.Elements.{All-set, All-push}
 use Rattle.index_words.specs.declared.layout.Layout.{Layout}
 use Rattle.key_map.specs.declared.update.Update.{Update}
 use Rattle.index_words.specs.declared.view.View.{View}
+use Rattle.index_words.specs.declared.view.reading.Reading.{Reading}
 use Rattle.index_words.specs.declared.view.update.HeldNode.{HeldNode}
 use Rattle.index_words.specs.declared.view.update.Updating.{Updating}
 use Rattle.index_words.specs.declared.word.Field.TheVariants.{Mark}
-use Rattle.index_words.specs.declared.word.Word.TheVariants.{Node}
+use Rattle.index_words.specs.declared.word.Word.{Word}
+use Rattle.index_words.specs.declared.word.Word.TheVariants.{Stamp, Section, Announced, Node, Entry}
 use Rattle.index_words.specs.Words.{Memory}
 use Rattle.index_words.specs.Views.{spent_view}
 use Rattle.key_map.specs.Lists.{count, IsItem}
@@ -26,9 +28,11 @@ use Rattle.core_rule.specs.Histories.{KnowsAll, place_count, calls_left}
 use Rattle.core_rule.specs.SectionRule.{IsIdle}
 use Rattle.core_rule.specs.Locks.{lock_count, MarksRight, IsTakenOut}
 use Rattle.core_rule.specs.BundleRule.{IsPendingAt, pending_count}
+use Rattle.core_rule.specs.FilledRule.{IsOwnSlotWord}
 use Rattle.core_rule.specs.SeatRule.{SeatRight}
 use Rattle.core_rule.specs.Rule.{Rule}
 use Rattle.core_rule.proofs.Frames.{bundle_weaker, knows_moved}
+use Rattle.core_rule.proofs.Filled.{every_filled}
 use Rattle.core_rule.proofs.Idle.{idle_nodes, idle_entry}
 use Rattle.core_rule.proofs.OneView.{seat_at, idle_marked}
 use Rattle.core_rule.proofs.Joins.{seen_joined, ended_append, ended_own, knows_joined}
@@ -57,6 +61,14 @@ module _ (z : Layout) (m : Memory) (vs : List View) (g : Meaning) where
     entries = λ e holds. idle_entry g.bundles y e idle holds;
   }
 
+  -- a word of what is left is one of what was there
+  split_own : (v : View) (n : ℕ) (w : Word) → IsOwnSlotWord (split_left v n).free v.update w → IsOwnSlotWord v.free v.update w
+  split_own v n (Node f k) own = (own.0, omega (arith, own.1, count-take-drop k n v.free.nodes))
+  split_own v n (Entry p e) own = own
+  split_own v n Stamp own = absurd own
+  split_own v n (Section i) own = absurd own
+  split_own v n (Announced i) own = absurd own
+
   split_seats : (v : View) (n : ℕ) → SeatRight z m g v → v.joined ≡ false → SeatRight z m g (split_left v n) × SeatRight z m g (split_right v n)
   split_seats v n seat live = (
     record {
@@ -64,7 +76,8 @@ module _ (z : Layout) (m : Memory) (vs : List View) (g : Meaning) where
       section = record {
         section = seat.section.section;
         announced = seat.section.announced;
-        outside = λ even. let idle = seat.section.outside even in record { reading = idle.reading; held = idle.held; update = idle.update };
+        outside = seat.section.outside;
+        unlocked = seat.section.unlocked;
         done = seat.section.done;
       };
       seen = seat.seen;
@@ -76,11 +89,12 @@ module _ (z : Layout) (m : Memory) (vs : List View) (g : Meaning) where
       marks = record { retired = seat.marks.retired; batch = seat.marks.batch; taken = seat.marks.taken };
       pending = seat.pending;
       place = seat.place;
+      filled = every_filled m m v.free (split_left v n).free v.update v.update v.reading.filled (split_own v n) (λ w own. refl) seat.filled;
       links = seat.links;
     },
     record {
       layout = λ _. seat.layout live;
-      section = record { section = refl; announced = refl; outside = λ even. record { reading = refl; held = refl; update = refl }; done = λ _. refl };
+      section = record { section = refl; announced = refl; outside = λ even. refl; unlocked = λ even. refl; done = λ _. refl };
       seen = record { seen = seat.seen.seen; told = refl; known = omega arith; found = omega arith; given = tt };
       update = record { raised = tt; first = λ _. refl };
       version = record { past = tt; opened = tt; bare = λ _. refl; there = λ k some. absurd (omega (arith, some)) };
@@ -90,6 +104,7 @@ module _ (z : Layout) (m : Memory) (vs : List View) (g : Meaning) where
       marks = record { retired = λ k some. absurd (omega (arith, some)); batch = λ k some. absurd (omega (arith, some)); taken = λ k some. absurd (omega (arith, some)) };
       pending = tt;
       place = tt;
+      filled = tt;
       links = tt;
     },
   )
@@ -163,25 +178,27 @@ module _ (z : Layout) (m : Memory) (vs : List View) (g : Meaning) where
     section = record {
       section = seat.section.section;
       announced = seat.section.announced;
-      outside = λ even. let none = seat.section.outside even in record { reading = none.reading; held = none.held; update = none.update };
+      outside = λ even. ap (λ (r : Reading). record r { filled = [] }) (seat.section.outside even);
+      unlocked = seat.section.unlocked;
       done = seat.section.done;
     };
     seen = seen_joined g.updates v.history u.history u.number seat.seen other.seen;
     update = seat.update;
-    version = seat.version;
+    version = record { past = seat.version.past; opened = seat.version.opened; bare = seat.version.bare; there = seat.version.there };
     tree = seat.tree;
     locks = seat.locks;
     loaded = record { nodes = seat.loaded.nodes; nexts = seat.loaded.nexts };
     marks = joined_marks v u seat other idle;
     pending = seat.pending;
     place = seat.place;
+    filled = tt;
     links = seat.links;
   }
 
   spent_seat : SeatRight z m g spent_view
   spent_seat = record {
     layout = λ live. cc;
-    section = record { section = refl; announced = refl; outside = λ even. record { reading = refl; held = refl; update = refl }; done = λ _. refl };
+    section = record { section = refl; announced = refl; outside = λ even. refl; unlocked = λ even. refl; done = λ _. refl };
     seen = record { seen = refl; told = refl; known = omega arith; found = omega arith; given = tt };
     update = record { raised = tt; first = λ _. refl };
     version = record { past = tt; opened = tt; bare = λ _. refl; there = λ k some. absurd (omega (arith, some)) };
@@ -191,6 +208,7 @@ module _ (z : Layout) (m : Memory) (vs : List View) (g : Meaning) where
     marks = record { retired = λ k some. absurd (omega (arith, some)); batch = λ k some. absurd (omega (arith, some)); taken = λ k some. absurd (omega (arith, some)) };
     pending = tt;
     place = tt;
+    filled = tt;
     links = tt;
   }
 

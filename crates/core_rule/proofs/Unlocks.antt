@@ -20,7 +20,7 @@ use Rattle.core_grace.specs.Holds.{HoldsNode, HoldsEntry, held_slots, listed, wo
 use Rattle.core_grace.proofs.RuleMoves.{quiet, same_looks}
 use Rattle.core_rule.specs.Meanings.{Meaning, linked_by}
 use Rattle.core_rule.specs.Numbers.{number_count}
-use Rattle.core_rule.specs.Locks.{NamesHolder, lock_count, NodeRight, NextRight, IsTakenOut}
+use Rattle.core_rule.specs.Locks.{NamesHolder, lock_count, IsNodeAt, IsNextAt, IsTakenOut}
 use Rattle.core_rule.specs.BundleRule.{IsPendingAt, IsPending, UpdateRight, pending_count}
 use Rattle.core_rule.specs.SeatRule.{SeatRight}
 use Rattle.core_rule.specs.UpdateMoves.{without}
@@ -30,7 +30,7 @@ use Rattle.core_rule.specs.LinkLaw.{Kept}
 use Rattle.core_rule.proofs.Frames.{live_moved, bundle_weaker}
 use Rattle.core_rule.proofs.Without.{count-without_same, count-without_other, count-without-le}
 use Rattle.core_rule.proofs.OneView.{history_kept, seat_at}
-use Rattle.core_rule.proofs.Fills.{node_other}
+use Rattle.core_rule.proofs.Filled.{node_other, every_filled, lock_apart}
 use Rattle.core_rule.proofs.Locked.{locked_apart}
 
 -- what holds of each item that a test keeps
@@ -157,13 +157,17 @@ module _ (z : Layout) (m : Memory) (vs : List View) (g : Meaning) (rule : Rule z
             (old.0, names_kept v.number j other.1 old.1)
       ]
 
+  held_there : v.held.nodes ≡ [] → ⊥
+  held_there none = omega (arith, locked, ap (λ (hs : List HeldNode). count k (held_slots hs)) none)
+
   own_now : SeatRight z m' g w
   own_now = record {
     layout = own_seat.layout;
     section = record {
       section = own_seat.section.section;
       announced = own_seat.section.announced;
-      outside = λ even. absurd (omega (arith, locked, ap (λ (hs : List HeldNode). count k (held_slots hs)) (own_seat.section.outside even).held));
+      outside = λ even. absurd (held_there (own_seat.section.unlocked even));
+      unlocked = λ even. absurd (held_there (own_seat.section.unlocked even));
       done = until_none rest v.update;
     };
     seen = own_seat.seen;
@@ -172,10 +176,10 @@ module _ (z : Layout) (m : Memory) (vs : List View) (g : Meaning) (rule : Rule z
     tree = own_seat.tree;
     locks = own_locks;
     loaded = record {
-      nodes = every_filter (NodeRight (λ j. m (Node Mark j)) (λ s j. m (Node (Head s) j)) stamp) (NodeRight (λ j. m (Node Mark j)) (λ s j. m (Node (Head s) j)) stamp)
+      nodes = every_filter (IsNodeAt m) (IsNodeAt m)
           (λ (h : HeldNode). not (eqb h.node k)) v.held.nodes (λ h off right. right) own_seat.loaded.nodes;
-      nexts = every_filter (NextRight (λ d. m (Entry Next d)) g.bundles v.held.nodes) (NextRight (λ d. m (Entry Next d)) g.bundles rest)
-          (λ (l : HeldNext). not (eqb l.node k)) v.held.nexts (λ l off right. (right.0, omega (arith, right.1, locked_other l.node (not_equal l.node k off)), right.2)) own_seat.loaded.nexts;
+      nexts = every_filter (IsNextAt m g.bundles v.held.nodes) (IsNextAt m g.bundles rest)
+          (λ (l : HeldNext). not (eqb l.node k)) v.held.nexts (λ l off right. record { is = right.is; locked = omega (arith, right.locked, locked_other l.node (not_equal l.node k off)); here = right.here; found = right.found }) own_seat.loaded.nexts;
     };
     marks = record {
       retired = λ j waits. elim (own_seat.marks.retired j waits) as (λ _. (m (Node Mark j) ≡ 1) ⊎ IsTakenOut w j) [
@@ -187,13 +191,14 @@ module _ (z : Layout) (m : Memory) (vs : List View) (g : Meaning) (rule : Rule z
     };
     pending = subst (Every (IsPending z (λ s j. m (Node (Head s) j)) stamp g.bundles.number w)) (sym pending_none) tt;
     place = tt;
+    filled = tt;
     links = tt;
   }
 
   other_now : (u : View) → Beside vs i u → SeatRight z m g u → SeatRight z m' g u
   other_now u beside of = record {
     layout = of.layout;
-    section = record { section = of.section.section; announced = of.section.announced; outside = of.section.outside; done = of.section.done };
+    section = record { section = of.section.section; announced = of.section.announced; outside = of.section.outside; unlocked = of.section.unlocked; done = of.section.done };
     seen = of.seen;
     update = of.update;
     version = of.version;
@@ -206,6 +211,7 @@ module _ (z : Layout) (m : Memory) (vs : List View) (g : Meaning) (rule : Rule z
     marks = record { retired = of.marks.retired; batch = of.marks.batch; taken = of.marks.taken };
     pending = of.pending;
     place = of.place;
+    filled = every_filled m m' u.free u.free u.update u.update u.reading.filled (λ y is. is) (lock_apart m u.free u.update k 0) of.filled;
     links = of.links;
   }
 

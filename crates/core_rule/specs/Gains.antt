@@ -1,5 +1,5 @@
 -- What a view gains where another one is joined into it.
-use Rattle.std.specs.Prelude.{◌++◌}
+use Rattle.std.specs.Prelude.{◌++◌, []}
 use Rattle.index_words.specs.declared.view.View.{View}
 use Rattle.core_grace.specs.Batches.{both}
 use Rattle.core_rule.specs.declared.moves.Gained.{Gained}
@@ -19,6 +19,7 @@ gained v other = record {
 abbrev pub with_gain : View → Gained → View
 with_gain v gain = record v {
   to_give = gain.to_give;
+  reading = record v.reading { filled = [] };
   history = record v.history { seen = gain.seen; told = gain.told; ended = gain.ended; ended_places = gain.ended_places };
   free = gain.free;
   retired = gain.retired;

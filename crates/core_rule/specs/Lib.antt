@@ -3,6 +3,7 @@ pub mod Needs
 pub mod Moves
 pub mod Gains
 pub mod UpdateMoves
+pub mod FillMoves
 pub mod LoadMoves
 pub mod LoadNeeds
 pub mod UpdateNeeds
@@ -23,6 +24,7 @@ pub mod SpentViews
 pub mod Locks
 pub mod BundleRule
 pub mod Readers
+pub mod FilledRule
 pub mod SeatRule
 pub mod Rule
 pub mod LinkLaw

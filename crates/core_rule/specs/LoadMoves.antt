@@ -154,13 +154,13 @@ is_above v e found = is_above_at v.reading.section found (has e v.update.pending
 abbrev pub kept_if : Bool → List HeldNext → HeldNext → List HeldNext
 kept_if b nexts next = cond b (nexts ++ next ∷ []) nexts
 
-abbrev pub next_nexts : View → ℕ → ℕ → ℕ → List HeldNext
-next_nexts v node e next = kept_if (locks node v.held.nodes) v.held.nexts (record { node = node; entry = e; stamp = None; next = next })
+abbrev pub next_nexts : View → ℕ → ℕ → Option ℕ → ℕ → List HeldNext
+next_nexts v node e found next = kept_if (locks node v.held.nodes) v.held.nexts (record { node = node; entry = e; stamp = found; next = next })
 
 -- load of a next: the seat stands at the entry behind; behind the last one the link is remembered as null
 abbrev pub next_at : View → Place → ℕ → ℕ → View
 next_at v (Entry node side entry found) e next =
-    with_place (with_held v v.held.nodes (next_nexts v node e next)) (Entry node side next None)
+    with_place (with_held v v.held.nodes (next_nexts v node e found next)) (Entry node side next None)
     (remembered_if (next == 0 && is_above v e found) v.reading.links (bundle_link node side 0 0))
 next_at v Nowhere e next = v
 next_at v (Node node key) e next = v

@@ -26,9 +26,13 @@ reads_tree node ns = list_any (λ (n : TreeNode). n.slot == node) ns
 abbrev pub is_reachable : View → ℕ → Bool
 is_reachable v k = k == 0 || reads_tree k v.reading.tree || locks k v.held.nodes
 
--- load of a head: inside a section, of a reachable node
+-- the heads of the node's bundles may be loaded
+abbrev pub may_read : View → ℕ → Bool
+may_read v k = is_reachable v k
+
+-- load of a head: inside a section, of a node whose bundles may be read
 abbrev pub may_load_field : View → Field → ℕ → ℕ → Bool
-may_load_field v (Head side) k value = not (is_even v.section_word) && is_reachable v k && value == 0
+may_load_field v (Head side) k value = not (is_even v.section_word) && may_read v k && value == 0
 may_load_field v _ k value = false
 
 abbrev pub may_load_head : View → Word → ℕ → Bool

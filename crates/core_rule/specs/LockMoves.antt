@@ -1,10 +1,14 @@
 -- The view of a seat after each kind of event that locks, unlocks or marks.
-use Rattle.std.specs.Prelude.{ℕ, List, [], ◌∷◌, ◌++◌, length, cond, Bool, not, ◌==◌, ◌&&◌, Some, None, map, filter}
+use Rattle.std.specs.Prelude.{ℕ, List, [], ◌∷◌, ◌++◌, length, cond, Bool, not, ◌==◌, ◌&&◌, Option, Some, None, map, filter}
 use Rattle.index_words.specs.declared.view.View.{View}
+use Rattle.index_words.specs.declared.view.reading.Place.{Place}
+use Rattle.index_words.specs.declared.view.reading.Place.TheVariants.{Entry}
 use Rattle.index_words.specs.declared.view.update.HeldNode.{HeldNode}
 use Rattle.index_words.specs.declared.view.update.HeldNext.{HeldNext}
 use Rattle.index_words.specs.declared.view.update.HeldSide.{HeldSide}
 use Rattle.index_words.specs.declared.view.update.Updating.{Updating}
+use Rattle.index_words.specs.declared.word.Field.{Field}
+use Rattle.index_words.specs.declared.word.Field.TheVariants.{Key, Val}
 use Rattle.key_map.specs.Lists.{has}
 use Rattle.index_words.specs.Views.{no_update}
 use Rattle.core_rule.specs.Moves.{nowhere}
@@ -18,9 +22,18 @@ nothing_loaded = record { head = None; link = None; tag = None }
 abbrev pub just_locked : ℕ → HeldNode
 just_locked k = record { node = k; key = None; val = None; mark = None; left = nothing_loaded; right = nothing_loaded }
 
+-- without a section number, what was found of the node's bundles before the lock may be gone: a seat that stands in one
+-- of them stands at no entry from then on
+abbrev pub place_locked : Option ℕ → ℕ → Place → Place
+place_locked None k (Entry node side entry found) = cond (node == k) (Entry node side 0 None) (Entry node side entry found)
+place_locked _ k p = p
+
 -- try lock, where the word was found free
 abbrev pub locked_view : View → ℕ → View
-locked_view v k = record v { held = record v.held { nodes = v.held.nodes ++ just_locked k ∷ [] } }
+locked_view v k = record v {
+  reading = record v.reading { place = place_locked v.reading.section k v.reading.place };
+  held = record v.held { nodes = v.held.nodes ++ just_locked k ∷ [] };
+}
 
 -- a lock word names a pass, and not the one whose word is `own`
 abbrev pub names_other : ℕ → ℕ → Bool
@@ -55,14 +68,27 @@ unlocked_view v k = record v {
 abbrev pub mark_known : ℕ → ℕ → HeldNode → HeldNode
 mark_known k x h = cond (h.node == k) (record h { mark = Some x }) h
 
+abbrev pub pair_known : Field → ℕ → ℕ → HeldNode → HeldNode
+pair_known Key k x h = cond (h.node == k) (record h { key = Some x }) h
+pair_known Val k x h = cond (h.node == k) (record h { val = Some x }) h
+pair_known _ k x h = h
+
+-- load of a key or a value: it is kept with a locked node
+abbrev pub pair_loaded : View → Field → ℕ → ℕ → View
+pair_loaded v f k x = record v { held = record v.held { nodes = map (pair_known f k x) v.held.nodes } }
+
 -- mark: the mark of a locked node is known
 abbrev pub with_mark : View → ℕ → ℕ → View
 with_mark v k x = record v { held = record v.held { nodes = map (mark_known k x) v.held.nodes } }
 
+-- a mark that is found on the node counts
+abbrev pub may_count : View → ℕ → Bool
+may_count v k = is_reachable v k
+
 -- a mark of 1, on a node at which the seat may be looking and which its update did not take out: after the last unlock
 -- the update's nodes are forgotten, but what it took out is among the seat's retired nodes
 abbrev pub finds_mark : View → ℕ → ℕ → Bool
-finds_mark v k x = x == 1 && is_reachable v k && not (has k v.update.taken) && not (has k v.retired.nodes)
+finds_mark v k x = x == 1 && may_count v k && not (has k v.update.taken) && not (has k v.retired.nodes)
 
 -- load of a mark: it is kept with a locked node, and a mark that another seat has set is counted
 abbrev pub mark_loaded : View → ℕ → ℕ → View

@@ -26,10 +26,14 @@ abbrev pub names_pass : Option ℕ → ℕ → Bool
 names_pass None word = false
 names_pass (Some n) word = word == n + 1
 
--- try lock: inside a section, of a reachable node that the seat has not locked; the value names its pass
+-- the node's lock may be tried
+abbrev pub may_lock : View → ℕ → Bool
+may_lock v k = is_reachable v k
+
+-- try lock: inside a section, of such a node that the seat has not locked; the value names its pass
 abbrev pub may_try_lock : View → Word → ℕ → Bool
 may_try_lock v (Node field k) value =
-    is_lock field && not (is_even v.section_word) && is_reachable v k && not (locks k v.held.nodes) && names_pass v.number value
+    is_lock field && not (is_even v.section_word) && may_lock v k && not (locks k v.held.nodes) && names_pass v.number value
 may_try_lock v _ value = false
 
 -- unlock: the seat has locked the node, and nothing is pending

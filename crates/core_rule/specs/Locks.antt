@@ -8,6 +8,10 @@ use Rattle.index_words.specs.declared.view.update.HeldNode.{HeldNode}
 use Rattle.index_words.specs.declared.view.update.HeldNext.{HeldNext}
 use Rattle.index_words.specs.declared.view.update.HeldSide.{HeldSide}
 use Rattle.index_words.specs.declared.view.update.LoadedHead.{LoadedHead}
+use Rattle.index_words.specs.declared.word.Field.TheVariants.{Key, Val, Mark, Head}
+use Rattle.index_words.specs.declared.word.Part.TheVariants.{Stamp as Number, Next}
+use Rattle.index_words.specs.declared.word.Word.TheVariants.{Node, Entry}
+use Rattle.index_words.specs.Words.{Memory}
 use Rattle.key_map.specs.Lists.{count, Every}
 use Rattle.core_grace.specs.Holds.{Bundles, held_slots, entries_of}
 
@@ -28,21 +32,35 @@ LocksRight z lock v = (k : ℕ) → 0 < lock_count k v → (k ≤ z.nodes) × Na
 abbrev pub HeadRight : ℕ → (ℕ → ℕ) → LoadedHead → Type 0
 HeadRight head stamp loaded = (head ≡ loaded.entry) × IfSome loaded.stamp (λ x. 0 < x → stamp loaded.entry ≡ x)
 
-abbrev pub SideRight : ℕ → (ℕ → ℕ) → HeldSide → Type 0
-SideRight head stamp side = IfSome side.head (HeadRight head stamp)
+pub record SideRight (word : ℕ) (stamp : ℕ → ℕ) (side : HeldSide) : Type 0 where
+  pub head : IfSome side.head (HeadRight word stamp)
 
-abbrev pub NodeRight : (ℕ → ℕ) → (Side → ℕ → ℕ) → (ℕ → ℕ) → HeldNode → Type 0
-NodeRight mark head stamp h =
-    IfSome h.mark (λ x. mark h.node ≡ x) × SideRight (head Left h.node) stamp h.left × SideRight (head Right h.node) stamp h.right
+-- what was loaded of a locked node is what its words hold: over the keys, the values, the marks and the heads of nodes,
+-- and the stamps of entries
+pub record NodeRight (key_of val_of mark_of : ℕ → ℕ) (head_of : Side → ℕ → ℕ) (stamp : ℕ → ℕ) (h : HeldNode) : Type 0 where
+  pub key : IfSome h.key (λ x. key_of h.node ≡ x)
+  pub val : IfSome h.val (λ x. val_of h.node ≡ x)
+  pub mark : IfSome h.mark (λ x. mark_of h.node ≡ x)
+  pub left : SideRight (head_of Left h.node) stamp h.left
+  pub right : SideRight (head_of Right h.node) stamp h.right
 
--- a next word as it was loaded is what the word holds; its entry stands in a bundle of the locked node
-abbrev pub NextRight : (ℕ → ℕ) → Bundles → List HeldNode → HeldNext → Type 0
-NextRight next b locked h = (next h.entry ≡ h.next) × (0 < count h.node (held_slots locked)) × (0 < count h.entry (entries_of b h.node))
+abbrev pub IsNodeAt : Memory → HeldNode → Type 0
+IsNodeAt m = NodeRight (λ k. m (Node Key k)) (λ k. m (Node Val k)) (λ k. m (Node Mark k)) (λ s k. m (Node (Head s) k)) (λ e. m (Entry Number e))
 
--- over the marks, the heads, and the stamps and nexts of entries
-pub record LoadedRight (mark : ℕ → ℕ) (head : Side → ℕ → ℕ) (stamp next : ℕ → ℕ) (b : Bundles) (v : View) : Type 0 where
-  pub nodes : Every (NodeRight mark head stamp) v.held.nodes
-  pub nexts : Every (NextRight next b v.held.nodes) v.held.nexts
+-- a next word as it was loaded is what the word holds, and so is a written number beside it; its entry stands in a bundle
+-- of the locked node
+pub record NextRight (stamp next : ℕ → ℕ) (b : Bundles) (nodes : List HeldNode) (h : HeldNext) : Type 0 where
+  pub is : next h.entry ≡ h.next
+  pub locked : 0 < count h.node (held_slots nodes)
+  pub here : 0 < count h.entry (entries_of b h.node)
+  pub found : IfSome h.stamp (λ x. 0 < x → stamp h.entry ≡ x)
+
+abbrev pub IsNextAt : Memory → Bundles → List HeldNode → HeldNext → Type 0
+IsNextAt m b nodes = NextRight (λ e. m (Entry Number e)) (λ e. m (Entry Next e)) b nodes
+
+pub record LoadedRight (m : Memory) (b : Bundles) (v : View) : Type 0 where
+  pub nodes : Every (IsNodeAt m) v.held.nodes
+  pub nexts : Every (IsNextAt m b v.held.nodes) v.held.nexts
 
 -- the update of the view has raised and taken the node out, and the view still holds the node's lock
 abbrev pub IsTakenOut : View → ℕ → Type 0

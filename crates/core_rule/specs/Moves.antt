@@ -9,9 +9,9 @@ use Rattle.key_map.specs.declared.update.Update.{Update}
 use Rattle.index_words.specs.Views.{empty_view, no_reading}
 use Rattle.core_grace.specs.Batches.{batch_taken, settled, both}
 
--- it stands nowhere and remembers no link
+-- it stands nowhere, remembers no link, and knows of no word that it has filled
 abbrev pub nowhere : Reading → Reading
-nowhere r = record r { place = Nowhere; links = []; left_turn = None; right_turn = None }
+nowhere r = record r { place = Nowhere; links = []; left_turn = None; right_turn = None; filled = [] }
 
 abbrev pub in_section : View → ℕ → View
 in_section v word = record v { section_word = word; reading = nowhere v.reading }
@@ -55,9 +55,11 @@ history_with own number other = record own {
   ended_places = own.ended_places ++ (other.ended_places ++ own_ended number other.mine);
 }
 
+-- a slot may come back with the other view whose words were filled there, so that the view knows of no filled word
 abbrev pub joined_with : View → View → View
 joined_with v other = record v {
   to_give = v.to_give ++ other.to_give;
+  reading = record v.reading { filled = [] };
   history = history_with v.history other.number other.history;
   free = both v.free other.free;
   retired = both v.retired (both other.retired other.batch);

@@ -1,5 +1,5 @@
 -- The rule on readers: where a seat stands in a bundle, and the links that it remembers.
-use Rattle.std.specs.Prelude.{◌≡◌, ℕ, ◌<◌, ◌≤◌, ◌⊎◌, List, [], ◌∷◌, ◌++◌, Option, Some, None, IfSome}
+use Rattle.std.specs.Prelude.{◌≡◌, ℕ, ◌<◌, ◌≤◌, ◌⊎◌, true, List, [], ◌∷◌, ◌++◌, Option, Some, None, IfSome, is_some}
 use Rattle.index_words.specs.declared.layout.Layout.{Layout}
 use Rattle.index_words.specs.declared.view.View.{View}
 use Rattle.index_words.specs.declared.view.reading.Reading.{Reading}
@@ -9,7 +9,7 @@ use Rattle.index_words.specs.declared.view.reading.Link.{Link}
 use Rattle.index_words.specs.declared.view.reading.LinkSource.{LinkSource}
 use Rattle.index_words.specs.declared.view.reading.LinkSource.TheVariants.{Bundle, Plain}
 use Rattle.key_map.specs.Lists.{count, Every}
-use Rattle.core_grace.specs.Holds.{Bundles, HoldsNode, held_slots, tree_slots}
+use Rattle.core_grace.specs.Holds.{Bundles, ReadsNode, held_slots, tree_slots}
 use Rattle.core_links.specs.Bundle.{select, child_of_entry}
 
 -- the section number is at most the stamp, and an open snapshot has it; without one no tree is read, and the
@@ -20,12 +20,16 @@ pub record VersionRight (z : Layout) (s : ℕ) (r : Reading) : Type 0 where
   pub bare : r.section ≡ None → r.tree ≡ []
   pub there : (k : ℕ) → 0 < count k (tree_slots r.tree) → k ≤ z.nodes
 
--- the node is the root, or the seat holds it
+-- the node is the root, or the seat reads it or works on it
 abbrev pub IsReachable : Layout → View → ℕ → Type 0
-IsReachable z v k = (k ≤ z.nodes) × ((k ≡ 0) ⊎ HoldsNode v k)
+IsReachable z v k = (k ≤ z.nodes) × ((k ≡ 0) ⊎ ReadsNode v k)
 
 abbrev pub IsLocked : View → ℕ → Type 0
 IsLocked v k = 0 < count k (held_slots v.held.nodes)
+
+-- what stands in the node's bundles stays for the seat: it has locked the node, or it reads at a number
+abbrev pub IsWatched : View → ℕ → Type 0
+IsWatched v k = IsLocked v k ⊎ (is_some v.reading.section ≡ true)
 
 -- the entry stands in the bundle, and each entry in front of it is one that the seat may be past; a number that was
 -- found in its stamp is still there
@@ -40,11 +44,17 @@ pub record StandsAt (stamp : ℕ → ℕ) (es : List ℕ) (e : ℕ) (loaded : Op
 abbrev pub IsPassed : (ℕ → ℕ) → View → ℕ → ℕ → Type 0
 IsPassed number v node e = IfSome v.reading.section (λ t. IsLocked v node ⊎ (t < number e))
 
+-- a place in a bundle, over what its node and its bundle are to the seat: the node is reachable, and where the seat
+-- watches it the entry stands in the bundle
+pub record EntryPlace (reachable watched : Type 0) (stamp : ℕ → ℕ) (es : List ℕ) (entry : ℕ) (found : Option ℕ) (unread : ℕ → Type 0) : Type 0 where
+  pub reach : reachable
+  pub stands : 0 < entry → watched → StandsAt stamp es entry found unread
+
 -- where the seat stands, over the stamps of entries
 abbrev pub PlaceRight : Layout → (ℕ → ℕ) → Bundles → View → Place → Type 0
 PlaceRight z stamp b v Nowhere = Unit {0}
 PlaceRight z stamp b v (Entry node side entry found) =
-    IsReachable z v node × (0 < entry → StandsAt stamp (b.bundle side node) entry found (IsPassed b.number v node))
+    EntryPlace (IsReachable z v node) (IsWatched v node) stamp (b.bundle side node) entry found (IsPassed b.number v node)
 PlaceRight z stamp b v (Node node key) = Unit {0}
 PlaceRight z stamp b v (Gap node side) = Unit {0}
 
@@ -54,11 +64,16 @@ abbrev pub EntryRight : (ℕ → ℕ) → (ℕ → ℕ) → List ℕ → Option 
 EntryRight child number es None c entry = (entry ≡ 0) × (c ≡ 0)
 EntryRight child number es (Some t) c entry = (select number t es ≡ entry) × (child_of_entry child entry ≡ c)
 
--- so it is where it was found through its bundle
-abbrev pub SourceRight : (ℕ → ℕ) → (ℕ → ℕ) → List ℕ → Option ℕ → ℕ → LinkSource → Type 0
-SourceRight child number es section c (Bundle entry) = EntryRight child number es section c entry
-SourceRight child number es section c (Plain tag above below) = Unit {0}
+-- a link that was found through its bundle: its node is reachable, and it is remembered so
+pub record BundleLink (reachable : Type 0) (child number : ℕ → ℕ) (es : List ℕ) (section : Option ℕ) (c entry : ℕ) : Type 0 where
+  pub reach : reachable
+  pub selected : EntryRight child number es section c entry
+
+-- nothing is said yet of a link that was found as a plain one
+abbrev pub SourceRight : Type 0 → (ℕ → ℕ) → (ℕ → ℕ) → List ℕ → Option ℕ → ℕ → LinkSource → Type 0
+SourceRight reachable child number es section c (Bundle entry) = BundleLink reachable child number es section c entry
+SourceRight reachable child number es section c (Plain tag above below) = Unit {0}
 
 -- a remembered link, over the children of entries
 abbrev pub LinkRight : Layout → (ℕ → ℕ) → Bundles → View → Link → Type 0
-LinkRight z child b v l = IsReachable z v l.node × SourceRight child b.number (b.bundle l.side l.node) v.reading.section l.child l.source
+LinkRight z child b v l = SourceRight (IsReachable z v l.node) child b.number (b.bundle l.side l.node) v.reading.section l.child l.source

@@ -3,7 +3,7 @@ use Rattle.std.specs.Prelude.{◌≡◌, ℕ, List, false, Option, IfSome}
 use Rattle.index_words.specs.declared.layout.Layout.{Layout}
 use Rattle.index_words.specs.declared.view.View.{View}
 use Rattle.index_words.specs.declared.word.Field.TheVariants.{Key, Val, Lock, Mark, Head}
-use Rattle.index_words.specs.declared.word.Part.TheVariants.{Child, Stamp as Number, Next}
+use Rattle.index_words.specs.declared.word.Part.TheVariants.{Child, Stamp as Number}
 use Rattle.index_words.specs.declared.word.Word.TheVariants.{Stamp, Section, Announced, Node, Entry}
 use Rattle.index_words.specs.Words.{Memory}
 use Rattle.key_map.specs.Lists.{Every}
@@ -13,6 +13,7 @@ use Rattle.core_rule.specs.SectionRule.{SectionRight}
 use Rattle.core_rule.specs.Locks.{LocksRight, LoadedRight, MarksRight}
 use Rattle.core_rule.specs.BundleRule.{IsPending, UpdateRight}
 use Rattle.core_rule.specs.Readers.{VersionRight, PlaceRight, LinkRight}
+use Rattle.core_rule.specs.FilledRule.{FilledRight}
 use Rattle.core_rule.specs.Versions.{ReadsVersion}
 use Rattle.index_words.specs.declared.view.reading.TreeNode.{TreeNode}
 
@@ -33,8 +34,9 @@ pub record SeatRight (z : Layout) (m : Memory) (g : Meaning) (v : View) : Type 0
   pub version : VersionRight z (m Stamp) v.reading
   pub tree : TreeRight m g v.reading.section v.reading.tree
   pub locks : LocksRight z (λ k. m (Node Lock k)) v
-  pub loaded : LoadedRight (λ k. m (Node Mark k)) (λ s k. m (Node (Head s) k)) (λ e. m (Entry Number e)) (λ e. m (Entry Next e)) g.bundles v
+  pub loaded : LoadedRight m g.bundles v
   pub marks : MarksRight (λ k. m (Node Mark k)) v
   pub pending : Every (IsPending z (λ s k. m (Node (Head s) k)) (λ e. m (Entry Number e)) g.bundles.number v) v.update.pending
   pub place : PlaceRight z (λ e. m (Entry Number e)) g.bundles v v.reading.place
+  pub filled : Every (FilledRight m v.free v.update) v.reading.filled
   pub links : Every (LinkRight z (λ e. m (Entry Child e)) g.bundles v) v.reading.links

@@ -1,5 +1,5 @@
--- The rule on section words: a view holds what its own words are; outside a section it has read nothing and
--- locked nothing, and with no lock held it has no update under way.
+-- The rule on section words: a view holds what its own words are; outside a section it has read nothing, and has
+-- locked nothing; and with no lock held it has no update under way.
 use Rattle.std.specs.Prelude.{◌≡◌, ℕ, [], true, Option, Some, None}
 use Rattle.index_words.specs.declared.view.View.{View}
 use Rattle.index_words.specs.Views.{no_reading, no_update}
@@ -20,5 +20,6 @@ pub record IsIdle (v : View) : Type 0 where
 pub record SectionRight (section_of announced_of : ℕ → ℕ) (v : View) : Type 0 where
   pub section : IsOwnWord section_of v.number v.section_word
   pub announced : IsOwnWord announced_of v.number v.announced
-  pub outside : is_even v.section_word ≡ true → IsIdle v
+  pub outside : is_even v.section_word ≡ true → v.reading ≡ no_reading
+  pub unlocked : is_even v.section_word ≡ true → v.held.nodes ≡ []
   pub done : v.held.nodes ≡ [] → v.update ≡ no_update

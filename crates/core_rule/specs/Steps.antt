@@ -27,7 +27,8 @@ use Rattle.core_rule.specs.UpdateMoves.{prepared, raised_view, finalised}
 use Rattle.core_rule.specs.Versions.{tree_nodes}
 use Rattle.core_rule.specs.SpelledNow.{tree_now}
 use Rattle.core_rule.specs.TreeMoves.{tree_move}
-use Rattle.core_rule.specs.LockMoves.{tried, unlocked_view, with_mark, mark_loaded}
+use Rattle.core_rule.specs.LockMoves.{tried, unlocked_view, with_mark, mark_loaded, pair_loaded}
+use Rattle.core_rule.specs.FillMoves.{filled_view}
 
 -- the needs of a kind, for a seat with this view, a word by name, and an update
 abbrev pub needs : Kind → Layout → Memory → List View → ℕ → View → Word → ℕ → Option Update → Bool
@@ -131,11 +132,16 @@ abbrev pub marked_from : View → Word → View
 marked_from v (Node field k) = with_mark v k 1
 marked_from v _ = v
 
+abbrev pub pair_from : View → Word → ℕ → View
+pair_from v (Node field k) x = pair_loaded v field k x
+pair_from v _ x = v
+
 -- the view of the seat after an event of a kind that changes it alone, at a word that was found to hold `x`
 abbrev pub view_after : Kind → Layout → Memory → List View → View → Word → ℕ → ℕ → Option Update → View
 view_after Enter z m views v w x value update = entered z.passes v value
 view_after Leave z m views v w x value update = left v value
 view_after LookSec z m views v w x value update = look_from z v w x
+view_after Fill z m views v w x value update = filled_view v w value
 view_after LoadStamp z m views v w x value update = stamp_loaded (longest views) v x (value == 1) (tree_nodes (tree_now z m views))
 view_after LoadHead z m views v w x value update = head_from v w x (m (Entry Number x))
 view_after LoadTs z m views v w x value update = ts_from v w x
@@ -148,13 +154,12 @@ view_after TryLock z m views v w x value update = tried_from v w value x
 view_after Unlock z m views v w x value update = unlocked_from v w
 view_after LoadMark z m views v w x value update = mark_from v w x
 view_after Mark z m views v w x value update = marked_from v w
+view_after LoadKeyOrVal z m views v w x value update = pair_from v w x
 view_after _ z m views v w x value update = v
 
 -- the views after an event of a kind
 abbrev pub views_after : Kind → Layout → Memory → List View → ℕ → View → Word → ℕ → Option Update → List View
 views_after MakeSeat z m views seat v w value update = views
-views_after Fill z m views seat v w value update = views
-views_after LoadKeyOrVal z m views seat v w value update = views
 views_after SplitSeat z m views seat v w value update = slice_set views seat (split_left v value) ++ split_right v value ∷ []
 views_after JoinSeat z m views seat v w value update = join_found views seat v value (slice_get views value)
 views_after kind z m views seat v w value update = slice_set views seat (view_after kind z m views v w (m w) value update)

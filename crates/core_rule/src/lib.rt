@@ -4,6 +4,7 @@
 #![tactic(auto)]
 
 mod event;
+mod fill_words;
 mod link_needs;
 mod loads;
 mod lock_needs;

@@ -42,6 +42,7 @@ pub(crate) fn load_stamp(
     view.reading.links.clear();
     view.reading.left_turn = None;
     view.reading.right_turn = None;
+    view.reading.filled.clear();
 }
 
 pub(crate) fn same_side(one: Side, other: Side) -> bool
@@ -432,7 +433,7 @@ fn stand_at_next(view: &mut View, entry: u32, next: u64) -> Result<(), NoMemory>
             let found = HeldNext {
                 node,
                 entry,
-                stamp: None,
+                stamp,
                 next,
             };
             if keep_next(&mut view.held.nexts, locked, found).is_err() {

@@ -1,13 +1,13 @@
 // The view of a seat after each kind of event that locks, unlocks or marks.
-ghost use Rattle.std.specs.Prelude.{◌≡◌, OnOk, OnErr, map};
-ghost use Rattle.core_rule.specs.LockMoves.{just_locked as new_lock, locked_view, met_lock, tried, other_nodes, other_nexts, update_until, unlocked_view, mark_known, with_mark, finds_mark as mark_found, mark_loaded};
-ghost use Rattle.core_rule.specs.Steps.{tried_from, unlocked_from, mark_from, marked_from};
+ghost use Rattle.std.specs.Prelude.{◌≡◌, OnOk, OnErr, None as Nothing, map};
+ghost use Rattle.core_rule.specs.LockMoves.{just_locked as new_lock, place_locked, locked_view, met_lock, tried, other_nodes, other_nexts, update_until, unlocked_view, mark_known, with_mark, finds_mark as mark_found, mark_loaded, pair_known, pair_loaded};
+ghost use Rattle.core_rule.specs.Steps.{tried_from, unlocked_from, mark_from, marked_from, pair_from};
 
 use crate::link_needs::is_reachable;
 use crate::loads::risen;
 use crate::needs::is_in;
 use index_words::{
-    Held, HeldNext, HeldNode, HeldSide, Items, NoMemory, Place, Updating, View, Word,
+    Field, Held, HeldNext, HeldNode, HeldSide, Items, NoMemory, Place, Updating, View, Word,
 };
 use std::alloc::Global;
 
@@ -29,11 +29,56 @@ fn just_locked(node: u32) -> HeldNode
     }
 }
 
+/// Where a seat stands that has locked a node and has this section number.
+fn place_after_lock(section: Option<u64>, node: u32, place: Place) -> Place
+    ensures { result ≡ place_locked section node place }
+{
+    match section {
+        Some(_) => place,
+        None => off_entry(node, place),
+    }
+}
+
+/// At no entry, where the place is in a bundle of the node.
+fn off_entry(node: u32, place: Place) -> Place
+    ensures { result ≡ place_locked Nothing node place }
+{
+    match place {
+        Place::Entry {
+            node: at,
+            side,
+            entry,
+            stamp,
+        } => {
+            if at == node {
+                Place::Entry {
+                    node: at,
+                    side,
+                    entry: 0,
+                    stamp: None,
+                }
+            } else {
+                Place::Entry {
+                    node: at,
+                    side,
+                    entry,
+                    stamp,
+                }
+            }
+        }
+        Place::Nowhere => Place::Nowhere,
+        Place::Node { node, key } => Place::Node { node, key },
+        Place::Gap { node, side } => Place::Gap { node, side },
+    }
+}
+
 fn take_lock(view: &mut View, node: u32) -> Result<(), NoMemory>
     ensures ok { OnOk result (view.new ≡ locked_view view.old node) }
     ensures err { OnErr result (view.new ≡ view.old) }
 {
-    view.held.nodes.push(just_locked(node))
+    view.held.nodes.push(just_locked(node))?;
+    view.reading.place = place_after_lock(view.reading.section, node, view.reading.place);
+    Ok(())
 }
 
 fn meet_lock(view: &mut View, own: u64, found: u64)
@@ -108,6 +153,7 @@ fn give_back(alloc: Global, view: &mut View, node: u32)
     view.reading.links.clear();
     view.reading.left_turn = None;
     view.reading.right_turn = None;
+    view.reading.filled.clear();
 }
 
 /// The view after this lock was given back.
@@ -178,5 +224,50 @@ pub(crate) fn mark(alloc: Global, view: &mut View, word: Word)
 {
     if let Word::Node(_, node) = word {
         hold_mark(alloc, view, node, 1);
+    }
+}
+
+fn node_with_pair(held: HeldNode, field: Field, node: u32, found: u64) -> HeldNode
+    ensures { result ≡ pair_known field node found held }
+{
+    let mut known = held;
+    match field {
+        Field::Key => {
+            if held.node == node {
+                known.key = Some(found);
+            }
+        }
+        Field::Val => {
+            if held.node == node {
+                known.val = Some(found);
+            }
+        }
+        _ => {}
+    }
+    known
+}
+
+fn know_pair(nodes: &mut [HeldNode], field: Field, node: u32, found: u64)
+    ensures { nodes.new ≡ map (pair_known field node found) nodes.old }
+{
+    for held in nodes.iter_mut() {
+        *held = node_with_pair(*held, field, node, found);
+    }
+}
+
+fn hold_pair(alloc: Global, view: &mut View, field: Field, node: u32, found: u64)
+    ensures { view.new ≡ pair_loaded view.old field node found }
+{
+    let mut nodes = std::mem::replace(&mut view.held.nodes, Items::new(alloc)).into_vec();
+    know_pair(nodes.as_mut_slice(), field, node, found);
+    view.held.nodes = Items::from_vec(nodes);
+}
+
+/// The view after a load that found this number as this key or value.
+pub(crate) fn load_pair(alloc: Global, view: &mut View, word: Word, found: u64)
+    ensures { view.new ≡ pair_from view.old word found }
+{
+    if let Word::Node(field, node) = word {
+        hold_pair(alloc, view, field, node, found);
     }
 }

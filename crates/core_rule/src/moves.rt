@@ -24,6 +24,7 @@ pub(crate) fn enter(alloc: Global, view: &mut View, passes: u32, word: u64) -> R
     view.reading.links.clear();
     view.reading.left_turn = None;
     view.reading.right_turn = None;
+    view.reading.filled.clear();
     Ok(())
 }
 
@@ -234,6 +235,8 @@ pub(crate) fn take_gain(view: &mut View, gains: Gained)
     history.ended = ended;
     history.ended_places = ended_places;
     view.to_give = to_give;
+    let known = &mut view.reading.filled;
+    known.clear();
     view.free = free;
     view.retired = retired;
 }

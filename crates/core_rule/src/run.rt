@@ -4,6 +4,7 @@ ghost use Rattle.core_rule.specs.Openings.{opening};
 ghost use Rattle.core_rule.specs.Rule.{IsRight};
 ghost use Rattle.core_rule.specs.TreeLaw.{SpellsMap};
 ghost use Rattle.core_rule.specs.Remembered.{KeepsRemembered, RemembersSelected};
+ghost use Rattle.core_rule.specs.FilledRule.{KnowsFilled};
 ghost use Rattle.core_rule.specs.Runs.{after_all, first_refused, IsRefusal};
 
 use crate::event::Event;
@@ -20,7 +21,7 @@ pub enum RunError {
 }
 
 /// The state that the start and then the step of every event give, in order to the last. Its words spell the
-/// maps that it stands for, and its seats remember links as `State::step` says.
+/// maps that it stands for, and its seats remember links and filled words as `State::step` says.
 pub fn run_of(
     alloc: Global,
     layout: &Layout,
@@ -35,6 +36,7 @@ pub fn run_of(
     ensures trees { IfOk result SpellsMap }
     ensures selected { IfOk result RemembersSelected }
     ensures remembered { IfOk result KeepsRemembered }
+    ensures filled { IfOk result KnowsFilled }
     ensures refused { IfErr result (IsRefusal (first_refused (opening layout.now sizes.now) events.now)) }
 {
     let Ok(mut state) = State::start(alloc, layout, sizes) else {

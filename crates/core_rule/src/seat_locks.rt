@@ -2,9 +2,9 @@
 ghost use Rattle.std.specs.Prelude.{◌≡◌, ◌<◌, OnOk, OnErr, Some, length, slice_set};
 ghost use Rattle.std.specs.List.{slice_get};
 ghost use Rattle.index_words.specs.declared.view.View.{View as SeatView};
-ghost use Rattle.core_rule.specs.Steps.{tried_from, unlocked_from, mark_from, marked_from};
+ghost use Rattle.core_rule.specs.Steps.{tried_from, unlocked_from, mark_from, marked_from, pair_from};
 
-use crate::locks::{load_mark, mark, try_lock, unlock};
+use crate::locks::{load_mark, load_pair, mark, try_lock, unlock};
 use index_words::{NoMemory, View, Word};
 use std::alloc::Global;
 
@@ -45,4 +45,12 @@ pub(crate) fn mark_seat(alloc: Global, views: &mut [View], seat: usize, word: Wo
 {
     let view = &mut views[seat];
     mark(alloc, view, word);
+}
+
+pub(crate) fn load_pair_seat(alloc: Global, views: &mut [View], seat: usize, word: Word, found: u64)
+    requires { seat < length views.old }
+    ensures { (v : SeatView) → slice_get views.old seat ≡ Some v → views.new ≡ slice_set views.old seat (pair_from v word found) }
+{
+    let view = &mut views[seat];
+    load_pair(alloc, view, word, found);
 }

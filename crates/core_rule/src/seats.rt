@@ -4,9 +4,11 @@ ghost use Rattle.std.specs.List.{slice_get};
 ghost use Rattle.index_words.specs.Views.{spent_view};
 ghost use Rattle.index_words.specs.declared.view.View.{View as SeatView};
 ghost use Rattle.core_rule.specs.Steps.{look_from};
+ghost use Rattle.core_rule.specs.FillMoves.{filled_view};
 ghost use Rattle.core_rule.specs.Seats.{HasFree};
 ghost use Rattle.core_rule.specs.Moves.{entered, left, split_left, split_right, joined_with};
 
+use crate::fill_words::fill;
 use crate::moves::{enter, gain, keep_rest, leave, look, split_off, take_gain};
 use index_words::{Layout, NoMemory, View, Word};
 use std::alloc::Global;
@@ -48,6 +50,21 @@ pub(crate) fn look_seat(
 {
     let view = &mut views[seat];
     look(alloc, view, layout, word, found)
+}
+
+pub(crate) fn fill_seat(
+    alloc: Global,
+    views: &mut [View],
+    seat: usize,
+    word: Word,
+    value: u64,
+) -> Result<(), NoMemory>
+    requires { seat < length views.old }
+    ensures ok { OnOk result ((v : SeatView) → slice_get views.old seat ≡ Some v → views.new ≡ slice_set views.old seat (filled_view v word value)) }
+    ensures err { OnErr result (views.new ≡ views.old) }
+{
+    let view = &mut views[seat];
+    fill(alloc, view, word, value)
 }
 
 pub(crate) fn split_seat(

@@ -8,6 +8,7 @@ ghost use Rattle.core_rule.specs.Rule.{IsRight};
 ghost use Rattle.core_rule.specs.LinkLaw.{KeepsSelections};
 ghost use Rattle.core_rule.specs.TreeLaw.{SpellsMap};
 ghost use Rattle.core_rule.specs.Remembered.{KeepsRemembered, RemembersSelected};
+ghost use Rattle.core_rule.specs.FilledRule.{KnowsFilled};
 ghost use Rattle.core_rule.specs.Openings.{opening};
 
 use crate::event::Event;
@@ -79,12 +80,13 @@ impl State {
     }
 
     /// Makes one step. It is refused exactly where the event's needs are not met, or for want of memory; the
-    /// state is then unchanged. Whatever the event is, no number up to the stamp selects another entry of a
-    /// bundle of the root or of a node that is not free. At the stamp, and at each number that a seat reads at,
-    /// the words spell a search tree whose contents are the map after so many updates. A seat that has not
-    /// raised remembers a bundle's link as its number selects it, or as null without a number; where it finds
-    /// the link's node unmarked and not locked by another, and the bundle's head as it was, the link is so in
-    /// the tree at the stamp.
+    /// state is then unchanged. Whatever the event is, neither the stamp nor a number that a seat reads at
+    /// selects another entry of a bundle of the root or of a node that is not free. At the stamp, and at each
+    /// number that a seat reads at, the words spell a search tree whose contents are the map after so many
+    /// updates. A seat that has not raised remembers a bundle's link as its number selects it, or as null
+    /// without a number; where it finds the link's node unmarked and not locked by another, and the bundle's
+    /// head as it was, the link is so in the tree at the stamp. What a seat has filled in its section is what
+    /// the word holds, as long as the slot is its own free one, or its own pending entry before the raise.
     pub fn step(&mut self, alloc: Global, event: &Event) -> Result<(), StepError>
         ensures ok { OnOk result ((allowed self.old event.now ≡ true) × (self.new ≡ after self.old event.now)) }
         ensures refused { (result ≡ Err StepError.NotAllowed) ↔ (allowed self.old event.now ≡ false) }
@@ -94,6 +96,7 @@ impl State {
         ensures trees { SpellsMap self.new }
         ensures selected { RemembersSelected self.new }
         ensures remembered { KeepsRemembered self.new }
+        ensures filled { KnowsFilled self.new }
     {
         let Some(word) = self.layout.word_at(event.word) else {
             return Err(StepError::NotAllowed);

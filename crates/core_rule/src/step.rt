@@ -16,8 +16,8 @@ use crate::seat_links::{
     finalise_seat, load_head_seat, load_next_seat, load_ptr_seat, load_stamp_seat, load_ts_seat,
     prepare_seat, raise_seat,
 };
-use crate::seat_locks::{load_mark_seat, mark_seat, try_lock_seat, unlock_seat};
-use crate::seats::{enter_seat, join_seats, leave_seat, look_seat, split_seat};
+use crate::seat_locks::{load_mark_seat, load_pair_seat, mark_seat, try_lock_seat, unlock_seat};
+use crate::seats::{enter_seat, fill_seat, join_seats, leave_seat, look_seat, split_seat};
 use crate::tree_moves::tree_move;
 use core_grace::is_own;
 use index_words::{Layout, NoMemory, Update, View, Word};
@@ -134,7 +134,7 @@ fn change_in_place(
     match event.kind {
         Kind::MakeSeat => Ok(()),
         Kind::SplitSeat => unreachable!(),
-        Kind::Fill => Ok(()),
+        Kind::Fill => fill_seat(alloc, views, seat, word, value),
         Kind::JoinSeat => join_seats(alloc, views, seat, value as usize),
         Kind::Enter => enter_seat(alloc, views, seat, layout.passes, value),
         Kind::Leave => {
@@ -176,7 +176,10 @@ fn change_in_place(
             mark_seat(alloc, views, seat, word);
             Ok(())
         }
-        Kind::LoadKeyOrVal => Ok(()),
+        Kind::LoadKeyOrVal => {
+            load_pair_seat(alloc, views, seat, word, found);
+            Ok(())
+        }
     }
 }
 

@@ -153,6 +153,7 @@ pub(crate) fn raise(
     view.reading.links.clear();
     view.reading.left_turn = None;
     view.reading.right_turn = None;
+    view.reading.filled.clear();
     view.update.raised = Some(place);
     view.update.added = moved.added;
     view.update.pending = pending;

@@ -16,3 +16,6 @@ returns-clause-selected c = (laws_of _ c.loop-place.invariant.rule).selected
 
 pub returns-clause-remembered : goal.returns-clause-remembered
 returns-clause-remembered c = (laws_of _ c.loop-place.invariant.rule).remembered
+
+pub returns-clause-filled : goal.returns-clause-filled
+returns-clause-filled c = (laws_of _ c.loop-place.invariant.rule).filled

@@ -10,7 +10,7 @@ use Rattle.core_rule.specs.LoadMoves.{longest, stamp_loaded}
 use Rattle.core_rule.specs.Versions.{tree_nodes}
 use Rattle.core_rule.specs.SpelledNow.{tree_now}
 use Rattle.index_words.specs.Words.{memory}
-use Rattle.core_rule.specs.Steps.{allowed_at, look_from, head_from, ts_from, ptr_from, next_from, raised_from, tried_from, mark_from}
+use Rattle.core_rule.specs.Steps.{allowed_at, look_from, head_from, ts_from, ptr_from, next_from, raised_from, tried_from, mark_from, pair_from}
 use Rattle.core_rule.specs.Tables.{Table}
 use Rattle.core_rule.proofs.Allowed.{seat_within, join_other, prepare_small, raises, loads_stamp}
 use Rattle.core_rule.proofs.Changes.{on_ok, change_of, join_change, at_found}
@@ -24,6 +24,12 @@ join_seats-requires-clause-other c = (join_other (record { layout = c.args.layou
 
 pub join_seats-requires-clause-apart : goal.join_seats-requires-clause-apart
 join_seats-requires-clause-apart c = (join_other (record { layout = c.args.layout.now; words = c.args.words.now; views = c.args.views.now }) c.args.event.now c.args.word c.requires.met c.in-JoinSeat.is).apart
+
+pub fill_seat-requires : goal.fill_seat-requires
+fill_seat-requires c = seat_within (record { layout = c.args.layout.now; words = c.args.words.now; views = c.args.views.now }) c.args.event.now c.args.word c.requires.met
+
+pub load_pair_seat-requires : goal.load_pair_seat-requires
+load_pair_seat-requires c = seat_within (record { layout = c.args.layout.now; words = c.args.words.now; views = c.args.views.now }) c.args.event.now c.args.word c.requires.met
 
 pub enter_seat-requires : goal.enter_seat-requires
 enter_seat-requires c = seat_within (record { layout = c.args.layout.now; words = c.args.words.now; views = c.args.views.now }) c.args.event.now c.args.word c.requires.met
@@ -86,7 +92,11 @@ pub returns-in-MakeSeat-clause-ok : goal.returns-in-MakeSeat-clause-ok
 returns-in-MakeSeat-clause-ok c = change_of c.args.layout.now c.args.words.now c.args.views.now c.args.event.now c.args.word c.args.views.now MakeSeat c.in-MakeSeat.is (λ v found. refl)
 
 pub returns-in-Fill-clause-ok : goal.returns-in-Fill-clause-ok
-returns-in-Fill-clause-ok c = change_of c.args.layout.now c.args.words.now c.args.views.now c.args.event.now c.args.word c.args.views.now Fill c.in-Fill.is (λ v found. refl)
+returns-in-Fill-clause-ok c =
+    on_ok c.fill_seat.result (change_of c.args.layout.now c.args.words.now c.args.views.now c.args.event.now c.args.word c.fill_seat.new.views Fill c.in-Fill.is) c.fill_seat.ensures.ok
+
+pub returns-in-Fill-clause-err : goal.returns-in-Fill-clause-err
+returns-in-Fill-clause-err c = c.fill_seat.ensures.err
 
 pub returns-in-JoinSeat-clause-ok : goal.returns-in-JoinSeat-clause-ok
 returns-in-JoinSeat-clause-ok c =
@@ -209,7 +219,8 @@ returns-in-Mark-clause-ok c =
     change_of c.args.layout.now c.args.words.now c.args.views.now c.args.event.now c.args.word c.mark_seat.new.views Mark c.in-Mark.is c.mark_seat.ensures
 
 pub returns-in-LoadKeyOrVal-clause-ok : goal.returns-in-LoadKeyOrVal-clause-ok
-returns-in-LoadKeyOrVal-clause-ok c = change_of c.args.layout.now c.args.words.now c.args.views.now c.args.event.now c.args.word c.args.views.now LoadKeyOrVal c.in-LoadKeyOrVal.is (λ v found. refl)
+returns-in-LoadKeyOrVal-clause-ok c =
+    change_of c.args.layout.now c.args.words.now c.args.views.now c.args.event.now c.args.word c.load_pair_seat.new.views LoadKeyOrVal c.in-LoadKeyOrVal.is (at_found c.args.views.now c.args.event.now.seat c.load_pair_seat.new.views (λ (v : View) (x : ℕ). pair_from v c.args.word x) c.held-found.result _ c.held-found.ensures c.load_pair_seat.ensures)
 
 pub unreachable-requires : goal.unreachable-requires
 unreachable-requires c = c.requires.in_place c.in-SplitSeat.is

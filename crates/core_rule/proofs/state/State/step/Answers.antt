@@ -89,3 +89,17 @@ returns-then-is_err-clause-remembered c =
 
 pub returns-clause-remembered : goal.returns-clause-remembered
 returns-clause-remembered c = (laws_of _ (returns-clause-rule c)).remembered
+
+pub returns-in_default-clause-filled : goal.returns-in_default-clause-filled
+returns-in_default-clause-filled c = (laws_same _ c.args.self.now c.self.invariant c.self.view_is).filled
+
+pub returns-then-not-is_allowed-clause-filled : goal.returns-then-not-is_allowed-clause-filled
+returns-then-not-is_allowed-clause-filled c = (laws_same _ c.args.self.now c.self.invariant c.self.view_is).filled
+
+pub returns-then-is_err-clause-filled : goal.returns-then-is_err-clause-filled
+returns-then-is_err-clause-filled c =
+    (laws_refused c.self.inside.layout c.self.inside.words.items c.self.inside.views.items c.change.new.views.items c.is_err.result c.change.result
+    c.self.invariant c.is_err.ensures.value c.if-is_err.true c.change.ensures.err).filled
+
+pub returns-clause-filled : goal.returns-clause-filled
+returns-clause-filled c = (laws_of _ (returns-clause-rule c)).filled
