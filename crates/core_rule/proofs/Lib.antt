@@ -65,3 +65,6 @@ pub mod InPlace
 pub mod Refusals
 pub mod LockSteps
 pub mod HeldLocks
+pub mod Owners
+pub mod StepOwners
+pub mod ViewNeeds

@@ -29,5 +29,7 @@ pub mod SeatRule
 pub mod Rule
 pub mod LinkLaw
 pub mod Remembered
+pub mod Owners
+pub mod ViewNeeds
 pub mod Openings
 pub mod Runs

@@ -24,7 +24,9 @@ mod subtrees;
 mod tree_moves;
 mod tree_steps;
 mod updates;
+mod view_laws;
 
 pub use event::{Event, Kind};
 pub use run::{RunError, run_of};
 pub use state::{State, StepError};
+pub use view_laws::{needs_of_views, who_writes_what};

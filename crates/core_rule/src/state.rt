@@ -9,6 +9,7 @@ ghost use Rattle.core_rule.specs.LinkLaw.{KeepsSelections};
 ghost use Rattle.core_rule.specs.TreeLaw.{SpellsMap};
 ghost use Rattle.core_rule.specs.Remembered.{KeepsRemembered, RemembersSelected};
 ghost use Rattle.core_rule.specs.FilledRule.{KnowsFilled};
+ghost use Rattle.core_rule.specs.Owners.{KeepsOwners};
 ghost use Rattle.core_rule.specs.Openings.{opening};
 
 use crate::event::Event;
@@ -80,7 +81,8 @@ impl State {
     }
 
     /// Makes one step. It is refused exactly where the event's needs are not met, or for want of memory; the
-    /// state is then unchanged. Whatever the event is, neither the stamp nor a number that a seat reads at
+    /// state is then unchanged. No word has changed that another seat alone changes, and none that nobody
+    /// changes. Whatever the event is, neither the stamp nor a number that a seat reads at
     /// selects another entry of a bundle of the root or of a node that is not free. At the stamp, and at each
     /// number that a seat reads at, the words spell a search tree whose contents are the map after so many
     /// updates. A seat that has not raised remembers a bundle's link as its number selects it, or as null
@@ -92,6 +94,7 @@ impl State {
         ensures refused { (result ≡ Err StepError.NotAllowed) ↔ (allowed self.old event.now ≡ false) }
         ensures unchanged { OnErr result (self.new ≡ self.old) }
         ensures rule { IsRight self.new }
+        ensures owners { KeepsOwners event.now.seat self.old self.new }
         ensures links { KeepsSelections self.old self.new }
         ensures trees { SpellsMap self.new }
         ensures selected { RemembersSelected self.new }

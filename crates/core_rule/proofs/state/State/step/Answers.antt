@@ -3,6 +3,8 @@ use Rattle.core_rule.specs.LinkLaw.{KeepsSelections}
 use Rattle.core_rule.specs.Rule.{InRule}
 use Rattle.core_rule.specs.Tables.{Table}
 use Rattle.core_rule.proofs.Laws.{laws_of, laws_same, laws_refused}
+use Rattle.core_rule.specs.Owners.{KeepsOwners}
+use Rattle.core_rule.proofs.StepOwners.{owners_finished, owners_refused, owners_stay}
 use Rattle.core_rule.proofs.Stepped.{finished, same_selections, refused_selections, stored_small}
 use Rattle.core_rule.proofs.state.State.step.Goals as goal
 
@@ -27,6 +29,26 @@ returns-clause-rule c =
     c.is_allowed.result c.is_err.result c.change.result c.store.new.words.items c.change.new.views.items
     c.self.invariant c.in-Some.ensures.value c.as_slice.ensures.value c.as_slice-2.ensures.value c.is_allowed.ensures c.if-not-is_allowed.false
     c.as_slice-3.ensures.value c.is_err.ensures.value c.if-is_err.false c.change.ensures.ok c.store.ensures).right
+
+pub returns-in_default-clause-owners : goal.returns-in_default-clause-owners
+returns-in_default-clause-owners c = owners_stay c.args.event.now.seat c.args.self.now
+
+pub returns-then-not-is_allowed-clause-owners : goal.returns-then-not-is_allowed-clause-owners
+returns-then-not-is_allowed-clause-owners c = owners_stay c.args.event.now.seat c.args.self.now
+
+pub returns-then-is_err-clause-owners : goal.returns-then-is_err-clause-owners
+returns-then-is_err-clause-owners c =
+    let t : Table = record { layout = c.self.inside.layout; words = c.self.inside.words.items; views = c.self.inside.views.items } in
+    subst (λ (u : Table). KeepsOwners c.args.event.now.seat u (record { layout = c.self.inside.layout; words = c.self.inside.words.items; views = c.change.new.views.items })) c.self.view_is
+    (owners_refused c.args.event.now.seat t c.change.new.views.items c.is_err.result c.change.result c.is_err.ensures.value c.if-is_err.true c.change.ensures.err)
+
+pub returns-clause-owners : goal.returns-clause-owners
+returns-clause-owners c =
+    subst (λ (u : Table). KeepsOwners c.args.event.now.seat u (record { layout = c.self.inside.layout; words = c.store.new.words.items; views = c.change.new.views.items })) c.self.view_is
+    (owners_finished c.self.inside.layout c.self.inside.words.items c.as_slice.result.now c.as_slice-3.result.now c.self.inside.views.items c.as_slice-2.result.now c.args.event.now c.in-Some.word
+    c.is_allowed.result c.is_err.result c.change.result c.store.new.words.items c.change.new.views.items
+    c.self.invariant c.in-Some.ensures.value c.as_slice.ensures.value c.as_slice-2.ensures.value c.is_allowed.ensures c.if-not-is_allowed.false
+    c.as_slice-3.ensures.value c.is_err.ensures.value c.if-is_err.false c.change.ensures.ok c.store.ensures)
 
 pub returns-in_default-clause-links : goal.returns-in_default-clause-links
 returns-in_default-clause-links c = same_selections c.args.self.now
