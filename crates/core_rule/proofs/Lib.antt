@@ -68,3 +68,7 @@ pub mod HeldLocks
 pub mod Owners
 pub mod StepOwners
 pub mod ViewNeeds
+pub mod Counts
+pub mod CountFacts
+pub mod OneTree
+pub mod Found

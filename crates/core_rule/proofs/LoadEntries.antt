@@ -62,7 +62,7 @@ select_past number t [] es above = refl
 select_past number t (d ∷ front) es above = select-behind number t d (front ++ es) above.0 ∙ select_past number t front es above.1
 
 -- behind an entry of a chain its next follows
-chain_behind : (next : ℕ → ℕ) (head e : ℕ) (front back : List ℕ) → IsChain next head (front ++ e ∷ back) → IsChain next (next e) back
+pub chain_behind : (next : ℕ → ℕ) (head e : ℕ) (front back : List ℕ) → IsChain next head (front ++ e ∷ back) → IsChain next (next e) back
 chain_behind next head e [] back chain = chain.2
 chain_behind next head e (d ∷ front) back chain = chain_behind next (next d) e front back chain.2
 
@@ -163,7 +163,7 @@ module _ (z : Layout) (m : Memory) (vs : List View) (g : Meaning) (rule : Rule z
       (links_back z m vs g rule i v at w.counts w.held.nodes w.held.nexts w.reading.place w.reading.links same)
 
   -- at the selected entry
-  selected_by : (o f : Option ℕ) (locked : Bool) → (locked ≡ false → IsLocked v node → ⊥) → is_selected o f locked ≡ true
+  pub selected_by : (o f : Option ℕ) (locked : Bool) → (locked ≡ false → IsLocked v node → ⊥) → is_selected o f locked ≡ true
       → v.reading.section ≡ o → found ≡ f → IfSome o (λ t. select g.bundles.number t es ≡ e)
   selected_by None f locked free is section same = tt
   selected_by (Some t) None locked free is section same = cc
@@ -194,7 +194,7 @@ module _ (z : Layout) (m : Memory) (vs : List View) (g : Meaning) (rule : Rule z
       apart true f t = cc
       apart false f t = cc
 
-  child_is : child_of_entry (λ d. m (Entry Child d)) e ≡ m (Entry Child e)
+  pub child_is : child_of_entry (λ d. m (Entry Child d)) e ≡ m (Entry Child e)
   child_is = child_by (eqb e 0) refl
     where
       child_by : (c : Bool) → eqb e 0 ≡ c → cond c 0 (m (Entry Child e)) ≡ m (Entry Child e)
@@ -250,7 +250,7 @@ module _ (z : Layout) (m : Memory) (vs : List View) (g : Meaning) (rule : Rule z
       shown_none None p = refl
       shown_none (Some n) p = cc
 
-  above_is : is_above v e found ≡ true → IfSome v.reading.section (λ t. t < g.bundles.number e)
+  pub above_is : is_above v e found ≡ true → IfSome v.reading.section (λ t. t < g.bundles.number e)
   above_is is = above_by v.reading.section found (has e v.update.pending && is_none v.update.raised) unnumbered_is is refl refl seat.version.past
 
   -- past the entry, in a view that has the same locks
@@ -260,7 +260,7 @@ module _ (z : Layout) (m : Memory) (vs : List View) (g : Meaning) (rule : Rule z
   passes_by w (Some t) section locks (inr above) = inr (subst (λ (y : Option ℕ). IfSome y (λ n. n < g.bundles.number e)) section (above_is above))
 
   -- behind the last entry, which is above the section number, none is selected
-  last_by : (o : Option ℕ) → v.reading.section ≡ o → m (Entry Next e) ≡ 0 → IfSome o (λ t. t < g.bundles.number e) → IfSome o (λ t. select g.bundles.number t es ≡ 0)
+  pub last_by : (o : Option ℕ) → v.reading.section ≡ o → m (Entry Next e) ≡ 0 → IfSome o (λ t. t < g.bundles.number e) → IfSome o (λ t. select g.bundles.number t es ≡ 0)
   last_by None section none above = tt
   last_by (Some t) section none above =
       let stood = stands (reads_at t section) in

@@ -83,7 +83,7 @@ front_stays number next t s head (e ∷ es) chain past above is =
     select-behind number s e es far ∙ head_stays number next t s (next e) es chain.2 past then ∙ sym same
 
 -- from an empty bundle nothing is selected, and nor is it where nothing is behind a head whose number is above
-none_stays : (number next : ℕ → ℕ) (s head : ℕ) (es : List ℕ) → IsChain next head es → head ≡ 0 → select number s es ≡ 0
+pub none_stays : (number next : ℕ → ℕ) (s head : ℕ) (es : List ℕ) → IsChain next head es → head ≡ 0 → select number s es ≡ 0
 none_stays number next s head [] chain none = refl
 none_stays number next s head (e ∷ es) chain none = absurd (omega (arith, none, chain.0, chain.1))
 

@@ -22,7 +22,7 @@ every_back : {X : Type 0} (P : X → Type 0) (xs ys : List X) → Every P (xs ++
 every_back P [] ys all = all
 every_back P (x ∷ xs) ys all = every_back P xs ys all.1
 
-every_joined : {X : Type 0} (P : X → Type 0) (xs ys : List X) → Every P xs → Every P ys → Every P (xs ++ ys)
+pub every_joined : {X : Type 0} (P : X → Type 0) (xs ys : List X) → Every P xs → Every P ys → Every P (xs ++ ys)
 every_joined P [] ys front back = back
 every_joined P (x ∷ xs) ys front back = (front.0, every_joined P xs ys front.1 back)
 
@@ -45,7 +45,7 @@ link_node P node key side (Branch s k v l r) all link =
 abbrev pub ReadsKey : (ℕ → ℕ) → ℕ → ℕ → Type 0
 ReadsKey key_of slot key = (0 < slot) × (key_of slot ≡ key)
 
-spelled_nodes : (g : Graph) (c : ℕ) (tree : NamedTree) → IsSpelled g c tree → Every (λ (n : TreeNode). ReadsKey g.key n.slot n.key) (tree_nodes tree)
+pub spelled_nodes : (g : Graph) (c : ℕ) (tree : NamedTree) → IsSpelled g c tree → Every (λ (n : TreeNode). ReadsKey g.key n.slot n.key) (tree_nodes tree)
 spelled_nodes g c Null spelled = tt
 spelled_nodes g c (Branch s k v l r) spelled =
     every_joined (λ (n : TreeNode). ReadsKey g.key n.slot n.key) (tree_nodes l) _ (spelled_nodes g (g.child Left s) l spelled.4)

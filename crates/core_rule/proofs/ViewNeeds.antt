@@ -118,7 +118,7 @@ count-tree node [] some = absurd (omega (arith, some))
 count-tree node (x ∷ ns) some = tree_counted node x.slot (eqb x.slot node) (reads_tree node ns) (count node (tree_slots ns)) refl some (count-tree node ns)
 
 -- a node in reach is reachable
-reaches : (v : View) (k : ℕ) → IsInReach v k → is_reachable v k ≡ true
+pub reaches : (v : View) (k : ℕ) → IsInReach v k → is_reachable v k ≡ true
 reaches v k (inl root) = left_of (eqb k 0 || reads_tree k v.reading.tree) (locks k v.held.nodes) (left_of (eqb k 0) (reads_tree k v.reading.tree) (eq-eqb k 0 root))
 reaches v k (inr (inl tree)) = left_of (eqb k 0 || reads_tree k v.reading.tree) (locks k v.held.nodes) (right_of (eqb k 0) (reads_tree k v.reading.tree) (count-tree k v.reading.tree tree))
 reaches v k (inr (inr locked)) = right_of (eqb k 0 || reads_tree k v.reading.tree) (locks k v.held.nodes) (count-locks k v.held.nodes locked)

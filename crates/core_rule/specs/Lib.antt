@@ -31,5 +31,7 @@ pub mod LinkLaw
 pub mod Remembered
 pub mod Owners
 pub mod ViewNeeds
+pub mod Counts
+pub mod Found
 pub mod Openings
 pub mod Runs
