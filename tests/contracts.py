@@ -56,7 +56,7 @@ def clauses_from(lines, start, indent):
             found.append((begun.group(1), begun.group(2) or NAMELESS, one_line(text)))
             ends = lines[at].rstrip().endswith("};")
         else:
-            ends = line == indent + "{" or line.rstrip().endswith(("{", ";"))
+            ends = line in (indent + "{", indent + "{}") or line.rstrip().endswith(("{", ";"))
         if ends:
             return found
         at += 1

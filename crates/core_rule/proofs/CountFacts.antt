@@ -75,7 +75,7 @@ module _ (z : Layout) (words : List ℕ) (vs : List View) (g : Meaning) (rule : 
   no_zero =
       let p = named.0 in
       let own : own_place p 0 v.number v.history.mine ≡ count 0 v.history.mine =
-          ap (λ o. own_place p 0 o v.history.mine) named.1 ∙ ap (λ b. cond b (count 0 v.history.mine) 0) (eq-eqb p p refl) in
+      ap (λ o. own_place p 0 o v.history.mine) named.1 ∙ ap (λ b. cond b (count 0 v.history.mine) 0) (eq-eqb p p refl) in
       omega (arith, rule.history.places p 0, one_term (place_count p 0) vs i v at, own)
 
   none_above : (x : ℕ) → n < x → count x v.history.mine ≡ 0
@@ -125,11 +125,10 @@ other_head t i n v node side right at reads low done other =
     let l : Link = other.link in
     let m : Memory = held_by t in
     let head_of : Side → ℕ → ℕ = λ s k. m (Node (Head s) k) in
-    let same : head_of l.side l.node ≡ head_of side node = ap (λ s. head_of s l.node) other.side_is ∙ ap (head_of side) other.node_is in
-    (
+    let same : head_of l.side l.node ≡ head_of side node = ap (λ s. head_of s l.node) other.side_is ∙ ap (head_of side) other.node_is in (
       ap (count (m (Node (Head side) node))) done,
       subst (λ h. count (m (Entry Number h)) v.history.mine ≡ 0) same
-      (stored_not t.layout t.words t.views right.meaning right.rule i n v at reads low other.place other.entry l other.is other.source (λ is. other.apart (is ∙ same))),
+          (stored_not t.layout t.words t.views right.meaning right.rule i n v at reads low other.place other.entry l other.is other.source (λ is. other.apart (is ∙ same))),
     )
 
 pub taken_law : TakenLaw

@@ -104,7 +104,7 @@ ptr_tally v (Node f k) x = same_tally v
 next_at_tally : (v : View) (place : Place) (e x : ℕ) → Tally v (next_at v place e x)
 next_at_tally v (AtEntry node side entry found) e x = record { counts = refl; looks = refl }
 next_at_tally v Nowhere e x = same_tally v
-next_at_tally v (AtNode node) e x = same_tally v
+next_at_tally v (AtNode node key) e x = same_tally v
 next_at_tally v (Gap node side) e x = same_tally v
 
 next_tally : (v : View) (w : Word) (x : ℕ) → Tally v (next_from v w x)
@@ -327,18 +327,18 @@ module _ (t : Table) (e : Event) (right : IsRight t) (v : View) (at : IsItem t.v
         busy = stays_by (MeetsLock t e) v.counts.busy w.counts.busy refl (λ p. apart (sym is ∙ p.kind));
         waits = rises_by (FindsNoNumber t e v) (eqb x 0 && not (has d v.update.pending)) v.counts.waits w.counts.waits refl
             (λ p.
-                let one : d ≡ p.entry = same_entry d p.entry (ap Some (sym named) ∙ sym found ∙ p.word) in
-                both (eqb x 0) (not (has d v.update.pending)) (eq-eqb x 0 (ap (λ y. m (Entry Number y)) one ∙ p.none))
-                (not_false (has d v.update.pending) (none_has d v.update.pending (ap (λ y. count y v.update.pending) one ∙ p.other))))
+            let one : d ≡ p.entry = same_entry d p.entry (ap Some (sym named) ∙ sym found ∙ p.word) in
+            both (eqb x 0) (not (has d v.update.pending)) (eq-eqb x 0 (ap (λ y. m (Entry Number y)) one ∙ p.none))
+            (not_false (has d v.update.pending) (none_has d v.update.pending (ap (λ y. count y v.update.pending) one ∙ p.other))))
             (λ b.
-                let parts = and_parts (eqb x 0) (not (has d v.update.pending)) b in
-                record {
-                  kind = is;
-                  entry = d;
-                  word = found ∙ ap Some named;
-                  none = eqb-true x 0 parts.0;
-                  other = has_none d v.update.pending (not_true (has d v.update.pending) parts.1);
-                });
+            let parts = and_parts (eqb x 0) (not (has d v.update.pending)) b in
+            record {
+              kind = is;
+              entry = d;
+              word = found ∙ ap Some named;
+              none = eqb-true x 0 parts.0;
+              other = has_none d v.update.pending (not_true (has d v.update.pending) parts.1);
+            });
         moves = stays_by (FindsOtherHead t e v ⊎ FindsMark t e v) v.counts.moves w.counts.moves refl (not_moved LoadTs is (λ p. cc) (λ p. cc));
         looks = stays_by (FixesPlace e) v.history.looks w.history.looks refl (λ p. apart_too (sym is ∙ p.0));
       }

@@ -73,8 +73,7 @@ spelled_top g c (Branch s k v l r) spelled = spelled.0
 spelled_read : (g : Graph) (c : ℕ) (tree : NamedTree) → IsSpelled g c tree → Every (ReadAs g) (tree_nodes tree)
 spelled_read g c Null spelled = tt
 spelled_read g c (Branch s k v l r) spelled =
-    every_joined (ReadAs g) (tree_nodes l) _ (spelled_read g (g.child Left s) l spelled.4)
-    (
+    every_joined (ReadAs g) (tree_nodes l) _ (spelled_read g (g.child Left s) l spelled.4) (
       record { some = spelled.1; key = spelled.2; val = spelled.3; left = spelled_top g (g.child Left s) l spelled.4; right = spelled_top g (g.child Right s) r spelled.5 },
       spelled_read g (g.child Right s) r spelled.5,
     )
@@ -143,8 +142,8 @@ few_numbers (suc n) (x ∷ xs) low once =
     let all : List ℕ = x ∷ xs in
     let rest : List ℕ = without (suc n) all in
     let few : length rest ≤ n = few_numbers n rest
-        (λ d some. let there = low d (omega (arith, some, count-without-le d (suc n) all)) in (there.0, below d some there.1))
-        (λ d. omega (arith, once d, count-without-le d (suc n) all)) in
+    (λ d some. let there = low d (omega (arith, some, count-without-le d (suc n) all)) in (there.0, below d some there.1))
+    (λ d. omega (arith, once d, count-without-le d (suc n) all)) in
     omega (arith, few, once (suc n), length-without (suc n) all)
   where
     below : (d : ℕ) → 0 < count d (without (suc n) (x ∷ xs)) → d ≤ suc n → d ≤ n
@@ -262,7 +261,7 @@ module _ (t : Table) (right : IsRight t) where
       child_found x known low high unlocked =
           let tested : is_selected (Some n) (Some x) false ≡ true = test x n low high in
           let selected : select g.bundles.number n (g.bundles.bundle side node) ≡ e =
-              selected_by t.layout m t.views g rule i v at node side e found here some (Some n) (Some x) false (λ _ locked. unlocked locked) tested section known in
+          selected_by t.layout m t.views g rule i v at node side e found here some (Some n) (Some x) false (λ _ locked. unlocked locked) tested section known in
           let bundle = rule.bundles node place_live side in
           record {
             selected = record {
@@ -298,7 +297,7 @@ module _ (t : Table) (right : IsRight t) where
         let es : List ℕ = g.bundles.bundle l.side l.node in
         let link : LinkRight t.layout child_of g.bundles v l = every_item (LinkRight t.layout child_of g.bundles v) v.reading.links j l here seat.links in
         let is = subst (λ o. SourceRight child_of g.bundles.number es o l.child (Bundle entry)) section
-            (subst (SourceRight child_of g.bundles.number es v.reading.section l.child) source link.1) in
+        (subst (SourceRight child_of g.bundles.number es v.reading.section l.child) source link.1) in
         leads_by l.node l.side entry l.child is.0 is.1
 
     contents_by : n ≤ length v.history.seen → contents reads.tree ≡ after v.history.seen n

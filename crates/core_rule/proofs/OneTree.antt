@@ -119,7 +119,7 @@ one_tree (Branch s k v l r) (Branch s' k' v' l' r') once none same =
     let top : s ≡ s' = one_top (Branch s k v l r) (Branch s' k' v' l' r') none same in
     let cut = cut_once s (tree_nodes l) (tree_nodes r) x y (tree_nodes l') (tree_nodes r') refl (sym top) (once s) same in
     let counts : (j : ℕ) → count j (slots_of (Branch s k v l r)) ≡ count j (slots_of l) + count j (s ∷ slots_of r) =
-        λ j. ap (count j) (tree_slots-append (tree_nodes l) (x ∷ tree_nodes r)) ∙ count-append j (slots_of l) (s ∷ slots_of r) in
+    λ j. ap (count j) (tree_slots-append (tree_nodes l) (x ∷ tree_nodes r)) ∙ count-append j (slots_of l) (s ∷ slots_of r) in
     branch_same s k v s' k' v' l l' r r' top (ap (λ (n : TreeNode). n.key) cut.item) (ap (λ (n : TreeNode). n.val) cut.item)
     (one_tree l l' (λ j. omega (arith, once j, counts j)) (omega (arith, none, counts 0)) cut.front)
     (one_tree r r' (λ j. omega (arith, once j, counts j)) (omega (arith, none, counts 0)) cut.back)

@@ -15,7 +15,8 @@ use Rattle.core_grace.specs.Sections.{is_even}
 use Rattle.core_rule.specs.Needs.{is_stamp}
 use Rattle.core_rule.specs.LoadMoves.{is_above, locks}
 
--- load of the stamp: inside a section, and no snapshot is open; the value says whether it fixes a place
+-- load of the stamp: inside a section, and no snapshot is open; the value says whether it fixes a place. That no
+-- snapshot is open, and which values there are, is used by no law; a test alone pins both
 abbrev pub may_load_stamp : View → Word → ℕ → Bool
 may_load_stamp v w value = is_stamp w && not (is_even v.section_word) && is_none v.reading.opened && (value == 0 || value == 1)
 

@@ -30,7 +30,8 @@ names_pass (Some n) word = word == n + 1
 abbrev pub may_lock : View → ℕ → Bool
 may_lock v k = is_reachable v k
 
--- try lock: inside a section, of such a node that the seat has not locked; the value names its pass
+-- try lock: inside a section, of such a node that the seat has not locked; the value names its pass. So a word
+-- that is found held is another pass's
 abbrev pub may_try_lock : View → Word → ℕ → Bool
 may_try_lock v (Node field k) value =
     is_lock field && not (is_even v.section_word) && may_lock v k && not (locks k v.held.nodes) && names_pass v.number value
@@ -51,7 +52,7 @@ abbrev pub may_mark : View → Word → ℕ → Bool
 may_mark v (Node field k) value = is_mark field && locks k v.held.nodes && has k v.update.taken && value == 1
 may_mark v _ value = false
 
--- load of a key or a value: inside a section
+-- load of a key or a value: inside a section. That is used by no law; a test alone pins it
 abbrev pub may_load_pair : View → Word → ℕ → Bool
 may_load_pair v (Node field k) value = is_pair field && not (is_even v.section_word) && value == 0
 may_load_pair v _ value = false

@@ -34,13 +34,14 @@ is_stamp _ = false
 abbrev pub may_enter : View → Word → ℕ → Bool
 may_enter v w value = is_own_section v.number w && is_outside v && value == v.section_word + 1
 
--- leave: inside a section, no lock held, nothing pending
+-- leave: inside a section, no lock held, nothing pending. With no lock held nothing is pending under the rule, so that
+-- this part refuses nothing more
 abbrev pub may_leave : Memory → View → Word → ℕ → Bool
 may_leave m v w value =
     is_own_section v.number w && not (is_even v.section_word) && length v.held.nodes == 0 && nothing_pending m v && value == left_word v.section_word
 
 -- look at a section: another pass's, from outside a section with no lock held, by a view with retired slots or a
--- batch
+-- batch. That it has such slots is used by no law; a test alone pins it
 abbrev pub may_look_at : View → ℕ → ℕ → Bool
 may_look_at v pass value = not (is_number pass v.number) && is_outside v && not (is_empty v.batch && is_empty v.retired) && value == 0
 
@@ -62,7 +63,8 @@ may_fill v _ = false
 abbrev pub may_split : View → Word → ℕ → Bool
 may_split v w value = is_stamp w && (value == 0 || (value == 1 && not (length v.free.nodes == 0)))
 
--- join: the other seat was not joined away, and has no number, or both are outside a section with no lock held
+-- join: the other seat was not joined away, and has no number, or both are outside a section with no lock held. That
+-- the other one was not joined away, and that the joining one is outside, is used by no law; tests alone pin both
 abbrev pub may_join_view : View → View → Bool
 may_join_view v other = not other.joined && (is_none other.number || (is_outside v && is_outside other))
 

@@ -41,7 +41,7 @@ abbrev pub is_branch : NamedTree → Bool
 is_branch Null = false
 is_branch (Branch slot key val left right) = true
 
--- a removal is one of a key that is in the tree
+-- a removal is one of a key that is in the tree. That is used by no law; a test alone pins it
 abbrev pub has_key : Change → ℕ → NamedTree → Bool
 has_key (Put val) key tree = true
 has_key Remove key tree = is_branch (subtree_at key tree)

@@ -48,8 +48,7 @@ pub fn where_counts_rise()
     ensures other_head { OtherHeadLaw }
     ensures taken { TakenLaw }
     ensures not_retired { TreeNotRetiredLaw }
-{
-}
+{}
 
 /// What a load finds. A seat with a section number has the nodes of a search tree, whose contents are the map after so
 /// many updates. At a node of that tree the key and the value are the node's. The child at the entry whose number is at
@@ -61,5 +60,4 @@ pub fn what_loads_find()
     ensures stamp { StampLaw }
     ensures one_tree { OneTreeLaw }
     ensures bundle_length { BundleLengthLaw }
-{
-}
+{}
