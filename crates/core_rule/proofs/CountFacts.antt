@@ -24,7 +24,7 @@ use Rattle.core_rule.specs.Tables.{Table, held_by}
 use Rattle.core_rule.specs.BundleRule.{IsLive, IsNumbered}
 use Rattle.core_rule.specs.Histories.{own_place, place_count}
 use Rattle.core_rule.specs.Meanings.{Meaning}
-use Rattle.core_rule.specs.Readers.{LinkRight, SourceRight}
+use Rattle.core_rule.specs.Readers.{IsReachable, LinkRight, SourceRight}
 use Rattle.core_rule.specs.Rule.{Rule, InRule, IsRight}
 use Rattle.core_rule.specs.SeatRule.{SeatRight}
 use Rattle.core_rule.specs.Versions.{slots_of}
@@ -102,13 +102,15 @@ module _ (z : Layout) (words : List ℕ) (vs : List View) (g : Meaning) (rule : 
     link : LinkRight z (λ e. m (Entry Child e)) g.bundles v l
     link = every_item (LinkRight z (λ e. m (Entry Child e)) g.bundles v) v.reading.links place l is seat.links
 
+    bundle_link : SourceRight (IsReachable z v l.node) (λ e. m (Entry Child e)) g.bundles.number es v.reading.section l.child (Bundle entry)
+    bundle_link = subst (SourceRight (IsReachable z v l.node) (λ e. m (Entry Child e)) g.bundles.number es v.reading.section l.child) source link
+
     selected : select g.bundles.number n es ≡ entry
     selected =
-        (subst (λ o. SourceRight (λ e. m (Entry Child e)) g.bundles.number es o l.child (Bundle entry)) reads
-        (subst (SourceRight (λ e. m (Entry Child e)) g.bundles.number es v.reading.section l.child) source link.1)).0
+        (subst (λ o. SourceRight (IsReachable z v l.node) (λ e. m (Entry Child e)) g.bundles.number es o l.child (Bundle entry)) reads bundle_link).selected.0
 
     live : IsLive z vs l.node
-    live = reachable_live z vs g rule.slots i l.node v at link.0
+    live = reachable_live z vs g rule.slots i l.node v at bundle_link.reach
 
     stored_not : entry ≢ head → count (m (Entry Number head)) v.history.mine ≡ 0
     stored_not apart =

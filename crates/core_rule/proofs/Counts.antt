@@ -32,6 +32,7 @@ use Rattle.core_grace.specs.Sections.{is_even}
 use Rattle.core_rule.specs.declared.event.Event.{Event}
 use Rattle.core_rule.specs.declared.event.Kind.{Kind}
 use Rattle.core_rule.specs.declared.event.Kind.TheVariants.{MakeSeat, SplitSeat, JoinSeat, Enter, Leave, LookSec, Fill, LoadStamp, LoadHead, LoadTs, LoadPtr, LoadNext, Prepare, Raise, Finalise, TryLock, Unlock, LoadMark, Mark as MarkNode, LoadKeyOrVal}
+use Rattle.core_rule.specs.FillMoves.{filled_view, filled_with, with_filled}
 use Rattle.core_rule.specs.Counts.{MeetsLock, FindsNoNumber, RemembersOther, FindsOtherHead, FindsMark, FixesPlace, RisesWhere, CountsRise, CountsLaw}
 use Rattle.core_rule.specs.Tables.{Table, held_by}
 use Rattle.core_rule.specs.Locks.{lock_count}
@@ -43,7 +44,7 @@ use Rattle.core_rule.specs.Moves.{in_section, joined_with, split_left, split_rig
 use Rattle.core_rule.specs.Needs.{is_lock, is_stamp, may_join, may_join_found}
 use Rattle.core_rule.specs.Readers.{IsLocked}
 use Rattle.core_rule.specs.Rule.{InRule, IsRight}
-use Rattle.core_rule.specs.Steps.{needs, carries, allowed, allowed_at, after, after_at, view_after, views_after, join_found, look_from, head_at, head_from, ts_from, ptr_from, next_from, prepared_at, prepared_from, raised_from, finalised_from, tried_from, unlocked_from, mark_from, marked_from}
+use Rattle.core_rule.specs.Steps.{needs, carries, allowed, allowed_at, after, after_at, view_after, views_after, join_found, look_from, head_at, head_from, ts_from, ptr_from, next_from, prepared_at, prepared_from, raised_from, finalised_from, tried_from, unlocked_from, mark_from, marked_from, pair_from}
 use Rattle.core_rule.specs.ViewNeeds.{IsInReach}
 use Rattle.core_rule.proofs.EachKind.{item_from_get}
 use Rattle.core_rule.proofs.Frames.{same_item}
@@ -129,6 +130,16 @@ prepared_tally v Stamp e = same_tally v
 prepared_tally v (Section k) e = same_tally v
 prepared_tally v (Announced k) e = same_tally v
 prepared_tally v (Entry p k) e = same_tally v
+
+filled_tally : (v : View) (w : Word) (x : ℕ) → Tally v (filled_view v w x)
+filled_tally v w x = either_tally (is_even v.section_word) v v (with_filled v (filled_with v.reading.filled w x)) (same_tally v) (record { counts = refl; looks = refl })
+
+pair_tally : (v : View) (w : Word) (x : ℕ) → Tally v (pair_from v w x)
+pair_tally v (Node f k) x = record { counts = refl; looks = refl }
+pair_tally v Stamp x = same_tally v
+pair_tally v (Section k) x = same_tally v
+pair_tally v (Announced k) x = same_tally v
+pair_tally v (Entry p e) x = same_tally v
 
 raised_tally : (z : Layout) (m : Memory) (vs : List View) (v : View) (x : ℕ) (o : Option Update) → Tally v (raised_from z m vs v x o)
 raised_tally z m vs v x None = same_tally v
@@ -586,8 +597,8 @@ module _ (t : Table) (e : Event) (right : IsRight t) (v : View) (at : IsItem t.v
   moved_counts MakeSeat is met = still MakeSeat v is (same_tally v) (λ p. cc) (λ p. cc) (λ p. cc) (λ p. cc) (λ p. cc)
   moved_counts SplitSeat is met = still SplitSeat v is (same_tally v) (λ p. cc) (λ p. cc) (λ p. cc) (λ p. cc) (λ p. cc)
   moved_counts JoinSeat is met = still JoinSeat v is (same_tally v) (λ p. cc) (λ p. cc) (λ p. cc) (λ p. cc) (λ p. cc)
-  moved_counts Fill is met = still Fill v is (same_tally v) (λ p. cc) (λ p. cc) (λ p. cc) (λ p. cc) (λ p. cc)
-  moved_counts LoadKeyOrVal is met = still LoadKeyOrVal v is (same_tally v) (λ p. cc) (λ p. cc) (λ p. cc) (λ p. cc) (λ p. cc)
+  moved_counts Fill is met = still Fill (Moved Fill) is (filled_tally v word e.value) (λ p. cc) (λ p. cc) (λ p. cc) (λ p. cc) (λ p. cc)
+  moved_counts LoadKeyOrVal is met = still LoadKeyOrVal (Moved LoadKeyOrVal) is (pair_tally v word (m word)) (λ p. cc) (λ p. cc) (λ p. cc) (λ p. cc) (λ p. cc)
 
   module _ (w : View) where
     -- the seat's view in the list in which one view was set
@@ -627,8 +638,8 @@ module _ (t : Table) (e : Event) (right : IsRight t) (v : View) (at : IsItem t.v
     pub kind_counts : (kind : Kind) → e.kind ≡ kind → needs kind t.layout m t.views e.seat v word e.value e.update ≡ true
         → slice_get (views_after kind t.layout m t.views e.seat v word e.value e.update) e.seat ≡ Some w → CountsRise t e v w
     kind_counts MakeSeat is met now = absurd (never met)
-    kind_counts Fill is met now = subst (CountsRise t e v) (same_is now) (moved_counts Fill is met)
-    kind_counts LoadKeyOrVal is met now = subst (CountsRise t e v) (same_is now) (moved_counts LoadKeyOrVal is met)
+    kind_counts Fill is met now = set_counts Fill is met now
+    kind_counts LoadKeyOrVal is met now = set_counts LoadKeyOrVal is met now
     kind_counts SplitSeat is met now =
         subst (CountsRise t e v) (split_is (split_left v e.value) (split_right v e.value) now)
         (still SplitSeat (split_left v e.value) is (record { counts = refl; looks = refl }) (λ p. cc) (λ p. cc) (λ p. cc) (λ p. cc) (λ p. cc))

@@ -1,5 +1,5 @@
 -- What the words are of the tree that a seat reads.
-use Rattle.std.proofs.Common.{◌≡◌, ℕ, zero, suc, ◌+◌, ◌<◌, ◌≤◌, ◌⊎◌, cond, List, [], ◌∷◌, ◌++◌, length, take, drop, Bool, true, false, not, eqb, ltb, leb, ◌&&◌, arith, refl, ap, ◌∙◌, sym, subst, inl, inr, Option, Some, None, map}
+use Rattle.std.proofs.Common.{◌≡◌, ℕ, zero, suc, ◌+◌, ◌<◌, ◌≤◌, ◌⊎◌, cond, List, [], ◌∷◌, ◌++◌, length, take, drop, Bool, true, false, not, eqb, ltb, leb, ◌&&◌, arith, refl, ap, ◌∙◌, sym, subst, inl, inr, Option, Some, None, map, is_some}
 use Rattle.std.specs.Prelude.{IfSome, nat_lt, nat_le}
 use Rattle.std.proofs.lemmas.Bool.{eqb-true, cases_lt}
 use Rattle.std.proofs.lemmas.Bool.Decides.{nat_tests, eqb_tells}
@@ -255,7 +255,7 @@ module _ (t : Table) (right : IsRight t) where
       right_place = subst (PlaceRight t.layout (λ d. m (Entry Number d)) g.bundles v) here seat.place
 
       place_live : IsLive t.layout t.views node
-      place_live = reachable_live t.layout t.views g rule.slots i node v at right_place.0
+      place_live = reachable_live t.layout t.views g rule.slots i node v at right_place.reach
 
       child_found : (x : ℕ) → found ≡ Some x → 0 < x → x ≤ n → ¬ IsLocked v node → FindsChild t n reads.tree node side e
       child_found x known low high unlocked =
@@ -280,7 +280,7 @@ module _ (t : Table) (right : IsRight t) where
           let next : ℕ → ℕ = λ d. m (Entry Next d) in
           let es : List ℕ = g.bundles.bundle side node in
           let bundle = rule.bundles node place_live side in
-          let stands : StandsAt (λ d. m (Entry Number d)) es e found (IsPassed g.bundles.number v node) = right_place.1 some in
+          let stands : StandsAt (λ d. m (Entry Number d)) es e found (IsPassed g.bundles.number v node) = right_place.stands some (inr (ap is_some section)) in
           let chain = subst (IsChain next (m (Node (Head side) node))) stands.splits bundle.chain in
           let behind = chain_head next (next e) stands.back (chain_behind next (m (Node (Head side) node)) e stands.front stands.back chain) in
           let over : n < g.bundles.number e = subst (λ o. IfSome o (λ s. s < g.bundles.number e)) section (above_is t.layout m t.views g rule i v at node side e found here some above) in
@@ -296,9 +296,9 @@ module _ (t : Table) (right : IsRight t) where
     link_found j l entry here source =
         let es : List ℕ = g.bundles.bundle l.side l.node in
         let link : LinkRight t.layout child_of g.bundles v l = every_item (LinkRight t.layout child_of g.bundles v) v.reading.links j l here seat.links in
-        let is = subst (λ o. SourceRight child_of g.bundles.number es o l.child (Bundle entry)) section
-        (subst (SourceRight child_of g.bundles.number es v.reading.section l.child) source link.1) in
-        leads_by l.node l.side entry l.child is.0 is.1
+        let is = subst (λ o. SourceRight (IsReachable t.layout v l.node) child_of g.bundles.number es o l.child (Bundle entry)) section
+        (subst (SourceRight (IsReachable t.layout v l.node) child_of g.bundles.number es v.reading.section l.child) source link) in
+        leads_by l.node l.side entry l.child is.selected.0 is.selected.1
 
     contents_by : n ≤ length v.history.seen → contents reads.tree ≡ after v.history.seen n
     contents_by low =

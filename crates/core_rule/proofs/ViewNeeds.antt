@@ -31,7 +31,7 @@ use Rattle.core_rule.specs.declared.event.Kind.{Kind}
 use Rattle.core_rule.specs.declared.event.Kind.TheVariants.{SplitSeat, JoinSeat, Enter, Leave, LookSec, Fill, LoadStamp, LoadHead, LoadTs, LoadPtr, LoadNext, Finalise, TryLock, Unlock, LoadMark, Mark as MarkNode, LoadKeyOrVal}
 use Rattle.core_rule.specs.Tables.{Table}
 use Rattle.core_rule.specs.BundleRule.{IsPending}
-use Rattle.core_rule.specs.Locks.{NodeRight, IsTakenOut}
+use Rattle.core_rule.specs.Locks.{IsNodeAt, IsTakenOut}
 use Rattle.core_rule.specs.Readers.{IsLocked}
 use Rattle.core_rule.specs.Rule.{InRule}
 use Rattle.core_rule.specs.SeatRule.{SeatRight}
@@ -244,7 +244,7 @@ module _ (z : Layout) (words : List ℕ) (vs : List View) (right : InRule z word
           (subst (λ j. m (Node Mark j) ≡ 1) held.same (mark_is held.item held.has_it.0 (held.has_it.1 (subst (λ j. 0 < count j v.update.taken) (sym held.same) taken))))
         where
           loaded_marks : Every Loaded v.held.nodes
-          loaded_marks = every_map (NodeRight (λ j. m (Node Mark j)) (λ s j. m (Node (Head s) j)) (λ e. m (Entry Number e))) Loaded v.held.nodes (λ h known. known.0) seat.loaded.nodes
+          loaded_marks = every_map (IsNodeAt m) Loaded v.held.nodes (λ h known. known.mark) seat.loaded.nodes
 
   done_by : v.update.pending ≡ [] → Every (λ (h : HeldNode). 0 < count h.node v.update.taken → h.mark ≡ Some 1) v.held.nodes → nothing_pending m v ≡ true
   done_by none marked =
