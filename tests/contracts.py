@@ -292,7 +292,7 @@ def main():
     wrong = list(differences()) + list(wrong_names())
     print("\n".join(wrong), end="\n" if wrong else "")
     if wrong:
-        sys.exit("%d differences; tests/contracts.py --mend writes the rows of CONTRACTS.md" % len(wrong))
+        sys.exit("%d differences; where it is CONTRACTS.md that differs, tests/contracts.py --mend writes its rows" % len(wrong))
     clauses = sum(len(c) for crate in crates() for c in public_functions(crate).values())
     print("CONTRACTS.md has the %d clauses of the public functions" % clauses)
 

@@ -45,9 +45,10 @@ class Tally:
 
 
 def first_other(text, other):
-    if not isinstance(text, str):
-        return text
-    lines, others = text.split("\n"), other.split("\n") if isinstance(other, str) else []
+    """The first line that differs, of texts or of what a run wrote, said and ended with."""
+    if isinstance(text, tuple):
+        text, other = ("".join(map(str, parts)) for parts in (text, other))
+    lines, others = text.split("\n"), other.split("\n")
     return next((line for at, line in enumerate(lines) if others[at : at + 1] != [line]), "(the start of it)")
 
 

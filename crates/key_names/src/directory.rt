@@ -31,6 +31,13 @@ impl Model for Directory {
 impl Directory {
     /// The directory of these names, each of which may be given more than once. They are sorted in place, so
     /// the allocator is not asked for memory, and `NoMemory` does not come.
+    ///
+    /// ```
+    /// let names = vec![in alloc; Text::of(alloc, "b")?, Text::of(alloc, "a/1")?, Text::of(alloc, "b")?]?;
+    /// let dir = Directory::new(alloc, names)?;
+    /// assert_eq!(rt; dir.len(), 2);
+    /// assert_eq!(rt; dir.name(0).as_str(), "a/1");
+    /// ```
     pub fn new(_alloc: Global, names: Vec<Text>) -> Result<Directory, NamesError>
         ensures names { IfOk result (HoldsEachOnce names.items) }
         ensures fine { IfOk result (λ _. All IsFine names.items) }
@@ -53,6 +60,12 @@ impl Directory {
     }
 
     /// The rank of a name.
+    ///
+    /// ```
+    /// // the names a/1, a/2 and b
+    /// assert_eq!(rt; dir.rank(b"b"), Some(2));
+    /// assert_eq!(rt; dir.rank(b"a"), None);
+    /// ```
     pub fn rank(&self, name: &[u8]) -> Option<u64>
         ensures { MatchOption result (¬ (Contains self.now name.now)) (IsRank self.now name.now) }
     {
@@ -80,6 +93,12 @@ impl Directory {
 
     /// The number of names that are below `prefix` or begin with it. The names that begin with it stand
     /// together, from `at_or_after` up to this rank.
+    ///
+    /// ```
+    /// // of the names a/1, a/2 and b, those that begin with a/ have the ranks 0 and 1
+    /// assert_eq!(rt; dir.at_or_after(b"a/"), 0);
+    /// assert_eq!(rt; dir.past_prefix(b"a/"), 2);
+    /// ```
     pub fn past_prefix(&self, prefix: &[u8]) -> u64
         ensures count { result ≡ count_by (λ here. is_upto_prefix here prefix.now) self.now }
         ensures first { StandFirst (λ here. is_upto_prefix here prefix.now) self.now result }

@@ -29,6 +29,11 @@ impl Model for Text {
 
 impl Text {
     /// The text with the bytes of `text`.
+    ///
+    /// ```
+    /// let name = Text::of(alloc, "photos/a.jpg")?;
+    /// assert_eq!(rt; name.as_str(), "photos/a.jpg");
+    /// ```
     pub fn of(alloc: Global, text: &str) -> Result<Text, NoMemory>
         ensures { IfOk result (λ made. made ≡ text.now) }
     {

@@ -10,6 +10,18 @@ use std::marker::Model;
 
 /// A page that is being made from the pairs of one map. Its caller looks for the first pair from `next_rank`
 /// on and hands it to `take`, until `next_rank` is None or there is no such pair; then `finish` gives the page.
+///
+/// ```
+/// // the page of a query from the pairs of a sorted list; of another map, its first pair from `rank` on
+/// let mut cursor = PageCursor::new(alloc, &dir, &query, None);
+/// while let Some(rank) = cursor.next_rank() {
+///     match first_from(pairs, rank) {
+///         Some(pair) => cursor.take(alloc, pair)?,
+///         None => break,
+///     }
+/// }
+/// let page = cursor.finish();
+/// ```
 #[derive(Drop)]
 pub struct PageCursor<'a> {
     dir: &'a Directory,

@@ -14,6 +14,13 @@ use std::alloc::Global;
 
 /// The page of a query on a whole list of pairs, from a point on: filter, group and cut. It is the
 /// definition of the page made a program, for small lists and to compare with.
+///
+/// ```
+/// // the names a/1, a/2 and b, listed with the delimiter / and at most one entry
+/// let page = page_of_list(alloc, &dir, pairs, &query, None)?;
+/// assert_eq!(rt; page.entries.as_slice(), [PageEntry::Group { rank: 0, len: 2 }].as_slice());
+/// assert!(rt; page.truncated);
+/// ```
 pub fn page_of_list(
     alloc: Global,
     dir: &Directory,

@@ -12,6 +12,12 @@ use std::alloc::Global;
 
 /// The page of a query on a sorted list of pairs, from a point on, made by one binary search for each entry
 /// and one more at the end.
+///
+/// ```
+/// let page = page_by_look_ups(alloc, &dir, pairs, &query, None)?;
+/// let same = page_of_list(alloc, &dir, pairs, &query, None)?;
+/// assert_eq!(rt; page.entries.as_slice(), same.entries.as_slice());
+/// ```
 pub fn page_by_look_ups(
     alloc: Global,
     dir: &Directory,

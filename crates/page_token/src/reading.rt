@@ -19,6 +19,11 @@ const MAX_KEY_BYTES: usize = 1024;
 
 /// The point whose token the text is. Padding, bits left over at the end, another letter and a text that
 /// is no key are refused, so that no point has two tokens; and no text is the token of two points.
+///
+/// ```
+/// assert!(rt; matches!(read(alloc, b"UGEv")?, TokenPoint::Group(_)));
+/// assert!(rt; matches!(read(alloc, b"UGEv="), Err(TokenError::Bad)));
+/// ```
 pub fn read(alloc: Global, text: &[u8]) -> Result<TokenPoint, TokenError>
     ensures point { IfOk result (λ point. IsTokenOf point text.now) }
     ensures bad { IsErrOf result TokenError.Bad → (point : TokenPoint) → ¬ (IsTokenOf point text.now) }

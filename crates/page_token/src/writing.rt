@@ -9,6 +9,12 @@ use std::alloc::Global;
 
 /// The token of a point: the URL-safe base64 without padding (RFC 4648, `base64url`) of the letter `K` and
 /// the key, or of `P` and the common prefix.
+///
+/// ```
+/// let point = TokenPoint::Group(Text::of(alloc, "a/")?);
+/// let token = write(alloc, &point)?;
+/// assert_eq!(rt; token.as_str(), "UGEv");
+/// ```
 pub fn write(alloc: Global, point: &TokenPoint) -> Result<Text, NoMemory>
     ensures { IfOk result (λ token. token ≡ token_text point.now) }
 {
