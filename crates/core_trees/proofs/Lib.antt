@@ -11,5 +11,3 @@ pub mod SpelledStep
 pub mod LawfulContents
 pub mod Versions
 pub mod SpelledGaps
-pub mod TreeEnds
-pub mod LinkSteps

@@ -10,4 +10,3 @@ pub mod NodeLists
 pub mod Bounds
 pub mod SpelledAt
 pub mod SpelledGaps
-pub mod LinkSteps

@@ -10,7 +10,7 @@ use Rattle.core_trees.specs.Gaps.{IsBetween, IsClear}
 use Rattle.core_trees.specs.Slots.{occurs, first_slots}
 use Rattle.core_trees.specs.SpelledTree.{Graph, IsSpelled}
 use Rattle.core_trees.specs.SpelledStep.{behind_first}
-use Rattle.core_trees.specs.LinkSteps.{IsLinkIn}
+use Rattle.core_updates.specs.LinkSteps.{IsLinkIn}
 use Rattle.core_links.proofs.Compare.{compared, less, more, same}
 use Rattle.core_trees.proofs.Bounds.{first-within}
 use Rattle.core_trees.proofs.Slots.{one_at-other}

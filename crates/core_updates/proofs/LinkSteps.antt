@@ -1,22 +1,23 @@
 -- The laws of the tree step by links.
-use Rattle.std.proofs.Common.{◌≡◌, ℕ, ◌+◌, ◌^◌, ◌<◌, ◌≤◌, ◌⊎◌, inl, inr, [], ◌∷◌, refl, ap, sym, ◌∙◌, subst, arith}
+use Rattle.std.proofs.Common.{◌≡◌, ℕ, ◌+◌, ◌^◌, ◌<◌, ◌≤◌, ◌⊎◌, inl, inr, List, [], ◌∷◌, true, refl, ap, sym, ◌∙◌, subst, arith}
 use Rattle.index_words.specs.declared.side.Side.{Side}
 use Rattle.index_words.specs.declared.side.Side.TheVariants.{Left, Right}
-use Rattle.core_trees.specs.NamedTree.{NamedTree, Null, Branch, IsWithin}
+use Rattle.core_trees.specs.NamedTree.{NamedTree, Null, Branch, IsWithin, IsLawful}
 use Rattle.core_trees.specs.TreeStep.{subtree_at, tree_remove, first_pair, without_first}
 use Rattle.core_trees.specs.Search.{end_node, end_side, EndsAt}
 use Rattle.core_trees.specs.Gaps.{IsBeside, IsBetween, IsGapLink}
-use Rattle.core_trees.specs.Slots.{occurs, one_at, first_slots, NamesOnce}
+use Rattle.core_trees.specs.Slots.{occurs, one_at, first_slots, top_slots, removed_slots, added_slots, put_takes, remove_takes, remove_brings, NamesOnce}
 use Rattle.core_trees.specs.SpelledTree.{Graph, IsSpelled, IsOutside, KeepsOutside}
 use Rattle.core_trees.specs.SpelledStep.{end_child, IsNodeOf, SameIn, behind_first}
-use Rattle.core_trees.specs.LinkSteps.{IsTreeAt, LeadsTo, KeepsLinks, IsLink, IsNext, GrowByLinkLaw, ReplaceByLinkLaw, LiftByLinkLaw, JoinNearLaw, JoinDeepLaw}
+use Rattle.core_updates.specs.LinkSteps.{IsOtherChild, IsTreeAt, LeadsTo, KeepsLinks, IsLink, IsNext, GrowByLinkLaw, ReplaceByLinkLaw, LiftByLinkLaw, JoinNearLaw, JoinDeepLaw}
+use Rattle.core_rule.specs.TreeMoves.{is_branch as tests_branch}
 use Rattle.core_links.proofs.Compare.{compared, less, more, same}
 use Rattle.core_trees.proofs.Bounds.{first-within}
 use Rattle.core_trees.proofs.Gaps.{gap-ends}
 use Rattle.core_trees.proofs.Slots.{subtree_tally, one_at-same}
 use Rattle.core_trees.proofs.SpelledTree.{spelled-frame, end-cases}
 use Rattle.core_trees.proofs.SpelledStep.{subtree_law, grow_law, replace_law, lift_right_law, lift_left_law, join_law, unlink_law}
-use Rattle.core_trees.proofs.TreeEnds.{HangsAt, hangs, Through, through, IsFirst, first_is, clear_node}
+use Rattle.core_updates.proofs.TreeEnds.{HangsAt, hangs, Through, through, IsFirst, first_is, clear_node}
 use Rattle.core_trees.proofs.Updates.{subtree_at-left, subtree_at-right, subtree_at-here, end_node-left, end_node-right, end_node-here, end_side-right}
 
 not_branch : (s k v : ℕ) (l r : NamedTree) → Null ≡ Branch s k v l r → ⊥
@@ -76,7 +77,7 @@ beside_between : (w : Side) (k key : ℕ) → IsBeside w k key → IsBetween w k
 beside_between Left k key low = (omega arith, low)
 beside_between Right k key high = (high, omega arith)
 
-gap_ends : (key node low high root : ℕ) (side top : Side) (tree : NamedTree) → IsWithin low high tree → IsGapLink key node side root top tree
+pub gap_ends : (key node low high root : ℕ) (side top : Side) (tree : NamedTree) → IsWithin low high tree → IsGapLink key node side root top tree
     → EndsAt key node side root top tree × (subtree_at key tree ≡ Null)
 gap_ends key node low high root side top Null within gap = ((sym gap.0, sym gap.1), refl)
 gap_ends key node low high root side top (Branch s k v l r) within gap = (
@@ -99,7 +100,7 @@ module _ (g : Graph) (root parent node : ℕ) (top side : Side) (tree : NamedTre
   abbrev key : ℕ
   key = g.key node
 
-  at_link : HangsAt g 0 (2 ^ 64) parent side node root top tree
+  pub at_link : HangsAt g 0 (2 ^ 64) parent side node root top tree
   at_link = hangs g parent side node leads.some leads.child 0 (2 ^ 64) root top tree at.lawful at.spelled leads.link
 
   -- what is below the node is in the tree, and the link is no link of it
@@ -116,7 +117,7 @@ module _ (g : Graph) (root parent node : ℕ) (top side : Side) (tree : NamedTre
   spelled_below = subst (IsSpelled g (end_child g key root top tree)) at_link.sub (subtree_law g root key top tree at.spelled)
 
   -- the child that another graph has at the link
-  end_is : (h : Graph) (c : ℕ) → h.child side parent ≡ c → end_child h key root top tree ≡ c
+  pub end_is : (h : Graph) (c : ℕ) → h.child side parent ≡ c → end_child h key root top tree ≡ c
   end_is h c is = ap (λ n. h.child (end_side key top tree) n) at_link.ends.0 ∙ ap (λ w. h.child w parent) at_link.ends.1 ∙ is
 
   in_left : (x : ℕ) → 0 < occurs x at_link.left → 0 < occurs x (subtree_at key tree)
@@ -317,7 +318,7 @@ join_near g g' root slot parent node next top side tree at leads left goes keeps
     let h = at_link g root parent node top side tree at leads in
     near_joined g g' root slot parent node next top side tree at leads left goes keeps new link (which h.left) (which h.right)
 
-abbrev IsEither : ℕ → Side → ℕ → Side → ℕ → Side → Type 0
+abbrev pub IsEither : ℕ → Side → ℕ → Side → ℕ → Side → Type 0
 IsEither parent side below turn x w = IsLink parent side x w ⊎ IsLink below turn x w
 
 module _ (g g' : Graph) (root slot parent node below next : ℕ) (top side turn : Side) (tree : NamedTree) (at : IsTreeAt g root top tree)
@@ -461,3 +462,50 @@ pub join_deep : JoinDeepLaw
 join_deep g g' root slot parent node below next top side turn tree at leads left right goes apart keeps new link unlinks =
     let d = at_link g root parent node top side tree at leads in
     deep_joined g g' root slot parent node below next top side turn tree at leads left right goes apart keeps new link unlinks (which d.left) (which d.right)
+
+-- what each step takes out, and what it brings in
+pub grow_takes : (key node root : ℕ) (side top : Side) (tree : NamedTree) → IsLawful tree → IsGapLink key node side root top tree → put_takes key tree ≡ []
+grow_takes key node root side top tree lawful gap = ap top_slots (gap_ends key node 0 (2 ^ 64) root side top tree lawful gap).1
+
+module _ (g : Graph) (root parent node : ℕ) (top side : Side) (tree : NamedTree) (at : IsTreeAt g root top tree) (leads : LeadsTo g root top tree parent side node) where
+  abbrev f : HangsAt g 0 (2 ^ 64) parent side node root top tree
+  f = at_link g root parent node top side tree at leads
+
+  pub replace_takes : put_takes (g.key node) tree ≡ node ∷ []
+  replace_takes = ap top_slots f.sub
+
+  pub found_there : tests_branch (subtree_at (g.key node) tree) ≡ true
+  found_there = ap tests_branch f.sub
+
+  abbrev Moves : ℕ → NamedTree → NamedTree → List ℕ → List ℕ → Type 0
+  Moves slot l r out brought = (removed_slots (Branch node (g.key node) (g.val node) l r) ≡ out) × (added_slots slot (Branch node (g.key node) (g.val node) l r) ≡ brought)
+
+  moves_there : (slot : ℕ) (out brought : List ℕ) → Moves slot f.left f.right out brought
+      → (remove_takes (g.key node) tree ≡ out) × (remove_brings slot (g.key node) tree ≡ brought)
+  moves_there slot out brought moves = (ap removed_slots f.sub ∙ moves.0, ap (added_slots slot) f.sub ∙ moves.1)
+
+  right_none : (slot : ℕ) (l : NamedTree) → Moves slot l Null (node ∷ []) []
+  right_none slot Null = (refl, refl)
+  right_none slot (Branch s k v l r) = (refl, refl)
+
+  pub lift_moves : (slot child : ℕ) → IsOtherChild g node child → (remove_takes (g.key node) tree ≡ node ∷ []) × (remove_brings slot (g.key node) tree ≡ [])
+  lift_moves slot child (inl one) =
+      let below = spelled_below g root parent node top side tree at leads in
+      let none : f.left ≡ Null = no_child g (g.child Left node) f.left below.4 one.0 in
+      moves_there slot (node ∷ []) [] (subst (λ l. Moves slot l f.right (node ∷ []) []) (sym none) (refl, refl))
+  lift_moves slot child (inr one) =
+      let below = spelled_below g root parent node top side tree at leads in
+      let none : f.right ≡ Null = no_child g (g.child Right node) f.right below.5 one.0 in
+      moves_there slot (node ∷ []) [] (subst (λ r. Moves slot f.left r (node ∷ []) []) (sym none) (right_none slot f.left))
+
+  pub join_moves : (slot below next : ℕ) (turn : Side) → 0 < g.child Left node → 0 < g.child Right node → IsNext g root top tree node below turn next
+      → (remove_takes (g.key node) tree ≡ node ∷ next ∷ []) × (remove_brings slot (g.key node) tree ≡ slot ∷ [])
+  join_moves slot below next turn left right goes = moves_there slot (node ∷ next ∷ []) (slot ∷ []) (by (which f.left) (which f.right))
+    where
+      by : Which f.left → Which f.right → Moves slot f.left f.right (node ∷ next ∷ []) (slot ∷ [])
+      by (is_null none) whole = absurd (omega (arith, left, subst (IsSpelled g (g.child Left node)) none (spelled_below g root parent node top side tree at leads).4))
+      by (is_branch ls lk lv ll lr some) (is_null none) = absurd (omega (arith, right, subst (IsSpelled g (g.child Right node)) none (spelled_below g root parent node top side tree at leads).5))
+      by (is_branch ls lk lv ll lr some) (is_branch rs rk rv rl rr is) =
+          let first = next_is g root parent node below next top side turn tree at leads goes rs rk rv rl rr is in
+          subst (λ l. Moves slot l f.right (node ∷ next ∷ []) (slot ∷ [])) (sym some)
+          (subst (λ r. Moves slot (Branch ls lk lv ll lr) r (node ∷ next ∷ []) (slot ∷ [])) (sym is) (ap (λ ks. node ∷ ks) first.slots, refl))

@@ -1,0 +1,4 @@
+pub mod TreeEnds
+pub mod LinkSteps
+pub mod NewChildren
+pub mod MayRaise
