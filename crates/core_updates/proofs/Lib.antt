@@ -2,3 +2,4 @@ pub mod TreeEnds
 pub mod LinkSteps
 pub mod NewChildren
 pub mod MayRaise
+pub mod Successor

@@ -9,7 +9,7 @@ use Rattle.core_trees.specs.Gaps.{IsBeside, IsBetween, IsGapLink}
 use Rattle.core_trees.specs.Slots.{occurs, one_at, first_slots, top_slots, removed_slots, added_slots, put_takes, remove_takes, remove_brings, NamesOnce}
 use Rattle.core_trees.specs.SpelledTree.{Graph, IsSpelled, IsOutside, KeepsOutside}
 use Rattle.core_trees.specs.SpelledStep.{end_child, IsNodeOf, SameIn, behind_first}
-use Rattle.core_updates.specs.LinkSteps.{IsOtherChild, IsTreeAt, LeadsTo, KeepsLinks, IsLink, IsNext, GrowByLinkLaw, ReplaceByLinkLaw, LiftByLinkLaw, JoinNearLaw, JoinDeepLaw}
+use Rattle.core_updates.specs.LinkSteps.{IsOtherChild, IsTreeAt, IsChildLink, KeepsLinks, IsLink, IsNext, GrowByLinkLaw, ReplaceByLinkLaw, LiftByLinkLaw, JoinNearLaw, JoinDeepLaw}
 use Rattle.core_rule.specs.TreeMoves.{is_branch as tests_branch}
 use Rattle.core_links.proofs.Compare.{compared, less, more, same}
 use Rattle.core_trees.proofs.Bounds.{first-within}
@@ -96,7 +96,7 @@ grow_by_link g g' root slot key val node top side tree at gap keeps new link =
     ends.1 new (ap (λ n. g'.child (end_side key top tree) n) ends.0.0 ∙ ap (λ w. g'.child w node) ends.0.1 ∙ link)
 
 -- what is known where a link leads to a node
-module _ (g : Graph) (root parent node : ℕ) (top side : Side) (tree : NamedTree) (at : IsTreeAt g root top tree) (leads : LeadsTo g root top tree parent side node) where
+module _ (g : Graph) (root parent node : ℕ) (top side : Side) (tree : NamedTree) (at : IsTreeAt g root top tree) (leads : IsChildLink g root top tree parent side node) where
   abbrev key : ℕ
   key = g.key node
 
@@ -178,7 +178,7 @@ gap_apart x node root s k v top l r (Branch t c d l' r') gap = λ is. clear_node
 slot_of_top : (s k v s' k' v' : ℕ) (l r l' r' : NamedTree) → Branch s k v l r ≡ Branch s' k' v' l' r' → (s ≡ s') × (v ≡ v')
 slot_of_top s k v s' k' v' l r l' r' e = (cc, cc)
 
-module _ (g : Graph) (root parent node below next : ℕ) (top side turn : Side) (tree : NamedTree) (at : IsTreeAt g root top tree) (leads : LeadsTo g root top tree parent side node)
+module _ (g : Graph) (root parent node below next : ℕ) (top side turn : Side) (tree : NamedTree) (at : IsTreeAt g root top tree) (leads : IsChildLink g root top tree parent side node)
     (goes : IsNext g root top tree node below turn next) where
   abbrev low : ℕ
   low = g.key node
@@ -271,7 +271,7 @@ alone g s k v l r b is = left_of_same s k v l r b (sym (subtree_at-here k s k v 
     left_of_same : (s k v : ℕ) (l r b : NamedTree) → Branch s k v l r ≡ Branch s k v Null b → l ≡ Null
     left_of_same s k v l r b e = cc
 
-module _ (g g' : Graph) (root slot parent node next : ℕ) (top side : Side) (tree : NamedTree) (at : IsTreeAt g root top tree) (leads : LeadsTo g root top tree parent side node)
+module _ (g g' : Graph) (root slot parent node next : ℕ) (top side : Side) (tree : NamedTree) (at : IsTreeAt g root top tree) (leads : IsChildLink g root top tree parent side node)
     (left : 0 < g.child Left node) (goes : IsNext g root top tree node node Right next) (keeps : KeepsLinks g g' (IsLink parent side) root tree)
     (new : IsNodeOf g' slot (g.key next) (g.val next) (g.child Left node) (g.child Right next)) (link : g'.child side parent ≡ slot) where
   abbrev h : HangsAt g 0 (2 ^ 64) parent side node root top tree
@@ -322,7 +322,7 @@ abbrev pub IsEither : ℕ → Side → ℕ → Side → ℕ → Side → Type 0
 IsEither parent side below turn x w = IsLink parent side x w ⊎ IsLink below turn x w
 
 module _ (g g' : Graph) (root slot parent node below next : ℕ) (top side turn : Side) (tree : NamedTree) (at : IsTreeAt g root top tree)
-    (leads : LeadsTo g root top tree parent side node) (left : 0 < g.child Left node) (right : 0 < g.child Right node)
+    (leads : IsChildLink g root top tree parent side node) (left : 0 < g.child Left node) (right : 0 < g.child Right node)
     (goes : IsNext g root top tree node below turn next) (apart : ¬ (below ≡ node)) (keeps : KeepsLinks g g' (IsEither parent side below turn) root tree)
     (new : IsNodeOf g' slot (g.key next) (g.val next) (g.child Left node) (g.child Right node)) (link : g'.child side parent ≡ slot)
     (unlinks : g'.child turn below ≡ g.child Right next) where
@@ -467,7 +467,7 @@ join_deep g g' root slot parent node below next top side turn tree at leads left
 pub grow_takes : (key node root : ℕ) (side top : Side) (tree : NamedTree) → IsLawful tree → IsGapLink key node side root top tree → put_takes key tree ≡ []
 grow_takes key node root side top tree lawful gap = ap top_slots (gap_ends key node 0 (2 ^ 64) root side top tree lawful gap).1
 
-module _ (g : Graph) (root parent node : ℕ) (top side : Side) (tree : NamedTree) (at : IsTreeAt g root top tree) (leads : LeadsTo g root top tree parent side node) where
+module _ (g : Graph) (root parent node : ℕ) (top side : Side) (tree : NamedTree) (at : IsTreeAt g root top tree) (leads : IsChildLink g root top tree parent side node) where
   abbrev f : HangsAt g 0 (2 ^ 64) parent side node root top tree
   f = at_link g root parent node top side tree at leads
 

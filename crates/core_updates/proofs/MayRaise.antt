@@ -32,8 +32,8 @@ use Rattle.core_rule.specs.Rule.{Rule}
 use Rattle.core_rule.proofs.Owned.{free_entry_some, free_node_alone}
 use Rattle.core_rule.proofs.TreeNow.{child_is, node_lives, root_lives, tree_is}
 use Rattle.core_rule.proofs.TreeSteps.{in_listed, listed_is, count-listed}
-use Rattle.core_updates.specs.LinkSteps.{IsLinkIn, IsTreeAt, LeadsTo, KeepsLinks, IsLink, IsOtherChild, IsNext}
-use Rattle.core_updates.specs.Ready.{LeadsNow, IsPrepared, IsNewLink, IsNewNode, FindsKey, FindsNext, IsReadyToGrow, IsReadyToReplace, IsReadyToLift, IsReadyToJoin, IsNear, IsDeep, update_of, MayStep, MayGrowLaw, MayReplaceLaw, MayLiftLaw, MayJoinLaw}
+use Rattle.core_updates.specs.LinkSteps.{IsLinkIn, IsTreeAt, IsChildLink, KeepsLinks, IsLink, IsOtherChild, IsNext}
+use Rattle.core_updates.specs.Ready.{LeadsNow, IsPrepared, IsNewLink, IsNewNode, FindsKey, FindsSuccessor, IsReadyToGrow, IsReadyToReplace, IsReadyToLift, IsReadyToJoin, IsNear, IsDeep, update_of, MayStep, MayGrowLaw, MayReplaceLaw, MayLiftLaw, MayJoinLaw}
 use Rattle.core_updates.proofs.LinkSteps.{IsEither, gap_ends, end_is, grow_by_link, replace_by_link, lift_by_link, join_near, join_deep, grow_takes, replace_takes, found_there, lift_moves, join_moves}
 use Rattle.core_updates.proofs.NewChildren.{InTree, spelled_tests, child_new, child_none, names_once, only_link, free_apart, keeps_links}
 
@@ -85,7 +85,7 @@ module _ (z : Layout) (m : Memory) (vs : List View) (g : Meaning) (rule : Rule z
   in_tree : (node : ℕ) (side : Side) → IsLinkIn 0 Right (tree_now z m vs) node side → (node ≡ 0) ⊎ (0 < occurs node g.tree)
   in_tree node side link = elim (link_in node side link) as (λ _. (node ≡ 0) ⊎ (0 < occurs node g.tree)) [ inl root ↦ inl root.0 | inr there ↦ inr there ]
 
-  leads_to : (parent node : ℕ) (side : Side) → LeadsNow z m vs parent side node → 0 < node → LeadsTo now 0 Right g.tree parent side node
+  leads_to : (parent node : ℕ) (side : Side) → LeadsNow z m vs parent side node → 0 < node → IsChildLink now 0 Right g.tree parent side node
   leads_to parent node side leads some = record { link = link_in parent side leads.link; child = leads.child_is; some = some }
 
   -- the entries of a new node are free ones of the seat
@@ -268,7 +268,7 @@ module _ (z : Layout) (m : Memory) (vs : List View) (g : Meaning) (rule : Rule z
       here_counted e es = grind (arith, nat_tests)
 
   -- what a found node's link leads to
-  found_at : (key : ℕ) (h : FindsKey z m vs v key) → LeadsTo now 0 Right g.tree h.parent h.side h.node
+  found_at : (key : ℕ) (h : FindsKey z m vs v key) → IsChildLink now 0 Right g.tree h.parent h.side h.node
   found_at key h = leads_to h.parent h.node h.side h.at h.some
 
   -- the new child at the link to a found node
@@ -333,10 +333,10 @@ module _ (z : Layout) (m : Memory) (vs : List View) (g : Meaning) (rule : Rule z
     abbrev f : FindsKey z m vs v key
     f = h.found
 
-    abbrev n : FindsNext z m vs v key
+    abbrev n : FindsSuccessor z m vs v key
     n = h.next
 
-    abbrev leads : LeadsTo now 0 Right g.tree f.parent f.side f.node
+    abbrev leads : IsChildLink now 0 Right g.tree f.parent f.side f.node
     leads = found_at key f
 
     goes : IsNext now 0 Right g.tree f.node n.parent n.side n.node

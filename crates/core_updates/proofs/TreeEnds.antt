@@ -184,6 +184,7 @@ pub record IsFirst (low s k v : ℕ) (l r : NamedTree) : Type 0 where
   pub slots : first_slots (Branch s k v l r) ≡ slot ∷ []
   pub found : subtree_at (first_pair k v l).key (Branch s k v l r) ≡ Branch slot (first_pair k v l).key (first_pair k v l).val Null (behind_first (Branch s k v l r))
   pub before : (x : ℕ) → low ≤ x → x < (first_pair k v l).key → subtree_at x (Branch s k v l r) ≡ Null
+  pub ends : (x : ℕ) → low ≤ x → x < (first_pair k v l).key → (root : ℕ) (top : Side) → EndsAt x slot Left root top (Branch s k v l r)
 
 pub first_is : (low high s k v : ℕ) (l r : NamedTree) → IsWithin low high (Branch s k v l r) → IsFirst low s k v l r
 first_is low high s k v Null r within = record {
@@ -191,6 +192,7 @@ first_is low high s k v Null r within = record {
   slots = refl;
   found = subtree_at-here k s k v Null r refl;
   before = λ x a b. subtree_at-left x s k v Null r b;
+  ends = λ x a b root top. (end_node-left x s k v Null r root b, end_side-left x s k v Null r top b);
 }
 first_is low high s k v (Branch t c d l' r') r within =
     let first = first-within low k t c d l' r' within.2 in
@@ -200,6 +202,10 @@ first_is low high s k v (Branch t c d l' r') r within =
       slots = h.slots;
       found = subtree_at-left (first_pair c d l').key s k v (Branch t c d l' r') r first.1 ∙ h.found;
       before = λ x a b. subtree_at-left x s k v (Branch t c d l' r') r (omega (arith, b, first.1)) ∙ h.before x a b;
+      ends = λ x a b root top.
+          let low' : x < k = omega (arith, b, first.1) in
+          let below = h.ends x a b s Left in
+          (end_node-left x s k v (Branch t c d l' r') r root low' ∙ below.0, end_side-left x s k v (Branch t c d l' r') r top low' ∙ below.1);
     }
 
 -- where all is clear up to a key, no node has a key there

@@ -1,12 +1,12 @@
 -- The tree step by links: what has to be read at a few links of a spelled tree before and after a change, so
 -- that the tree after the step is spelled. No search is told: where it ends follows from the links.
-use Rattle.std.specs.Prelude.{◌≡◌, ℕ, ◌<◌, ◌⊎◌}
+use Rattle.std.specs.Prelude.{◌≡◌, ℕ, ◌<◌, ◌⊎◌, [], ◌∷◌}
 use Rattle.index_words.specs.declared.side.Side.{Side}
 use Rattle.index_words.specs.declared.side.Side.TheVariants.{Left, Right}
-use Rattle.core_trees.specs.NamedTree.{NamedTree, IsLawful}
-use Rattle.core_trees.specs.TreeStep.{tree_put, tree_remove}
+use Rattle.core_trees.specs.NamedTree.{NamedTree, Branch, IsLawful}
+use Rattle.core_trees.specs.TreeStep.{subtree_at, first_pair, tree_put, tree_remove}
 use Rattle.core_trees.specs.Gaps.{IsGapLink}
-use Rattle.core_trees.specs.Slots.{occurs, NamesOnce}
+use Rattle.core_trees.specs.Slots.{occurs, first_slots, NamesOnce}
 use Rattle.core_trees.specs.SpelledTree.{Graph, IsSpelled}
 use Rattle.core_trees.specs.SpelledStep.{IsNodeOf}
 
@@ -21,7 +21,7 @@ pub record IsTreeAt (g : Graph) (root : ℕ) (top : Side) (tree : NamedTree) : T
   pub spelled : IsSpelled g (g.child top root) tree
 
 -- the link is one of the tree, and leads to the node
-pub record LeadsTo (g : Graph) (root : ℕ) (top : Side) (tree : NamedTree) (parent : ℕ) (side : Side) (node : ℕ) : Type 0 where
+pub record IsChildLink (g : Graph) (root : ℕ) (top : Side) (tree : NamedTree) (parent : ℕ) (side : Side) (node : ℕ) : Type 0 where
   pub link : IsLinkIn root top tree parent side
   pub child : g.child side parent ≡ node
   pub some : 0 < node
@@ -48,7 +48,7 @@ GrowByLinkLaw =
 abbrev pub ReplaceByLinkLaw : Type 0
 ReplaceByLinkLaw =
     (g g' : Graph) (root slot val parent node : ℕ) (top side : Side) (tree : NamedTree) → IsTreeAt g root top tree
-    → LeadsTo g root top tree parent side node → KeepsLinks g g' (IsLink parent side) root tree
+    → IsChildLink g root top tree parent side node → KeepsLinks g g' (IsLink parent side) root tree
     → IsNodeOf g' slot (g.key node) val (g.child Left node) (g.child Right node) → g'.child side parent ≡ slot
     → IsSpelled g' (g'.child top root) (tree_put slot (g.key node) val tree)
 
@@ -61,13 +61,13 @@ IsOtherChild g node child =
 abbrev pub LiftByLinkLaw : Type 0
 LiftByLinkLaw =
     (g g' : Graph) (root slot parent node child : ℕ) (top side : Side) (tree : NamedTree) → IsTreeAt g root top tree
-    → LeadsTo g root top tree parent side node → IsOtherChild g node child → KeepsLinks g g' (IsLink parent side) root tree
+    → IsChildLink g root top tree parent side node → IsOtherChild g node child → KeepsLinks g g' (IsLink parent side) root tree
     → g'.child side parent ≡ child
     → IsSpelled g' (g'.child top root) (tree_remove slot (g.key node) tree)
 
 -- the node behind another one: it has a greater key, and each key between is in the gap of its left link
 pub record IsNext (g : Graph) (root : ℕ) (top : Side) (tree : NamedTree) (node parent : ℕ) (side : Side) (next : ℕ) : Type 0 where
-  pub at : LeadsTo g root top tree parent side next
+  pub at : IsChildLink g root top tree parent side next
   pub above : g.key node < g.key next
   pub gap : (x : ℕ) → g.key node < x → x < g.key next → IsGapLink x next Left root top tree
 
@@ -76,7 +76,7 @@ pub record IsNext (g : Graph) (root : ℕ) (top : Side) (tree : NamedTree) (node
 abbrev pub JoinNearLaw : Type 0
 JoinNearLaw =
     (g g' : Graph) (root slot parent node next : ℕ) (top side : Side) (tree : NamedTree) → IsTreeAt g root top tree
-    → LeadsTo g root top tree parent side node → 0 < g.child Left node → IsNext g root top tree node node Right next
+    → IsChildLink g root top tree parent side node → 0 < g.child Left node → IsNext g root top tree node node Right next
     → KeepsLinks g g' (IsLink parent side) root tree
     → IsNodeOf g' slot (g.key next) (g.val next) (g.child Left node) (g.child Right next) → g'.child side parent ≡ slot
     → IsSpelled g' (g'.child top root) (tree_remove slot (g.key node) tree)
@@ -86,9 +86,15 @@ JoinNearLaw =
 abbrev pub JoinDeepLaw : Type 0
 JoinDeepLaw =
     (g g' : Graph) (root slot parent node below next : ℕ) (top side turn : Side) (tree : NamedTree) → IsTreeAt g root top tree
-    → LeadsTo g root top tree parent side node → 0 < g.child Left node → 0 < g.child Right node
+    → IsChildLink g root top tree parent side node → 0 < g.child Left node → 0 < g.child Right node
     → IsNext g root top tree node below turn next → ¬ (below ≡ node)
     → KeepsLinks g g' (λ x w. IsLink parent side x w ⊎ IsLink below turn x w) root tree
     → IsNodeOf g' slot (g.key next) (g.val next) (g.child Left node) (g.child Right node) → g'.child side parent ≡ slot
     → g'.child turn below ≡ g.child Right next
     → IsSpelled g' (g'.child top root) (tree_remove slot (g.key node) tree)
+
+-- each key between a node's and that of the first node of its right tree is in the gap of that one's left link
+abbrev pub SuccessorGapLaw : Type 0
+SuccessorGapLaw =
+    (root key node val s k v x : ℕ) (top : Side) (left l r tree : NamedTree) → IsLawful tree → subtree_at key tree ≡ Branch node key val left (Branch s k v l r)
+    → key < x → x < (first_pair k v l).key → (next : ℕ) → first_slots (Branch s k v l r) ≡ next ∷ [] → IsGapLink x next Left root top tree

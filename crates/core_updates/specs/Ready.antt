@@ -107,7 +107,7 @@ pub record IsReadyToLift (z : Layout) (m : Memory) (vs : List View) (v : View) (
 
 -- the next node hangs at this link and is locked; its key is greater, and each key between is in the gap of its left
 -- link; its right child is known
-pub record FindsNext (z : Layout) (m : Memory) (vs : List View) (v : View) (key : ℕ) : Type 0 where
+pub record FindsSuccessor (z : Layout) (m : Memory) (vs : List View) (v : View) (key : ℕ) : Type 0 where
   pub parent : ℕ
   pub side : Side
   pub node : ℕ
@@ -142,7 +142,7 @@ pub record IsReadyToJoin (z : Layout) (m : Memory) (vs : List View) (v : View) (
   pub small : key < 2 ^ 64
   pub left : 0 < found.left
   pub right : 0 < found.right
-  pub next : FindsNext z m vs v key
+  pub next : FindsSuccessor z m vs v key
   pub slot : ℕ
   pub new_right : ℕ
   pub new : IsNewNode m v slot (m (Node Key next.node)) (m (Node Val next.node)) found.left new_right

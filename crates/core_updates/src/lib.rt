@@ -1,11 +1,9 @@
-//! Why an update that has validated may raise: pure laws over the rule of the words.
+//! Why an update that has validated may raise: pure laws over the rule of the words, for the four cases of an
+//! update. They stand on `core_rule` and `core_trees`, and have no source of their own for what an update
+//! rests on: that a link of the tree at the stamp leads to a node (`LeadsNow`), and that keys are in the gap
+//! of a null link (`GapNow`). The calls below do nothing: their clauses are what is proved.
 #![tactic(auto)]
 
-ghost use Rattle.std.specs.Prelude.{◌≡◌};
+mod laws;
 
-/// The number of locks that an update of each kind takes at most.
-pub const fn most_locks() -> u32
-    ensures { result ≡ 4 }
-{
-    4
-}
+pub use laws::{links_spell_the_step, ready_updates_may_raise, successors_have_gaps};

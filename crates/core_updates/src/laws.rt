@@ -1,0 +1,30 @@
+ghost use Rattle.core_updates.specs.LinkSteps.{GrowByLinkLaw, ReplaceByLinkLaw, LiftByLinkLaw, JoinNearLaw, JoinDeepLaw, SuccessorGapLaw};
+ghost use Rattle.core_updates.specs.Ready.{MayGrowLaw, MayReplaceLaw, MayLiftLaw, MayJoinLaw};
+
+/// The tree step by links. Where a few links of a spelled tree are known, and after a change lead to what the
+/// update brings in, while all other links stay, the tree after the update is spelled: a put of an absent key,
+/// a put of a present key, a removal of a node with at most one child, and one with two children, whose
+/// successor is the right child or is deeper. Where the searches end follows from the links.
+pub fn links_spell_the_step()
+    ensures grow { GrowByLinkLaw }
+    ensures replace { ReplaceByLinkLaw }
+    ensures lift { LiftByLinkLaw }
+    ensures join_near { JoinNearLaw }
+    ensures join_deep { JoinDeepLaw }
+{}
+
+/// No key lies between that of a node and that of the first node of its right tree: each one is in the gap of
+/// that node's left link.
+pub fn successors_have_gaps()
+    ensures gap { SuccessorGapLaw }
+{}
+
+/// A ready update may raise. In every table that meets the rule, a seat whose update rests on links of the tree
+/// at the stamp, and has made its new node and its entries ready at them, meets the need of the raise on trees;
+/// and what the raise brings in and takes out is what the update has made ready.
+pub fn ready_updates_may_raise()
+    ensures grow { MayGrowLaw }
+    ensures replace { MayReplaceLaw }
+    ensures lift { MayLiftLaw }
+    ensures join { MayJoinLaw }
+{}
