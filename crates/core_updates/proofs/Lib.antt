@@ -3,3 +3,4 @@ pub mod LinkSteps
 pub mod NewChildren
 pub mod MayRaise
 pub mod Successor
+pub mod HeldReady

@@ -1,9 +1,8 @@
 -- The gap in front of a successor.
-use Rattle.std.proofs.Common.{◌≡◌, ℕ, ◌+◌, ◌^◌, ◌<◌, ◌≤◌, List, [], ◌∷◌, refl, ap, sym, ◌∙◌, subst, arith}
-use Rattle.index_words.specs.declared.side.Side.{Side}
+use Rattle.std.proofs.Common.{◌≡◌, ℕ, ◌+◌, ◌^◌, ◌<◌, ◌≤◌, [], ◌∷◌, ap, sym, ◌∙◌, subst, arith}
 use Rattle.index_words.specs.declared.side.Side.TheVariants.{Left, Right}
-use Rattle.core_trees.specs.NamedTree.{NamedTree, Null, Branch, IsWithin}
-use Rattle.core_trees.specs.TreeStep.{subtree_at, first_pair}
+use Rattle.core_trees.specs.NamedTree.{Null, Branch, IsWithin}
+use Rattle.core_trees.specs.TreeStep.{subtree_at}
 use Rattle.core_trees.specs.Search.{end_node, end_side}
 use Rattle.core_trees.specs.Gaps.{IsNull, IsGapLink}
 use Rattle.core_trees.proofs.Bounds.{first-within}

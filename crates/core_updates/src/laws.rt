@@ -1,4 +1,5 @@
 ghost use Rattle.core_updates.specs.LinkSteps.{GrowByLinkLaw, ReplaceByLinkLaw, LiftByLinkLaw, JoinNearLaw, JoinDeepLaw, SuccessorGapLaw};
+ghost use Rattle.core_updates.specs.Held.{GrowFromViewLaw, ReplaceFromViewLaw, LiftFromViewLaw, JoinFromViewLaw};
 ghost use Rattle.core_updates.specs.Ready.{MayGrowLaw, MayReplaceLaw, MayLiftLaw, MayJoinLaw};
 
 /// The tree step by links. Where a few links of a spelled tree are known, and after a change lead to what the
@@ -27,4 +28,14 @@ pub fn ready_updates_may_raise()
     ensures replace { MayReplaceLaw }
     ensures lift { MayLiftLaw }
     ensures join { MayJoinLaw }
+{}
+
+/// What a view shows suffices for a raise. A seat that remembers the links on which its update rests, has found them
+/// again under their locks, has filled its new node and its entries, and has prepared the entries, may raise in every
+/// table that meets the rule and has this view at the seat, whatever the words and the other views are.
+pub fn validated_updates_may_raise()
+    ensures grow { GrowFromViewLaw }
+    ensures replace { ReplaceFromViewLaw }
+    ensures lift { LiftFromViewLaw }
+    ensures join { JoinFromViewLaw }
 {}

@@ -6,4 +6,7 @@
 
 mod laws;
 
-pub use laws::{links_spell_the_step, ready_updates_may_raise, successors_have_gaps};
+pub use laws::{
+    links_spell_the_step, ready_updates_may_raise, successors_have_gaps,
+    validated_updates_may_raise,
+};
