@@ -1,5 +1,5 @@
 -- A seat whose view meets the need of an event may make it, in every table that meets the rule.
-use Rattle.std.proofs.Common.{◌≡◌, ◌≢◌, ℕ, zero, suc, ◌+◌, ◌-◌, ◌*◌, ◌/◌, ◌%◌, ◌<◌, ◌≤◌, ◌⊎◌, cond, List, [], ◌∷◌, length, Bool, true, false, not, eqb, leb, ltb, ◌&&◌, ◌||◌, arith, refl, ap, ◌∙◌, sym, subst, inl, inr, Option, Some, None, is_none}
+use Rattle.std.proofs.Common.{◌≡◌, ◌≢◌, ℕ, zero, suc, ◌+◌, ◌-◌, ◌*◌, ◌/◌, ◌%◌, ◌<◌, ◌≤◌, ◌⊎◌, cond, List, [], ◌∷◌, length, Bool, true, false, not, eqb, leb, ltb, ◌&&◌, ◌||◌, arith, refl, ap, ◌∙◌, sym, subst, inl, inr, Option, Some, None, is_none, find}
 use Rattle.std.specs.Prelude.{IfSome, nat_lt, nat_le}
 use Rattle.std.specs.List.{slice_get, list_all, list_any, All}
 use Rattle.std.proofs.lemmas.Bool.{eqb-true, eq-eqb, ne_eqb}
@@ -11,7 +11,9 @@ use Rattle.index_words.specs.declared.view.reading.Place.{Place}
 use Rattle.index_words.specs.declared.view.reading.Place.TheVariants.{Nowhere, Entry as AtEntry}
 use Rattle.index_words.specs.declared.view.reading.TreeNode.{TreeNode}
 use Rattle.index_words.specs.declared.view.update.HeldNode.{HeldNode}
+use Rattle.index_words.specs.declared.view.update.LoadedHead.{LoadedHead}
 use Rattle.index_words.specs.declared.view.update.Updating.{Updating}
+use Rattle.index_words.specs.declared.word.Part.{Part}
 use Rattle.index_words.specs.declared.word.Field.{Field}
 use Rattle.index_words.specs.declared.word.Field.TheVariants.{Key, Val, Lock, Mark, Head}
 use Rattle.index_words.specs.declared.word.Part.TheVariants.{Child, Stamp as Number, Next}
@@ -28,7 +30,7 @@ use Rattle.core_grace.specs.Holds.{held_slots, tree_slots}
 use Rattle.core_grace.specs.Sections.{is_even, left_word}
 use Rattle.core_grace.specs.Slots.{own, nodes_of, entries_in}
 use Rattle.core_rule.specs.declared.event.Kind.{Kind}
-use Rattle.core_rule.specs.declared.event.Kind.TheVariants.{SplitSeat, JoinSeat, Enter, Leave, LookSec, Fill, LoadStamp, LoadHead, LoadTs, LoadPtr, LoadNext, Finalise, TryLock, Unlock, LoadMark, Mark as MarkNode, LoadKeyOrVal}
+use Rattle.core_rule.specs.declared.event.Kind.TheVariants.{SplitSeat, JoinSeat, Enter, Leave, LookSec, Fill, LoadStamp, LoadHead, LoadTs, LoadPtr, LoadNext, Prepare, Finalise, TryLock, Unlock, LoadMark, Mark as MarkNode, LoadKeyOrVal}
 use Rattle.core_rule.specs.Tables.{Table}
 use Rattle.core_rule.specs.BundleRule.{IsPending}
 use Rattle.core_rule.specs.Locks.{IsNodeAt, IsTakenOut}
@@ -42,7 +44,10 @@ use Rattle.core_rule.specs.LockNeeds.{is_pair, names_pass}
 use Rattle.core_rule.specs.Needs.{is_lock, is_outside, is_marked_node, is_own_section, is_stamp, nothing_pending, may_join_found, may_join_view}
 use Rattle.core_rule.specs.Owners.{HasFreeNode, HasFreeEntry}
 use Rattle.core_rule.specs.Steps.{needs, allowed, allowed_at, carries}
-use Rattle.core_rule.specs.ViewNeeds.{May, event_at, IsOutside, IsInside, IsInReach, IsAtEntry, MayEnter, MayLeave, MayLook, MayFill, MayLoadStamp, MayFix, MayReadHead, MayReadNumber, MayReadChild, MayReadNext, MayFinalise, MayLock, MayUnlock, MayReadMark, MayReadPair, MayMark, MaySplit, MayJoin, EnterLaw, LeaveLaw, LookLaw, FillLaw, LoadStampLaw, FixLaw, ReadHeadLaw, ReadNumberLaw, ReadChildLaw, ReadNextLaw, FinaliseLaw, LockLaw, UnlockLaw, ReadMarkLaw, MarkLaw, ReadKeyLaw, ReadValLaw, SplitLaw, JoinLaw}
+use Rattle.core_rule.specs.FilledRule.{FilledRight}
+use Rattle.core_rule.specs.UpdateNeeds.{held_at, is_next_of, is_ready, is_slot_number, is_written, side_of}
+use Rattle.core_rule.proofs.Remembered.{every_item}
+use Rattle.core_rule.specs.ViewNeeds.{May, event_at, IsOutside, IsInside, IsInReach, IsAtEntry, MayEnter, MayLeave, MayLook, MayFill, MayLoadStamp, MayFix, MayReadHead, MayReadNumber, MayReadChild, MayReadNext, HasFilled, MayPrepare, MayFinalise, MayLock, MayUnlock, MayReadMark, MayReadPair, MayMark, MaySplit, MayJoin, EnterLaw, LeaveLaw, LookLaw, FillLaw, LoadStampLaw, FixLaw, ReadHeadLaw, ReadNumberLaw, ReadChildLaw, ReadNextLaw, PrepareLaw, FinaliseLaw, LockLaw, UnlockLaw, ReadMarkLaw, MarkLaw, ReadKeyLaw, ReadValLaw, SplitLaw, JoinLaw}
 use Rattle.core_rule.proofs.EachKind.{item_from_get}
 use Rattle.core_rule.proofs.Frames.{every_at, every_map}
 use Rattle.core_rule.proofs.Fills.{work_holds, chain_head}
@@ -116,6 +121,16 @@ tree_counted node x false c n is some rest = rest (omega (arith, some))
 count-tree : (node : ℕ) (ns : List TreeNode) → 0 < count node (tree_slots ns) → reads_tree node ns ≡ true
 count-tree node [] some = absurd (omega (arith, some))
 count-tree node (x ∷ ns) some = tree_counted node x.slot (eqb x.slot node) (reads_tree node ns) (count node (tree_slots ns)) refl some (count-tree node ns)
+
+found_step : (k : ℕ) (x h : HeldNode) (hs : List HeldNode) (b : Bool) → cond b (Some x) (find (λ (y : HeldNode). eqb y.node k) hs) ≡ Some h
+    → (find (λ (y : HeldNode). eqb y.node k) hs ≡ Some h → locks k hs ≡ true) → (b || locks k hs) ≡ true
+found_step k x h hs true found later = refl
+found_step k x h hs false found later = later found
+
+-- a node that was found among those that are locked
+found-locks : (k : ℕ) (hs : List HeldNode) (h : HeldNode) → held_at k hs ≡ Some h → locks k hs ≡ true
+found-locks k [] h found = cc
+found-locks k (x ∷ hs) h found = found_step k x h hs (eqb x.node k) found (found-locks k hs h)
 
 -- a node in reach is reachable
 pub reaches : (v : View) (k : ℕ) → IsInReach v k → is_reachable v k ≡ true
@@ -358,6 +373,37 @@ module _ (z : Layout) (words : List ℕ) (vs : List View) (right : InRule z word
         ],
       )
 
+  -- a filled word of an own free entry holds what was put in
+  filled_is : (p : Part) (e x : ℕ) → HasFreeEntry v e → HasFilled v (Entry p e) x → m (Entry p e) ≡ x
+  filled_is p e x free put = every_item (FilledRight m v.free v.update) v.reading.filled put.place (record { word = Entry p e; value = x }) put.is seat.filled (inl free)
+
+  ready_by : (side : Side) (e : ℕ) (h : HeldNode) (o : Option HeldNode) (l : LoadedHead) → o ≡ Some h → h.mark ≡ Some 0 → (side_of side h).head ≡ Some l
+      → (l.entry ≡ 0) ⊎ (is_written l.stamp ≡ true) → m (Entry Next e) ≡ l.entry → is_ready m side e o ≡ true
+  ready_by side e h o l is unmarked loaded old next =
+      ap (is_ready m side e) is
+      ∙ both (is_number 0 h.mark) (is_next_of m e (side_of side h).head) (number_is 0 h.mark unmarked)
+      (ap (is_next_of m e) loaded
+      ∙ both (eqb l.entry 0 || is_written l.stamp) (eqb (m (Entry Next e)) l.entry) (elim old as (λ _. (eqb l.entry 0 || is_written l.stamp) ≡ true) [
+        | inl none ↦ left_of (eqb l.entry 0) (is_written l.stamp) (eq-eqb l.entry 0 none)
+        | inr written ↦ right_of (eqb l.entry 0) (is_written l.stamp) written
+      ]) (eq-eqb (m (Entry Next e)) l.entry next))
+
+  pub prepare_may : (k : ℕ) (side : Side) (e : ℕ) → MayPrepare v k side e → allowed t (event_at z i Prepare (Node (Head side) k) e) ≡ true
+  prepare_may k side e may =
+      let a = is_none v.update.raised in
+      let b = is_ready m side e (held_at k v.held.nodes) in
+      let c = has e v.free.entries in
+      let d = eqb (m (Entry Number e)) 0 in
+      let locked : IsLocked v k = locks-count k v.held.nodes (found-locks k v.held.nodes may.node may.locked) in
+      allowed_by Prepare (Node (Head side) k) e (locked_alive k locked) (reach_there (Head side) k (inr (inr locked))) refl
+      (both (is_slot_number e) (a && b && c && d) (below e 4294967296 may.small)
+      (both (a && b && c) d
+      (both (a && b) c
+      (both a b (none_is v.update.raised may.unraised)
+      (ready_by side e may.node (held_at k v.held.nodes) may.head may.locked may.unmarked may.loaded may.old (filled_is Next e may.head.entry may.free may.next)))
+      (count-has e v.free.entries may.free))
+      (eq-eqb (m (Entry Number e)) 0 (filled_is Number e 0 may.free may.unnumbered))))
+
   pub finalise_may : (e place : ℕ) → MayFinalise v e place → allowed t (event_at z i Finalise (Entry Number e) place) ≡ true
   finalise_may e place may =
       let high = pending_high e may.pending in
@@ -454,6 +500,9 @@ may_read_child_law z v seat e may words vs right is = child_may z words vs right
 
 pub may_read_next_law : ReadNextLaw
 may_read_next_law z v seat e may words vs right is = next_may z words vs right seat v is e may
+
+pub may_prepare_law : PrepareLaw
+may_prepare_law z v seat k side e may words vs right is = prepare_may z words vs right seat v is k side e may
 
 pub may_finalise_law : FinaliseLaw
 may_finalise_law z v seat e place may words vs right is = finalise_may z words vs right seat v is e place may

@@ -1,24 +1,25 @@
 -- What a seat may do, as far as its own view tells: a record for each kind of event, over the view and what the event
 -- is about. Whatever the words and the other views are, the event is then allowed.
-use Rattle.std.specs.Prelude.{◌≡◌, ◌≢◌, ℕ, ◌+◌, ◌<◌, ◌≤◌, ◌⊎◌, List, [], length, true, false, ◌&&◌, Option, Some, None}
+use Rattle.std.specs.Prelude.{◌≡◌, ◌≢◌, ℕ, ◌+◌, ◌^◌, ◌<◌, ◌≤◌, ◌⊎◌, List, [], length, true, false, ◌&&◌, Option, Some, None}
 use Rattle.std.specs.List.{slice_get}
 use Rattle.index_words.specs.declared.layout.Layout.{Layout}
 use Rattle.index_words.specs.declared.side.Side.{Side}
 use Rattle.index_words.specs.declared.view.View.{View}
 use Rattle.index_words.specs.declared.view.reading.Place.TheVariants.{Entry as AtEntry}
 use Rattle.index_words.specs.declared.view.update.HeldNode.{HeldNode}
+use Rattle.index_words.specs.declared.view.update.LoadedHead.{LoadedHead}
 use Rattle.index_words.specs.declared.word.Field.TheVariants.{Key, Val, Lock, Mark, Head}
 use Rattle.index_words.specs.declared.word.Part.TheVariants.{Child, Stamp as Number, Next}
 use Rattle.index_words.specs.declared.word.Word.{Word}
 use Rattle.index_words.specs.declared.word.Word.TheVariants.{Stamp, Section, Announced, Node, Entry}
 use Rattle.index_words.specs.Words.{address}
-use Rattle.key_map.specs.Lists.{count, Every}
+use Rattle.key_map.specs.Lists.{count, Every, IsItem}
 use Rattle.core_grace.specs.Batches.{is_empty}
 use Rattle.core_grace.specs.Holds.{tree_slots}
 use Rattle.core_grace.specs.Sections.{is_even, left_word}
 use Rattle.core_rule.specs.declared.event.Event.{Event}
 use Rattle.core_rule.specs.declared.event.Kind.{Kind}
-use Rattle.core_rule.specs.declared.event.Kind.TheVariants.{SplitSeat, JoinSeat, Enter, Leave, LookSec, Fill, LoadStamp, LoadHead, LoadTs, LoadPtr, LoadNext, Finalise, TryLock, Unlock, LoadMark, Mark as MarkNode, LoadKeyOrVal}
+use Rattle.core_rule.specs.declared.event.Kind.TheVariants.{SplitSeat, JoinSeat, Enter, Leave, LookSec, Fill, LoadStamp, LoadHead, LoadTs, LoadPtr, LoadNext, Prepare, Finalise, TryLock, Unlock, LoadMark, Mark as MarkNode, LoadKeyOrVal}
 use Rattle.core_rule.specs.Needs.{is_lock}
 use Rattle.core_rule.specs.LockNeeds.{is_pair}
 use Rattle.core_rule.specs.LoadMoves.{is_above}
@@ -26,6 +27,7 @@ use Rattle.core_rule.specs.Owners.{HasFreeNode, HasFreeEntry}
 use Rattle.core_rule.specs.Readers.{IsLocked}
 use Rattle.core_rule.specs.Rule.{InRule}
 use Rattle.core_rule.specs.Steps.{allowed}
+use Rattle.core_rule.specs.UpdateNeeds.{held_at, is_written, side_of}
 
 -- in every table of this layout that meets the rule, a seat with this view may make the event
 abbrev pub May : Layout → View → Event → Type 0
@@ -108,6 +110,27 @@ pub record MayReadNext (v : View) (e : ℕ) : Type 0 where
   pub at : IsAtEntry v e
   pub on : IsLocked v at.node ⊎ (is_above v e at.found ≡ true)
 
+-- the seat has put this value into the word, and nothing else since
+pub record HasFilled (v : View) (w : Word) (x : ℕ) : Type 0 where
+  pub place : ℕ
+  pub is : IsItem v.reading.filled place (record { word = w; value = x })
+
+-- prepare: before the raise, at a node that the seat has locked and found unmarked, whose head it has loaded under the
+-- lock: 0, or an entry with a written number. The entry is a free one of its own, into which it has put no number, and the
+-- old head as the next
+pub record MayPrepare (v : View) (k : ℕ) (side : Side) (e : ℕ) : Type 0 where
+  pub unraised : v.update.raised ≡ None
+  pub node : HeldNode
+  pub locked : held_at k v.held.nodes ≡ Some node
+  pub unmarked : node.mark ≡ Some 0
+  pub head : LoadedHead
+  pub loaded : (side_of side node).head ≡ Some head
+  pub old : (head.entry ≡ 0) ⊎ (is_written head.stamp ≡ true)
+  pub free : HasFreeEntry v e
+  pub small : e < 2 ^ 32
+  pub next : HasFilled v (Entry Next e) head.entry
+  pub unnumbered : HasFilled v (Entry Number e) 0
+
 -- finalise: an entry that it has pending, with the number of its raise
 pub record MayFinalise (v : View) (e place : ℕ) : Type 0 where
   pub pending : 0 < count e v.update.pending
@@ -182,6 +205,9 @@ ReadChildLaw = (z : Layout) (v : View) (seat e : ℕ) → MayReadChild v e → M
 
 abbrev pub ReadNextLaw : Type 0
 ReadNextLaw = (z : Layout) (v : View) (seat e : ℕ) → MayReadNext v e → May z v (event_at z seat LoadNext (Entry Next e) 0)
+
+abbrev pub PrepareLaw : Type 0
+PrepareLaw = (z : Layout) (v : View) (seat k : ℕ) (side : Side) (e : ℕ) → MayPrepare v k side e → May z v (event_at z seat Prepare (Node (Head side) k) e)
 
 abbrev pub FinaliseLaw : Type 0
 FinaliseLaw = (z : Layout) (v : View) (seat e place : ℕ) → MayFinalise v e place → May z v (event_at z seat Finalise (Entry Number e) place)

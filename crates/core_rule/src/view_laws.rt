@@ -2,7 +2,7 @@
 ghost use Rattle.core_rule.specs.Counts.{CountsLaw, OtherHeadLaw, TakenLaw, TreeNotRetiredLaw};
 ghost use Rattle.core_rule.specs.Found.{ReadLaw, StampLaw, OneTreeLaw, BundleLengthLaw};
 ghost use Rattle.core_rule.specs.Owners.{OwnersLaw};
-ghost use Rattle.core_rule.specs.ViewNeeds.{EnterLaw, LeaveLaw, LookLaw, FillLaw, LoadStampLaw, FixLaw, ReadHeadLaw, ReadNumberLaw, ReadChildLaw, ReadNextLaw, FinaliseLaw, LockLaw, UnlockLaw, ReadMarkLaw, MarkLaw, ReadKeyLaw, ReadValLaw, SplitLaw, JoinLaw};
+ghost use Rattle.core_rule.specs.ViewNeeds.{EnterLaw, LeaveLaw, LookLaw, FillLaw, LoadStampLaw, FixLaw, ReadHeadLaw, ReadNumberLaw, ReadChildLaw, ReadNextLaw, PrepareLaw, FinaliseLaw, LockLaw, UnlockLaw, ReadMarkLaw, MarkLaw, ReadKeyLaw, ReadValLaw, SplitLaw, JoinLaw};
 
 /// Who writes what. An event of one seat changes no word that another seat alone changes: its section word and its
 /// announcement; each word of its free slots; lock, mark, heads, links and tags of a node that it has locked, and the
@@ -25,6 +25,7 @@ pub fn needs_of_views()
     ensures read_number { ReadNumberLaw }
     ensures read_child { ReadChildLaw }
     ensures read_next { ReadNextLaw }
+    ensures prepare { PrepareLaw }
     ensures finalise { FinaliseLaw }
     ensures lock { LockLaw }
     ensures unlock { UnlockLaw }

@@ -78,7 +78,7 @@ fn refuses_each_event_whose_need_fails(rt: HostRuntime) -> Result<(), Fail> {
     let enter = event(0, Kind::Enter, 1, 1);
     let split = event(0, Kind::SplitSeat, 0, 1);
     let join = event(1, Kind::JoinSeat, 0, 2);
-    let rows: [(&[Event], usize); 19] = [
+    let rows: [(&[Event], usize); 20] = [
         // a seat is made at opening alone
         (&[event(0, Kind::MakeSeat, 0, 0), enter], 0),
         // enter: twice, another's word, a wrong value, a view without a number, no such seat
@@ -101,10 +101,11 @@ fn refuses_each_event_whose_need_fails(rt: HostRuntime) -> Result<(), Fail> {
         // split: with a node but none free, with two nodes
         (&[split, split], 1),
         (&[event(0, Kind::SplitSeat, 0, 2), enter], 0),
-        // join: oneself, a seat that was joined already, a seat inside a section
+        // join: oneself, a seat that was joined already, a seat inside a section, from inside a section
         (&[event(0, Kind::JoinSeat, 0, 0), enter], 0),
         (&[join, join], 1),
         (&[enter, event(1, Kind::JoinSeat, 0, 0)], 1),
+        (&[enter, event(0, Kind::JoinSeat, 0, 1)], 1),
     ];
     for (events, place) in rows {
         assert_eq!(rt; place_of(rt.alloc(), &[SIZE, SIZE], events), Some(place));
