@@ -1,4 +1,5 @@
 mod counts;
+mod filled;
 mod locks;
 mod needs;
 mod puts;

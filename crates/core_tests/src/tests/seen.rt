@@ -1,5 +1,5 @@
 // What can be seen of a view, as numbers.
-use index_words::{HeldNode, HeldSide, Items, Link, LinkSource, Place, Side, View};
+use index_words::{Filled, HeldNode, HeldSide, Items, Link, LinkSource, Place, Side, View, Word};
 use std::alloc::AllocError;
 
 fn push(list: &mut Vec<u64>, number: u64) -> Result<(), AllocError> {
@@ -64,6 +64,8 @@ fn push_side(side: HeldSide, list: &mut Vec<u64>) -> Result<(), AllocError> {
 
 fn push_held(held: HeldNode, list: &mut Vec<u64>) -> Result<(), AllocError> {
     push(list, u64::from(held.node))?;
+    push_maybe(held.key, list)?;
+    push_maybe(held.val, list)?;
     push_maybe(held.mark, list)?;
     push_side(held.left, list)?;
     push_side(held.right, list)
@@ -83,7 +85,19 @@ fn push_reading(view: &View, list: &mut Vec<u64>) -> Result<(), AllocError> {
     for link in view.reading.links.as_slice() {
         push_link(*link, list)?;
     }
+    for filled in view.reading.filled.as_slice() {
+        push_filled(*filled, list)?;
+    }
     Ok(())
+}
+
+fn push_filled(filled: Filled, list: &mut Vec<u64>) -> Result<(), AllocError> {
+    match filled.word {
+        Word::Node(_, node) => push(list, u64::from(node))?,
+        Word::Entry(_, entry) => push(list, u64::from(entry))?,
+        _ => push(list, u64::MAX)?,
+    }
+    push(list, filled.value)
 }
 
 fn push_update(view: &View, list: &mut Vec<u64>) -> Result<(), AllocError> {
@@ -93,6 +107,12 @@ fn push_update(view: &View, list: &mut Vec<u64>) -> Result<(), AllocError> {
     push_all(&view.update.pending, list)?;
     for held in view.held.nodes.as_slice() {
         push_held(*held, list)?;
+    }
+    for held in view.held.nexts.as_slice() {
+        push(list, u64::from(held.node))?;
+        push(list, u64::from(held.entry))?;
+        push_maybe(held.stamp, list)?;
+        push(list, held.next)?;
     }
     Ok(())
 }
