@@ -1,13 +1,16 @@
 #!/usr/bin/env python3
 """Compares the program with a model of the definitions on random sessions of one client.
 
-    tests/random_sessions.py PROGRAM [--sessions N] [--seed N]
+    tests/random_sessions.py PROGRAM [--sessions N] [--seed N] [--hostile]
 
 The model below is written from docs/DEFINITIONS.md and shares no code with the program. It prints the
-first session that the program answers otherwise, and ends with status 1 then.
+first session that the program answers otherwise, and ends with status 1 then. With `--hostile` the sessions
+are broken first, as `hostile_sessions.py` does it, and one session below, at and above each limit comes behind.
 """
 import argparse
 import base64
+import collections
+import itertools
 import json
 import random
 import subprocess
@@ -232,25 +235,52 @@ def first_difference(got, wanted):
     return "one text is longer"
 
 
+def check(program, session, wanted_status, wanted, wanted_error):
+    """Runs the session, and ends with status 1 where the program does otherwise."""
+    run = subprocess.run([program, "run"], input=session, capture_output=True)
+    got, error = run.stdout.decode(), run.stderr.decode()
+    if (run.returncode, error, got) != (wanted_status, wanted_error, wanted):
+        print(repr(session[:4000]) if wanted_status else session[:100_000].decode())
+        print("status %d for %d, standard error %r for %r" % (run.returncode, wanted_status, error, wanted_error))
+        if got != wanted:
+            print(first_difference(got, wanted))
+        sys.exit(1)
+
+
+def hostile(options, rng):
+    """Broken sessions, and one below, at and above each limit; each cause comes at least once."""
+    from hostile_sessions import CAUSES, broken, limit_sessions, outcome
+
+    made = (broken(rng, Session(rng).input().encode()) for _ in range(options.sessions))
+    ends = collections.Counter()
+    for session in itertools.chain(made, limit_sessions()):
+        status, text, error = outcome(session)
+        check(options.program, session, status, text, error)
+        ends[error.split(":")[-1].strip() or "accepted"] += 1
+    missing = [cause for cause in CAUSES if not ends[cause]]
+    told = ", ".join("%s %d" % end for end in ends.most_common())
+    print("%d hostile sessions: all end as the model does; %s" % (sum(ends.values()), told), file=sys.stderr)
+    if missing:
+        print("no session had the cause " + ", ".join(missing))
+        sys.exit(1)
+
+
 def main():
     parser = argparse.ArgumentParser(description=__doc__.split("\n")[0])
     parser.add_argument("program")
     parser.add_argument("--sessions", type=int, default=1000)
     parser.add_argument("--seed", type=int, default=7)
+    parser.add_argument("--hostile", action="store_true")
     options = parser.parse_args()
     make_ready(options.program)
     rng = random.Random(options.seed)
+    if options.hostile:
+        return hostile(options, rng)
     requests = 0
     for _ in range(options.sessions):
         session = Session(rng)
         requests += len(session.lines) - 1
-        run = subprocess.run([options.program, "run"], input=session.input().encode(), capture_output=True)
-        got, wanted = run.stdout.decode(), session.model.text()
-        if run.returncode != 0 or run.stderr or got != wanted:
-            print(session.input())
-            print("status %d, standard error %r" % (run.returncode, run.stderr))
-            print(first_difference(got, wanted))
-            sys.exit(1)
+        check(options.program, session.input().encode(), 0, session.model.text(), "")
     print("%d sessions, %d requests: all answered as the model does" % (options.sessions, requests), file=sys.stderr)
 
 

@@ -1,3 +1,4 @@
 pub mod Sent
 pub mod Whole
 pub mod EscapedBytes
+pub mod Order

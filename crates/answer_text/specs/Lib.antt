@@ -1,5 +1,6 @@
 pub mod Escaping
 pub mod Objects
+pub mod MemberOrder
 pub mod Lines
 pub mod InRange
 pub mod Sending

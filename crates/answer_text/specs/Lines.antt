@@ -160,9 +160,9 @@ reply_data dir records placed = object_of (reply_members dir records placed.at p
 
 -- ---- the journal and the last line
 
-abbrev pub verb_of : Change → List ℕ
-verb_of (PutVal val) = codes "PUT"
-verb_of Remove = codes "DELETE"
+abbrev pub verb_text : Change → List ℕ
+verb_text (PutVal val) = codes "PUT"
+verb_text Remove = codes "DELETE"
 
 -- the line of an update: its place, who made it for which request line, its key, which is never escaped, and its verb
 abbrev pub journal_members : ℕ → ℕ → List ℕ → ℕ → List ℕ → List (Option Member)
@@ -176,7 +176,7 @@ journal_members place client key line verb =
 
 -- one update of the history, with its place
 abbrev pub journal_data : List (List ℕ) → ℕ → Update → Data
-journal_data dir place u = object_of (journal_members place u.client (name_at dir u.key) u.line (verb_of u.change))
+journal_data dir place u = object_of (journal_members place u.client (name_at dir u.key) u.line (verb_text u.change))
 
 -- how many updates the history has
 abbrev pub last_data : ℕ → Data

@@ -1,8 +1,10 @@
 // The lines of the history.
 ghost use Rattle.std.specs.Prelude.{◌≡◌, ◌<◌, length, IfOk};
+ghost use Rattle.key_names.specs.Names.{name_at};
 ghost use Rattle.serde_json.specs.Events.{SendsValue};
 ghost use Rattle.answer_text.specs.Objects.{line_of};
-ghost use Rattle.answer_text.specs.Lines.{verb_of, journal_data, last_data};
+ghost use Rattle.answer_text.specs.MemberOrder.{StandInOrder};
+ghost use Rattle.answer_text.specs.Lines.{verb_text, journal_members, journal_data, last_data};
 ghost use Rattle.answer_text.specs.Views.{journal_entry, updates_count};
 
 use crate::lines::line_text;
@@ -20,7 +22,8 @@ pub fn journal_line(
     update: &Update,
 ) -> Result<Text, NoMemory>
     requires { update.now.key < length dir.now }
-    ensures { IfOk result (λ line. line ≡ line_of (journal_data dir.now place update.now)) }
+    ensures text { IfOk result (λ line. line ≡ line_of (journal_data dir.now place update.now)) }
+    ensures order { StandInOrder (journal_members place update.now.client (name_at dir.now update.now.key) update.now.line (verb_text update.now.change)) }
 {
     let entry = JournalEntry {
         place,
@@ -84,7 +87,7 @@ impl Serialize for UpdatesCount {
 
 // The verb of the request line that the update answers.
 fn verb_of(change: Change) -> &'static str
-    ensures { result.now ≡ verb_of change }
+    ensures { result.now ≡ verb_text change }
 {
     match change {
         Change::Put(_) => "PUT",

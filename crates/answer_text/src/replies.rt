@@ -1,8 +1,10 @@
 // The lines of replies.
-ghost use Rattle.std.specs.Prelude.{◌≡◌, IfOk};
+ghost use Rattle.std.specs.Prelude.{◌≡◌, ℕ, List, IfOk};
 ghost use Rattle.serde_json.specs.Events.{SendsValue};
+ghost use Rattle.bucket_terms.specs.declared.record.Record.{Record as StoredRecord};
 ghost use Rattle.answer_text.specs.Objects.{object_of, line_of};
-ghost use Rattle.answer_text.specs.Lines.{reply_data, short_members, found_members};
+ghost use Rattle.answer_text.specs.MemberOrder.{StandInOrder};
+ghost use Rattle.answer_text.specs.Lines.{reply_data, reply_members, content_members, short_members, found_members};
 ghost use Rattle.answer_text.specs.InRange.{IsReplyOf};
 ghost use Rattle.answer_text.specs.Views.{short_line, found_line};
 
@@ -17,6 +19,22 @@ use std::alloc::Global;
 /// The line of a reply. Its status is that of the S3 API: 200, 204 for a removal, 400 for a continuation
 /// token that is none, 404 for a missing key, and 503 where no slot was left.
 pub fn reply_line(
+    alloc: Global,
+    dir: &Directory,
+    records: &[Record],
+    placed: &Placed,
+) -> Result<Text, NoMemory>
+    requires { IsReplyOf dir.now records.now placed.now.reply }
+    ensures text { IfOk result (λ line. line ≡ line_of (reply_data dir.now records.now placed.now)) }
+
+    // Of the line's object, and of each object of its entries.
+    ensures order { StandInOrder (reply_members dir.now records.now placed.now.at placed.now.client placed.now.line placed.now.reply) }
+    ensures key_order { (key : List ℕ) → (stored : StoredRecord) → StandInOrder (content_members key stored) }
+{
+    shown_reply(alloc, dir, records, placed)
+}
+
+fn shown_reply(
     alloc: Global,
     dir: &Directory,
     records: &[Record],

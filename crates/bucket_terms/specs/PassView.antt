@@ -1,6 +1,6 @@
 -- What a pass of the index is to its caller: its number, the history that it knows, its slots and its
 -- open snapshot. Nothing here says that nobody else changes the map between two calls.
-use Rattle.std.specs.Prelude.{◌≡◌, ℕ, ◌+◌, ◌-◌, ◌<◌, ◌≤◌, ◌^◌, ◌⊎◌, ◌==◌, true, false, MatchBool, if◌then◌else◌, List, [], ◌∷◌, ◌++◌, length, Option, Some, None}
+use Rattle.std.specs.Prelude.{◌≡◌, ℕ, ◌+◌, ◌-◌, ◌<◌, ◌≤◌, ◌^◌, min, ◌⊎◌, ◌==◌, true, false, MatchBool, if◌then◌else◌, List, [], ◌∷◌, ◌++◌, length, Option, Some, None}
 use Rattle.key_map.specs.declared.update.Update.{Update}
 use Rattle.key_map.specs.declared.update.Change.{Change}
 use Rattle.key_map.specs.declared.update.Change.TheVariants.{Put, Remove}
@@ -32,13 +32,17 @@ pub record PassView : Type 0 where
 abbrev pub Extends : {X : Type 0} → List X → List X → Type 0
 Extends {X} old new = (more : List X) × (new ≡ old ++ more)
 
--- a count of 64 bits has risen by at least `n`, or has come to its last value
-abbrev pub RoseBy : ℕ → ℕ → ℕ → Type 0
-RoseBy n old new = (old + n ≤ new) ⊎ (2 ^ 64 - 1 ≤ new)
+-- a count of 64 bits after `n` more: it stays at its last value
+abbrev pub risen : ℕ → ℕ → ℕ
+risen n count = min (count + n) (2 ^ 64 - 1)
 
--- a count of 64 bits has risen by one, or has come to its last value
+-- a count of 64 bits has risen by at least `n`
+abbrev pub RoseBy : ℕ → ℕ → ℕ → Type 0
+RoseBy n old new = risen n old ≤ new
+
+-- a count of 64 bits has risen by one
 abbrev pub RoseByOne : ℕ → ℕ → Type 0
-RoseByOne old new = (new ≡ old + 1) ⊎ (2 ^ 64 - 1 ≤ new)
+RoseByOne old new = new ≡ risen 1 old
 
 -- the places, counted from `at`, of the updates of the pass with this number
 abbrev pub places_from : ℕ → ℕ → List Update → List ℕ
@@ -72,11 +76,12 @@ pub record MadeUpdate (old new : PassView) (line key : ℕ) (change : Change) (a
   pub entries : old.entries ≤ new.entries + 4
   pub closed : new.opened ≡ None
 
--- a put was made. A node slot is used where the key was not there.
+-- a put was made. A node slot is used where the key was not there, and no look is taken.
 pub record MadePut (old new : PassView) (line key val : ℕ) (done : Done) : Type 0 where
   pub update : MadeUpdate old new line key (Put val) done.at
   pub was : done.was ≡ map_has key (after new.seen (done.at - 1))
   pub nodes : new.nodes + (if done.was then 0 else 1) ≡ old.nodes
+  pub looks : new.looks ≡ old.looks
 
 -- a load of the stamp has fixed the place `at`, and the pass knows the history up to it
 pub record Looked (old new : PassView) (at : ℕ) : Type 0 where
@@ -94,7 +99,8 @@ pub record Began (old new : PassView) (at : ℕ) : Type 0 where
   pub looks : RoseByOne old.looks new.looks
   pub opened : new.opened ≡ Some at
 
--- the key was there and was removed. A node slot comes back.
+-- the key was there and was removed. A node slot comes back. A pass whose map others change may have looked
+-- before, and not have found it.
 pub record Removed (old new : PassView) (line key : ℕ) (done : Done) : Type 0 where
   pub update : MadeUpdate old new line key Remove done.at
   pub there : map_has key (after new.seen (done.at - 1)) ≡ true

@@ -12,6 +12,7 @@ mod plain_pass;
 mod record;
 mod reply;
 mod request;
+mod summary;
 mod token_point;
 
 pub use key_pass::KeyPass;
@@ -21,6 +22,7 @@ pub use plain_pass::PlainPass;
 pub use record::Record;
 pub use reply::{Placed, Reply};
 pub use request::Request;
+pub use summary::Summary;
 pub use token_point::TokenPoint;
 
 #[cfg(test)]

@@ -3,7 +3,6 @@ use Rattle.std.proofs.Common.{◌≡◌, ℕ, ◌+◌, ◌<◌, ◌≤◌, lengt
 use Rattle.std.proofs.lemmas.List.{take_all, take_more, length-take, take-append-le, take-append-drop}
 use lib.Seq.{take-append-add}
 use Rattle.std.proofs.lemmas.Grind.{flat_map-append}
-use Rattle.outside_io.specs.Faults.{Rose}
 use Rattle.outside_io.specs.Sink.{IsTaken, TakesStart}
 use Rattle.outside_io.proofs.Pieces.{taken_both}
 use Rattle.key_map.specs.declared.update.Update.{Update}
@@ -16,11 +15,6 @@ use Rattle.bucketidx.specs.Served.{client_text}
 pub taken_nothing : (o : Option (List ℕ)) → IsTaken o o []
 taken_nothing (Some taken) = sym (append-nil taken)
 taken_nothing None = refl
-
--- a count that rose later has risen
-pub rose_later : (old mid new : ℕ) → old ≤ mid → Rose mid new → Rose old new
-rose_later old mid new le (inl more) = inl (omega (arith, le, more))
-rose_later old mid new le (inr last) = inr last
 
 -- a start of what comes behind bytes that were taken whole
 pub start_behind : (before between now : Option (List ℕ)) (front piece : List ℕ) → IsTaken before between front → TakesStart between now piece → TakesStart before now (front ++ piece)

@@ -4,7 +4,7 @@ use Rattle.std.specs.List.{slice_get, slice_index_or}
 use Rattle.std.specs.Cmp.Lexicographic.{pointwise, bytes_decides}
 use Rattle.std.proofs.lemmas.Option.{slice_get_within, get_or_from_slice_get, none-some}
 use Rattle.key_names.specs.Names.{HoldsEachOnce}
-use Rattle.bucket_terms.specs.LegalRun.{IsLegal}
+use Rattle.bucket_terms.specs.LegalRun.{IsLegal, Run}
 use Rattle.request_lines.specs.declared.session.ClientPart.{ClientPart}
 use Rattle.request_lines.specs.declared.session.Session.{Session}
 use Rattle.request_lines.specs.Session.{request_lines, IsServed}
@@ -19,12 +19,12 @@ no_client : (clients : List ClientPart) → slice_get clients 0 ≡ None → cli
 no_client [] is = refl
 no_client (p ∷ ps) is = absurd (none-some p (sym is))
 
-pub one_holds : (session : Session) (part : ClientPart) (dir : List (List ℕ)) (P : List ℕ → Type 0) → slice_get session.clients 0 ≡ Some part → length session.clients ≤ 1
-    → HoldsEachOnce session.names dir → HoldsOfRun dir session.records (request_lines part ∷ []) P → HoldsOfSession session P
+pub one_holds : (session : Session) (part : ClientPart) (dir : List (List ℕ)) (P : Run → List ℕ → Type 0) → slice_get session.clients 0 ≡ Some part → length session.clients ≤ 1
+    → HoldsEachOnce session.names dir → HoldsOfRun dir session.records (request_lines part ∷ []) (slots_of (request_lines part ∷ [])) P → HoldsOfSession slots_of session P
 one_holds session part dir P is le names text = record {
   dir = dir;
   names = names;
-  text = subst (λ (cs : List ClientPart). HoldsOfRun dir session.records (map request_lines cs) P) (sym (one_client session.clients part is le)) text;
+  text = subst (λ (cs : List ClientPart). HoldsOfRun dir session.records (map request_lines cs) (slots_of (map request_lines cs)) P) (sym (one_client session.clients part is le)) text;
 }
 
 legal_none : (dir : List (List ℕ)) → IsLegal dir [] (slots_of []) (record { updates = []; replies = [] })
@@ -34,12 +34,12 @@ legal_none dir = record {
   made = λ i u is. let no : i < 0 = slice_get_within [] i u is in absurd (omega (arith, no));
 }
 
-pub none_holds : (session : Session) (dir : List (List ℕ)) (P : List ℕ → Type 0) → slice_get session.clients 0 ≡ None
-    → HoldsEachOnce session.names dir → P (client_text dir session.records [] []) → HoldsOfSession session P
+pub none_holds : (session : Session) (dir : List (List ℕ)) (P : Run → List ℕ → Type 0) → slice_get session.clients 0 ≡ None
+    → HoldsEachOnce session.names dir → P (record { updates = []; replies = [] }) (client_text dir session.records [] []) → HoldsOfSession slots_of session P
 none_holds session dir P is names holds = record {
   dir = dir;
   names = names;
-  text = subst (λ (cs : List ClientPart). HoldsOfRun dir session.records (map request_lines cs) P) (sym (no_client session.clients is))
+  text = subst (λ (cs : List ClientPart). HoldsOfRun dir session.records (map request_lines cs) (slots_of (map request_lines cs)) P) (sym (no_client session.clients is))
       (record { run = record { updates = []; replies = [] }; legal = legal_none dir; holds = holds });
 }
 

@@ -9,44 +9,41 @@ use Rattle.bucket_terms.specs.LegalRun.{RequestLine, Run, IsLegal, default_slots
 use Rattle.request_lines.specs.declared.session.Session.{Session}
 use Rattle.request_lines.specs.declared.session_error.InputError.{InputError}
 use Rattle.request_lines.specs.Input.{IsSessionOf, refusal_of}
+use Rattle.request_lines.specs.Limits.{most_input_bytes}
 use Rattle.request_lines.specs.Session.{request_lines}
 use Rattle.answer_text.specs.Lines.{session_text}
 use Rattle.bucketidx.specs.declared.status.Status.{Status}
 use Rattle.bucketidx.specs.declared.status.Status.TheVariants.{BadWords, BadInput, TooLong, ReadFault}
 
--- the most bytes of an input
-abbrev pub most_bytes : ℕ
-most_bytes = 67108864
-
 -- these are all the bytes that were left to read, and no more than the limit
 pub record HasRead (before after : Option (List ℕ)) (input : List ℕ) : Type 0 where
   pub all : IsReadToEnd before after input
-  pub within : length input ≤ most_bytes
+  pub within : length input ≤ most_input_bytes
 
--- each client has one node slot more than it has PUT and DELETE lines
+-- the node slots of each client by the lines of all: one more than it has PUT and DELETE lines
 abbrev pub slots_of : List (List RequestLine) → ℕ → ℕ
 slots_of parts client = default_slots (lines_of parts client)
 
--- this is true of the text of one legal run of these clients' lines
-pub record HoldsOfRun (dir : List (List ℕ)) (records : List Record) (parts : List (List RequestLine)) (P : List ℕ → Type 0) : Type 0 where
+-- this is true of one legal run of these clients' lines, each client with so many node slots, and of its text
+pub record HoldsOfRun (dir : List (List ℕ)) (records : List Record) (parts : List (List RequestLine)) (slots : ℕ → ℕ) (P : Run → List ℕ → Type 0) : Type 0 where
   pub run : Run
-  pub legal : IsLegal dir parts (slots_of parts) run
-  pub holds : P (session_text dir records run)
+  pub legal : IsLegal dir parts slots run
+  pub holds : P run (session_text dir records run)
 
--- this is true of the text of one legal run of the session. The session's names, each once and in byte order,
--- are the directory.
-pub record HoldsOfSession (session : Session) (P : List ℕ → Type 0) : Type 0 where
+-- this is true of one legal run of the session and of its text. The session's names, each once and in byte
+-- order, are the directory; `slots` gives the node slots of each client by the lines of all.
+pub record HoldsOfSession (slots : List (List RequestLine) → ℕ → ℕ) (session : Session) (P : Run → List ℕ → Type 0) : Type 0 where
   pub dir : List (List ℕ)
   pub names : HoldsEachOnce session.names dir
-  pub text : HoldsOfRun dir session.records (map request_lines session.clients) P
+  pub text : HoldsOfRun dir session.records (map request_lines session.clients) (slots (map request_lines session.clients)) P
 
--- an input was read, and this is true of the text of one legal run of its session
-pub record HoldsOfInput (before after : Option (List ℕ)) (P : List ℕ → Type 0) : Type 0 where
+-- an input was read, and this is true of one legal run of its session and of its text
+pub record HoldsOfInput (slots : List (List RequestLine) → ℕ → ℕ) (before after : Option (List ℕ)) (P : Run → List ℕ → Type 0) : Type 0 where
   pub input : List ℕ
   pub session : Session
   pub has_read : HasRead before after input
   pub of_input : IsSessionOf input session
-  pub text : HoldsOfSession session P
+  pub text : HoldsOfSession slots session P
 
 -- the input was read and is refused: this is its first faulty line, with its first cause
 pub record RefusedInput (before after : Option (List ℕ)) (e : InputError) : Type 0 where

@@ -3,6 +3,10 @@
 //! output, and its clauses say what a run has read and written.
 #![tactic(auto)]
 
+ghost use Rattle.std.specs.Prelude.{◌≡◌};
+ghost use Rattle.std.specs.Process.{exit_status};
+ghost use Rattle.bucketidx.specs.Statuses.{exit_code};
+
 mod command;
 mod naming;
 mod running;
@@ -26,10 +30,19 @@ use std::{env, io};
 fn main(rt: HostRuntime) -> ExitCode {
     let mut source = StdSource::new(&rt);
     let mut sink = StdSink::new(&rt);
-    let status = match words(&rt) {
-        Ok(words) => serve(&rt, rt.alloc(), &words, &mut source, &mut sink, &OpenGate),
-        Err(status) => status,
-    };
+    match words(&rt) {
+        Ok(words) => end(
+            &rt,
+            serve(&rt, rt.alloc(), &words, &mut source, &mut sink, &OpenGate),
+        ),
+        Err(status) => end(&rt, status),
+    }
+}
+
+// Tells how serving ended on standard error, where not all was done, and gives the exit status.
+fn end(rt: &HostRuntime, status: Status) -> ExitCode
+    ensures { exit_status result ≡ exit_code status }
+{
     if !status.is_done() {
         // Nobody is left to be told where this fails.
         let _ = eprintln!(rt; "bucketidx: {status}");

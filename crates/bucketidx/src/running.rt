@@ -1,10 +1,11 @@
 // The run of a session: its one client over a plain pass.
 ghost use Rattle.std.specs.Prelude.{◌≡◌, ◌⊎◌, ◌≤◌, ◌^◌, [], ◌∷◌, All, length, OnOk, IsErrOf};
-ghost use Rattle.outside_io.specs.Faults.{Rose};
+ghost use Rattle.outside_io.specs.Faults.{one_more};
 ghost use Rattle.outside_io.specs.Sink.{IsTaken, TakesStart};
+ghost use Rattle.request_lines.specs.Limits.{most_requests};
 ghost use Rattle.request_lines.specs.Session.{LinesRise, request_lines, HasNames, HasRequests, HasLines, IsSmall};
 ghost use Rattle.client_run.specs.ClientRun.{IsAskable};
-ghost use Rattle.bucketidx.specs.Served.{HoldsOfSession, HoldsOfRun};
+ghost use Rattle.bucketidx.specs.Served.{HoldsOfSession, HoldsOfRun, slots_of};
 ghost use Rattle.bucketidx.specs.Places.{HasRecordBelow};
 
 use crate::naming::directory_of;
@@ -31,11 +32,11 @@ pub(crate) fn run_session<K: Sink, G: Gate, Rt: Wait>(
     requires requests { HasRequests session }
     requires lines { HasLines session }
     requires small { IsSmall session }
-    ensures wrote { OnOk result (HoldsOfSession session (IsTaken (K.taken sink.old) (K.taken sink.new))) }
-    ensures start { IsErrOf result Stop.Fault → HoldsOfSession session (TakesStart (K.taken sink.old) (K.taken sink.new)) }
-    ensures no_memory { IsErrOf result Stop.NoMemory → (sink.new ≡ sink.old) ⊎ HoldsOfSession session (TakesStart (K.taken sink.old) (K.taken sink.new)) }
-    ensures fault { IsErrOf result Stop.Fault → Rose (K.faults sink.old) (K.faults sink.new) }
-    ensures counted { K.faults sink.old ≤ K.faults sink.new }
+    ensures wrote { OnOk result (HoldsOfSession slots_of session (λ _ text. IsTaken (K.taken sink.old) (K.taken sink.new) text)) }
+    ensures start { IsErrOf result Stop.Fault → HoldsOfSession slots_of session (λ _ text. TakesStart (K.taken sink.old) (K.taken sink.new) text) }
+    ensures no_memory { IsErrOf result Stop.NoMemory → (sink.new ≡ sink.old) ⊎ HoldsOfSession slots_of session (λ _ text. TakesStart (K.taken sink.old) (K.taken sink.new) text) }
+    ensures fault { IsErrOf result Stop.Fault → K.faults sink.new ≡ one_more (K.faults sink.old) }
+    ensures quiet { ¬ (IsErrOf result Stop.Fault) → K.faults sink.new ≡ K.faults sink.old }
 {
     let Session {
         clients,
@@ -62,12 +63,12 @@ fn run_part<K: Sink, G: Gate, Rt: Wait>(
     requires askable { All (IsAskable dir.now) (request_lines part.now) }
     requires recorded { All (HasRecordBelow (length records.now)) (request_lines part.now) }
     requires rising { LinesRise 0 (2 ^ 32) (request_lines part.now) }
-    requires few { length part.now.requests ≤ 200000 }
-    ensures wrote { OnOk result (HoldsOfRun dir.now records.now (request_lines part.now ∷ []) (IsTaken (K.taken sink.old) (K.taken sink.new))) }
-    ensures start { IsErrOf result Stop.Fault → HoldsOfRun dir.now records.now (request_lines part.now ∷ []) (TakesStart (K.taken sink.old) (K.taken sink.new)) }
-    ensures no_memory { IsErrOf result Stop.NoMemory → (sink.new ≡ sink.old) ⊎ HoldsOfRun dir.now records.now (request_lines part.now ∷ []) (TakesStart (K.taken sink.old) (K.taken sink.new)) }
-    ensures fault { IsErrOf result Stop.Fault → Rose (K.faults sink.old) (K.faults sink.new) }
-    ensures counted { K.faults sink.old ≤ K.faults sink.new }
+    requires few { length part.now.requests ≤ most_requests }
+    ensures wrote { OnOk result (HoldsOfRun dir.now records.now (request_lines part.now ∷ []) (slots_of (request_lines part.now ∷ [])) (λ _ text. IsTaken (K.taken sink.old) (K.taken sink.new) text)) }
+    ensures start { IsErrOf result Stop.Fault → HoldsOfRun dir.now records.now (request_lines part.now ∷ []) (slots_of (request_lines part.now ∷ [])) (λ _ text. TakesStart (K.taken sink.old) (K.taken sink.new) text) }
+    ensures no_memory { IsErrOf result Stop.NoMemory → (sink.new ≡ sink.old) ⊎ HoldsOfRun dir.now records.now (request_lines part.now ∷ []) (slots_of (request_lines part.now ∷ [])) (λ _ text. TakesStart (K.taken sink.old) (K.taken sink.new) text) }
+    ensures fault { IsErrOf result Stop.Fault → K.faults sink.new ≡ one_more (K.faults sink.old) }
+    ensures quiet { ¬ (IsErrOf result Stop.Fault) → K.faults sink.new ≡ K.faults sink.old }
 {
     let writes = part.writes();
     let size = PassSize {

@@ -1,12 +1,13 @@
 // The whole of the program but for the real input and output.
-ghost use Rattle.std.specs.Prelude.{◌≡◌, ◌↔◌, ◌⊎◌, ◌<◌, ◌≤◌};
-ghost use Rattle.outside_io.specs.Faults.{Rose};
-ghost use Rattle.outside_io.specs.Reading.{Gave};
+ghost use Rattle.std.specs.Prelude.{◌≡◌, ◌↔◌, ◌⊎◌, ◌≤◌};
+ghost use Rattle.outside_io.specs.Faults.{one_more};
+ghost use Rattle.outside_io.specs.Reading.{Gave, IsOver};
 ghost use Rattle.outside_io.specs.Sink.{IsTaken, TakesStart};
 ghost use Rattle.request_lines.specs.declared.session_error.InputError.{InputError};
 ghost use Rattle.bucketidx.specs.declared.status.Status.TheVariants.{Done as IsDone, BadWords as HasBadWords};
+ghost use Rattle.request_lines.specs.Limits.{most_input_bytes};
 ghost use Rattle.bucketidx.specs.Words.{IsRun};
-ghost use Rattle.bucketidx.specs.Served.{HoldsOfInput, RefusedInput, EndsUnwritten, most_bytes};
+ghost use Rattle.bucketidx.specs.Served.{HoldsOfInput, RefusedInput, EndsUnwritten, slots_of};
 
 use crate::Status;
 use crate::command::is_run;
@@ -15,12 +16,9 @@ use crate::stop::Stop;
 use client_run::Gate;
 use key_names::Text;
 use outside_io::{ReadError, Sink, Source, read_all};
-use request_lines::{SessionError, read_session};
+use request_lines::{MAX_INPUT_BYTES, SessionError, read_session};
 use std::alloc::Global;
 use std::sync::Wait;
-
-/// The most bytes that an input may have: 64 MiB.
-const MOST_BYTES: usize = 67_108_864;
 
 /// Reads a session, runs it and writes its text. The words are those behind the program's name; the one
 /// form is `run`. The gate is told of each request before and after it is answered.
@@ -34,22 +32,25 @@ pub fn serve<S: Source, K: Sink, G: Gate, Rt: Wait>(
     sink: &mut K,
     gate: &G,
 ) -> Status
-    ensures headline { result ≡ IsDone → HoldsOfInput (S.rest source.old) (S.rest source.new) (IsTaken (K.taken sink.old) (K.taken sink.new)) }
+    ensures headline { result ≡ IsDone → HoldsOfInput slots_of (S.rest source.old) (S.rest source.new) (λ _ text. IsTaken (K.taken sink.old) (K.taken sink.new) text) }
     ensures bad_words { (result ≡ HasBadWords) ↔ ¬ (IsRun words.now) }
     ensures nothing_read { result ≡ HasBadWords → source.new ≡ source.old }
     ensures nothing_written { EndsUnwritten result → sink.new ≡ sink.old }
     ensures bad_input { (e : InputError) → result ≡ Status.BadInput e → RefusedInput (S.rest source.old) (S.rest source.new) e }
-    ensures too_long { result ≡ Status.TooLong → Gave (S.rest source.old) (S.rest source.new) (λ n. most_bytes < n) }
-    ensures read_fault { result ≡ Status.ReadFault → Gave (S.rest source.old) (S.rest source.new) (λ n. n ≤ most_bytes) }
-    ensures read_fault_only_where_faulted { result ≡ Status.ReadFault → Rose (S.faults source.old) (S.faults source.new) }
-    ensures write_fault { result ≡ Status.WriteFault → HoldsOfInput (S.rest source.old) (S.rest source.new) (TakesStart (K.taken sink.old) (K.taken sink.new)) }
-    ensures write_fault_only_where_faulted { result ≡ Status.WriteFault → Rose (K.faults sink.old) (K.faults sink.new) }
-    ensures no_memory { result ≡ Status.NoMemory → (sink.new ≡ sink.old) ⊎ HoldsOfInput (S.rest source.old) (S.rest source.new) (TakesStart (K.taken sink.old) (K.taken sink.new)) }
+    ensures too_long { result ≡ Status.TooLong → Gave (S.rest source.old) (S.rest source.new) (IsOver most_input_bytes) }
+    ensures read_fault { result ≡ Status.ReadFault → Gave (S.rest source.old) (S.rest source.new) (λ n. n ≤ most_input_bytes) }
+    ensures read_fault_only_where_faulted { result ≡ Status.ReadFault → S.faults source.new ≡ one_more (S.faults source.old) }
+    ensures no_other_read_fault { ¬ (result ≡ Status.ReadFault) → S.faults source.new ≡ S.faults source.old }
+    ensures write_fault { result ≡ Status.WriteFault → HoldsOfInput slots_of (S.rest source.old) (S.rest source.new) (λ _ text. TakesStart (K.taken sink.old) (K.taken sink.new) text) }
+    ensures write_fault_only_where_faulted { result ≡ Status.WriteFault → K.faults sink.new ≡ one_more (K.faults sink.old) }
+    ensures no_other_write_fault { ¬ (result ≡ Status.WriteFault) → K.faults sink.new ≡ K.faults sink.old }
+    ensures no_memory_source { result ≡ Status.NoMemory → Gave (S.rest source.old) (S.rest source.new) (λ n. n ≤ most_input_bytes) }
+    ensures no_memory { result ≡ Status.NoMemory → (sink.new ≡ sink.old) ⊎ HoldsOfInput slots_of (S.rest source.old) (S.rest source.new) (λ _ text. TakesStart (K.taken sink.old) (K.taken sink.new) text) }
 {
     if !is_run(words) {
         return Status::BadWords;
     }
-    let input = match read_all(alloc, source, MOST_BYTES) {
+    let input = match read_all(alloc, source, MAX_INPUT_BYTES) {
         Ok(input) => input,
         Err(ReadError::Fault) => return Status::ReadFault,
         Err(ReadError::TooLong) => return Status::TooLong,

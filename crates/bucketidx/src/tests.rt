@@ -7,6 +7,7 @@ use std::sync::Wait;
 use std::test::Fail;
 
 mod ends;
+mod faults;
 mod refusals;
 mod rows;
 

@@ -1,8 +1,8 @@
 // The text of a run, one write a line.
-ghost use Rattle.std.specs.Prelude.{◌<◌, ◌≤◌, All, length, OnOk, IsErrOf};
+ghost use Rattle.std.specs.Prelude.{◌≡◌, ◌<◌, All, length, OnOk, IsErrOf};
 ghost use Rattle.key_map.specs.declared.update.Update.{Update};
 ghost use Rattle.bucket_terms.specs.declared.reply.Placed.{Placed};
-ghost use Rattle.outside_io.specs.Faults.{Rose};
+ghost use Rattle.outside_io.specs.Faults.{one_more};
 ghost use Rattle.outside_io.specs.Sink.{IsTaken, TakesStart};
 ghost use Rattle.answer_text.specs.Lines.{reply_lines, journal_lines};
 ghost use Rattle.answer_text.specs.InRange.{IsReplyOf};
@@ -30,8 +30,8 @@ pub(crate) fn write_run<K: Sink>(
     requires keys { All (λ (u : Update). u.key < length dir.now) updates.now }
     ensures taken { OnOk result (IsTaken (K.taken sink.old) (K.taken sink.new) (client_text dir.now records.now replies.now updates.now)) }
     ensures start { (stop : Stop) → IsErrOf result stop → TakesStart (K.taken sink.old) (K.taken sink.new) (client_text dir.now records.now replies.now updates.now) }
-    ensures fault { IsErrOf result Stop.Fault → Rose (K.faults sink.old) (K.faults sink.new) }
-    ensures counted { K.faults sink.old ≤ K.faults sink.new }
+    ensures fault { IsErrOf result Stop.Fault → K.faults sink.new ≡ one_more (K.faults sink.old) }
+    ensures quiet { ¬ (IsErrOf result Stop.Fault) → K.faults sink.new ≡ K.faults sink.old }
 {
     write_replies(alloc, sink, dir, records, replies)?;
     write_journal(alloc, sink, dir, updates)?;
@@ -51,8 +51,8 @@ fn write_replies<K: Sink>(
     requires { All (λ (p : Placed). IsReplyOf dir.now records.now p.reply) replies.now }
     ensures taken { OnOk result (IsTaken (K.taken sink.old) (K.taken sink.new) (reply_lines dir.now records.now replies.now)) }
     ensures start { (stop : Stop) → IsErrOf result stop → TakesStart (K.taken sink.old) (K.taken sink.new) (reply_lines dir.now records.now replies.now) }
-    ensures fault { IsErrOf result Stop.Fault → Rose (K.faults sink.old) (K.faults sink.new) }
-    ensures counted { K.faults sink.old ≤ K.faults sink.new }
+    ensures fault { IsErrOf result Stop.Fault → K.faults sink.new ≡ one_more (K.faults sink.old) }
+    ensures quiet { ¬ (IsErrOf result Stop.Fault) → K.faults sink.new ≡ K.faults sink.old }
 {
     for placed in replies {
         let line = reply_line(alloc, dir, records, placed)?;
@@ -71,8 +71,8 @@ fn write_journal<K: Sink>(
     requires { All (λ (u : Update). u.key < length dir.now) updates.now }
     ensures taken { OnOk result (IsTaken (K.taken sink.old) (K.taken sink.new) (journal_lines dir.now 1 updates.now)) }
     ensures start { (stop : Stop) → IsErrOf result stop → TakesStart (K.taken sink.old) (K.taken sink.new) (journal_lines dir.now 1 updates.now) }
-    ensures fault { IsErrOf result Stop.Fault → Rose (K.faults sink.old) (K.faults sink.new) }
-    ensures counted { K.faults sink.old ≤ K.faults sink.new }
+    ensures fault { IsErrOf result Stop.Fault → K.faults sink.new ≡ one_more (K.faults sink.old) }
+    ensures quiet { ¬ (IsErrOf result Stop.Fault) → K.faults sink.new ≡ K.faults sink.old }
 {
     let mut place: u64 = 0;
     for update in updates {

@@ -82,7 +82,9 @@ start dir old knows closed = record {
     answered = λ n few enough. tt;
     made = λ i u from here own. let within = slice_get_within old.seen i u here in absurd (omega arith);
     places = λ k d below. absurd (omega arith);
-    looks = inl (omega arith);
+    looks = omega arith;
+    in_turn = refl;
+    in_range = λ k d below. absurd (omega arith);
     ended = λ front a e. let none = ap length e in absurd (omega (arith, length_push front a));
   };
   knows = knows;

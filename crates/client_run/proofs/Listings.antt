@@ -14,7 +14,6 @@ use Rattle.key_map.specs.History.{after}
 use Rattle.client_run.specs.ClientRun.{setting, answered, Answers}
 use Rattle.client_run.specs.Listing.{ListedAs, HasPageInRange}
 use Rattle.client_run.proofs.Steps.{step_looked, step_refused}
-use Rattle.client_run.proofs.Replies.{rose_by_one}
 
 -- a page was listed, and it is right for the request
 listed_answers : (dir : List (List ℕ)) (query : ListQuery) (point : Option TokenPoint) (line : ℕ) (old new : PassView) (last : Option Reply) (request : Request) (placed : Placed)
@@ -23,7 +22,7 @@ listed_answers : (dir : List (List ℕ)) (query : ListQuery) (point : Option Tok
     → Answers dir old new last (answered line request placed)
 listed_answers dir query point line old new last request placed is right =
     subst (λ (p : Placed). Answers dir old new last (answered line request p)) (sym is.reply_is)
-    (step_looked dir old new last line is.at request (Listed query is.page) is.knew is.listed.looked (rose_by_one old.looks new.looks is.listed.looks) is.closed right (λ e. cc) refl)
+    (step_looked dir old new last line is.at request (Listed query is.page) is.knew is.listed.looked is.closed right (λ e. cc) refl is.listed.looks)
 
 pub list_answers : (dir : List (List ℕ)) (asked query : ListQuery) (point : Option TokenPoint) (line : ℕ) (old new : PassView) (last : Option Reply) (placed : Placed)
     → query ≡ asked → IsPointOf asked point → ListedAs dir query point line old new placed
@@ -44,7 +43,7 @@ pub bad_answers : (dir : List (List ℕ)) (pass : PassView) (last : Option Reply
     → ((slots : ℕ) → IsRight (setting dir pass slots) last (record { line = line; request = request }) None BadToken)
     → Answers dir pass pass last (answered line request (record { client = pass.number; line = line; at = None; reply = BadToken }))
 bad_answers dir pass last line request knows closed right =
-    step_refused dir pass pass last line request BadToken knows refl closed (λ slots enough. right slots) (λ e. cc) refl
+    step_refused dir pass pass last line request BadToken knows refl closed (λ slots enough. right slots) (λ e. cc) refl refl
 
 pub in_range_of : (dir : List (List ℕ)) (query : ListQuery) (point : Option TokenPoint) (line : ℕ) (old new : PassView) (placed : Placed)
     → ListedAs dir query point line old new placed → HasPageInRange dir placed.reply

@@ -1,5 +1,5 @@
 -- A client's run, one answer longer.
-use Rattle.std.proofs.Common.{◌≡◌, ℕ, zero, suc, ◌+◌, ◌*◌, ◌-◌, ◌<◌, ◌≤◌, Bool, not, cond, All, Any, MatchOption, IfSome, List, [], ◌∷◌, ◌++◌, Option, Some, None, inl, inr, length, get_or, refl, sym, ap, ◌∙◌, subst, arith, append_assoc}
+use Rattle.std.proofs.Common.{◌≡◌, ℕ, zero, suc, ◌+◌, ◌*◌, ◌-◌, ◌<◌, ◌≤◌, Bool, not, cond, All, Any, MatchOption, IfSome, List, [], ◌∷◌, ◌++◌, Option, Some, None, inl, inr, length, get_or, refl, sym, ap, ◌∙◌, subst, arith, append_assoc, append-nil, true, false, if◌then◌else◌}
 use Rattle.std.specs.Bool.{⊤}
 use Rattle.std.specs.List.{slice_get, count_by}
 use Rattle.std.proofs.lemmas.Bool.{cases_lt}
@@ -13,7 +13,8 @@ use Rattle.bucket_terms.specs.declared.reply.Reply.TheVariants.{Put, Deleted, Fo
 use Rattle.bucket_terms.specs.declared.reply.Placed.{Placed}
 use Rattle.bucket_terms.specs.PassView.{PassView, Continues, RoseBy, IsShort}
 use Rattle.bucket_terms.specs.LegalRun.{Setting, RequestLine, Answered, IsOf, AreAnswered, KeepsOrder, IsMadeBy, IsPlacedUpTo, IsPlacedBelow, answered_lines, is_earlier_of, is_update, update_at, last_listing}
-use Rattle.client_run.specs.ClientRun.{setting, IsLaterLine, Answers, Ended, is_looked_up, has_own, is_of}
+use Rattle.client_run.specs.ClientRun.{setting, IsLaterLine, Answers, AnswersInTurn, Ended, HasLooked, is_looked_up, has_own, is_of}
+use Rattle.client_run.specs.Listing.{HasPageInRange}
 use Rattle.client_run.proofs.Places.{slice_get-append_front, slice_get-append_back}
 use Rattle.client_run.proofs.Longer.{over, OtherLines, update_at-longer, AreAnswered-longer}
 use Rattle.client_run.proofs.Growing.{Running, count_earlier, answered_lines-push, AreAnswered-push, Any-front, Any-last, later_now}
@@ -132,11 +133,45 @@ module _ (s : Setting) (more : List Update) where
       ∙ sym (sum_by-cons (λ (b : Answered). cond (is_looked_up s b) 1 0) a earlier)
 
 rose_both : (m k a b c : ℕ) → RoseBy m a b → RoseBy k b c → b ≤ c → RoseBy (m + k) a c
-rose_both m k a b c (inl x) (inl y) le = inl (omega arith)
-rose_both m k a b c (inl x) (inr y) le = inr y
-rose_both m k a b c (inr x) y le = inr (omega arith)
+rose_both m k a b c first second le = omega (arith, first, second, le)
+
+-- an answer that counts as looked up has looked
+looked_enough : (s : Setting) (asked : RequestLine) (client line : ℕ) (at : Option ℕ) (reply : Reply) (old new : ℕ) → old ≤ new
+    → HasLooked s (record { asked = asked; placed = record { client = client; line = line; at = at; reply = reply } }) old new
+    → RoseBy (cond (is_looked_up s (record { asked = asked; placed = record { client = client; line = line; at = at; reply = reply } })) 1 0) old new
+looked_enough s asked client line at (Put was) old new le looked = omega (arith, le)
+looked_enough s asked client line at Deleted old new le looked = by_own (has_own s asked.line at) looked
+  where
+    by_own : (own : Bool) → RoseBy (if own then 0 else 1) old new → RoseBy (cond (not own) 1 0) old new
+    by_own true rose = rose
+    by_own false rose = rose
+looked_enough s asked client line at (Found val) old new le looked = omega (arith, looked)
+looked_enough s asked client line at Missing old new le looked = omega (arith, looked)
+looked_enough s asked client line at (Listed query page) old new le looked = omega (arith, looked)
+looked_enough s asked client line at BadToken old new le looked = omega (arith, le)
+looked_enough s asked client line at NoSlot old new le looked = omega (arith, le)
 
 -- ---- one answer more
+
+-- one turn more
+in_turn_more : (dir : List (List ℕ)) (earlier : List Answered) (old mid now : PassView) (lines : List RequestLine) (replies : List Placed) (l : RequestLine) (p : Placed)
+    → AnswersInTurn dir earlier old mid lines replies
+    → Answers dir mid now (last_listing (earlier ++ answered_lines lines replies)) (record { asked = l; placed = p })
+    → AnswersInTurn dir earlier old now (lines ++ l ∷ []) (replies ++ p ∷ [])
+in_turn_more dir earlier old mid now [] [] l p same step = (
+  now,
+  subst (λ (v : PassView). Answers dir v now (last_listing earlier) (record { asked = l; placed = p })) same
+      (subst (λ (xs : List Answered). Answers dir mid now (last_listing xs) (record { asked = l; placed = p })) (append-nil earlier) step),
+  refl,
+)
+in_turn_more dir earlier old mid now (m ∷ lines) (q ∷ replies) l p (between, first, rest) step = (
+  between,
+  first,
+  in_turn_more dir (earlier ++ record { asked = m; placed = q } ∷ []) between mid now lines replies l p rest
+      (subst (λ (xs : List Answered). Answers dir mid now (last_listing xs) (record { asked = l; placed = p })) (sym (append_assoc earlier (record { asked = m; placed = q } ∷ []) (answered_lines lines replies))) step),
+)
+in_turn_more dir earlier old mid now [] (q ∷ replies) l p none step = absurd none
+in_turn_more dir earlier old mid now (m ∷ lines) [] l p none step = absurd none
 
 places_from_old : (m n : ℕ) (at : Option ℕ) → m ≤ n → MatchOption at ⊤ (λ place. n ≤ place) → MatchOption at ⊤ (λ place. m ≤ place)
 places_from_old m n None le h = tt
@@ -144,7 +179,7 @@ places_from_old m n (Some place) le h = omega arith
 
 module _ (dir : List (List ℕ)) (lines : List RequestLine) (old mid now : PassView) (replies : List Placed) (l : RequestLine) (p : Placed)
     (run : Running dir lines old mid replies) (step : Answers dir mid now (last_listing (answered_lines lines replies)) (record { asked = l; placed = p }))
-    (later_old : IsLaterLine old l.line) (rising : All (λ (m : RequestLine). m.line < l.line) lines) where
+    (later_old : IsLaterLine old l.line) (rising : All (λ (m : RequestLine). m.line < l.line) lines) (in_range : HasPageInRange dir p.reply) where
   abbrev a : Answered
   a = record { asked = l; placed = p }
 
@@ -202,7 +237,8 @@ module _ (dir : List (List ℕ)) (lines : List RequestLine) (old mid now : PassV
       ap (λ (xs : List Answered). count_by (is_looked_up (setting dir now 0)) xs) together
       ∙ sum_by_push (λ (b : Answered). cond (is_looked_up (setting dir now 0) b) 1 0) done a
       ∙ ap (λ (n : ℕ). n + cond (is_looked_up (setting dir now 0) a) 1 0) same in
-      rw counted (rose_both (count_by (is_looked_up (setting dir mid 0)) done) (cond (is_looked_up (setting dir now 0) a) 1 0) old.looks mid.looks now.looks run.ran.looks step.looks step.continues.looks)
+      rw counted (rose_both (count_by (is_looked_up (setting dir mid 0)) done) (cond (is_looked_up (setting dir now 0) a) 1 0) old.looks mid.looks now.looks run.ran.looks
+      (looked_enough (setting dir now 0) l p.client p.line p.at p.reply mid.looks now.looks step.continues.looks step.looks) step.continues.looks)
 
   pub one_more : Running dir (lines ++ l ∷ []) old now (replies ++ p ∷ [])
   one_more = record {
@@ -215,6 +251,8 @@ module _ (dir : List (List ℕ)) (lines : List RequestLine) (old mid now : PassV
       places = All-push (λ (q : Placed). MatchOption q.at ⊤ (λ at. length old.seen ≤ at)) replies p run.ran.places
           (places_from_old (length old.seen) (length mid.seen) p.at (length_grows old mid run.ran.continues) step.from);
       looks = looks_now;
+      in_turn = in_turn_more dir [] old mid now lines replies l p run.ran.in_turn step;
+      in_range = All-push (λ (q : Placed). HasPageInRange dir q.reply) replies p run.ran.in_range in_range;
       ended = λ front b e.
           let same : a ≡ b = (same_from_push done front a b (sym together ∙ e)).1 in
           subst (λ (c : Answered). Ended (setting dir now 0) now c) same step.ended;

@@ -14,14 +14,14 @@ use Rattle.bucket_terms.specs.declared.request.Request.TheVariants.{Put as PutRe
 use Rattle.bucket_terms.specs.declared.reply.Reply.{Reply}
 use Rattle.bucket_terms.specs.declared.reply.Reply.TheVariants.{Put as PutReply, Deleted, Found, Missing, NoSlot}
 use Rattle.bucket_terms.specs.Answer.{head_by}
-use Rattle.bucket_terms.specs.PassView.{PassView, KnowsOwn, MadePut, AnsweredRemoval, Removed, FoundAbsent, Looked, Began, RoseBy, RoseByOne, IsOutOfSlots, own_places, IsShort}
+use Rattle.bucket_terms.specs.PassView.{PassView, KnowsOwn, MadePut, AnsweredRemoval, Removed, FoundAbsent, Looked, Began, IsOutOfSlots, own_places, IsShort}
 use Rattle.std.specs.List.{count_by, slice_get}
 use Rattle.std.proofs.lemmas.Bool.{cases_lt, cases_Bool}
 use Rattle.std.proofs.lemmas.List.{get_or_append_left}
 use Rattle.std.proofs.lemmas.Option.{slice_get_within, slice_get-get_or, get_or_from_slice_get}
 use Rattle.key_map.specs.declared.update.Update.{Update}
 use Rattle.bucket_terms.specs.LegalRun.{Setting, IsRight, IsOf, is_earlier_of, update_at}
-use Rattle.client_run.specs.ClientRun.{setting, answered, Answers, IsLaterLine, is_of}
+use Rattle.client_run.specs.ClientRun.{setting, answered, Answers, IsLaterLine, is_of, has_own}
 use Rattle.client_run.proofs.Places.{no_own_added}
 use Rattle.client_run.proofs.Steps.{update_here, step_made, step_refused, step_looked}
 
@@ -33,7 +33,7 @@ put_answers dir old new last line key val name done knows rank made =
     let nodes : old.nodes ≤ new.nodes + 1 = grind (arith, nat_tests, made.nodes) in
     step_made dir old new last line key done.at (PutVal val) (PutRequest name val) (PutReply done.was) knows made.update refl (rank, refl)
     (λ slots. record { key = key; rank = rank; update = update_here dir old new line key done.at slots (PutVal val) made.update; before = made.was })
-    nodes (λ e. cc) refl
+    nodes (λ e. cc) refl made.looks
 
 -- an update was refused for want of slots
 pub refused_answers : (dir : List (List ℕ)) (old new : PassView) (last : Option Reply) (line : ℕ) (request : Request)
@@ -42,7 +42,7 @@ pub refused_answers : (dir : List (List ℕ)) (old new : PassView) (last : Optio
     → IsRight (setting dir old slots) last (record { line = line; request = request }) None NoSlot)
     → Answers dir old new last (answered line request (record { client = old.number; line = line; at = None; reply = NoSlot }))
 refused_answers dir old new last line request knows same closed short right =
-    step_refused dir old new last line request NoSlot knows same closed right (λ e. short.1) refl
+    step_refused dir old new last line request NoSlot knows same closed right (λ e. short.1) refl refl
 
 -- a removal was answered
 removed_answers : (dir : List (List ℕ)) (old new : PassView) (last : Option Reply) (line key : ℕ) (name : List ℕ) (done : Done)
@@ -50,9 +50,10 @@ removed_answers : (dir : List (List ℕ)) (old new : PassView) (last : Option Re
     → Answers dir old new last (answered line (Delete name) (record { client = old.number; line = line; at = Some done.at; reply = Deleted }))
 removed_answers dir old new last line key name done knows rank removed =
     let here = update_here dir old new line key done.at 0 Remove removed.update in
+    let own : has_own (setting dir new 0) line (Some done.at) ≡ true = rw here (grind (arith, nat_tests)) in
     step_made dir old new last line key done.at Remove (Delete name) Deleted knows removed.update refl (rank, refl)
     (λ slots. inl (record { key = key; rank = rank; update = update_here dir old new line key done.at slots Remove removed.update; before = removed.there }))
-    (omega (arith, removed.nodes)) (λ e. cc) (rw here (grind (arith, nat_tests)))
+    (omega (arith, removed.nodes)) (λ e. cc) (ap not own) (rw own (omega (arith, removed.update.continues.looks)))
 
 -- no update of the history is that of this line
 none_of : (dir : List (List ℕ)) (old new : PassView) (line at slots : ℕ) → KnowsOwn old → Looked old new at → IsLaterLine old line
@@ -98,9 +99,10 @@ absent_answers : (dir : List (List ℕ)) (old new : PassView) (last : Option Rep
     → KnowsOwn old → IsRank dir name key → IsLaterLine old line → FoundAbsent old new key at
     → Answers dir old new last (answered line (Delete name) (record { client = old.number; line = line; at = Some at; reply = Deleted }))
 absent_answers dir old new last line key at name knows rank later found =
-    step_looked dir old new last line at (Delete name) Deleted knows found.looked found.looks found.closed
+    let no_own = is_of-none (setting dir new 0) line at (none_of dir old new line at 0 knows found.looked later) in
+    step_looked dir old new last line at (Delete name) Deleted knows found.looked found.closed
     (λ slots. inr (record { key = key; rank = rank; none = none_of dir old new line at slots knows found.looked later; absent = found.absent }))
-    (λ e. cc) (ap not (is_of-none (setting dir new 0) line at (none_of dir old new line at 0 knows found.looked later)))
+    (λ e. cc) (ap not no_own) (rw no_own found.looks)
 
 pub removal_answers : (dir : List (List ℕ)) (old new : PassView) (last : Option Reply) (line key : ℕ) (name : List ℕ) (done : Done)
     → KnowsOwn old → IsRank dir name key → IsLaterLine old line → AnsweredRemoval old new line key done
@@ -127,11 +129,6 @@ looked_closed old new at looked = record {
   entries = looked.entries;
 }
 
--- a count that rose by one rose by at least one
-pub rose_by_one : (old new : ℕ) → RoseByOne old new → RoseBy 1 old new
-rose_by_one old new (inl e) = inl (omega arith)
-rose_by_one old new (inr e) = inr e
-
 -- a head was answered in a snapshot that is closed again
 pub head_answers : (dir : List (List ℕ)) (old opened new : PassView) (last : Option Reply) (line key at : ℕ) (name : List ℕ) (first : Option Pair)
     → KnowsOwn old → IsRank dir name key → Began old opened at → new ≡ closed_view opened → first ≡ first_from key (after opened.seen at)
@@ -143,8 +140,8 @@ head_answers dir old opened new last line key at name first knows rank began clo
     by_value : (val : Option ℕ) → val ≡ map_get key (after opened.seen at)
         → Answers dir old (closed_view opened) last (answered line (Head name) (record { client = old.number; line = line; at = Some at; reply = head_by val }))
     by_value None e =
-        step_looked dir old (closed_view opened) last line at (Head name) Missing knows (looked_closed old opened at began.looked) (rose_by_one old.looks opened.looks began.looks) refl
-        (λ slots. record { key = key; rank = rank; answer = ap head_by e }) (λ e. cc) refl
+        step_looked dir old (closed_view opened) last line at (Head name) Missing knows (looked_closed old opened at began.looked) refl
+        (λ slots. record { key = key; rank = rank; answer = ap head_by e }) (λ e. cc) refl began.looks
     by_value (Some val) e =
-        step_looked dir old (closed_view opened) last line at (Head name) (Found val) knows (looked_closed old opened at began.looked) (rose_by_one old.looks opened.looks began.looks) refl
-        (λ slots. record { key = key; rank = rank; answer = ap head_by e }) (λ e. cc) refl
+        step_looked dir old (closed_view opened) last line at (Head name) (Found val) knows (looked_closed old opened at began.looked) refl
+        (λ slots. record { key = key; rank = rank; answer = ap head_by e }) (λ e. cc) refl began.looks

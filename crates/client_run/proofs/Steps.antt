@@ -1,5 +1,5 @@
 -- What a call of the pass makes of an answer.
-use Rattle.std.proofs.Common.{◌≡◌, ℕ, suc, ◌+◌, ◌-◌, ◌≤◌, true, false, List, [], ◌∷◌, ◌++◌, Option, Some, None, inl, length, refl, sym, ap, ◌∙◌, subst, arith, append-nil}
+use Rattle.std.proofs.Common.{◌≡◌, ℕ, suc, ◌+◌, ◌-◌, ◌≤◌, true, false, List, [], ◌∷◌, ◌++◌, Option, Some, None, length, refl, sym, ap, ◌∙◌, subst, arith, append-nil}
 use Rattle.std.specs.List.{slice_get, count_by}
 use Rattle.std.proofs.lemmas.Option.{slice_get_within}
 use Rattle.std.proofs.lemmas.Bool.{false≢true}
@@ -10,9 +10,9 @@ use Rattle.bucket_terms.specs.declared.request.Request.{Request}
 use Rattle.bucket_terms.specs.declared.reply.Reply.{Reply}
 use Rattle.bucket_terms.specs.declared.reply.Reply.TheVariants.{NoSlot}
 use Rattle.bucket_terms.specs.declared.reply.Placed.{Placed}
-use Rattle.bucket_terms.specs.PassView.{PassView, KnowsOwn, MadeUpdate, Looked, RoseBy, own_places, IsShort}
+use Rattle.bucket_terms.specs.PassView.{PassView, KnowsOwn, MadeUpdate, Looked, own_places, IsShort}
 use Rattle.bucket_terms.specs.LegalRun.{IsRight, is_earlier_of, IsChangeOf, update_at, is_update}
-use Rattle.client_run.specs.ClientRun.{setting, answered, Answers, is_looked_up}
+use Rattle.client_run.specs.ClientRun.{setting, answered, Answers, is_looked_up, HasLooked}
 use Rattle.client_run.proofs.Places.{slice_get-append_back, own_added_last, no_own_added}
 
 abbrev some_update : Update → Option Update
@@ -42,8 +42,9 @@ pub step_made : (dir : List (List ℕ)) (old new : PassView) (last : Option Repl
     → ((slots : ℕ) → IsRight (setting dir new slots) last (record { line = line; request = request }) (Some at) reply)
     → old.nodes ≤ new.nodes + 1 → (reply ≡ NoSlot → ⊥)
     → is_looked_up (setting dir new 0) (answered line request (record { client = old.number; line = line; at = Some at; reply = reply })) ≡ false
+    → HasLooked (setting dir new 0) (answered line request (record { client = old.number; line = line; at = Some at; reply = reply })) old.looks new.looks
     → Answers dir old new last (answered line request (record { client = old.number; line = line; at = Some at; reply = reply }))
-step_made dir old new last line key at change request reply knows made is_up change_is right nodes not_refused not_looked =
+step_made dir old new last line key at change request reply knows made is_up change_is right nodes not_refused not_looked looks =
     let u : Update = record { client = old.number; line = line; key = key; change = change } in
     let places : own_places old.number ((old.seen ++ made.others) ++ u ∷ []) ≡ own_places old.number old.seen ++ at ∷ [] =
     sym (ap (λ (us : List Update). own_places old.number us) made.seen)
@@ -69,7 +70,7 @@ step_made dir old new last line key at change request reply knows made is_up cha
       entries = omega (arith, made.entries);
       left = omega (arith, made.left);
       updates = rw is_up (omega arith);
-      looks = rw not_looked (inl (omega (arith, made.continues.looks)));
+      looks = looks;
       ended = record { refused = λ e. absurd (not_refused e); looked_up = λ e. absurd (false≢true (sym not_looked ∙ e)) };
     }
 
@@ -80,8 +81,9 @@ pub step_refused : (dir : List (List ℕ)) (old new : PassView) (last : Option R
     → IsRight (setting dir old slots) last (record { line = line; request = request }) None reply)
     → (reply ≡ NoSlot → IsShort old)
     → is_looked_up (setting dir old 0) (answered line request (record { client = old.number; line = line; at = None; reply = reply })) ≡ false
+    → HasLooked (setting dir old 0) (answered line request (record { client = old.number; line = line; at = None; reply = reply })) old.looks old.looks
     → Answers dir old new last (answered line request (record { client = old.number; line = line; at = None; reply = reply }))
-step_refused dir old new last line request reply knows same closed right short not_looked =
+step_refused dir old new last line request reply knows same closed right short not_looked looks =
     subst (λ (v : PassView). Answers dir old v last (answered line request (record { client = old.number; line = line; at = None; reply = reply }))) (sym same)
     (record {
       continues = record { number = refl; seen = ([], sym (append-nil old.seen)); mine = knows; looks = omega arith };
@@ -96,18 +98,19 @@ step_refused dir old new last line request reply knows same closed right short n
       entries = omega arith;
       left = refl;
       updates = omega arith;
-      looks = rw not_looked (inl (omega arith));
+      looks = looks;
       ended = record { refused = short; looked_up = λ e. absurd (false≢true (sym not_looked ∙ e)) };
     })
 
 -- a place was fixed, and the request was answered there
 pub step_looked : (dir : List (List ℕ)) (old new : PassView) (last : Option Reply) (line at : ℕ) (request : Request) (reply : Reply)
-    → KnowsOwn old → Looked old new at → RoseBy 1 old.looks new.looks → new.opened ≡ None
+    → KnowsOwn old → Looked old new at → new.opened ≡ None
     → ((slots : ℕ) → IsRight (setting dir new slots) last (record { line = line; request = request }) (Some at) reply)
     → (reply ≡ NoSlot → ⊥)
     → is_looked_up (setting dir new 0) (answered line request (record { client = old.number; line = line; at = Some at; reply = reply })) ≡ true
+    → HasLooked (setting dir new 0) (answered line request (record { client = old.number; line = line; at = Some at; reply = reply })) old.looks new.looks
     → Answers dir old new last (answered line request (record { client = old.number; line = line; at = Some at; reply = reply }))
-step_looked dir old new last line at request reply knows looked looks closed right not_refused is_looked =
+step_looked dir old new last line at request reply knows looked closed right not_refused is_looked looks =
     let places : own_places old.number (old.seen ++ looked.continues.seen.0) ≡ own_places old.number old.seen =
     sym (ap (λ (us : List Update). own_places old.number us) looked.continues.seen.1)
     ∙ sym (ap (λ (n : ℕ). own_places n new.seen) looked.continues.number)
@@ -127,6 +130,6 @@ step_looked dir old new last line at request reply knows looked looks closed rig
       entries = omega (arith, looked.entries);
       left = omega (arith, looked.left);
       updates = omega arith;
-      looks = rw is_looked looks;
+      looks = looks;
       ended = record { refused = λ e. absurd (not_refused e); looked_up = λ e. ap (λ (n : ℕ). Some n) (sym looked.found) };
     }

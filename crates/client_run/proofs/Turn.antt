@@ -11,6 +11,7 @@ use Rattle.bucket_terms.specs.declared.reply.Placed.{Placed}
 use Rattle.bucket_terms.specs.PassView.{PassView}
 use Rattle.bucket_terms.specs.LegalRun.{RequestLine, Answered, answered_lines, last_listing, is_listing, is_update, updates_in}
 use Rattle.client_run.specs.ClientRun.{Answers, IsLaterLine, Rise}
+use Rattle.client_run.specs.Listing.{HasPageInRange}
 use Rattle.client_run.proofs.Places.{slice_get-append_front, slice_get-append_back}
 use Rattle.client_run.proofs.Growing.{Running, later_now, answered_lines-push}
 use Rattle.client_run.proofs.OneMore.{one_more}
@@ -41,11 +42,11 @@ call_at dir lines i d old now replies below run calls =
 -- the run with the next line's answer
 pub turn : (dir : List (List ℕ)) (lines : List RequestLine) (i : ℕ) (d : RequestLine) (old mid now : PassView) (replies : List Placed) (p : Placed) → i < length lines
     → Running dir (take i lines) old mid replies → All (λ (l : RequestLine). IsLaterLine old l.line) lines → Rise lines
-    → Answers dir mid now (last_listing (answered_lines (take i lines) replies)) (record { asked = get_or lines i d; placed = p })
+    → Answers dir mid now (last_listing (answered_lines (take i lines) replies)) (record { asked = get_or lines i d; placed = p }) → HasPageInRange dir p.reply
     → Running dir (take (i + 1) lines) old now (replies ++ p ∷ [])
-turn dir lines i d old mid now replies p below run later rising step =
+turn dir lines i d old mid now replies p below run later rising step in_range =
     subst (λ (ls : List RequestLine). Running dir ls old now (replies ++ p ∷ [])) (sym (take_more lines i d below))
-    (one_more dir (take i lines) old mid now replies (get_or lines i d) p run step (later i d below) (earlier_lines lines i d below rising))
+    (one_more dir (take i lines) old mid now replies (get_or lines i d) p run step (later i d below) (earlier_lines lines i d below rising) in_range)
 
 -- ---- the last listing
 

@@ -6,8 +6,9 @@ use Rattle.bucket_terms.specs.declared.request.Request.TheVariants.{Put as PutRe
 use Rattle.bucket_terms.specs.declared.reply.Reply.{Reply}
 use Rattle.bucket_terms.specs.declared.reply.Reply.TheVariants.{Deleted, Found, Missing, Listed, NoSlot}
 use Rattle.bucket_terms.specs.declared.reply.Placed.{Placed}
-use Rattle.bucket_terms.specs.PassView.{PassView, Continues, Extends, KnowsOwn, RoseBy, IsShort}
-use Rattle.bucket_terms.specs.LegalRun.{RequestLine, Setting, Answered, AreAnswered, IsRight, IsMadeBy, answered_lines, update_at, is_earlier_of, is_update}
+use Rattle.bucket_terms.specs.PassView.{PassView, Continues, Extends, KnowsOwn, RoseBy, RoseByOne, IsShort}
+use Rattle.client_run.specs.Listing.{HasPageInRange}
+use Rattle.bucket_terms.specs.LegalRun.{RequestLine, Setting, Answered, AreAnswered, IsRight, IsMadeBy, answered_lines, last_listing, update_at, is_earlier_of, is_update}
 
 -- the line is later than those of the pass's updates so far
 abbrev pub IsLaterLine : PassView → ℕ → Type 0
@@ -57,6 +58,18 @@ is_looked_up s a = by_reply a.placed.reply
     by_reply Deleted = not (has_own s a.asked.line a.placed.at)
     by_reply reply = false
 
+-- how often the answer has looked: a head and a listing once, a delete that found no key at least once, a put and
+-- a refusal not at all
+abbrev pub HasLooked : Setting → Answered → ℕ → ℕ → Type 0
+HasLooked s a old new = by_reply a.placed.reply
+  where
+    by_reply : Reply → Type 0
+    by_reply (Found val) = RoseByOne old new
+    by_reply Missing = RoseByOne old new
+    by_reply (Listed query page) = RoseByOne old new
+    by_reply Deleted = RoseBy (if has_own s a.asked.line a.placed.at then 0 else 1) old new
+    by_reply reply = new ≡ old
+
 -- after the last answer: a refusal for want of slots leaves the pass without them, and the place of an answer
 -- of a snapshot is the number that was found last
 pub record Ended (s : Setting) (pass : PassView) (a : Answered) : Type 0 where
@@ -83,8 +96,17 @@ pub record Answers (dir : List (List ℕ)) (old new : PassView) (last : Option R
   pub entries : old.entries + 4 * length old.mine ≤ new.entries + 4 * length new.mine
   pub left : new.left + length new.mine ≡ old.left + length old.mine
   pub updates : length new.mine ≤ length old.mine + (if is_update a.asked.request then 1 else 0)
-  pub looks : RoseBy (if is_looked_up (setting dir new 0) a then 1 else 0) old.looks new.looks
+  pub looks : HasLooked (setting dir new 0) a old.looks new.looks
   pub ended : Ended (setting dir new 0) new a
+
+-- the requests were answered in turn, behind these earlier answers: each over what the pass knew after the one
+-- before it
+abbrev pub AnswersInTurn : List (List ℕ) → List Answered → PassView → PassView → List RequestLine → List Placed → Type 0
+AnswersInTurn dir earlier old new [] [] = new ≡ old
+AnswersInTurn dir earlier old new (l ∷ lines) (p ∷ replies) =
+    (between : PassView) × Answers dir old between (last_listing earlier) (record { asked = l; placed = p })
+    × AnswersInTurn dir (earlier ++ record { asked = l; placed = p } ∷ []) between new lines replies
+AnswersInTurn dir earlier old new lines replies = ⊥
 
 -- the client's requests were answered, in order, over a pass that knew `old` before and knows `new` now
 pub record RanClient (dir : List (List ℕ)) (lines : List RequestLine) (old new : PassView) (replies : List Placed) : Type 0 where
@@ -99,6 +121,9 @@ pub record RanClient (dir : List (List ℕ)) (lines : List RequestLine) (old new
   -- no place is below what the pass knew
   pub places : All (λ (p : Placed). MatchOption p.at ⊤ (λ at. length old.seen ≤ at)) replies
   pub looks : RoseBy (count_by (is_looked_up (setting dir new 0)) (answered_lines lines replies)) old.looks new.looks
+  -- each request had its own turn, and looked in it alone
+  pub in_turn : AnswersInTurn dir [] old new lines replies
+  pub in_range : All (λ (p : Placed). HasPageInRange dir p.reply) replies
   pub ended : (front : List Answered) (a : Answered) → answered_lines lines replies ≡ front ++ a ∷ [] → Ended (setting dir new 0) new a
 
 -- after want of memory: updates may have been made, what the pass knew it still knows, and no snapshot is open

@@ -2,7 +2,6 @@
 ghost use Rattle.std.specs.Prelude.{◌≡◌, ◌<◌, ◌≤◌, [], ◌∷◌, None, Some, All, IfOk, OnErr, length, if◌then◌else◌, slice_get};
 ghost use Rattle.std.specs.Option.{ForSome, option_copied, option_map, option_and_then};
 ghost use Rattle.bucket_terms.specs.LegalRun.{RequestLine, is_listing, updates_in};
-ghost use Rattle.bucket_terms.specs.declared.reply.Placed.{Placed};
 ghost use Rattle.request_lines.specs.Session.{request_line, request_lines};
 ghost use Rattle.client_run.specs.Listing.{HasPageInRange};
 ghost use Rattle.client_run.specs.ClientRun.{Answers, RanClient, IsAskable, IsLaterLine, Rise, Stopped};
@@ -31,7 +30,6 @@ pub fn run_client<P: KeyPass, G: Gate, Rt: Wait>(
     requires rising { Rise (request_lines part.now) }
     requires later { All (λ (l : RequestLine). IsLaterLine (P.view pass.old) l.line) (request_lines part.now) }
     ensures ran { IfOk result (λ replies. RanClient dir.now (request_lines part.now) (P.view pass.old) (P.view pass.new) replies.items) }
-    ensures in_range { IfOk result (λ replies. All (λ (p : Placed). HasPageInRange dir.now p.reply) replies.items) }
     ensures stopped { OnErr result (Stopped (P.view pass.old) (P.view pass.new)) }
     ensures home { P.home pass.new ≡ P.home pass.old }
 {

@@ -1,24 +1,75 @@
 // Sessions of one client over a plain pass: what each request is answered, and what a gate is told.
-ghost use Rattle.std.specs.Prelude.{◌≤◌, ◌^◌, All, length, IfOk};
+ghost use Rattle.std.specs.Prelude.{◌≤◌, ◌^◌, [], All, length, IfOk};
+ghost use Rattle.request_lines.specs.Limits.{most_requests};
 ghost use Rattle.request_lines.specs.Session.{request_lines, LinesRise};
 ghost use Rattle.bucket_terms.specs.declared.reply.Placed.{Placed as PlacedReply};
 ghost use Rattle.client_run.specs.ClientRun.{IsAskable};
 ghost use Rattle.client_run.specs.Listing.{HasPageInRange};
 
 use super::*;
-use bucket_terms::{ListQuery, Page, PageEntry, Placed, PlainPass, Reply};
-use key_map::PassSize;
+use bucket_terms::{KeyPass, ListQuery, Page, PageEntry, Placed, PlainPass, Reply};
+use key_map::{Done, Pair, PassError, PassSize};
 use key_names::Directory;
-use request_lines::{ClientPart, Session, read_session};
+use request_lines::{ClientPart, MAX_INPUT_BYTES, Session, read_session};
 use std::alloc::Global;
-use std::cell::RefCell;
 use std::process::Abort;
 use std::sync::Wait;
 use std::test::Fail;
 
+mod gates;
+
 const PLENTY: u32 = 1000;
 
 const FOUR_KEYS: &str = "CLIENT\nPUT a/1 1 e1 1\nPUT a/2 2 e2 2\nPUT a/3 3 e3 3\nPUT b 4 e4 4\n";
+
+// Told of each call that reads or changes the map.
+trait Watch {
+    fn called(&self);
+}
+
+impl Watch for OpenGate {
+    fn called(&self) {}
+}
+
+// A plain pass that tells of its calls.
+#[derive(Drop)]
+struct Watched<'a, W> {
+    pass: PlainPass,
+    watch: &'a W,
+}
+
+impl<W: Watch> KeyPass for Watched<'_, W> {
+    ghost home = { λ _. [] };
+
+    ghost view = { λ w. w.pass };
+
+    fn put<Rt: Wait>(&mut self, rt: &Rt, line: u32, key: u64, val: u64) -> Result<Done, PassError> {
+        self.watch.called();
+        self.pass.put(rt, line, key, val)
+    }
+
+    fn remove<Rt: Wait>(&mut self, rt: &Rt, line: u32, key: u64) -> Result<Done, PassError> {
+        self.watch.called();
+        self.pass.remove(rt, line, key)
+    }
+
+    fn begin(&mut self) -> u64 {
+        self.watch.called();
+        self.pass.begin()
+    }
+
+    fn next_from<Rt: Wait>(&mut self, rt: &Rt, key: u64) -> Option<Pair> {
+        self.pass.next_from(rt, key)
+    }
+
+    fn end(&mut self) {
+        self.pass.end()
+    }
+
+    fn client(&self) -> u32 {
+        self.pass.client()
+    }
+}
 
 // A run of the one client of a text, with the names that its replies speak of.
 #[derive(Drop)]
@@ -28,7 +79,7 @@ struct Ran {
 }
 
 // Runs the one client of the text over a plain pass with this many node slots.
-fn run<G: Gate, Rt: Wait>(
+fn run<G: Gate + Watch, Rt: Wait>(
     rt: &Rt,
     alloc: Global,
     text: &str,
@@ -37,7 +88,7 @@ fn run<G: Gate, Rt: Wait>(
 ) -> Result<Ran, Fail>
     ensures { IfOk result (λ ran. All (λ (p : PlacedReply). HasPageInRange ran.dir p.reply) ran.replies.items) }
 {
-    if text.len() > 67_108_864 {
+    if text.len() > MAX_INPUT_BYTES {
         return Err("the text is too long".into());
     }
     let Session {
@@ -53,7 +104,7 @@ fn run<G: Gate, Rt: Wait>(
     Ok(Ran { dir, replies })
 }
 
-fn run_part<G: Gate, Rt: Wait>(
+fn run_part<G: Gate + Watch, Rt: Wait>(
     rt: &Rt,
     alloc: Global,
     part: &ClientPart,
@@ -63,7 +114,7 @@ fn run_part<G: Gate, Rt: Wait>(
 ) -> Result<Vec<Placed>, Fail>
     requires askable { All (IsAskable dir.now) (request_lines part.now) }
     requires rising { LinesRise 0 (2 ^ 32) (request_lines part.now) }
-    requires few { length part.now.requests ≤ 200000 }
+    requires few { length part.now.requests ≤ most_requests }
     ensures { IfOk result (λ replies. All (λ (p : PlacedReply). HasPageInRange dir.now p.reply) replies.items) }
 {
     let size = PassSize {
@@ -71,7 +122,10 @@ fn run_part<G: Gate, Rt: Wait>(
         entries: 4000,
         calls: part.writes(),
     };
-    let mut pass = PlainPass::new(alloc, 0, size)?;
+    let mut pass = Watched {
+        pass: PlainPass::new(alloc, 0, size)?,
+        watch: gate,
+    };
     Ok(run_client(rt, alloc, &mut pass, part, dir, gate)?)
 }
 
@@ -239,60 +293,5 @@ fn gives_the_next_query(rt: HostRuntime) -> Result<(), Fail> {
         let text = format!(in alloc; "{first}{more}")?;
         assert!(rt; next_of(&rt, alloc, text.as_str())?.is_none());
     }
-    Ok(())
-}
-
-// What a gate is told of a request.
-#[derive(Clone, Copy, Debug, PartialEq, Eq)]
-enum Told {
-    Before(u32),
-    After(u32),
-}
-
-// Keeps what it is told of client 0, in order.
-#[derive(Drop)]
-struct Diary {
-    told: RefCell<Vec<Told>>,
-}
-
-impl Diary {
-    fn note(&self, client: u32, told: Told) {
-        if let Ok(mut noted) = self.told.try_borrow_mut() {
-            if client == 0 {
-                let _ = noted.push(told);
-            }
-        }
-    }
-}
-
-impl Gate for Diary {
-    fn before(&self, client: u32, line: u32) {
-        self.note(client, Told::Before(line));
-    }
-
-    fn after(&self, client: u32, line: u32) {
-        self.note(client, Told::After(line));
-    }
-}
-
-#[test]
-fn tells_the_gate_of_each_request(rt: HostRuntime) -> Result<(), Fail> {
-    let alloc = rt.alloc();
-    let diary = Diary {
-        told: RefCell::new(Vec::new(alloc)),
-    };
-    let ran = run(&rt, alloc, "CLIENT\nPUT a 1 e1 1\n\nNEXT\n", PLENTY, &diary)?;
-    assert_eq!(rt; ran.replies.len(), 2);
-    let told = diary.told.try_borrow()?;
-    assert_eq!(rt;
-        told.as_slice(),
-        [
-            Told::Before(2),
-            Told::After(2),
-            Told::Before(4),
-            Told::After(4)
-        ]
-        .as_slice()
-    );
     Ok(())
 }

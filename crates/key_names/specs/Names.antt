@@ -12,10 +12,14 @@ use Rattle.std.specs.Str.{IsUtf8}
 abbrev pub byte_order : List ℕ → List ℕ → Ordering
 byte_order = slice_cmp nat_cmp
 
--- a name that a directory may have: 1 to 1,024 bytes of UTF-8 (Amazon S3 user guide, object key names)
+-- the most bytes of a name (Amazon S3 user guide, object key names)
+abbrev pub most_name_bytes : ℕ
+most_name_bytes = 1024
+
+-- a name that a directory may have: 1 to 1,024 bytes of UTF-8
 pub record IsFine (name : List ℕ) : Type 0 where
   pub not_empty : 0 < length name
-  pub short : length name ≤ 1024
+  pub short : length name ≤ most_name_bytes
   pub text : IsUtf8 name
 
 -- the names rise strictly in byte order, so none stands twice

@@ -3,7 +3,7 @@ use Rattle.std.specs.Prelude.{◌≡◌, ℕ, ◌<◌, List, length}
 use Rattle.std.specs.List.{AllWithin}
 use Rattle.key_names.specs.declared.names_error.NamesError.{NamesError}
 use Rattle.key_names.specs.declared.names_error.NamesError.TheVariants.{Empty, TooLong, NoMemory}
-use Rattle.key_names.specs.Names.{IsFine, name_at}
+use Rattle.key_names.specs.Names.{IsFine, most_name_bytes, name_at}
 
 -- the name at this place is the first that is not fine, and this is its fault
 pub record IsFirstWith (fault : List ℕ → Type 0) (names : List (List ℕ)) (place : ℕ) : Type 0 where
@@ -14,5 +14,5 @@ pub record IsFirstWith (fault : List ℕ → Type 0) (names : List (List ℕ)) (
 -- the first faulty name is named, with its fault; want of memory says nothing of the names
 abbrev pub IsRefusal : List (List ℕ) → NamesError → Type 0
 IsRefusal names (Empty place) = IsFirstWith (λ name. length name ≡ 0) names place
-IsRefusal names (TooLong place) = IsFirstWith (λ name. 1024 < length name) names place
+IsRefusal names (TooLong place) = IsFirstWith (λ name. most_name_bytes < length name) names place
 IsRefusal names NoMemory = Unit {0}

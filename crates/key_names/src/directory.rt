@@ -9,7 +9,7 @@ use std::cmp::Ordering;
 use std::marker::Model;
 
 /// The most bytes of a name: Amazon S3's limit for an object key.
-const MAX_NAME_BYTES: usize = 1024;
+pub const MAX_NAME_BYTES: usize = 1024;
 
 /// Names that rise strictly in byte order. The place of a name, from 0, is its rank.
 #[derive(Debug, Drop)]

@@ -9,7 +9,7 @@ mod names_error;
 mod no_memory;
 mod text;
 
-pub use directory::Directory;
+pub use directory::{Directory, MAX_NAME_BYTES};
 pub use names::Names;
 pub use names_error::NamesError;
 pub use no_memory::NoMemory;

@@ -1,10 +1,6 @@
 -- Counts of faults. A count never falls, and stays at the last value of a u64.
-use Rattle.std.specs.Prelude.{◌≡◌, ◌⊎◌, ℕ, ◌+◌, ◌-◌, ◌^◌, ◌<◌, min, Result, Ok, Err}
+use Rattle.std.specs.Prelude.{ℕ, ◌+◌, ◌-◌, ◌^◌, min, Result, Ok, Err}
 use Rattle.outside_io.specs.declared.failed.Failed.{Failed}
-
--- the count rose, or stands at its last value
-abbrev pub Rose : ℕ → ℕ → Type 0
-Rose old new = (old < new) ⊎ (new ≡ 2 ^ 64 - 1)
 
 -- the count after one fault more
 abbrev pub one_more : ℕ → ℕ

@@ -5,16 +5,19 @@
 #![tactic(auto)]
 
 mod failed;
-mod failing;
+mod failing_sink;
+mod failing_source;
 mod memory;
 mod reading;
 mod sink;
 mod source;
 mod standard;
+mod streams;
 mod writing;
 
 pub use failed::Failed;
-pub use failing::FailingSource;
+pub use failing_sink::FailingSink;
+pub use failing_source::FailingSource;
 pub use memory::{MemSink, MemSource};
 pub use reading::{ReadError, read_all};
 pub use sink::Sink;

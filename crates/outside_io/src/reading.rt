@@ -1,6 +1,6 @@
 // All of the input, up to a limit.
 ghost use Rattle.std.specs.Prelude.{◌≡◌, ◌≤◌, vec_len, IfOk, IfErr, IsErrOf};
-ghost use Rattle.outside_io.specs.Faults.{Rose};
+ghost use Rattle.outside_io.specs.Faults.{one_more};
 ghost use Rattle.outside_io.specs.Source.{IsReadToEnd};
 ghost use Rattle.outside_io.specs.Reading.{IsReadError};
 
@@ -15,8 +15,9 @@ const BUFFER_BYTES: usize = 65_536;
 pub enum ReadError {
     /// The source failed.
     Fault,
-    /// The source gave more bytes than the limit.
+    /// The source gave more bytes than the limit, and had not failed.
     TooLong,
+    /// Memory was refused. The source had not failed, and had given no more bytes than the limit.
     NoMemory,
 }
 
@@ -42,7 +43,8 @@ impl From<AllocError> for ReadError {
     }
 }
 
-/// Reads to the end of input. After an error the source has lost just the bytes that it gave.
+/// Reads to the end of input, or to the first fault. After an error the source has lost just the bytes that
+/// it gave, at most 65,536 more than the limit.
 pub fn read_all<S: Source>(
     alloc: Global,
     source: &mut S,
@@ -51,7 +53,8 @@ pub fn read_all<S: Source>(
     ensures all { IfOk result (λ bytes. IsReadToEnd (S.rest source.old) (S.rest source.new) bytes.items) }
     ensures within { IfOk result (λ bytes. vec_len bytes ≤ limit) }
     ensures refused { IfErr result (IsReadError limit (S.rest source.old) (S.rest source.new)) }
-    ensures fault_only_where_faulted { IsErrOf result ReadError.Fault → Rose (S.faults source.old) (S.faults source.new) }
+    ensures fault_only_where_faulted { IsErrOf result ReadError.Fault → S.faults source.new ≡ one_more (S.faults source.old) }
+    ensures quiet { ¬ (IsErrOf result ReadError.Fault) → S.faults source.new ≡ S.faults source.old }
     ensures counted { S.faults source.old ≤ S.faults source.new }
 {
     let mut buffer = zeros(alloc, BUFFER_BYTES)?;

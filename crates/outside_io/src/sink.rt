@@ -1,6 +1,6 @@
 // Where bytes go.
-ghost use Rattle.std.specs.Prelude.{◌≡◌, ◌<◌, ◌≤◌, ℕ, List, Option, length, take, IfOk, OnErr};
-ghost use Rattle.outside_io.specs.Faults.{Rose};
+ghost use Rattle.std.specs.Prelude.{◌≡◌, ◌<◌, ◌≤◌, ℕ, List, Option, length, take, IfOk, OnOk, OnErr};
+ghost use Rattle.outside_io.specs.Faults.{one_more};
 ghost use Rattle.outside_io.specs.Sink.{IsTaken};
 
 use crate::Failed;
@@ -10,7 +10,7 @@ pub trait Sink {
     /// The bytes that were taken so far, where the sink tells them.
     ghost taken: { Self → Option (List ℕ) };
 
-    /// How often the sink has failed. The count stays at 2^64 - 1 once it is there.
+    /// How many writes have failed. The count stays at 2^64 - 1 once it is there.
     ghost faults: { Self → ℕ };
 
     /// Takes the start of `bytes`, and answers how many it took.
@@ -18,7 +18,8 @@ pub trait Sink {
         ensures most { IfOk result (λ n. n ≤ length bytes.now) }
         ensures some { IfOk result (λ n. 0 < length bytes.now → 0 < n) }
         ensures took { IfOk result (λ n. IsTaken (taken self.old) (taken self.new) (take n bytes.now)) }
-        ensures failed { OnErr result (Rose (faults self.old) (faults self.new)) }
+        ensures quiet { OnOk result (faults self.new ≡ faults self.old) }
+        ensures failed { OnErr result (faults self.new ≡ one_more (faults self.old)) }
         ensures unchanged { OnErr result (taken self.new ≡ taken self.old) }
         ensures counted { faults self.old ≤ faults self.new };
 }

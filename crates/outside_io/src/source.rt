@@ -1,6 +1,6 @@
 // Where bytes come from.
-ghost use Rattle.std.specs.Prelude.{◌≡◌, ◌≤◌, ℕ, List, Option, length, take, IfOk, OnErr};
-ghost use Rattle.outside_io.specs.Faults.{Rose};
+ghost use Rattle.std.specs.Prelude.{◌≡◌, ◌≤◌, ℕ, List, Option, length, take, IfOk, OnOk, OnErr};
+ghost use Rattle.outside_io.specs.Faults.{one_more};
 ghost use Rattle.outside_io.specs.Source.{IsRead, EndsExactly};
 
 use crate::Failed;
@@ -10,7 +10,7 @@ pub trait Source {
     /// The bytes that are left, where the source tells them.
     ghost rest: { Self → Option (List ℕ) };
 
-    /// How often the source has failed. The count stays at 2^64 - 1 once it is there.
+    /// How many reads have failed. The count stays at 2^64 - 1 once it is there.
     ghost faults: { Self → ℕ };
 
     /// Fills the start of `buf`, and answers how many bytes it gave.
@@ -18,7 +18,8 @@ pub trait Source {
         ensures room { IfOk result (λ n. n ≤ length buf.new) }
         ensures given { IfOk result (λ n. IsRead (rest self.old) (rest self.new) (take n buf.new)) }
         ensures end { IfOk result (EndsExactly (rest self.old) (length buf.new)) }
-        ensures failed { OnErr result (Rose (faults self.old) (faults self.new)) }
+        ensures quiet { OnOk result (faults self.new ≡ faults self.old) }
+        ensures failed { OnErr result (faults self.new ≡ one_more (faults self.old)) }
         ensures unchanged { OnErr result (rest self.new ≡ rest self.old) }
         ensures counted { faults self.old ≤ faults self.new };
 }

@@ -1,9 +1,11 @@
-// The standard input and output of the process: the edge where nothing is known of the bytes.
+// The standard input and output of the process: the edge where nothing is known of the bytes. Their code is
+// that of `streams`, which is proved for readers and writers whose bytes are known.
 ghost use Rattle.std.specs.Prelude.{◌≡◌, ◌<◌, ◌≤◌, None, length, IfOk};
 ghost use Rattle.outside_io.specs.Faults.{count_after};
 
+use crate::streams::{read_counted, write_counted};
 use crate::{Failed, Sink, Source};
-use std::io::{Read, Stdin, Stdout, Write};
+use std::io::{Stdin, Stdout};
 use std::marker::Model;
 
 /// The standard input. It tells no bytes, and counts its failures.
@@ -43,13 +45,7 @@ impl Source for StdSource {
         ensures counted { self.old ≤ self.new }
         ensures room { IfOk result (λ n. n ≤ length buf.new) }
     {
-        match self.input.read(buf) {
-            Ok(n) => Ok(n),
-            Err(_) => {
-                self.faults = self.faults.saturating_add(1);
-                Err(Failed)
-            }
-        }
+        read_counted(&mut self.input, &mut self.faults, buf)
     }
 }
 
@@ -92,12 +88,6 @@ impl Sink for StdSink {
         ensures most { IfOk result (λ n. n ≤ length bytes.now) }
         ensures some { IfOk result (λ n. 0 < length bytes.now → 0 < n) }
     {
-        if let Ok(n) = self.output.write(bytes)
-            && (n > 0 || bytes.is_empty())
-        {
-            return Ok(n);
-        }
-        self.faults = self.faults.saturating_add(1);
-        Err(Failed)
+        write_counted(&mut self.output, &mut self.faults, bytes)
     }
 }

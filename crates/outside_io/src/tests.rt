@@ -1,7 +1,9 @@
 ghost use Rattle.std.specs.Prelude.{Some, ◌<◌};
 
 use super::*;
+use crate::streams::{read_counted, write_counted};
 use std::alloc::Global;
+use std::io::{Read, Write};
 use std::test::Fail;
 
 /// Takes one byte at a time, up to a length, and fails from there on.
@@ -110,5 +112,131 @@ fn takes_the_standard_streams(rt: HostRuntime) -> Result<(), Fail> {
     assert_eq!(rt; output.write(b""), Ok(0));
     let mut input = StdSource::new(&rt);
     assert_eq!(rt; input.read(&mut []), Ok(0));
+    Ok(())
+}
+
+/// A writer that takes one byte at a time, and none where its room is used up.
+#[derive(Drop)]
+struct ByteWriter {
+    bytes: Vec<u8>,
+    room: usize,
+}
+
+impl Write for ByteWriter {
+    ghost contents = { λ w. Some w.bytes.items };
+
+    fn write(&mut self, buf: &[u8]) -> std::io::Result<usize> {
+        let Some(first) = buf.first() else {
+            return Ok(0);
+        };
+        if self.bytes.len() < self.room && self.bytes.push(*first).is_ok() {
+            return Ok(1);
+        }
+        Ok(0)
+    }
+
+    fn flush(&mut self) -> std::io::Result<()> {
+        Ok(())
+    }
+}
+
+/// The code of the standard output over that writer.
+#[derive(Drop)]
+struct ByteOutput {
+    output: ByteWriter,
+    faults: u64,
+}
+
+impl Sink for ByteOutput {
+    ghost taken = { λ s. Some s.output.bytes.items };
+
+    ghost faults = { λ s. s.faults };
+
+    fn write(&mut self, bytes: &[u8]) -> Result<usize, Failed> {
+        write_counted(&mut self.output, &mut self.faults, bytes)
+    }
+}
+
+// Each short write is told as short, so all bytes come; a writer that takes none has failed.
+#[test]
+fn writes_on_behind_short_writes(rt: HostRuntime) -> Result<(), Fail> {
+    let output = ByteWriter {
+        bytes: Vec::new(rt.alloc()),
+        room: 5,
+    };
+    let mut sink = ByteOutput { output, faults: 0 };
+    assert_eq!(rt; write_all(&mut sink, b"abc"), Ok(()));
+    assert_eq!(rt; sink.write(b""), Ok(0));
+    assert_eq!(rt; write_all(&mut sink, b"def"), Err(WriteFault));
+    assert_eq!(rt; sink.output.bytes.as_slice(), b"abcde".as_slice());
+    assert_eq!(rt; sink.faults, 1);
+    Ok(())
+}
+
+/// A reader that gives a byte, then fails, then is at its end.
+#[derive(Drop)]
+struct BrokenReader {
+    reads: u8,
+}
+
+impl Read for BrokenReader {
+    fn read(&mut self, buf: &mut [u8]) -> std::io::Result<usize> {
+        self.reads = self.reads.saturating_add(1);
+        match (self.reads, buf.first_mut()) {
+            (1, Some(first)) => {
+                *first = 7;
+                Ok(1)
+            }
+            (2, _) => Err(std::io::Error::from(std::io::ErrorKind::Other)),
+            _ => Ok(0),
+        }
+    }
+}
+
+// A read that fails is no end.
+#[test]
+fn counts_a_failed_read(rt: HostRuntime) -> Result<(), Fail> {
+    let mut input = BrokenReader { reads: 0 };
+    let mut faults = 0;
+    let mut buffer = [0u8; 4];
+    assert_eq!(rt; read_counted(&mut input, &mut faults, &mut buffer), Ok(1));
+    assert_eq!(rt;
+        read_counted(&mut input, &mut faults, &mut buffer),
+        Err(Failed)
+    );
+    assert_eq!(rt; faults, 1);
+    assert_eq!(rt; read_counted(&mut input, &mut faults, &mut buffer), Ok(0));
+    assert_eq!(rt; faults, 1);
+    Ok(())
+}
+
+fn list(alloc: Global, numbers: &[u64]) -> Result<Vec<u64>, Fail> {
+    Ok(numbers.to_vec(alloc)?)
+}
+
+// Without a step a piece is taken whole or not at all.
+#[test]
+fn a_sink_fails_at_its_writes_and_for_want_of_room(rt: HostRuntime) -> Result<(), Fail> {
+    let alloc = rt.alloc();
+    let mut sink = FailingSink::with_room(alloc, 4, list(alloc, &[2])?)?;
+    assert_eq!(rt; sink.write(b"abc"), Ok(3));
+    assert_eq!(rt; sink.write(b"d"), Err(Failed));
+    assert_eq!(rt; sink.write(b"de"), Err(Failed));
+    assert_eq!(rt; sink.write(b"f"), Ok(1));
+    assert_eq!(rt; sink.write(b""), Ok(0));
+    assert_eq!(rt; sink.taken(), b"abcf".as_slice());
+    Ok(())
+}
+
+#[test]
+fn a_sink_takes_steps(rt: HostRuntime) -> Result<(), Fail> {
+    let alloc = rt.alloc();
+    let mut sink = FailingSink::with_step(alloc, 7, 3, list(alloc, &[5])?)?;
+    assert_eq!(rt; write_all(&mut sink, b"abcde"), Ok(()));
+    assert_eq!(rt; sink.write(b"fgh"), Ok(2));
+    assert_eq!(rt; sink.write(b"h"), Err(Failed));
+    assert_eq!(rt; sink.write(b""), Err(Failed));
+    assert_eq!(rt; sink.write(b""), Ok(0));
+    assert_eq!(rt; sink.taken(), b"abcdefg".as_slice());
     Ok(())
 }

@@ -1,6 +1,6 @@
 // A whole piece of bytes.
-ghost use Rattle.std.specs.Prelude.{◌≤◌, OnOk, OnErr};
-ghost use Rattle.outside_io.specs.Faults.{Rose};
+ghost use Rattle.std.specs.Prelude.{◌≡◌, ◌≤◌, OnOk, OnErr};
+ghost use Rattle.outside_io.specs.Faults.{one_more};
 ghost use Rattle.outside_io.specs.Sink.{IsTaken, TakesStart};
 
 use crate::{Failed, Sink};
@@ -15,11 +15,13 @@ impl From<Failed> for WriteFault {
     }
 }
 
-/// Writes all of the bytes. After a fault the sink has taken only the first of them, perhaps none.
+/// Writes all of the bytes, or stops at the first fault. The sink has then taken only the first of them,
+/// perhaps none.
 pub fn write_all<K: Sink>(sink: &mut K, bytes: &[u8]) -> Result<(), WriteFault>
     ensures all { OnOk result (IsTaken (K.taken sink.old) (K.taken sink.new) bytes.now) }
     ensures start { OnErr result (TakesStart (K.taken sink.old) (K.taken sink.new) bytes.now) }
-    ensures fault_only_where_faulted { OnErr result (Rose (K.faults sink.old) (K.faults sink.new)) }
+    ensures quiet { OnOk result (K.faults sink.new ≡ K.faults sink.old) }
+    ensures fault_only_where_faulted { OnErr result (K.faults sink.new ≡ one_more (K.faults sink.old)) }
     ensures counted { K.faults sink.old ≤ K.faults sink.new }
 {
     let mut done = 0;

@@ -11,7 +11,7 @@ use Rattle.bucket_terms.specs.declared.page.PageEntry.{PageEntry}
 use Rattle.bucket_terms.specs.declared.page.Page.{Page}
 use Rattle.bucket_terms.specs.Entries.{begins_with, is_above, group_len, entry_by, entry_of, group_text, entries_of}
 use Rattle.bucket_terms.specs.Page.{entry_point, last_point, page_point, cut_at, page_of}
-use Rattle.page_rules.specs.PageLaw.{LeavesTheRest, AreChained, all_entries, BeginsAll, entry_text, RiseByText}
+use Rattle.page_rules.specs.PageLaw.{LeavesTheRest, AreChained, all_entries, AreAllEntries, BeginsAll, entry_text, RiseByText}
 use Rattle.page_rules.proofs.NameOrder.{not_above_back, begins_between, begins_own, begins_trans}
 use Rattle.page_rules.proofs.Groups.{group_same}
 use Rattle.page_rules.proofs.Listing.{is_behind, in_group}
@@ -68,9 +68,6 @@ module _ (dir : List (List ℕ)) (query : ListQuery) (m : List Pair) (rises : Ri
             ap (λ l. page.entries ++ all_entries l) ends ∙ append-nil page.entries ∙ page_whole some point page chained.0 last
       ]
 
-  pub begins_all : (point : Option TokenPoint) (page : Page) → BeginsAll dir query point m page
-  begins_all point page some pages = chained_all some point (page ∷ pages)
-
 -- ---- each once
 
 -- the entry of a name that is behind another entry has a higher text
@@ -123,3 +120,8 @@ module _ (dir : List (List ℕ)) (query : ListQuery) (m : List Pair) (rises : Ri
       let shorter : j < length all = omega (arith, length-take query.max_keys all) in
       let before : i < query.max_keys = omega arith in
       rw (get_or-take query.max_keys all j d within, get_or-take query.max_keys all i d before) (entries_rise point i j d low shorter))
+
+  pub begins_all : (point : Option TokenPoint) (page : Page) → BeginsAll dir query point m page
+  begins_all point page some pages chained =
+      let all = chained_all dir query m rises map some point (page ∷ pages) chained in
+      record { all = all; once = subst (RiseByText dir) (sym all) (entries_rise point) }

@@ -28,16 +28,21 @@ AreChained dir query m point (page ∷ pages) =
 abbrev pub all_entries : List Page → List PageEntry
 all_entries pages = flat_map (λ (page : Page). page.entries) pages
 
--- where the page is the first of chained pages, they give all entries
-abbrev pub BeginsAll : List (List ℕ) → ListQuery → Option TokenPoint → List Pair → Page → Type 0
-BeginsAll dir query point m page =
-    0 < query.max_keys → (pages : List Page) → AreChained dir query m point (page ∷ pages) → all_entries (page ∷ pages) ≡ entries_of dir query point m
-
 -- the text of an entry: its key or its common prefix
 abbrev pub entry_text : List (List ℕ) → PageEntry → List ℕ
 entry_text dir (Key rank val) = name_at dir rank
 entry_text dir (Group rank len) = group_text dir rank len
 
--- the entries' texts rise strictly in byte order, so no key and no common prefix stands twice
+-- the entries' texts rise strictly in byte order, so no key and no common prefix comes twice
 abbrev pub RiseByText : List (List ℕ) → List PageEntry → Type 0
 RiseByText dir entries = AllPairs (λ e later. is_above (entry_text dir later) (entry_text dir e) ≡ true) entries
+
+-- these are all entries of the query from the point on, each once: also a common prefix comes on one page alone
+pub record AreAllEntries (dir : List (List ℕ)) (query : ListQuery) (point : Option TokenPoint) (m : List Pair) (entries : List PageEntry) : Type 0 where
+  pub all : entries ≡ entries_of dir query point m
+  pub once : RiseByText dir entries
+
+-- where the page is the first of chained pages, they give all entries, each once
+abbrev pub BeginsAll : List (List ℕ) → ListQuery → Option TokenPoint → List Pair → Page → Type 0
+BeginsAll dir query point m page =
+    0 < query.max_keys → (pages : List Page) → AreChained dir query m point (page ∷ pages) → AreAllEntries dir query point m (all_entries (page ∷ pages))

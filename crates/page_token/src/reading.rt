@@ -11,11 +11,8 @@ use crate::TokenError;
 use base64::DecodeAllocError;
 use base64::engine::general_purpose::URL_SAFE_NO_PAD;
 use bucket_terms::TokenPoint;
-use key_names::Text;
+use key_names::{MAX_NAME_BYTES, Text};
 use std::alloc::Global;
-
-/// The most bytes of a key: Amazon S3's limit.
-const MAX_KEY_BYTES: usize = 1024;
 
 /// The point whose token the text is. Padding, bits left over at the end, another letter and a text that
 /// is no key are refused, so that no point has two tokens; and no text is the token of two points.
@@ -65,7 +62,7 @@ fn fine_text(alloc: Global, bytes: &[u8]) -> Result<Text, TokenError>
     ensures fine { IfOk result (λ _. IsFine bytes.now) }
     ensures bad { IsErrOf result TokenError.Bad → ¬ (IsFine bytes.now) }
 {
-    if bytes.is_empty() || bytes.len() > MAX_KEY_BYTES {
+    if bytes.is_empty() || bytes.len() > MAX_NAME_BYTES {
         return Err(TokenError::Bad);
     }
     match std::str::from_utf8(bytes) {

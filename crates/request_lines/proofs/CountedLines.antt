@@ -14,7 +14,7 @@ use Rattle.request_lines.specs.declared.session_error.SessionError.{SessionError
 use Rattle.request_lines.specs.declared.session_error.SessionError.TheVariants as errors
 use Rattle.request_lines.specs.Lines.{texts_of}
 use Rattle.request_lines.specs.Grammar.{reading_of}
-use Rattle.request_lines.specs.Counting.{none_counted, counted_with, cause_after, request_by}
+use Rattle.request_lines.specs.Counting.{none_counted, counted_with, cause_by_counts, request_by_counts}
 use Rattle.request_lines.specs.Input.{error_at, begins_client, asked_at, name_by, record_by}
 
 -- a line that is not empty: its number, counted from 1 over all lines, what it says or its own cause, and
@@ -38,7 +38,7 @@ lines_of bytes = lines_from 1 none_counted (texts_of bytes)
 -- ---- refusal
 
 abbrev pub error_of : Line → Option InputError
-error_of line = error_at line.number (cause_after line.before line.reading)
+error_of line = error_at line.number (cause_by_counts line.before line.reading)
 
 -- the refusal of an input: the first line that has a cause, with its first cause
 unfoldable pub refusal_of : List ℕ → Option InputError
@@ -53,7 +53,7 @@ IsRefused bytes (Err errors.NoMemory) = Unit {0}
 -- ---- the session
 
 abbrev pub asked_of : Line → Option Asked
-asked_of line = asked_at line.number (request_by line.before line.reading)
+asked_of line = asked_at line.number (request_by_counts line.before line.reading)
 
 -- the part of a client whose lines these are
 abbrev pub part_of : List Line → ClientPart

@@ -22,6 +22,7 @@ use Rattle.request_lines.specs.declared.cause.Cause.TheVariants.{KeyTooLong}
 use Rattle.request_lines.specs.Queries as q
 use Rattle.std.specs.Str.Parse.{digits_value}
 use Rattle.request_lines.specs.Asking as k
+use Rattle.request_lines.proofs.AskedAll.{nothing_asked, query_by}
 use Rattle.request_lines.specs.Asking.{asking_with, with_parameter, parameter_cause, is_long_for}
 use Rattle.request_lines.specs.Queries.{parameter_read, parameters_read, query_read}
 use Rattle.request_lines.proofs.QueryLaws.{query_read_by}
@@ -218,13 +219,13 @@ query_or_fine : (cause : Option Cause) (query : ListQuery) → (cause ≡ None �
 query_or_fine None query fine = fine refl
 query_or_fine (Some cause) query fine = tt
 
-query_by_fine : (a : k.Asking) (ps : List q.Parameter) → AreTexts ps → IsFineAsking a → Gives q.IsFineQuery (k.query_by a ps)
+query_by_fine : (a : k.Asking) (ps : List q.Parameter) → AreTexts ps → IsFineAsking a → Gives q.IsFineQuery (query_by a ps)
 query_by_fine a [] texts fine = query_or_fine a.cause a.query fine
 query_by_fine a (p ∷ ps) texts fine = query_by_fine (asking_with a p) ps texts.1 (asking_fine a p texts.0 fine)
 
 query_fine : (text : List ℕ) → Gives q.IsFineQuery (q.query_read text)
 query_fine text = subst (Gives q.IsFineQuery) (sym (query_read_by text)) (then_gives AreTexts q.IsFineQuery (q.parameters_read (q.pieces_of text)) _ (parameters_texts (q.pieces_of text))
-    (λ ps texts. query_by_fine k.nothing_asked ps texts (λ none. plain_query_fine)))
+    (λ ps texts. query_by_fine nothing_asked ps texts (λ none. plain_query_fine)))
 
 list_fine : (text : List ℕ) → IsFineReading (list_read text)
 unfolding list_read

@@ -20,7 +20,7 @@ use Rattle.request_lines.specs.declared.session.Session.{Session}
 use Rattle.request_lines.specs.declared.session_error.InputError.{InputError}
 use Rattle.request_lines.specs.Lines.{texts_of}
 use Rattle.request_lines.specs.Grammar.{reading_of}
-use Rattle.request_lines.specs.Counting.{counted_with, cause_after}
+use Rattle.request_lines.specs.Counting.{counted_with, cause_by_counts}
 use Rattle.request_lines.specs.Input.{error_at, begins_client, name_by, record_by}
 use Rattle.request_lines.proofs.CountedLines.{Line, lines_from, lines_of, error_of, refusal_of, asked_of, part_of, parts_of, names_of, records_of, IsSessionOf, IsRefused}
 use Rattle.request_lines.specs.Left.{texts_left}
@@ -131,7 +131,7 @@ clients_counted before (Err cause) = refl
 
 -- a line that is not empty
 keeps : (bytes : List ℕ) (p : Progress) (number : ℕ) (text : List ℕ) (texts : List (List ℕ)) → (length text == 0) ≡ false
-    → error_at number (cause_after p.counts (reading_of text)) ≡ None
+    → error_at number (cause_by_counts p.counts (reading_of text)) ≡ None
     → IsHalfway bytes p number (text ∷ texts) → IsHalfway bytes (kept p number (reading_of text)) (number + 1) texts
 unfolding lines_from kept names_of records_of
 keeps bytes p number text texts full right half =
@@ -168,7 +168,7 @@ halfway_refused bytes p number text texts e wrong half =
     elim (cases_Bool (length text == 0)) [
       | inl empty ↦ let none = rw empty at wrong in cc
       | inr full ↦
-          let cause : error_at number (cause_after p.counts (reading_of text)) ≡ Some e = rw full at wrong in
+          let cause : error_at number (cause_by_counts p.counts (reading_of text)) ≡ Some e = rw full at wrong in
           let refusal = rw full at half.refusal in
           sym (rw cause at refusal)
     ]

@@ -1,3 +1,4 @@
+pub mod AskedAll
 pub mod QueryLaws
 pub mod TextLaws
 pub mod Fine

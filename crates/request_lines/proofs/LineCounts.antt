@@ -182,15 +182,15 @@ chosen_same : {A : Type 0} (f : Line → Option A) (g : l.Line → Option A) (li
 chosen_same f g [] same = refl
 chosen_same f g (line ∷ lines) same = ap (λ o. cons_option o (filter_map g (map with_counts lines))) (same line) ∙ ap (cons_option (f line)) (chosen_same f g lines same)
 
-limit_same : (commands : List Command) (last : Command) → k.limit_cause (counts_of commands) last ≡ limit_cause commands last
-unfolding k.limit_cause limit_cause
+limit_same : (commands : List Command) (last : Command) → k.limit_by_counts (counts_of commands) last ≡ limit_cause commands last
+unfolding k.limit_by_counts limit_cause
 limit_same commands last = refl
 
-cause_same : (before : List Command) (reading : Result Command Cause) → k.cause_after (counts_of before) reading ≡ i.cause_after before reading
+cause_same : (before : List Command) (reading : Result Command Cause) → k.cause_by_counts (counts_of before) reading ≡ i.cause_after before reading
 cause_same before (Err cause) = refl
-cause_same before (Ok command) = ap (λ c. k.limit_cause c command) (sym (counts_more before command)) ∙ limit_same (before ++ command ∷ []) command
+cause_same before (Ok command) = ap (λ c. k.limit_by_counts c command) (sym (counts_more before command)) ∙ limit_same (before ++ command ∷ []) command
 
-request_same : (before : List Command) (reading : Result Command Cause) → k.request_by (counts_of before) reading ≡ i.request_by before reading
+request_same : (before : List Command) (reading : Result Command Cause) → k.request_by_counts (counts_of before) reading ≡ i.request_by before reading
 request_same before (Ok says.Client) = refl
 request_same before (Ok (says.Put name fields)) = refl
 request_same before (Ok (says.Delete name)) = refl

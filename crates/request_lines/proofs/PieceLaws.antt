@@ -6,8 +6,9 @@ use Rattle.request_lines.specs.declared.cause.Cause.{Cause}
 use Rattle.request_lines.specs.declared.line_error.LineError.{LineError}
 use Rattle.request_lines.specs.declared.line_error.LineError.TheVariants as errors
 use Rattle.std.specs.List.{slice_split}
-use Rattle.request_lines.specs.Pieces.{piece_asked, pieces_asked, TakesPiece}
-use Rattle.request_lines.specs.Asking.{Asking, asking_with, query_by, nothing_asked}
+use Rattle.request_lines.specs.Pieces.{piece_asked, TakesPiece}
+use Rattle.request_lines.specs.Asking.{Asking, asking_with}
+use Rattle.request_lines.proofs.AskedAll.{nothing_asked, query_by, pieces_asked}
 use Rattle.request_lines.specs.Queries.{Parameter, parameter_read, parameters_read, query_read, query_or, pieces_of, without_mark}
 use Rattle.request_lines.proofs.QueryLaws.{query_read_by}
 use Rattle.request_lines.specs.Reads.{◌>>=◌, Fails}

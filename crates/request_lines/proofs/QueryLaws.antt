@@ -9,9 +9,10 @@ use Rattle.request_lines.specs.declared.cause.Cause.TheVariants.{KeyTooLong, Unk
 use Rattle.request_lines.specs.declared.cause.Cause.TheVariants as causes
 use Rattle.request_lines.specs.declared.parameter.Name.{Name}
 use Rattle.request_lines.specs.declared.parameter.Name.TheVariants as names
-use Rattle.request_lines.specs.Asking.{Asking, nothing_asked, asking_with, query_by, with_name, with_parameter, parameter_cause, stands_in, is_long_for, value_cause, given, with_all}
+use Rattle.request_lines.specs.Asking.{Asking, asking_with, with_name, with_parameter, parameter_cause, stands_in, is_long_for, value_cause}
+use Rattle.request_lines.proofs.AskedAll.{nothing_asked, query_by, given, with_all}
 use Rattle.request_lines.specs.Causes.{place_of, earliest}
-use Rattle.request_lines.specs.Queries.{Parameter, place_of_name, is_name, is_same_name, is_unknown, is_too_long, is_list_type, is_max_keys, is_encoding, is_fetch_owner, repeats, have, parameter_causes, first_that, plain_query, parameters_read, pieces_of, query_or, query_of, query_read, asked_of, value_of, or_else, as_it_is, is_url, most_entries}
+use Rattle.request_lines.specs.Queries.{Parameter, place_of_name, is_name, is_same_name, is_unknown, is_too_long, is_list_type, is_max_keys, is_encoding, is_fetch_owner, repeats, have, parameter_causes, first_that, plain_query, parameters_read, pieces_of, query_or, query_of, query_read, query_asked, value_of, or_else, as_it_is, is_url, most_entries}
 use Rattle.request_lines.specs.Reads.{◌>>=◌}
 
 -- ---- tests of lists
@@ -352,9 +353,9 @@ query_are a b prefix delimiter start_after token max_keys url =
     ∙ ap (λ x. record { prefix = b.prefix; delimiter = b.delimiter; start_after = b.start_after; token = b.token; max_keys = x; url = a.url }) max_keys
     ∙ ap (λ x. record { prefix = b.prefix; delimiter = b.delimiter; start_after = b.start_after; token = b.token; max_keys = b.max_keys; url = x }) url
 
-asked_is : (ps : List Parameter) → repeats ps ≡ false → with_all plain_query ps ≡ asked_of ps
+asked_is : (ps : List Parameter) → repeats ps ≡ false → with_all plain_query ps ≡ query_asked ps
 asked_is ps none =
-    query_are (with_all plain_query ps) (asked_of ps) (first_given names.Prefix as_it_is [] ps none) (first_given names.Delimiter as_it_is [] ps none) (first_given names.StartAfter as_it_is [] ps none)
+    query_are (with_all plain_query ps) (query_asked ps) (first_given names.Prefix as_it_is [] ps none) (first_given names.Delimiter as_it_is [] ps none) (first_given names.StartAfter as_it_is [] ps none)
     (first_given names.ContinuationToken as_it_is [] ps none) (first_given names.MaxKeys most_entries 1000 ps none) (first_given names.EncodingType is_url false ps none)
 
 none_repeats : (ps : List Parameter) → first_that (have ps) parameter_causes ≡ None → repeats ps ≡ false
@@ -374,7 +375,7 @@ query_by_is : (ps : List Parameter) → query_by nothing_asked ps ≡ query_of p
 query_by_is ps =
     kept_query nothing_asked (λ c. false) ps refl
     ∙ ap (λ o. query_or o (with_all plain_query ps)) (first_same (holds_behind [] ps) (have ps) parameter_causes (have_is ps))
-    ∙ or_same (first_that (have ps) parameter_causes) (with_all plain_query ps) (asked_of ps) (λ none. asked_is ps (none_repeats ps none))
+    ∙ or_same (first_that (have ps) parameter_causes) (with_all plain_query ps) (query_asked ps) (λ none. asked_is ps (none_repeats ps none))
 
 -- reading a query gives what a reader keeps of its parameters
 pub query_read_by : (text : List ℕ) → query_read text ≡ (parameters_read (pieces_of text) >>= query_by nothing_asked)

@@ -23,7 +23,7 @@ use Rattle.request_lines.specs.declared.session.Session.{Session}
 use Rattle.request_lines.specs.declared.session_error.SessionError.{SessionError}
 use Rattle.request_lines.specs.declared.cause.Cause.TheVariants.{NoClient}
 use Rattle.request_lines.specs.Grammar.{IsFineCommand, is_client, reading_of}
-use Rattle.request_lines.specs.Counting.{IsWithin, counted, limit_cause, cause_after}
+use Rattle.request_lines.specs.Counting.{IsWithin, counted, limit_by_counts, cause_by_counts}
 use Rattle.request_lines.specs.Input.{error_at}
 use Rattle.request_lines.specs.Reading.{Progress, no_progress, all_ended, kept, taken, error_of_text}
 use Rattle.request_lines.specs.Session.{request_line, request_lines, all_requests, requested_name, record_place, asked_name, asked_place, HasNames, HasRecords, IsFineRequest, IsServed, HasRequests, LinesRise, HasLines, IsSmall}
@@ -219,8 +219,8 @@ sound_asked p number after name stored request by positive sound =
     }
 
 -- a line that begins no client has one before it
-begun_before : (so_far : Counts) (command : Command) → is_client command ≡ false → limit_cause so_far command ≡ None → 0 < so_far.clients
-unfolding limit_cause
+begun_before : (so_far : Counts) (command : Command) → is_client command ≡ false → limit_by_counts so_far command ≡ None → 0 < so_far.clients
+unfolding limit_by_counts
 begun_before so_far command other none = by_test (so_far.clients == 0) refl _ (rw other at none)
   where
     by_test : (b : Bool) → so_far.clients == 0 ≡ b → (rest : Option Cause) → (if b then Some NoClient else rest) ≡ None → 0 < so_far.clients
@@ -230,7 +230,7 @@ begun_before so_far command other none = by_test (so_far.clients == 0) refl _ (r
 fine_name : (name : List ℕ) → IsFine name → All IsFine (name ∷ [])
 fine_name name fine = All-push IsFine [] name (All-nil IsFine) fine
 
-sound_kept : (p : Progress) (number : ℕ) (command : Command) → IsFineCommand command → limit_cause (counted p.counts command) command ≡ None → 0 < number → number ≤ 2 ^ 32
+sound_kept : (p : Progress) (number : ℕ) (command : Command) → IsFineCommand command → limit_by_counts (counted p.counts command) command ≡ None → 0 < number → number ≤ 2 ^ 32
     → IsSound p number → IsSound (kept p number (Ok command)) (number + 1)
 unfolding kept
 sound_kept p number says.Client fine right positive small sound = sound_client p number small sound
@@ -296,7 +296,7 @@ sound_kept p number says.Next fine right positive small sound =
     }) positive sound
 
 -- a line that was taken
-sound_read : (p : Progress) (number : ℕ) (reading : Result Command Cause) → IsFineReading reading → error_at number (cause_after p.counts reading) ≡ None → 0 < number → number ≤ 2 ^ 32
+sound_read : (p : Progress) (number : ℕ) (reading : Result Command Cause) → IsFineReading reading → error_at number (cause_by_counts p.counts reading) ≡ None → 0 < number → number ≤ 2 ^ 32
     → IsSound p number → IsSound (kept p number reading) (number + 1)
 sound_read p number (Ok command) fine right positive small sound = sound_kept p number command fine (no_error number _ right) positive small sound
   where

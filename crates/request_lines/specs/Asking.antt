@@ -1,22 +1,23 @@
 -- How a reader of a query keeps the parameters so far.
 use Rattle.std.specs.Prelude.{ℕ, ◌==◌, nat_lt, Bool, false, List, [], ◌∷◌, ◌++◌, length, Option, Some, None, Result, if◌then◌else◌}
 use Rattle.std.specs.List.{list_any}
+use Rattle.key_names.specs.Names.{most_name_bytes}
 use Rattle.bucket_terms.specs.declared.list_query.ListQuery.{ListQuery}
 use Rattle.request_lines.specs.declared.cause.Cause.{Cause}
 use Rattle.request_lines.specs.declared.cause.Cause.TheVariants.{KeyTooLong, UnknownParameter, RepeatedParameter, BadListType, BadMaxKeys, BadEncoding, BadFetchOwner}
 use Rattle.request_lines.specs.declared.parameter.Name.{Name}
 use Rattle.request_lines.specs.declared.parameter.Name.TheVariants.{ListType, Prefix, Delimiter, MaxKeys, StartAfter, ContinuationToken, EncodingType, FetchOwner}
 use Rattle.request_lines.specs.Causes.{earliest}
-use Rattle.request_lines.specs.Queries.{Parameter, place_of_name, is_list_type, is_max_keys, is_encoding, is_fetch_owner, is_name, is_url, as_it_is, most_entries, plain_query, query_or}
+use Rattle.request_lines.specs.Queries.{Parameter, place_of_name, is_list_type, is_max_keys, is_encoding, is_fetch_owner, is_url, most_entries}
 
 -- whether the name is among these
 abbrev pub stands_in : List Name → Name → Bool
 stands_in names name = list_any (λ other. place_of_name other == place_of_name name) names
 
 unfoldable pub is_long_for : Name → List ℕ → Bool
-is_long_for Prefix value = nat_lt 1024 (length value)
-is_long_for Delimiter value = nat_lt 1024 (length value)
-is_long_for StartAfter value = nat_lt 1024 (length value)
+is_long_for Prefix value = nat_lt most_name_bytes (length value)
+is_long_for Delimiter value = nat_lt most_name_bytes (length value)
+is_long_for StartAfter value = nat_lt most_name_bytes (length value)
 is_long_for name value = false
 
 -- the cause of a value that its parameter does not take
@@ -56,34 +57,10 @@ pub record Asking : Type 0 where
   pub names : List Name
   pub cause : Option Cause
 
-abbrev pub nothing_asked : Asking
-nothing_asked = record { query = plain_query; names = []; cause = None }
-
 -- with one parameter more
 unfoldable pub asking_with : Asking → Parameter → Asking
 asking_with so_far p = record {
   query = with_parameter so_far.query p.name p.value;
   names = with_name so_far.names p.name;
   cause = earliest so_far.cause (parameter_cause so_far.names p.name p.value);
-}
-
--- the query, with the parameters that are left
-abbrev pub query_by : Asking → List Parameter → Result ListQuery Cause
-query_by so_far [] = query_or so_far.cause so_far.query
-query_by so_far (p ∷ parameters) = query_by (asking_with so_far p) parameters
-
--- what the last parameter of this name says, or else this
-abbrev pub given : {A : Type 0} → Name → (List ℕ → A) → A → List Parameter → A
-given name says other [] = other
-given name says other (p ∷ ps) = given name says (if is_name name p.name then says p.value else other) ps
-
--- a query with these parameters, of which the last of a name counts
-abbrev pub with_all : ListQuery → List Parameter → ListQuery
-with_all other ps = record {
-  prefix = given Prefix as_it_is other.prefix ps;
-  delimiter = given Delimiter as_it_is other.delimiter ps;
-  start_after = given StartAfter as_it_is other.start_after ps;
-  token = given ContinuationToken as_it_is other.token ps;
-  max_keys = given MaxKeys most_entries other.max_keys ps;
-  url = given EncodingType is_url other.url ps;
 }

@@ -8,6 +8,7 @@ use Rattle.request_lines.specs.declared.command.Command.{Command}
 use Rattle.request_lines.specs.declared.command.Command.TheVariants as says
 use Rattle.request_lines.specs.declared.counts.Counts.{Counts}
 use Rattle.request_lines.specs.Grammar.{is_client}
+use Rattle.request_lines.specs.Limits.{most_clients, most_requests, most_listed, most_keys}
 
 -- before the first line
 abbrev pub none_counted : Counts
@@ -26,18 +27,18 @@ counted so_far says.Next = record so_far { requests = so_far.requests + 1; entri
 -- the counts of lines that keep the limits
 pub record IsWithin (so_far : Counts) : Type 0 where
   pub clients : so_far.clients ≤ 1
-  pub requests : so_far.requests ≤ 200000
+  pub requests : so_far.requests ≤ most_requests
   pub puts : so_far.puts ≤ so_far.requests
-  pub entries : so_far.entries ≤ 4000000
-  pub last : so_far.last ≤ 1000
+  pub entries : so_far.entries ≤ most_listed
+  pub last : so_far.last ≤ most_keys
 
 -- the first cause that a line has after the lines before it. The counts are those up to and with the line.
-unfoldable pub limit_cause : Counts → Command → Option Cause
-limit_cause so_far command =
+unfoldable pub limit_by_counts : Counts → Command → Option Cause
+limit_by_counts so_far command =
     if not (is_client command) && so_far.clients == 0 then Some NoClient
-    else if is_client command && nat_lt 32 so_far.clients then Some TooManyClients
-    else if nat_lt 200000 so_far.requests then Some TooManyLines
-    else if nat_lt 4000000 so_far.entries then Some TooManyEntries
+    else if is_client command && nat_lt most_clients so_far.clients then Some TooManyClients
+    else if nat_lt most_requests so_far.requests then Some TooManyLines
+    else if nat_lt most_listed so_far.entries then Some TooManyEntries
     else if is_client command && nat_lt 1 so_far.clients then Some NotBuilt
     else None
 
@@ -46,15 +47,15 @@ counted_with before (Ok command) = counted before command
 counted_with before (Err cause) = before
 
 -- the first cause of a line: its own, or else the one that it has after the lines before it
-abbrev pub cause_after : Counts → Result Command Cause → Option Cause
-cause_after before (Err cause) = Some cause
-cause_after before (Ok command) = limit_cause (counted before command) command
+abbrev pub cause_by_counts : Counts → Result Command Cause → Option Cause
+cause_by_counts before (Err cause) = Some cause
+cause_by_counts before (Ok command) = limit_by_counts (counted before command) command
 
 -- the request of a line. The record of a PUT line has as many records before it as there are PUT lines.
-abbrev pub request_by : Counts → Result Command Cause → Option Request
-request_by before (Ok (says.Put name fields)) = Some (asks.Put name before.puts)
-request_by before (Ok (says.Delete name)) = Some (asks.Delete name)
-request_by before (Ok (says.Head name)) = Some (asks.Head name)
-request_by before (Ok (says.List query)) = Some (asks.List query)
-request_by before (Ok says.Next) = Some asks.Next
-request_by before reading = None
+abbrev pub request_by_counts : Counts → Result Command Cause → Option Request
+request_by_counts before (Ok (says.Put name fields)) = Some (asks.Put name before.puts)
+request_by_counts before (Ok (says.Delete name)) = Some (asks.Delete name)
+request_by_counts before (Ok (says.Head name)) = Some (asks.Head name)
+request_by_counts before (Ok (says.List query)) = Some (asks.List query)
+request_by_counts before (Ok says.Next) = Some asks.Next
+request_by_counts before reading = None

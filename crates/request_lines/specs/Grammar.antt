@@ -8,6 +8,7 @@ use Rattle.request_lines.specs.declared.command.Command.{Command}
 use Rattle.request_lines.specs.declared.command.Command.TheVariants as says
 use Rattle.request_lines.specs.declared.verb.Verb.{Verb}
 use Rattle.request_lines.specs.declared.verb.Verb.TheVariants as verbs
+use Rattle.request_lines.specs.Limits.{most_clients, most_requests, most_listed}
 use Rattle.request_lines.specs.Lines.{fields_of}
 use Rattle.request_lines.specs.Queries.{IsFineQuery, plain_query, query_read}
 use Rattle.request_lines.specs.Reads.{◌>>=◌}
@@ -115,8 +116,8 @@ entries_behind last (says.Head name ∷ commands) = entries_behind last commands
 unfoldable pub limit_cause : List Command → Command → Option Cause
 limit_cause commands last =
     if not (is_client last) && clients_in commands == 0 then Some NoClient
-    else if is_client last && nat_lt 32 (clients_in commands) then Some TooManyClients
-    else if nat_lt 200000 (requests_in commands) then Some TooManyLines
-    else if nat_lt 4000000 (entries_behind 0 commands) then Some TooManyEntries
+    else if is_client last && nat_lt most_clients (clients_in commands) then Some TooManyClients
+    else if nat_lt most_requests (requests_in commands) then Some TooManyLines
+    else if nat_lt most_listed (entries_behind 0 commands) then Some TooManyEntries
     else if is_client last && nat_lt 1 (clients_in commands) then Some NotBuilt
     else None

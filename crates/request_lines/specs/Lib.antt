@@ -1,5 +1,6 @@
 pub mod Asking
 pub mod Causes
+pub mod Limits
 pub mod Lines
 pub mod Reads
 pub mod Texts

@@ -6,8 +6,8 @@ use Rattle.request_lines.specs.declared.line_error.LineError.{LineError}
 use Rattle.request_lines.specs.declared.line_error.LineError.TheVariants as errors
 use Rattle.request_lines.specs.declared.query as code
 use Rattle.request_lines.specs.Reads.{◌>>=◌}
-use Rattle.request_lines.specs.Asking.{Asking, asking_with, query_by}
-use Rattle.request_lines.specs.Queries.{Parameter, parameter_read, parameters_read}
+use Rattle.request_lines.specs.Asking.{Asking, asking_with}
+use Rattle.request_lines.specs.Queries.{Parameter, parameter_read}
 
 -- what is kept of the parameters so far
 abbrev pub asking : code.Asking.Asking → Asking
@@ -23,10 +23,6 @@ piece_asked so_far piece =
     else do
       p ← parameter_read piece
       Ok (asking_with so_far p)
-
--- the query, with the pieces that are left
-abbrev pub pieces_asked : Asking → List (List ℕ) → Result ListQuery Cause
-pieces_asked so_far pieces = parameters_read pieces >>= query_by so_far
 
 -- the piece was taken, or it has this cause
 abbrev pub TakesPiece : Asking → List ℕ → Asking → Result (Unit {0}) LineError → Type 0

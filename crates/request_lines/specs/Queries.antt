@@ -3,28 +3,30 @@ use Rattle.std.specs.Prelude.{ℕ, ◌≤◌, ◌==◌, ◌&&◌, ◌||◌, not,
 use Rattle.std.specs.List.{slice_split, before_first, after_first, list_any}
 use Rattle.std.specs.Str.{IsUtf8, bytes_eq}
 use Rattle.std.specs.Str.Parse.{digits_value}
+use Rattle.key_names.specs.Names.{most_name_bytes}
 use Rattle.bucket_terms.specs.declared.list_query.ListQuery.{ListQuery}
 use Rattle.request_lines.specs.declared.cause.Cause.{Cause}
 use Rattle.request_lines.specs.declared.cause.Cause.TheVariants.{KeyTooLong, UnknownParameter, RepeatedParameter, BadListType, BadMaxKeys, BadEncoding, BadFetchOwner}
 use Rattle.request_lines.specs.declared.parameter.Name.{Name}
 use Rattle.request_lines.specs.declared.parameter.Name.TheVariants.{ListType, Prefix, Delimiter, MaxKeys, StartAfter, ContinuationToken, EncodingType, FetchOwner}
+use Rattle.request_lines.specs.Limits.{most_keys, most_written}
 use Rattle.request_lines.specs.Reads.{◌>>=◌}
 use Rattle.request_lines.specs.Texts.{unescaped, is_number}
 
 -- a query that a listing takes: texts of UTF-8, three of them of at most 1,024 bytes, and at most 1,000 entries
 pub record IsFineQuery (query : ListQuery) : Type 0 where
-  pub short_prefix : length query.prefix ≤ 1024
-  pub short_delimiter : length query.delimiter ≤ 1024
-  pub short_start_after : length query.start_after ≤ 1024
+  pub short_prefix : length query.prefix ≤ most_name_bytes
+  pub short_delimiter : length query.delimiter ≤ most_name_bytes
+  pub short_start_after : length query.start_after ≤ most_name_bytes
   pub prefix : IsUtf8 query.prefix
   pub delimiter : IsUtf8 query.delimiter
   pub start_after : IsUtf8 query.start_after
   pub token : IsUtf8 query.token
-  pub entries : query.max_keys ≤ 1000
+  pub entries : query.max_keys ≤ most_keys
 
 -- a listing of everything
 abbrev pub plain_query : ListQuery
-plain_query = record { prefix = []; delimiter = []; start_after = []; token = []; max_keys = 1000; url = false }
+plain_query = record { prefix = []; delimiter = []; start_after = []; token = []; max_keys = most_keys; url = false }
 
 -- the parameter of this name. Names are read as they stand.
 abbrev pub name_written : List ℕ → Option Name
@@ -101,11 +103,11 @@ is_unknown (Some name) = false
 
 -- a text of more than 1,024 bytes, where it is one of the three that are compared with names
 abbrev pub is_too_long : Parameter → Bool
-is_too_long p = (is_name Prefix p.name || is_name Delimiter p.name || is_name StartAfter p.name) && nat_lt 1024 (length p.value)
+is_too_long p = (is_name Prefix p.name || is_name Delimiter p.name || is_name StartAfter p.name) && nat_lt most_name_bytes (length p.value)
 
--- one or more digits, with a number of at most 2,147,483,647
+-- one or more digits, with a number of at most 2,147,483,647, the greatest of 32 bits with a sign
 unfoldable pub is_max_keys : List ℕ → Bool
-is_max_keys value = is_number value && nat_le (digits_value 10 value) 2147483647
+is_max_keys value = is_number value && nat_le (digits_value 10 value) most_written
 
 abbrev pub is_list_type : List ℕ → Bool
 is_list_type value = bytes_eq value (codes "2")
@@ -159,7 +161,7 @@ or_else says nothing (Some value) = says value
 
 -- the most entries of a page: the number, or 1,000 where that is less or there is no number
 abbrev pub most_entries : List ℕ → ℕ
-most_entries value = if is_max_keys value then min (digits_value 10 value) 1000 else 1000
+most_entries value = if is_max_keys value then min (digits_value 10 value) most_keys else most_keys
 
 abbrev pub is_url : List ℕ → Bool
 is_url value = bytes_eq value (codes "url")
@@ -168,13 +170,13 @@ abbrev pub as_it_is : List ℕ → List ℕ
 as_it_is value = value
 
 -- what these parameters ask, of which no two have one name
-abbrev pub asked_of : List Parameter → ListQuery
-asked_of ps = record {
+abbrev pub query_asked : List Parameter → ListQuery
+query_asked ps = record {
   prefix = or_else as_it_is [] (value_of Prefix ps);
   delimiter = or_else as_it_is [] (value_of Delimiter ps);
   start_after = or_else as_it_is [] (value_of StartAfter ps);
   token = or_else as_it_is [] (value_of ContinuationToken ps);
-  max_keys = or_else most_entries 1000 (value_of MaxKeys ps);
+  max_keys = or_else most_entries most_keys (value_of MaxKeys ps);
   url = or_else is_url false (value_of EncodingType ps);
 }
 
@@ -184,7 +186,7 @@ query_or (Some cause) query = Err cause
 
 -- the query of these parameters, or the first cause that they have
 abbrev pub query_of : List Parameter → Result ListQuery Cause
-query_of ps = query_or (first_that (have ps) parameter_causes) (asked_of ps)
+query_of ps = query_or (first_that (have ps) parameter_causes) (query_asked ps)
 
 unfoldable pub query_read : List ℕ → Result ListQuery Cause
 query_read query = do

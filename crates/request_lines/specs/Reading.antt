@@ -14,7 +14,7 @@ use Rattle.request_lines.specs.declared.session_error.InputError.{InputError}
 use Rattle.request_lines.specs.declared.session_error.SessionError.{SessionError}
 use Rattle.request_lines.specs.declared.session_error.SessionError.TheVariants as errors
 use Rattle.request_lines.specs.Grammar.{reading_of}
-use Rattle.request_lines.specs.Counting.{none_counted, counted_with, cause_after, request_by}
+use Rattle.request_lines.specs.Counting.{none_counted, counted_with, cause_by_counts, request_by_counts}
 use Rattle.request_lines.specs.Input.{error_at, begins_client, asked_at, name_by, record_by}
 
 -- what the lines so far have asked: how much, the parts of the clients that have ended, what the last client
@@ -50,7 +50,7 @@ unfoldable pub kept : Progress → ℕ → Result Command Cause → Progress
 kept p number reading = record {
   counts = counted_with p.counts reading;
   ended = ended_by (begins_client reading) p;
-  current = current_by (begins_client reading) p (asked_at number (request_by p.counts reading));
+  current = current_by (begins_client reading) p (asked_at number (request_by_counts p.counts reading));
   names = p.names ++ option_to_list (name_by reading);
   records = p.records ++ option_to_list (record_by reading);
 }
@@ -60,7 +60,7 @@ unfoldable pub taken : Progress → ℕ → List ℕ → Progress
 taken p number text = if length text == 0 then p else kept p number (reading_of text)
 
 unfoldable pub error_of_text : Progress → ℕ → List ℕ → Option InputError
-error_of_text p number text = if length text == 0 then None else error_at number (cause_after p.counts (reading_of text))
+error_of_text p number text = if length text == 0 then None else error_at number (cause_by_counts p.counts (reading_of text))
 
 -- the line was taken, or it has this cause
 abbrev pub Takes : Progress → ℕ → List ℕ → Progress → Result (Unit {0}) SessionError → Type 0
@@ -70,6 +70,6 @@ Takes p number text after (Err errors.NoMemory) = Unit {0}
 
 -- the same of a line that is not empty
 abbrev pub Keeps : Progress → ℕ → List ℕ → Progress → Result (Unit {0}) LineError → Type 0
-Keeps p number text after (Ok done) = (cause_after p.counts (reading_of text) ≡ None) × (after ≡ kept p number (reading_of text))
-Keeps p number text after (Err (faults.Faulty cause)) = cause_after p.counts (reading_of text) ≡ Some cause
+Keeps p number text after (Ok done) = (cause_by_counts p.counts (reading_of text) ≡ None) × (after ≡ kept p number (reading_of text))
+Keeps p number text after (Err (faults.Faulty cause)) = cause_by_counts p.counts (reading_of text) ≡ Some cause
 Keeps p number text after (Err faults.NoMemory) = Unit {0}

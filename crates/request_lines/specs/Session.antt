@@ -8,6 +8,7 @@ use Rattle.key_names.specs.Names.{IsFine}
 use Rattle.request_lines.specs.declared.session.Asked.{Asked}
 use Rattle.request_lines.specs.declared.session.ClientPart.{ClientPart}
 use Rattle.request_lines.specs.declared.session.Session.{Session}
+use Rattle.request_lines.specs.Limits.{most_clients, most_requests}
 use Rattle.request_lines.specs.Queries.{IsFineQuery}
 
 -- a request with its line, as a legal run speaks of it
@@ -75,6 +76,6 @@ pub record HasLines (session : Session) : Type 0 where
 
 -- how many clients and requests there are at most
 pub record IsSmall (session : Session) : Type 0 where
-  pub clients : length session.clients ≤ 32
+  pub clients : length session.clients ≤ most_clients
   pub one_client : length session.clients ≤ 1
-  pub requests : length (all_requests session.clients) ≤ 200000
+  pub requests : length (all_requests session.clients) ≤ most_requests

@@ -5,6 +5,7 @@ use Rattle.std.specs.List.{list_all}
 use Rattle.std.specs.Str.{is_utf8, all_ascii_digits}
 use Rattle.std.specs.Str.Parse.{digits_value}
 use Rattle.percent_encoding.specs.Percent.{percent_decode}
+use Rattle.key_names.specs.Names.{most_name_bytes}
 use Rattle.request_lines.specs.declared.cause.Cause.{Cause}
 use Rattle.request_lines.specs.declared.cause.Cause.TheVariants.{BadEscape, EmptyKey, KeyTooLong, BadNumber, NumberTooLarge, BadEtag}
 use Rattle.request_lines.specs.Reads.{◌>>=◌}
@@ -26,7 +27,7 @@ unescaped text = if escapes_are_whole text && is_utf8 (percent_decode text) then
 
 -- an unescaped text that is neither empty nor too long for the name of an object
 unfoldable pub name_of : List ℕ → Result (List ℕ) Cause
-name_of name = if length name == 0 then Err EmptyKey else if nat_lt 1024 (length name) then Err KeyTooLong else Ok name
+name_of name = if length name == 0 then Err EmptyKey else if nat_lt most_name_bytes (length name) then Err KeyTooLong else Ok name
 
 -- the name of a key
 unfoldable pub key_read : List ℕ → Result (List ℕ) Cause

@@ -59,7 +59,7 @@ fn place_of(cause: Cause) -> u8
 
 /// The earlier of two causes.
 #[tactic(auto, unfolding(crate::specs::Causes::earliest))]
-pub fn earliest(cause: Option<Cause>, other: Option<Cause>) -> Option<Cause>
+pub(crate) fn earliest(cause: Option<Cause>, other: Option<Cause>) -> Option<Cause>
     ensures { result ≡ spec.earliest cause other }
 {
     match (cause, other) {

@@ -20,7 +20,7 @@ use std::str;
 
 /// What one line says.
 #[derive(Debug, Drop)]
-pub enum Command {
+pub(crate) enum Command {
     /// Begins the next client.
     Client,
     Put { name: Text, record: Record },
@@ -33,7 +33,7 @@ pub enum Command {
 
 /// What a line says, whatever came before it.
 #[tactic(auto, unfolding(crate::specs::Grammar::reading_of))]
-pub fn command_of(alloc: Global, text: &[u8]) -> Result<Command, LineError>
+pub(crate) fn command_of(alloc: Global, text: &[u8]) -> Result<Command, LineError>
     ensures reading { Reads result (reading_of text.now) }
     ensures fine { IfOk result IsFineCommand }
 {

@@ -1,29 +1,30 @@
 // What the lines so far have asked, against the limits of a session.
 ghost use Rattle.std.specs.Prelude.{◌≡◌, None, Some, IfOk, MatchResult};
-ghost use Rattle.request_lines.specs.Counting.{IsWithin, counted, limit_cause, none_counted};
+ghost use Rattle.request_lines.specs.Counting.{IsWithin, counted, limit_by_counts, none_counted};
 ghost use Rattle.request_lines.specs.Grammar.{IsFineCommand};
 
 use crate::Cause;
 use crate::command::Command;
+use crate::limits::{MAX_CLIENTS, MAX_LISTED, MAX_REQUESTS};
 
 /// How much the lines so far have asked.
 #[derive(Clone, Copy, Debug)]
-pub struct Counts {
+pub(crate) struct Counts {
     /// `CLIENT` lines.
-    pub clients: u32,
+    pub(crate) clients: u32,
     /// Lines that are neither empty nor `CLIENT`.
-    pub requests: u32,
+    pub(crate) requests: u32,
     /// `PUT` lines.
-    pub puts: u32,
+    pub(crate) puts: u32,
     /// The most entries that the LIST and NEXT lines can be answered, together.
-    pub entries: u32,
+    pub(crate) entries: u32,
     /// The most entries of a page of the client's last LIST, or 0 where there is none.
-    pub last: u32,
+    pub(crate) last: u32,
 }
 
 impl Counts {
     /// Before the first line.
-    pub fn none() -> Counts
+    pub(crate) fn none() -> Counts
         ensures value { result ≡ none_counted }
         ensures within { IsWithin result }
     {
@@ -37,13 +38,13 @@ impl Counts {
     }
 
     /// The counts with this line, or the limit that it passes.
-    #[tactic(auto, unfolding(crate::specs::Counting::limit_cause))]
-    pub fn admitted(self, command: &Command) -> Result<Counts, Cause>
+    #[tactic(auto, unfolding(crate::specs::Counting::limit_by_counts))]
+    pub(crate) fn admitted(self, command: &Command) -> Result<Counts, Cause>
         requires within { IsWithin self }
         requires fine { IsFineCommand command.now }
         ensures counts { IfOk result (λ so_far. so_far ≡ counted self command.now) }
-        ensures cause { MatchResult result (λ so_far. limit_cause (counted self command.now) command.now ≡ None)
-            (λ cause. limit_cause (counted self command.now) command.now ≡ Some cause) }
+        ensures cause { MatchResult result (λ so_far. limit_by_counts (counted self command.now) command.now ≡ None)
+            (λ cause. limit_by_counts (counted self command.now) command.now ≡ Some cause) }
         ensures within { IfOk result IsWithin }
     {
         let so_far = self.counted(command);
@@ -51,13 +52,13 @@ impl Counts {
         if !is_client && so_far.clients == 0 {
             return Err(Cause::NoClient);
         }
-        if is_client && so_far.clients > 32 {
+        if is_client && so_far.clients > MAX_CLIENTS {
             return Err(Cause::TooManyClients);
         }
-        if so_far.requests > 200_000 {
+        if so_far.requests > MAX_REQUESTS {
             return Err(Cause::TooManyLines);
         }
-        if so_far.entries > 4_000_000 {
+        if so_far.entries > MAX_LISTED {
             return Err(Cause::TooManyEntries);
         }
         if is_client && so_far.clients > 1 {

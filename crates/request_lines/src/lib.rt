@@ -7,6 +7,7 @@
 mod cause;
 mod command;
 mod counts;
+mod limits;
 mod line_error;
 mod lists;
 mod parameter;
@@ -21,6 +22,7 @@ mod texts;
 mod verb;
 
 pub use cause::Cause;
+pub use limits::MAX_INPUT_BYTES;
 pub use lists::{AskedLines, ClientParts, Records};
 pub use read::read_session;
 pub use session::{Asked, ClientPart, Session};

@@ -5,7 +5,7 @@ ghost use Rattle.request_lines.specs.Queries as spec;
 
 /// The name of a parameter.
 #[derive(Clone, Copy, Debug, PartialEq, Eq)]
-pub enum Name {
+pub(crate) enum Name {
     ListType,
     Prefix,
     Delimiter,
@@ -18,7 +18,7 @@ pub enum Name {
 
 impl Name {
     /// The parameter of this name. Names are read as they stand.
-    pub fn written(text: &str) -> Option<Name>
+    pub(crate) fn written(text: &str) -> Option<Name>
         ensures { result ≡ spec.name_written text.now }
     {
         match text {
@@ -42,7 +42,7 @@ fn place_of(name: Name) -> u8
 }
 
 /// Whether the name is among these.
-pub fn stands_in(names: &[Name], name: Name) -> bool
+pub(crate) fn stands_in(names: &[Name], name: Name) -> bool
     ensures { result ≡ kept.stands_in names.now name }
 {
     let place = place_of(name);

@@ -5,7 +5,7 @@ ghost use Rattle.request_lines.specs.Left.{parts_left, size_left, IsNextPart};
 
 /// The first part of a text that is cut at each of this ASCII character, and what is left behind it: None
 /// behind the last part.
-pub fn first_part(text: &str, at: char) -> (&str, Option<&str>)
+pub(crate) fn first_part(text: &str, at: char) -> (&str, Option<&str>)
     requires { at < 128 }
     ensures cut { slice_split (λ b. b == at) text.now ≡ result.0.now ∷ parts_left at result.1 }
     ensures shorter { size_left result.1 ≤ length text.now }
@@ -17,7 +17,7 @@ pub fn first_part(text: &str, at: char) -> (&str, Option<&str>)
 }
 
 /// The next part, and what is left behind it.
-pub fn next_part(left: Option<&str>, at: char) -> Option<(&str, Option<&str>)>
+pub(crate) fn next_part(left: Option<&str>, at: char) -> Option<(&str, Option<&str>)>
     requires { at < 128 }
     ensures { MatchOption result (parts_left at left.entry ≡ []) (IsNextPart at left.entry) }
 {

@@ -15,16 +15,16 @@ use std::alloc::Global;
 
 /// The fields of a PUT line behind its verb.
 #[derive(Clone, Copy)]
-pub struct PutFields<'a> {
-    pub key: &'a str,
-    pub size: &'a str,
-    pub etag: &'a str,
-    pub modified: &'a str,
+pub(crate) struct PutFields<'a> {
+    pub(crate) key: &'a str,
+    pub(crate) size: &'a str,
+    pub(crate) etag: &'a str,
+    pub(crate) modified: &'a str,
 }
 
 /// These fields, where there are four.
 #[tactic(auto, unfolding(crate::specs::Grammar::read_fields))]
-pub fn put_fields(left: Option<&str>) -> Option<PutFields<'_>>
+pub(crate) fn put_fields(left: Option<&str>) -> Option<PutFields<'_>>
     ensures { MatchOption result (spec.read_fields verbs.Put (parts_left 32 left.entry) ≡ Err WrongFields)
         (λ f. parts_left 32 left.entry ≡ f.key.now ∷ f.size.now ∷ f.etag.now ∷ f.modified.now ∷ []) }
 {
@@ -53,7 +53,7 @@ pub fn put_fields(left: Option<&str>) -> Option<PutFields<'_>>
 
 /// The PUT line with these fields.
 #[tactic(auto, unfolding(crate::specs::Grammar::put_read))]
-pub fn put_of(alloc: Global, fields: PutFields<'_>) -> Result<Command, LineError>
+pub(crate) fn put_of(alloc: Global, fields: PutFields<'_>) -> Result<Command, LineError>
     ensures { let f = fields.entry in Reads result (spec.put_read f.key.now f.size.now f.etag.now f.modified.now) }
 {
     let name = key_of(alloc, fields.key)?;

@@ -3,37 +3,39 @@ ghost use Rattle.std.specs.Prelude.{◌≡◌, [], true, false, min, OnOk, IsOkU
 ghost use Rattle.std.specs.Str.Parse.{digits_value};
 ghost use Rattle.request_lines.specs.declared.line_error.LineError.TheVariants.{NoMemory as OutOfMemory};
 ghost use Rattle.request_lines.specs.Asking as kept;
+ghost use Rattle.request_lines.specs.Limits.{most_keys};
 ghost use Rattle.request_lines.specs.Queries as spec;
 ghost use Rattle.request_lines.specs.Pieces.{asking, parameter as as_parameter, TakesPiece};
 ghost use Rattle.request_lines.specs.Reads.{Reads, ReadsAs};
 
 use crate::Cause;
 use crate::cause::earliest;
+use crate::limits::{MAX_KEYS, MAX_WRITTEN};
 use crate::line_error::LineError;
 use crate::parameter::{Name, stands_in};
 use crate::parts::first_part;
-use crate::texts::{MAX_NAME_BYTES, is_number, number, unescaped};
+use crate::texts::{is_number, number, unescaped};
 use bucket_terms::ListQuery;
-use key_names::Text;
+use key_names::{MAX_NAME_BYTES, Text};
 use std::alloc::Global;
 
 /// What the parameters so far ask: the query, their names, each once, and the earliest of their causes.
 #[derive(Drop)]
-pub struct Asking {
-    pub query: ListQuery,
-    pub names: Vec<Name>,
-    pub cause: Option<Cause>,
+pub(crate) struct Asking {
+    pub(crate) query: ListQuery,
+    pub(crate) names: Vec<Name>,
+    pub(crate) cause: Option<Cause>,
 }
 
 /// One parameter, with its value unescaped.
 #[derive(Drop)]
-pub struct Parameter {
-    pub name: Option<Name>,
-    pub value: Text,
+pub(crate) struct Parameter {
+    pub(crate) name: Option<Name>,
+    pub(crate) value: Text,
 }
 
 /// A listing of everything.
-pub fn plain_query(alloc: Global) -> ListQuery
+pub(crate) fn plain_query(alloc: Global) -> ListQuery
     ensures { result ≡ spec.plain_query }
 {
     ListQuery {
@@ -41,7 +43,7 @@ pub fn plain_query(alloc: Global) -> ListQuery
         delimiter: empty(alloc),
         start_after: empty(alloc),
         token: empty(alloc),
-        max_keys: 1000,
+        max_keys: MAX_KEYS,
         url: false,
     }
 }
@@ -53,7 +55,7 @@ fn empty(alloc: Global) -> Text
 }
 
 /// The query that this text writes.
-pub fn query_of(alloc: Global, text: &str) -> Result<ListQuery, LineError>
+pub(crate) fn query_of(alloc: Global, text: &str) -> Result<ListQuery, LineError>
     ensures { Reads result (spec.query_read text.now) }
 {
     let mut so_far = Asking {
@@ -202,13 +204,13 @@ fn value_cause(name: Name, value: &str) -> Option<Cause>
 #[tactic(auto, unfolding(crate::specs::Queries::is_max_keys, crate::specs::Texts::is_small))]
 fn max_keys(value: &str) -> Option<u32>
     ensures { MatchOption result (spec.is_max_keys value.now ≡ false)
-        (λ n. (spec.is_max_keys value.now ≡ true) × (n ≡ min (digits_value 10 value.now) 1000)) }
+        (λ n. (spec.is_max_keys value.now ≡ true) × (n ≡ min (digits_value 10 value.now) most_keys)) }
 {
     if !is_number(value) {
         return None;
     }
     match number(value) {
-        Some(n) if n <= 2_147_483_647 => Some(n.min(1000) as u32),
+        Some(n) if n <= MAX_WRITTEN => Some(n.min(u64::from(MAX_KEYS)) as u32),
         _ => None,
     }
 }
@@ -223,7 +225,7 @@ fn set(query: &mut ListQuery, name: Option<Name>, value: Text)
         Some(Name::Delimiter) => query.delimiter = value,
         Some(Name::StartAfter) => query.start_after = value,
         Some(Name::ContinuationToken) => query.token = value,
-        Some(Name::MaxKeys) => query.max_keys = max_keys(value.as_str()).unwrap_or(1000),
+        Some(Name::MaxKeys) => query.max_keys = max_keys(value.as_str()).unwrap_or(MAX_KEYS),
         Some(Name::EncodingType) => query.url = value.as_str() == "url",
         Some(Name::ListType | Name::FetchOwner) | None => {}
     }

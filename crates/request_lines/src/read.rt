@@ -1,5 +1,6 @@
 ghost use Rattle.std.specs.Prelude.{◌≡◌, ◌<◌, ◌≤◌, ◌==◌, ◌∷◌, length, IfOk};
 ghost use Rattle.std.specs.List.{position};
+ghost use Rattle.request_lines.specs.Limits.{most_input_bytes};
 ghost use Rattle.request_lines.specs.Lines.{texts_of};
 ghost use Rattle.request_lines.specs.Input.{IsSessionOf, IsRefused};
 ghost use Rattle.request_lines.specs.Session.{HasNames, HasRecords, HasRequests, HasLines, IsSmall};
@@ -12,7 +13,7 @@ use std::alloc::Global;
 
 /// The session of a text, or the first line that has a cause, with its first cause.
 pub fn read_session(alloc: Global, bytes: &[u8]) -> Result<Session, SessionError>
-    requires { length bytes.now ≤ 67108864 }
+    requires { length bytes.now ≤ most_input_bytes }
     ensures session { IfOk result (IsSessionOf bytes.now) }
     ensures refused { IsRefused bytes.now result }
 

@@ -19,19 +19,19 @@ use std::mem;
 
 /// What the lines so far have asked.
 #[derive(Debug, Drop)]
-pub struct Reader {
-    pub counts: Counts,
+pub(crate) struct Reader {
+    pub(crate) counts: Counts,
     /// The parts of all clients but the current one.
-    pub ended: Vec<ClientPart>,
+    pub(crate) ended: Vec<ClientPart>,
     /// What the current client has asked.
-    pub current: Vec<Asked>,
-    pub names: Vec<Text>,
-    pub records: Vec<Record>,
+    pub(crate) current: Vec<Asked>,
+    pub(crate) names: Vec<Text>,
+    pub(crate) records: Vec<Record>,
 }
 
 impl Reader {
     /// Before the first line.
-    pub fn new(alloc: Global) -> Reader
+    pub(crate) fn new(alloc: Global) -> Reader
         ensures start { progress result ≡ no_progress }
         ensures within { IsWithin result.counts }
     {
@@ -46,7 +46,12 @@ impl Reader {
 
     /// Takes the next line, which has this number.
     #[tactic(auto, unfolding(crate::specs::Reading::taken, crate::specs::Reading::error_of_text))]
-    pub fn take(&mut self, alloc: Global, number: u32, text: &[u8]) -> Result<(), SessionError>
+    pub(crate) fn take(
+        &mut self,
+        alloc: Global,
+        number: u32,
+        text: &[u8],
+    ) -> Result<(), SessionError>
         requires { IsWithin self.old.counts }
         ensures taken { Takes (progress self.old) number text.now (progress self.new) result }
         ensures within { OnOk result (IsWithin self.new.counts) }
@@ -152,7 +157,7 @@ impl Reader {
     }
 
     /// The session of the lines so far, where no line is left.
-    pub fn finish(self) -> Result<Session, SessionError>
+    pub(crate) fn finish(self) -> Result<Session, SessionError>
         ensures clients { IfOk result (λ s. s.clients ≡ all_ended (progress self)) }
         ensures names { IfOk result (λ s. s.names ≡ self.names.items) }
         ensures records { IfOk result (λ s. s.records ≡ self.records.items) }

@@ -6,7 +6,7 @@ use std::test::Fail;
 const ONE_CLIENT: &str = "CLIENT\nPUT b 2 e2 20\nPUT a 1 e1 10\nPUT b 3 e3 30\nLIST\n";
 
 fn read(alloc: Global, text: &str) -> Result<Session, SessionError> {
-    if text.len() > 67_108_864 {
+    if text.len() > MAX_INPUT_BYTES {
         return Err(SessionError::NoMemory);
     }
     read_session(alloc, text.as_bytes())

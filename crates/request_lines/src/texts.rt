@@ -8,17 +8,14 @@ ghost use Rattle.request_lines.specs.Texts as spec;
 
 use crate::Cause;
 use crate::line_error::LineError;
-use key_names::Text;
+use key_names::{MAX_NAME_BYTES, Text};
 use percent_encoding::{DecodeError, percent_decode};
 use std::alloc::Global;
 use std::str;
 
-/// The most bytes of a key, and of a text that is compared with keys: Amazon S3's limit for an object key.
-pub const MAX_NAME_BYTES: usize = 1024;
-
 /// The name of a key.
 #[tactic(auto, unfolding(crate::specs::Texts::key_read, crate::specs::Texts::name_of))]
-pub fn key_of(alloc: Global, key: &str) -> Result<Text, LineError>
+pub(crate) fn key_of(alloc: Global, key: &str) -> Result<Text, LineError>
     ensures { Reads result (spec.key_read key.now) }
 {
     let name = unescaped(alloc, key)?;
@@ -33,7 +30,7 @@ pub fn key_of(alloc: Global, key: &str) -> Result<Text, LineError>
 }
 
 /// The text without its escapes, which is copied once.
-pub fn unescaped(alloc: Global, text: &str) -> Result<Text, LineError>
+pub(crate) fn unescaped(alloc: Global, text: &str) -> Result<Text, LineError>
     ensures { Reads result (spec.unescaped text.now) }
 {
     if has_percent(text) {
@@ -90,7 +87,7 @@ fn begins_with_hex_digits(bytes: &[u8]) -> bool
 
 /// A record's size and time.
 #[tactic(auto, unfolding(crate::specs::Texts::numbers_read))]
-pub fn numbers_of(size: &str, modified: &str) -> Result<(u64, u64), LineError>
+pub(crate) fn numbers_of(size: &str, modified: &str) -> Result<(u64, u64), LineError>
     ensures { Reads result (spec.numbers_read size.now modified.now) }
 {
     if !is_number(size) || !is_number(modified) {
@@ -104,7 +101,7 @@ pub fn numbers_of(size: &str, modified: &str) -> Result<(u64, u64), LineError>
 
 /// Whether the text is one or more ASCII digits.
 #[tactic(auto, using(crate::proofs::TextLaws::digits_all), unfolding(crate::specs::Texts::is_number))]
-pub fn is_number(text: &str) -> bool
+pub(crate) fn is_number(text: &str) -> bool
     ensures { result ≡ spec.is_number text.now }
 {
     !text.is_empty() && is_all_digits(text)
@@ -117,7 +114,7 @@ fn is_all_digits(text: &str) -> bool
 }
 
 /// The number that the digits write. None where it has more than 64 bits.
-pub fn number(text: &str) -> Option<u64>
+pub(crate) fn number(text: &str) -> Option<u64>
     requires { spec.is_number text.now ≡ true }
     ensures { MatchOption result (spec.is_small text.now ≡ false)
         (λ n. (spec.is_small text.now ≡ true) × (n ≡ digits_value 10 text.now)) }
@@ -127,7 +124,7 @@ pub fn number(text: &str) -> Option<u64>
 
 /// An entity tag, perhaps between two double quotes.
 #[tactic(auto, unfolding(crate::specs::Texts::etag_read))]
-pub fn etag_of(alloc: Global, text: &str) -> Result<Text, LineError>
+pub(crate) fn etag_of(alloc: Global, text: &str) -> Result<Text, LineError>
     ensures { Reads result (spec.etag_read text.now) }
 {
     let tag = unquoted(text.as_bytes());

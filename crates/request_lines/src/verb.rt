@@ -3,7 +3,7 @@ ghost use Rattle.request_lines.specs.Grammar.{verb_of};
 
 /// The first field of a line.
 #[derive(Clone, Copy, Debug, PartialEq, Eq)]
-pub enum Verb {
+pub(crate) enum Verb {
     Client,
     Put,
     Delete,
@@ -14,7 +14,7 @@ pub enum Verb {
 
 impl Verb {
     /// The verb of this text, in upper case.
-    pub fn of(text: &str) -> Option<Verb>
+    pub(crate) fn of(text: &str) -> Option<Verb>
         ensures { result ≡ verb_of text.now }
     {
         match text {

@@ -64,22 +64,6 @@ fn bad_words(rt: HostRuntime) -> Result<(), Fail> {
     Ok(())
 }
 
-// Each call of the source fails in turn: nothing is written.
-#[test]
-fn read_faults(rt: HostRuntime) -> Result<(), Fail> {
-    let alloc = rt.alloc();
-    for call in 1u64..=7 {
-        let bytes = ONE_CLIENT.as_bytes().to_vec(alloc)?;
-        let mut fails = Vec::new(alloc);
-        fails.push(call)?;
-        let mut source = FailingSource::new(bytes, 10, fails);
-        let ended = serve_run(&rt, alloc, &mut source, AMPLE)?;
-        assert_eq!(rt; ended.status, Status::ReadFault);
-        assert_eq!(rt; ended.sink.taken().len(), 0);
-    }
-    Ok(())
-}
-
 // The sink takes whole lines alone: as many as fit its room were taken.
 #[test]
 fn write_faults(rt: HostRuntime) -> Result<(), Fail> {

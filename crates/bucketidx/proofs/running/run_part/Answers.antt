@@ -17,7 +17,7 @@ pub write_run-requires-clause-replies : goal.write_run-requires-clause-replies
 write_run-requires-clause-replies g c =
     subst (λ (rs : List Placed). All (λ (p : Placed). IsReplyOf c.args.dir.now c.args.records.now p.reply) rs) (sym c.deref.ensures.value)
     (recorded c.args.dir.now (request_lines c.args.part.now) c.writes-writes.result c.in_ok-pass.pass c.run_client.new.pass c.in_ok-replies.replies.items c.updates.result.now
-    c.writes-writes.ensures c.in_ok-pass.ensures.fresh c.in_ok-replies.ensures.ran c.updates.ensures.seen c.updates.ensures.own c.args.records.now c.requires.recorded c.in_ok-replies.ensures.in_range)
+    c.writes-writes.ensures c.in_ok-pass.ensures.fresh c.in_ok-replies.ensures.ran c.updates.ensures.seen c.updates.ensures.own c.args.records.now c.requires.recorded c.in_ok-replies.ensures.ran.in_range)
 
 pub write_run-requires-clause-keys : goal.write_run-requires-clause-keys
 write_run-requires-clause-keys g c =

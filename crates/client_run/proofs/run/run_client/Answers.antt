@@ -81,7 +81,7 @@ loop-asked-preserved g c =
     subst (λ (l : RequestLine). Answers c.args.dir.now mid now (last_listing (answered_lines (take i lines) replies)) (record { asked = l; placed = p })) (sym here.1)
     (subst (λ (o : Option Reply). Answers c.args.dir.now mid now o (record { asked = request_line d; placed = p })) last_is c.in_ok-placed.ensures.answers) in (
       rw pushed (record {
-        running = turn c.args.dir.now lines i (request_line d) old mid now replies p here.0 before.running c.requires.later c.requires.rising answered;
+        running = turn c.args.dir.now lines i (request_line d) old mid now replies p here.0 before.running c.requires.later c.requires.rising answered c.in_ok-placed.ensures.in_range;
         listing = ap (λ (o : Option ℕ). reply_at (replies ++ p ∷ []) o) later_is ∙ last_turn lines i (request_line d) replies p last here.0 before.running.same_length before.listing before.place;
         place = subst (λ (o : Option ℕ). ForSome o (λ k. k < length (replies ++ p ∷ []))) (sym later_is)
             (place_turn (is_listing (get_or lines i (request_line d)).request) (length replies) (length (replies ++ p ∷ [])) last (length_push replies p) before.place);

@@ -7,7 +7,7 @@ pub returns-then-n-limit-clause-refused : goal.returns-then-n-limit-clause-refus
 returns-then-n-limit-clause-refused g c = record {
   bytes = _;
   read = read_both _ _ _ _ _ c.loop-bytes.invariant.read c.in_ok-n.ensures.given;
-  count = rw (length-piece _ _ _ c.in_ok-n.ensures.room) (omega arith);
+  count = rw (length-piece _ _ _ c.in_ok-n.ensures.room) (omega arith, omega (arith, c.in_ok-n.ensures.room, c.loop-bytes.invariant.room, c.loop-bytes.invariant.within));
 }
 
 pub returns-in_err-extend_from_slice-clause-refused : goal.returns-in_err-extend_from_slice-clause-refused
@@ -17,5 +17,5 @@ returns-in_err-extend_from_slice-clause-refused g c =
     rw (p.1, p.2) (record {
       bytes = _;
       read = read_both _ _ _ _ _ c.loop-bytes.invariant.read c.in_ok-n.ensures.given;
-      count = tt;
+      count = rw (length-piece _ _ _ c.in_ok-n.ensures.room) (omega arith);
     })

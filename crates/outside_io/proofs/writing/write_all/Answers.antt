@@ -1,4 +1,4 @@
-use Rattle.std.proofs.Common.{arith}
+use Rattle.std.proofs.Common.{arith, ◌∙◌}
 use Rattle.std.proofs.lemmas.Grind.{common_steps}
 use Rattle.outside_io.proofs.Pieces.{taken_more}
 use Rattle.outside_io.proofs.writing.write_all.Goals as goal
@@ -7,5 +7,5 @@ pub loop-done-preserved : goal.loop-done-preserved
 loop-done-preserved g c = record {
   within = grind (arith, common_steps, c.in_ok-done.ensures.most);
   taken = taken_more _ _ _ _ _ _ c.loop-done.invariant.taken c.in_ok-done.ensures.took;
-  counted = omega (arith, c.write.ensures.counted);
+  quiet = c.in_ok-done.ensures.quiet ∙ c.loop-done.invariant.quiet;
 }

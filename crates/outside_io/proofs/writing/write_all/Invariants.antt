@@ -1,4 +1,4 @@
-use Rattle.std.proofs.Common.{◌-◌, ◌≤◌, length, take}
+use Rattle.std.proofs.Common.{◌-◌, ◌≤◌, ◌≡◌, length, take}
 use Rattle.outside_io.specs.Sink.{IsTaken}
 use Rattle.outside_io.proofs.writing.write_all.Given as goal
 
@@ -6,7 +6,7 @@ abbrev pub invariant-loop-done : goal.invariant-loop-done
 invariant-loop-done g l = record {
   within : l.done ≤ length l.bytes;
   taken : IsTaken (g.K.Sink.taken l.fn.sink) (g.K.Sink.taken l.sink) (take l.done l.bytes);
-  counted : g.K.Sink.faults l.fn.sink ≤ g.K.Sink.faults l.sink;
+  quiet : g.K.Sink.faults l.sink ≡ g.K.Sink.faults l.fn.sink;
 }
 
 abbrev pub decreases-loop-done : goal.decreases-loop-done

@@ -1,7 +1,8 @@
 use Rattle.std.proofs.Common.{ap, sym, ◌∙◌}
 use Rattle.std.proofs.lemmas.Result.{err_from_is_err_and}
 use Rattle.request_lines.specs.Left.{parts_left}
-use Rattle.request_lines.specs.Pieces.{asking, pieces_asked}
+use Rattle.request_lines.specs.Pieces.{asking}
+use Rattle.request_lines.proofs.AskedAll.{pieces_asked}
 use Rattle.request_lines.proofs.PieceLaws.{piece_taken, piece_fails, pieces_end, pieces_start}
 use Rattle.request_lines.proofs.query.query_of.Goals as goal
 

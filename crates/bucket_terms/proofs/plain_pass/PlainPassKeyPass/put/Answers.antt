@@ -54,4 +54,5 @@ returns-clause-made g c =
       };
       was = c.put-was.ensures.was ∙ ap (λ (m : List Pair). map_has c.args.key m) (c.self.invariant.map ∙ sym (after-append old (u ∷ []) (length old) (omega arith)) ∙ ap (λ (n : ℕ). after (old ++ u ∷ []) n) (omega arith) ∙ ap (λ (us : List Update). after us (c.len.result - 1)) (sym items));
       nodes = grind (arith, nat_tests, c.from.ensures);
+      looks = refl;
     })

@@ -1,0 +1,48 @@
+// Reads and writes of a reader and a writer of the standard library, whose failures are counted.
+ghost use Rattle.std.specs.Prelude.{◌≡◌, ◌<◌, ◌≤◌, length, IfOk};
+ghost use Rattle.std.specs.Io.KnownBytes.{ReadConsumes, WriteAppends};
+ghost use Rattle.outside_io.specs.Faults.{count_after};
+
+use crate::Failed;
+use std::io::{Read, Write};
+
+/// Reads once. A failure of the reader is counted, and is no end of its bytes.
+pub(crate) fn read_counted<R: Read>(
+    input: &mut R,
+    faults: &mut u64,
+    buf: &mut [u8],
+) -> Result<usize, Failed>
+    ensures bytes { ReadConsumes (R.remaining input.old) (R.remaining input.new) result buf.new }
+    ensures room { IfOk result (λ n. n ≤ length buf.new) }
+    ensures count { faults.new ≡ count_after faults.old result }
+    ensures counted { faults.old ≤ faults.new }
+{
+    match input.read(buf) {
+        Ok(n) => Ok(n),
+        Err(_) => {
+            *faults = faults.saturating_add(1);
+            Err(Failed)
+        }
+    }
+}
+
+/// Writes once. A failure of the writer is counted; to take none of a piece that has some is one.
+pub(crate) fn write_counted<W: Write>(
+    output: &mut W,
+    faults: &mut u64,
+    bytes: &[u8],
+) -> Result<usize, Failed>
+    ensures bytes { WriteAppends (W.contents output.old) (W.contents output.new) result bytes.now }
+    ensures most { IfOk result (λ n. n ≤ length bytes.now) }
+    ensures some { IfOk result (λ n. 0 < length bytes.now → 0 < n) }
+    ensures count { faults.new ≡ count_after faults.old result }
+    ensures counted { faults.old ≤ faults.new }
+{
+    if let Ok(n) = output.write(bytes)
+        && (n > 0 || bytes.is_empty())
+    {
+        return Ok(n);
+    }
+    *faults = faults.saturating_add(1);
+    Err(Failed)
+}
