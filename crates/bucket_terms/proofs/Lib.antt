@@ -1,2 +1,1 @@
-pub mod PlacesLaws
 pub mod PagePoints

@@ -1,12 +1,12 @@
 -- What a pass of the index is to its caller: its number, the history that it knows, its slots and its
 -- open snapshot. Nothing here says that nobody else changes the map between two calls.
-use Rattle.std.specs.Prelude.{◌≡◌, ℕ, ◌+◌, ◌-◌, ◌<◌, ◌≤◌, ◌^◌, min, ◌⊎◌, ◌==◌, true, false, MatchBool, if◌then◌else◌, List, [], ◌∷◌, ◌++◌, length, Option, Some, None}
+use Rattle.std.specs.Prelude.{◌≡◌, ℕ, ◌+◌, ◌-◌, ◌<◌, ◌≤◌, ◌^◌, min, ◌⊎◌, true, false, MatchBool, if◌then◌else◌, List, [], ◌∷◌, ◌++◌, length, Option, Some, None}
 use Rattle.key_map.specs.declared.update.Update.{Update}
 use Rattle.key_map.specs.declared.update.Change.{Change}
 use Rattle.key_map.specs.declared.update.Change.TheVariants.{Put, Remove}
 use Rattle.key_map.specs.declared.pass.Done.{Done}
 use Rattle.key_map.specs.Map.{map_has}
-use Rattle.key_map.specs.History.{after}
+use Rattle.key_map.specs.History.{after, own_places}
 
 pub record PassView : Type 0 where
   -- the number of the pass, by which its updates are known
@@ -43,15 +43,6 @@ RoseBy n old new = risen n old ≤ new
 -- a count of 64 bits has risen by one
 abbrev pub RoseByOne : ℕ → ℕ → Type 0
 RoseByOne old new = new ≡ risen 1 old
-
--- the places, counted from `at`, of the updates of the pass with this number
-abbrev pub places_from : ℕ → ℕ → List Update → List ℕ
-places_from number at [] = []
-places_from number at (u ∷ us) =
-    if u.client == number then at ∷ places_from number (at + 1) us else places_from number (at + 1) us
-
-abbrev pub own_places : ℕ → List Update → List ℕ
-own_places number updates = places_from number 1 updates
 
 -- the places of the pass's own updates are just those at which updates of its number stand
 abbrev pub KnowsOwn : PassView → Type 0

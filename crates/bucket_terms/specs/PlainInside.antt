@@ -2,8 +2,8 @@
 use Rattle.std.specs.Prelude.{◌≡◌, ◌+◌, ◌^◌, ◌≤◌, length, All, vec_capacity}
 use Rattle.std.specs.Option.{ForSome}
 use Rattle.key_map.specs.declared.update.Update.{Update}
-use Rattle.key_map.specs.History.{after}
-use Rattle.bucket_terms.specs.PassView.{PassView, own_places}
+use Rattle.key_map.specs.History.{after, own_places}
+use Rattle.bucket_terms.specs.PassView.{PassView}
 use Rattle.bucket_terms.specs.declared.plain_pass.PlainPass.TheInside.{Inside}
 
 abbrev pub view_of : Inside → PassView

@@ -8,8 +8,9 @@ use Rattle.std.proofs.lemmas.List.Elements.{All-cons}
 use Rattle.std.proofs.lemmas.List.Sums.{sum_by-cons}
 use Rattle.std.proofs.lemmas.Option.{slice_get-get_or, slice_get_within}
 use Rattle.key_map.specs.declared.update.Update.{Update}
+use Rattle.key_map.specs.History.{places_from}
 use Rattle.bucket_terms.specs.declared.reply.Placed.{Placed}
-use Rattle.bucket_terms.specs.PassView.{PassView, KnowsOwn, places_from}
+use Rattle.bucket_terms.specs.PassView.{PassView, KnowsOwn}
 use Rattle.bucket_terms.specs.LegalRun.{Setting, RequestLine, Answered, IsAnswered, AreAnswered, IsPlacedUpTo, answered_lines, is_earlier_of, is_update}
 use Rattle.client_run.specs.ClientRun.{IsLaterLine, RanClient}
 

@@ -5,8 +5,8 @@ use Rattle.std.proofs.lemmas.Bool.{cases_lt}
 use Rattle.std.proofs.lemmas.Option.{same_Some, slice_get_within}
 use Rattle.std.proofs.lemmas.List.{length-append, length_push, same_from_push}
 use Rattle.key_map.specs.declared.update.Update.{Update}
-use Rattle.bucket_terms.specs.PassView.{own_places, places_from}
-use Rattle.bucket_terms.proofs.PlacesLaws.{own_places-append, own_places-own, none_own}
+use Rattle.key_map.specs.History.{own_places, places_from}
+use Rattle.key_map.proofs.PlacesLaws.{own_places-append, own_places-own, none_own}
 
 pub slice_get-append_front : {X : Type 0} (xs ys : List X) (i : ℕ) → i < length xs → slice_get (xs ++ ys) i ≡ slice_get xs i
 slice_get-append_front [] ys i l = absurd (omega arith)

@@ -6,7 +6,7 @@ use Rattle.key_map.specs.declared.pair.Pair.{Pair}
 use Rattle.key_map.specs.declared.pass.Done.{Done}
 use Rattle.key_map.specs.declared.update.Change.TheVariants.{Put as PutVal, Remove}
 use Rattle.key_map.specs.Map.{map_get, first_from, value_at}
-use Rattle.key_map.specs.History.{after}
+use Rattle.key_map.specs.History.{after, own_places}
 use Rattle.key_map.proofs.MapLaws.{map_get-first_from}
 use Rattle.key_map.proofs.HistoryLaws.{IsMap-after}
 use Rattle.bucket_terms.specs.declared.request.Request.{Request}
@@ -14,7 +14,7 @@ use Rattle.bucket_terms.specs.declared.request.Request.TheVariants.{Put as PutRe
 use Rattle.bucket_terms.specs.declared.reply.Reply.{Reply}
 use Rattle.bucket_terms.specs.declared.reply.Reply.TheVariants.{Put as PutReply, Deleted, Found, Missing, NoSlot}
 use Rattle.bucket_terms.specs.Answer.{head_by}
-use Rattle.bucket_terms.specs.PassView.{PassView, KnowsOwn, MadePut, AnsweredRemoval, Removed, FoundAbsent, Looked, Began, IsOutOfSlots, own_places, IsShort}
+use Rattle.bucket_terms.specs.PassView.{PassView, KnowsOwn, MadePut, AnsweredRemoval, Removed, FoundAbsent, Looked, Began, IsOutOfSlots, IsShort}
 use Rattle.std.specs.List.{count_by, slice_get}
 use Rattle.std.proofs.lemmas.Bool.{cases_lt, cases_Bool}
 use Rattle.std.proofs.lemmas.List.{get_or_append_left}

@@ -1,3 +1,4 @@
 pub mod MapLaws
 pub mod HistoryLaws
 pub mod Counting
+pub mod PlacesLaws

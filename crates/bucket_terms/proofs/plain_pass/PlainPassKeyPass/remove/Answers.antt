@@ -9,7 +9,7 @@ use Rattle.key_map.specs.declared.update.Update.{Update}
 use Rattle.key_map.specs.declared.update.Change.TheVariants.{Remove}
 use Rattle.key_map.proofs.HistoryLaws.{after-push, after-append}
 use Rattle.key_map.proofs.MapLaws.{map_remove-absent}
-use Rattle.bucket_terms.proofs.PlacesLaws.{own_places-own}
+use Rattle.key_map.proofs.PlacesLaws.{own_places-own}
 use Rattle.bucket_terms.proofs.plain_pass.PlainPassKeyPass.remove.Goals as goal
 
 pub invariant_of-self : goal.invariant_of-self
