@@ -273,3 +273,12 @@ pub stored_at : (z : Layout) (words : List ℕ) (n : ℕ) (w : Word) (x : ℕ) �
 stored_at z words n w x long found =
     let there = word_there z n w found in
     subst (λ k. memory z (set words k x) ≡ written (memory z words) w x) there.1 (store z words w x long there.0)
+
+-- a word that is there is found at its number
+word_found : (z : Layout) (w : Word) (o : Option Word) → is_there z w ≡ true → IsWordAt z (address z w) o → o ≡ Some w
+unfolding IsWordAt
+word_found z w None there past = absurd (omega (arith, past, address-lt z w there))
+word_found z w (Some v) there here = ap Some (address-apart z v w here.0 there here.1)
+
+pub word_named : (z : Layout) (w : Word) → is_there z w ≡ true → word_at z (address z w) ≡ Some w
+word_named z w there = word_found z w (word_at z (address z w)) there (word_at-says z (address z w))
