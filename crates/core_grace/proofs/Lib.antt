@@ -1,3 +1,4 @@
 pub mod SlotMoves
 pub mod RuleMoves
+pub mod Progress
 pub mod TwoSeats

@@ -1,5 +1,5 @@
 -- A seat that is split in two, and a seat that is joined into another one: the rule on slots is kept.
-use Rattle.std.proofs.Common.{◌≡◌, ◌≢◌, ℕ, ◌+◌, ◌<◌, List, [], ◌∷◌, ◌++◌, set, arith, refl, ap, ◌∙◌, sym, subst, inl, inr, Some, None}
+use Rattle.std.proofs.Common.{◌≡◌, ◌≢◌, ℕ, ◌+◌, ◌<◌, List, [], ◌∷◌, ◌++◌, set, arith, refl, ap, ◌∙◌, sym, subst, inl, inr, Some}
 use Rattle.std.specs.List.{All, sum_by}
 use Rattle.std.proofs.lemmas.List.Elements.{All-set, All-push}
 use Rattle.std.proofs.lemmas.Bool.{cases_lt}
@@ -77,22 +77,23 @@ module _ (z : Layout) (linked : Linked) (hn he : View → ℕ → Type 0) where
   abbrev pub Keeps : View → Type 0
   Keeps v = KeepsEntries linked.entries_of v.retired × KeepsEntries linked.entries_of v.batch
 
-  -- nothing is said of a view without a number
-  pub nameless_column : (u v : View) → v.number ≡ None → G u v
-  nameless_column u v none = record {
-    passed = every_all (λ n. v.number ≡ Some n → HoldsNone hn he u.batch v) u.grace.passed (λ n is. cc);
-    found = every_all (λ (f : SectionFound). v.number ≡ Some f.pass → v.section_word ≢ f.word → HoldsNone hn he u.batch v) u.grace.found (λ f is. cc);
+  -- of a view that holds nothing each batch is free
+  pub bare_column : (u v : View) → ((k : ℕ) → hn v k → ⊥) → ((e : ℕ) → he v e → ⊥) → G u v
+  bare_column u v nodes entries = record {
+    passed = every_all (λ n. v.number ≡ Some n → HoldsNone hn he u.batch v) u.grace.passed (λ n is. record { nodes = λ k some. nodes k; entries = λ e some. entries e });
+    found = every_all (λ (f : SectionFound). v.number ≡ Some f.pass → v.section_word ≢ f.word → HoldsNone hn he u.batch v) u.grace.found
+        (λ f is differs. record { nodes = λ k some. nodes k; entries = λ e some. entries e });
   }
 
-  grace_set : (vs : List View) (j : ℕ) (y : View) → All (λ u. All (G u) vs) vs → y.number ≡ None → y.grace ≡ no_looks → All (λ u. All (G u) (set vs j y)) (set vs j y)
-  grace_set vs j y all nameless none =
+  grace_set : (vs : List View) (j : ℕ) (y : View) → All (λ u. All (G u) vs) vs → ((u : View) → G u y) → y.grace ≡ no_looks → All (λ u. All (G u) (set vs j y)) (set vs j y)
+  grace_set vs j y all column none =
       All-set (λ u. All (G u) (set vs j y)) vs j y (λ k d within. no_looks_right z linked hn he y _ none)
-      (all_framed (λ u. All (G u) vs) (λ u. All (G u) (set vs j y)) vs all (λ u of. All-set (G u) vs j y (nameless_column u y nameless) of))
+      (all_framed (λ u. All (G u) vs) (λ u. All (G u) (set vs j y)) vs all (λ u of. All-set (G u) vs j y (column u) of))
 
-  grace_push : (vs : List View) (y : View) → All (λ u. All (G u) vs) vs → y.number ≡ None → y.grace ≡ no_looks → All (λ u. All (G u) (vs ++ y ∷ [])) (vs ++ y ∷ [])
-  grace_push vs y all nameless none =
+  grace_push : (vs : List View) (y : View) → All (λ u. All (G u) vs) vs → ((u : View) → G u y) → y.grace ≡ no_looks → All (λ u. All (G u) (vs ++ y ∷ [])) (vs ++ y ∷ [])
+  grace_push vs y all column none =
       All-push (λ u. All (G u) (vs ++ y ∷ [])) vs y
-      (all_framed (λ u. All (G u) vs) (λ u. All (G u) (vs ++ y ∷ [])) vs all (λ u of. All-push (G u) vs y of (nameless_column u y nameless)))
+      (all_framed (λ u. All (G u) vs) (λ u. All (G u) (vs ++ y ∷ [])) vs all (λ u of. All-push (G u) vs y of (column u)))
       (λ k d within. no_looks_right z linked hn he y _ none)
 
   -- what the first of the two still is: its section, its batch, its looks and what it holds
@@ -106,7 +107,6 @@ module _ (z : Layout) (linked : Linked) (hn he : View → ℕ → Type 0) where
 
   -- what the second of the two is: nothing waits for it, and it holds nothing
   pub record IsBare (y : View) : Type 0 where
-    pub number : y.number ≡ None
     pub grace : y.grace ≡ no_looks
     pub nodes : (k : ℕ) → hn y k → ⊥
     pub entries : (e : ℕ) → he y e → ⊥
@@ -158,7 +158,7 @@ module _ (z : Layout) (linked : Linked) (hn he : View → ℕ → Type 0) where
         (λ e. sum_split (own entries_in e) vs i v w y at (own_split entries_in e v w y refl (entries e) stays.batch retired none no_batch))
         (λ e. sum_split (own_free entries_in e) vs i v w y at (entries e))
         (All-push (EntriesUnheld vs) (set vs i w) y (entries_stay vs i v w at rule stays) (λ e holds. absurd (bare.entries e holds)));
-    grace = grace_push (set vs i w) y (grace_stays vs i v w at rule stays) bare.number bare.grace;
+    grace = grace_push (set vs i w) y (grace_stays vs i v w at rule stays) (λ u. bare_column u y bare.nodes bare.entries) bare.grace;
     retired = All-push Keeps (set vs i w) y
         (all_moved Keeps Keeps vs i v w at rule.retired
         (let keeps = at_item Keeps vs i v at rule.retired in
@@ -191,7 +191,7 @@ module _ (z : Layout) (linked : Linked) (hn he : View → ℕ → Type 0) where
         (own_joined entries_in e v u w y refl (count-append e v.free.entries u.free.entries) (count-append e v.retired.entries (both u.retired u.batch).entries) (count-append e u.retired.entries u.batch.entries) free retired stays.batch no_free none no_batch))
         (λ e. sum_joined (own_free entries_in e) vs i j v u w y at of other (free_joined entries_in e v u w y refl (count-append e v.free.entries u.free.entries) free no_free))
         (All-set (EntriesUnheld vs) (set vs i w) j y (λ e holds. absurd (bare.entries e holds)) (entries_stay vs i v w at rule stays));
-    grace = grace_set (set vs i w) j y (grace_stays vs i v w at rule stays) bare.number bare.grace;
+    grace = grace_set (set vs i w) j y (grace_stays vs i v w at rule stays) (λ u. bare_column u y bare.nodes bare.entries) bare.grace;
     retired = All-set Keeps (set vs i w) j y
         (no_entries_kept y.retired none, no_entries_kept y.batch no_batch)
         (all_moved Keeps Keeps vs i v w at rule.retired

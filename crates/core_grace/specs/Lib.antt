@@ -2,3 +2,4 @@ pub mod Sections
 pub mod Batches
 pub mod Holds
 pub mod Slots
+pub mod Progress

@@ -1,6 +1,7 @@
 ghost use Rattle.std.specs.Prelude.{◌≡◌, ℕ, OnOk, OnErr, IfOk, Option};
 ghost use Rattle.key_map.specs.Lists.{has};
 ghost use Rattle.core_grace.specs.Batches.{batch_taken, first_found, lets_pass, looked_at, is_number, all_passed, settled};
+ghost use Rattle.core_grace.specs.Progress.{SettlesRight};
 
 use crate::section::passed;
 use index_words::{Looks, NoMemory, SectionFound, Slots, View};
@@ -77,9 +78,7 @@ pub fn look_at(looks: &mut Looks, pass: u32, word: u64) -> Result<(), NoMemory>
     looks.found.push(SectionFound { pass, word })
 }
 
-/// Where no batch waits, takes the retired slots as the batch. The looks become these, and where they
-/// have passed every other of the `passes` the batch becomes free. After a refusal the view is unchanged.
-pub fn settle(alloc: Global, view: &mut View, looks: Looks, passes: u32) -> Result<(), NoMemory>
+fn take_or_free(alloc: Global, view: &mut View, looks: Looks, passes: u32) -> Result<(), NoMemory>
     ensures ok { OnOk result (view.new ≡ settled passes (record (batch_taken view.old) { grace = looks })) }
     ensures err { OnErr result (view.new ≡ view.old) }
 {
@@ -100,4 +99,14 @@ pub fn settle(alloc: Global, view: &mut View, looks: Looks, passes: u32) -> Resu
     }
     view.grace = looks;
     Ok(())
+}
+
+/// Where no batch waits, takes the retired slots as the batch. The looks become these, and where they
+/// have passed every other of the `passes` the batch becomes free. After a refusal the view is unchanged.
+pub fn settle(alloc: Global, view: &mut View, looks: Looks, passes: u32) -> Result<(), NoMemory>
+    ensures ok { OnOk result (view.new ≡ settled passes (record (batch_taken view.old) { grace = looks })) }
+    ensures frees { OnOk result (SettlesRight passes (record (batch_taken view.old) { grace = looks }) view.new) }
+    ensures err { OnErr result (view.new ≡ view.old) }
+{
+    take_or_free(alloc, view, looks, passes)
 }
