@@ -167,7 +167,7 @@ raise_steps t e w met is u carried v at =
     subst (λ (o : Option Update). is_raise_of t.layout (held_by t) t.views v o ≡ true) carried (raise_met t e w v need is).1
 
 -- a load of the stamp is one at the stamp
-stamp_named : (w : Word) → is_stamp w ≡ true → w ≡ Stamp
+pub stamp_named : (w : Word) → is_stamp w ≡ true → w ≡ Stamp
 stamp_named Stamp is = refl
 stamp_named (Section i) is = absurd (never is)
 stamp_named (Announced i) is = absurd (never is)

@@ -26,19 +26,20 @@ use Rattle.key_map.specs.History.{after}
 use Rattle.core_grace.specs.Holds.{HoldsNode, HoldsEntry}
 use Rattle.core_grace.specs.Slots.{nodes_of, entries_in, own, own_free, is_slot, GraceRight, KeepsEntries}
 use Rattle.core_grace.proofs.RuleMoves.{no_looks_right}
-use Rattle.core_rule.specs.Numbers.{number_count}
+use Rattle.core_rule.specs.Numbers.{number_count, NumbersRight, IsSpare}
+use Rattle.core_rule.specs.OwnPlaces.{KnowsPlaces}
 use Rattle.core_rule.specs.SectionRule.{IsIdle, SectionRight, IsOwnWord}
 use Rattle.core_links.specs.Bundle.{no_number}
 use Rattle.core_trees.specs.NamedTree.{Null}
 use Rattle.core_rule.specs.Meanings.{Meaning, linked_by}
-use Rattle.core_rule.specs.Histories.{IsGiven, SeenRight, place_count, calls_left, made_by, update_at}
+use Rattle.core_rule.specs.Histories.{IsGiven, SeenRight, KnowsAll, place_count, calls_left, made_by, update_at}
 use Rattle.core_rule.specs.Locks.{lock_count}
 use Rattle.core_rule.specs.BundleRule.{UpdateRight, IsPending, pending_count}
 use Rattle.core_rule.specs.Readers.{VersionRight, PlaceRight, LinkRight}
 use Rattle.core_rule.specs.FilledRule.{FilledRight}
 use Rattle.core_rule.specs.SeatRule.{TreeRight, SeatRight}
 use Rattle.core_rule.specs.Rule.{InRule, IsRight}
-use Rattle.core_rule.specs.Openings.{from_up, pass_view, pass_views, opening}
+use Rattle.core_rule.specs.Openings.{from_up, pass_view, pass_views, opening, first_view, first_table}
 use Rattle.core_rule.specs.SpentViews.{IsSpent}
 use Rattle.core_rule.proofs.SpentViews.{live_spent}
 use Rattle.core_rule.proofs.Idle.{idle_nodes, idle_entry}
@@ -75,12 +76,13 @@ record IsFresh (z : Layout) (v : View) : Type 0 where
   nexts : v.held.nexts ≡ []
   section_word : v.section_word ≡ 0
   announced : v.announced ≡ 0
+  places : KnowsPlaces v
 
 pass_fresh : (z : Layout) (k a b : ℕ) (size : PassSize) → IsFresh z (pass_view z k a b size)
-pass_fresh z k a b size = record { layout = refl; live = refl; idle = record { reading = refl; held = refl; update = refl }; seen = refl; told = refl; given = refl; found = refl; grace = refl; retired = refl; batch = refl; nexts = refl; section_word = refl; announced = refl }
+pass_fresh z k a b size = record { layout = refl; live = refl; idle = record { reading = refl; held = refl; update = refl }; seen = refl; told = refl; given = refl; found = refl; grace = refl; retired = refl; batch = refl; nexts = refl; section_word = refl; announced = refl; places = record { own = refl; given = tt; section = tt; opened = tt } }
 
 empty_fresh : (z : Layout) → IsFresh z (empty_view z)
-empty_fresh z = record { layout = refl; live = refl; idle = record { reading = refl; held = refl; update = refl }; seen = refl; told = refl; given = refl; found = refl; grace = refl; retired = refl; batch = refl; nexts = refl; section_word = refl; announced = refl }
+empty_fresh z = record { layout = refl; live = refl; idle = record { reading = refl; held = refl; update = refl }; seen = refl; told = refl; given = refl; found = refl; grace = refl; retired = refl; batch = refl; nexts = refl; section_word = refl; announced = refl; places = record { own = tt; given = tt; section = tt; opened = tt } }
 
 passes_fresh : (z : Layout) (k a b : ℕ) (sizes : List PassSize) → All (IsFresh z) (pass_views z k a b sizes)
 passes_fresh z k a b [] = All-nil (IsFresh z)
@@ -197,12 +199,21 @@ no_update_at n x = none_by n (eqb x 0)
     none_by n true = refl
     none_by n false = refl
 
-module _ (z : Layout) (sizes : List PassSize) where
-  abbrev ws : List ℕ
-  ws = (opening z sizes).words
+-- what views that have just been made have in all: each number, slot and call once, no place, lock or pending entry
+record StartsWith (z : Layout) (vs : List View) : Type 0 where
+  fresh : All (IsFresh z) vs
+  numbers : NumbersRight z vs
+  nodes : (k : ℕ) → sum_by (own nodes_of k) vs ≡ is_slot z.nodes k
+  entries : (e : ℕ) → sum_by (own entries_in e) vs ≡ is_slot z.entries e
+  calls : sum_by calls_left vs ≡ z.calls
+  places : (n at : ℕ) → sum_by (place_count n at) vs ≡ 0
+  locks : (k : ℕ) → sum_by (lock_count k) vs ≡ 0
+  pending : (e : ℕ) → sum_by (pending_count e) vs ≡ 0
+  known : KnowsAll [] vs
 
-  abbrev vs : List View
-  vs = (opening z sizes).views
+module _ (z : Layout) (vs : List View) (starts : StartsWith z vs) where
+  abbrev ws : List ℕ
+  ws = replicate (word_count z) 0
 
   sections_right : (v : View) → IsFresh z v → SectionRight (λ n. memory z ws (Section n)) (λ n. memory z ws (Announced n)) v
   sections_right v fresh = record {
@@ -247,60 +258,114 @@ module _ (z : Layout) (sizes : List PassSize) where
   no_slots_kept : (s : Slots) → s ≡ no_slots → KeepsEntries (linked_by nothing_linked).entries_of s
   no_slots_kept s none = subst (KeepsEntries (linked_by nothing_linked).entries_of) (sym none) (λ k e some of. absurd (omega arith))
 
-  nothing_pending : (f : View → ℕ) → ((c d e : ℕ) (size : PassSize) → f (pass_view z c d e size) ≡ 0) → f (empty_view z) ≡ 0 → sum_by f vs ≡ 0
-  nothing_pending f none last = omega (arith, sum_by_push f (pass_views z 0 1 1 sizes) (empty_view z), sum_none f z 0 1 1 sizes none, last)
+  zero_spare : (xs : List ℕ) → Every (λ n. (memory z ws (Section n) ≡ 0) × (memory z ws (Announced n) ≡ 0)) xs
+  zero_spare [] = tt
+  zero_spare (n ∷ xs) = ((zero_memory z (word_count z) (Section n), zero_memory z (word_count z) (Announced n)), zero_spare xs)
 
-  nobody_holds : (e : ℕ) → sum_by (pending_count e) vs ≡ 0
-  nobody_holds e = nothing_pending (pending_count e) (λ c d x size. refl) refl
-
-  pub opening_right : z ≡ layout_of sizes → all_calls sizes < no_number → IsRight (opening z sizes)
-  opening_right is few = record {
+  starts_right : z.calls < no_number → InRule z ws vs
+  starts_right few = record {
     size = length-replicate (word_count z) 0;
     meaning = nothing_linked;
     rule = record {
-      numbers = λ n. sum_by_push (number_count n) (pass_views z 0 1 1 sizes) (empty_view z) ∙ omega (arith, sum_numbers n z 0 1 1 sizes) ∙ between_number n (length sizes) ∙ ap (λ (y : Layout). cond (ltb n y.passes) 1 0) (sym is);
+      numbers = starts.numbers;
       history = record {
         long = sym (zero_memory z (word_count z) Stamp);
-        known = record {
-          place = length (pass_views z 0 1 1 sizes);
-          view = empty_view z;
-          at = record { within = omega (arith, length-append (pass_views z 0 1 1 sizes) (empty_view z ∷ [])); is = λ d. get_or_push (pass_views z 0 1 1 sizes) (empty_view z) d (length (pass_views z 0 1 1 sizes)) refl };
-          all = refl;
-        };
+        known = starts.known;
         clients = tt;
-        places = λ n x. omega (arith, sum_by_push (place_count n x) (pass_views z 0 1 1 sizes) (empty_view z), sum_places n x z 0 1 1 sizes, no_update_at n x);
-        calls = omega (
-          arith,
-          zero_memory z (word_count z) Stamp,
-          sum_by_push calls_left (pass_views z 0 1 1 sizes) (empty_view z),
-          sum_calls z 0 1 1 sizes,
-          ap (λ (y : Layout). y.calls) is,
-        );
-        few = omega (arith, few, ap (λ (y : Layout). y.calls) is);
+        places = λ n x. starts.places n x ∙ sym (no_update_at n x);
+        calls = omega (arith, zero_memory z (word_count z) Stamp, starts.calls);
+        few = few;
       };
       slots = record {
         nodes = record {
-          one = λ k. ap (λ n. n + 0) (sum_by_push (own nodes_of k) (pass_views z 0 1 1 sizes) (empty_view z)) ∙ omega (arith, sum_nodes k z 0 1 1 sizes) ∙ between_slot k (all_nodes sizes) ∙ ap (λ (y : Layout). is_slot y.nodes k) (sym is);
-          unheld = All-weaker (IsFresh z) (λ v. (k : ℕ) → HoldsNode v k → sum_by (own_free nodes_of k) vs ≡ 0) (λ v fresh k holds. absurd (no_node v fresh k holds)) vs (all_fresh z sizes);
+          one = λ k. ap (λ n. n + 0) (starts.nodes k) ∙ omega arith;
+          unheld = All-weaker (IsFresh z) (λ v. (k : ℕ) → HoldsNode v k → sum_by (own_free nodes_of k) vs ≡ 0) (λ v fresh k holds. absurd (no_node v fresh k holds)) vs starts.fresh;
         };
         entries = record {
-          one = λ e. ap (λ n. n + 0) (sum_by_push (own entries_in e) (pass_views z 0 1 1 sizes) (empty_view z)) ∙ omega (arith, sum_entries e z 0 1 1 sizes) ∙ between_slot e (all_entries sizes) ∙ ap (λ (y : Layout). is_slot y.entries e) (sym is);
-          unheld = All-weaker (IsFresh z) (λ v. (e : ℕ) → HoldsEntry nothing_linked.bundles v e → sum_by (own_free entries_in e) vs ≡ 0) (λ v fresh e holds. absurd (no_entry v fresh e holds)) vs (all_fresh z sizes);
+          one = λ e. ap (λ n. n + 0) (starts.entries e) ∙ omega arith;
+          unheld = All-weaker (IsFresh z) (λ v. (e : ℕ) → HoldsEntry nothing_linked.bundles v e → sum_by (own_free entries_in e) vs ≡ 0) (λ v fresh e holds. absurd (no_entry v fresh e holds)) vs starts.fresh;
         };
         grace = All-weaker (IsFresh z) (λ v. All (GraceRight HoldsNode (HoldsEntry nothing_linked.bundles) v) vs)
-            (λ v fresh k d within. no_looks_right z (linked_by nothing_linked) HoldsNode (HoldsEntry nothing_linked.bundles) v (get_or vs k d) fresh.grace) vs (all_fresh z sizes);
+            (λ v fresh k d within. no_looks_right z (linked_by nothing_linked) HoldsNode (HoldsEntry nothing_linked.bundles) v (get_or vs k d) fresh.grace) vs starts.fresh;
         retired = All-weaker (IsFresh z) (λ v. KeepsEntries (linked_by nothing_linked).entries_of v.retired × KeepsEntries (linked_by nothing_linked).entries_of v.batch)
-            (λ v fresh. (no_slots_kept v.retired fresh.retired, no_slots_kept v.batch fresh.batch)) vs (all_fresh z sizes);
+            (λ v fresh. (no_slots_kept v.retired fresh.retired, no_slots_kept v.batch fresh.batch)) vs starts.fresh;
       };
-      locks = λ k. nothing_pending (lock_count k) (λ c d x size. refl) refl ∙ ap (λ x. cond (eqb x 0) 0 1) (sym (zero_memory z (word_count z) (Node Lock k)));
+      locks = λ k. starts.locks k ∙ ap (λ x. cond (eqb x 0) 0 1) (sym (zero_memory z (word_count z) (Node Lock k)));
       tree = record { spelled = refl; lawful = tt; contents = sym (ap (after []) (zero_memory z (word_count z) Stamp) ∙ after-none []) };
       marks = record { root = zero_memory z (word_count z) (Node Mark 0); nodes = λ k some. absurd (omega (arith, some)) };
       bundles = λ k live side. record { chain = zero_memory z (word_count z) (Node (Head side) k); numbers = tt; tail = tt; falls = tt; owned = tt };
-      single = λ e. omega (arith, nobody_holds e);
-      seats = All-weaker (IsFresh z) (SeatRight z (memory z ws) nothing_linked) seat_right vs (all_fresh z sizes);
+      single = λ e. omega (arith, starts.pending e);
+      seats = All-weaker (IsFresh z) (SeatRight z (memory z ws) nothing_linked) seat_right vs starts.fresh;
     };
-    spent = All-weaker (IsFresh z) IsSpent (λ v fresh. live_spent v fresh.live) vs (all_fresh z sizes);
+    spent = All-weaker (IsFresh z) IsSpent (λ v fresh. live_spent v fresh.live) vs starts.fresh;
+    spare = All-weaker (IsFresh z) (IsSpare (memory z ws)) (λ v fresh. zero_spare v.to_give) vs starts.fresh;
+    places = All-weaker (IsFresh z) KnowsPlaces (λ v fresh. fresh.places) vs starts.fresh;
   }
+
+-- the views of the passes, and behind them the emptied first view
+module _ (z : Layout) (sizes : List PassSize) where
+  abbrev passes : List View
+  passes = pass_views z 0 1 1 sizes
+
+  nothing_in : (f : View → ℕ) → ((c d e : ℕ) (size : PassSize) → f (pass_view z c d e size) ≡ 0) → f (empty_view z) ≡ 0 → sum_by f (passes ++ empty_view z ∷ []) ≡ 0
+  nothing_in f none last = omega (arith, sum_by_push f passes (empty_view z), sum_none f z 0 1 1 sizes none, last)
+
+  opening_starts : z ≡ layout_of sizes → StartsWith z (passes ++ empty_view z ∷ [])
+  opening_starts is = record {
+    fresh = all_fresh z sizes;
+    numbers = λ n. sum_by_push (number_count n) passes (empty_view z) ∙ omega (arith, sum_numbers n z 0 1 1 sizes) ∙ between_number n (length sizes) ∙ ap (λ (y : Layout). cond (ltb n y.passes) 1 0) (sym is);
+    nodes = λ k. sum_by_push (own nodes_of k) passes (empty_view z) ∙ omega (arith, sum_nodes k z 0 1 1 sizes) ∙ between_slot k (all_nodes sizes) ∙ ap (λ (y : Layout). is_slot y.nodes k) (sym is);
+    entries = λ e. sum_by_push (own entries_in e) passes (empty_view z) ∙ omega (arith, sum_entries e z 0 1 1 sizes) ∙ between_slot e (all_entries sizes) ∙ ap (λ (y : Layout). is_slot y.entries e) (sym is);
+    calls = omega (arith, sum_by_push calls_left passes (empty_view z), sum_calls z 0 1 1 sizes, ap (λ (y : Layout). y.calls) is);
+    places = λ n x. omega (arith, sum_by_push (place_count n x) passes (empty_view z), sum_places n x z 0 1 1 sizes);
+    locks = λ k. nothing_in (lock_count k) (λ c d x size. refl) refl;
+    pending = λ e. nothing_in (pending_count e) (λ c d x size. refl) refl;
+    known = record {
+      place = length passes;
+      view = empty_view z;
+      at = record { within = omega (arith, length-append passes (empty_view z ∷ [])); is = λ d. get_or_push passes (empty_view z) d (length passes) refl };
+      all = refl;
+    };
+  }
+
+  pub opening_right : z ≡ layout_of sizes → all_calls sizes < no_number → IsRight (opening z sizes)
+  opening_right is few = starts_right z (passes ++ empty_view z ∷ []) (opening_starts is) (omega (arith, few, ap (λ (y : Layout). y.calls) is))
+
+-- the table with the first view alone
+first_fresh : (z : Layout) → IsFresh z (first_view z)
+first_fresh z = record {
+  layout = refl;
+  live = refl;
+  idle = record { reading = refl; held = refl; update = refl };
+  seen = refl;
+  told = refl;
+  given = refl;
+  found = refl;
+  grace = refl;
+  retired = refl;
+  batch = refl;
+  nexts = refl;
+  section_word = refl;
+  announced = refl;
+  places = record { own = tt; given = tt; section = tt; opened = tt };
+}
+
+first_starts : (z : Layout) → StartsWith z (first_view z ∷ [])
+first_starts z = record {
+  fresh = All-cons (IsFresh z) (first_view z) [] (first_fresh z) (All-nil (IsFresh z));
+  numbers = λ n. omega (arith, sum_by-cons (number_count n) (first_view z) [], count-from_up n 0 z.passes) ∙ between_number n z.passes;
+  nodes = λ k. omega (arith, sum_by-cons (own nodes_of k) (first_view z) [], count-from_up k 1 z.nodes) ∙ between_slot k z.nodes;
+  entries = λ e. omega (arith, sum_by-cons (own entries_in e) (first_view z) [], count-from_up e 1 z.entries) ∙ between_slot e z.entries;
+  calls = omega (arith, sum_by-cons calls_left (first_view z) []);
+  places = λ n x. omega (arith, sum_by-cons (place_count n x) (first_view z) []);
+  locks = λ k. omega (arith, sum_by-cons (lock_count k) (first_view z) []);
+  pending = λ e. omega (arith, sum_by-cons (pending_count e) (first_view z) []);
+  known = record { place = 0; view = first_view z; at = record { within = omega arith; is = λ d. refl }; all = refl };
+}
+
+-- it meets the rule
+pub first_right : (z : Layout) → z.calls < no_number → IsRight (first_table z)
+first_right z few = starts_right z (first_view z ∷ []) (first_starts z) few
 
 -- the same for what the code makes
 pub started : (z : Layout) (sizes : List PassSize) (words : List ℕ) (views : List View) (n : ℕ) → FitTable sizes → z ≡ layout_of sizes → n ≡ word_count z → words ≡ replicate n 0

@@ -56,7 +56,7 @@ not_counted : (b : Bool) → cond b 1 0 + 0 ≡ 0 → b ≡ false
 not_counted true none = absurd (omega arith)
 not_counted false none = refl
 
-own_count : (n : ℕ) (number : Option ℕ) → number ≡ Some n → count n (own_number number) ≡ 1
+pub own_count : (n : ℕ) (number : Option ℕ) → number ≡ Some n → count n (own_number number) ≡ 1
 own_count n None is = cc
 own_count n (Some k) is = let same : k ≡ n = cc in rw same (ap (λ b. cond b 1 0 + 0) (eq-eqb n n refl))
 
@@ -67,7 +67,7 @@ not_own n (Some k) none = not_counted (eqb k n) none
 cond-lt : (a b : ℕ) → 0 < cond (ltb a b) 1 0 → a < b
 cond-lt a b h = grind (arith, nat_tests)
 
-cond-le : (b : Bool) → cond b 1 0 ≤ 1
+pub cond-le : (b : Bool) → cond b 1 0 ≤ 1
 cond-le true = omega arith
 cond-le false = omega arith
 

@@ -41,7 +41,7 @@ whole updates seen begins long = begins ∙ take_all (length seen) updates long
 pub begins-le : (updates seen : List Update) → Begins updates seen → length seen ≤ length updates
 begins-le updates seen begins = omega (arith, ap length begins, length-take (length seen) updates)
 
-every_append : {X : Type 0} (P : X → Type 0) (xs ys : List X) → Every P xs → Every P ys → Every P (xs ++ ys)
+pub every_append : {X : Type 0} (P : X → Type 0) (xs ys : List X) → Every P xs → Every P ys → Every P (xs ++ ys)
 every_append P [] ys one two = two
 every_append P (x ∷ xs) ys one two = (one.0, every_append P xs ys one.1 two)
 

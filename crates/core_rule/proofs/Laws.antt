@@ -1,9 +1,11 @@
 -- What holds of each table that meets the rule.
 use Rattle.std.proofs.Common.{◌≡◌, ℕ, List, Bool, true, ap, sym, subst, Result, Ok, Err, OnErr, is_err}
+use Rattle.std.specs.List.{All}
 use Rattle.index_words.specs.declared.layout.Layout.{Layout}
 use Rattle.index_words.specs.declared.view.View.{View}
 use Rattle.core_rule.specs.Rule.{InRule, IsRight}
 use Rattle.core_rule.specs.Tables.{Table}
+use Rattle.core_rule.specs.OwnPlaces.{KnowsPlaces}
 use Rattle.core_rule.specs.TreeLaw.{SpellsMap}
 use Rattle.core_rule.specs.Remembered.{KeepsRemembered, RemembersSelected}
 use Rattle.core_rule.specs.FilledRule.{KnowsFilled}
@@ -16,9 +18,10 @@ pub record HasLaws (t : Table) : Type 0 where
   pub selected : RemembersSelected t
   pub remembered : KeepsRemembered t
   pub filled : KnowsFilled t
+  pub places : All KnowsPlaces t.views
 
 pub laws_of : (t : Table) → IsRight t → HasLaws t
-laws_of t right = record { trees = spells_map t right; selected = remembers_selected t right; remembered = remembered_right t right; filled = filled_known t right }
+laws_of t right = record { trees = spells_map t right; selected = remembers_selected t right; remembered = remembered_right t right; filled = filled_known t right; places = right.places }
 
 -- so they hold of a table that a refusal leaves as it was
 pub laws_same : (t u : Table) → IsRight t → t ≡ u → HasLaws u

@@ -10,7 +10,11 @@ pub mod FillViews
 pub mod Joins
 pub mod TwoViews
 pub mod EachKind
+pub mod KeptViews
 pub mod SpentViews
+pub mod MadeViews
+pub mod OwnPlaces
+pub mod SectionWords
 pub mod StepGives
 pub mod StepLoads
 pub mod StepUpdates
@@ -19,7 +23,11 @@ pub mod SplitViews
 pub mod Allowed
 pub mod Changes
 pub mod Stepped
+pub mod Finished
+pub mod SeenLaw
+pub mod SectionLaw
 pub mod AtOpening
+pub mod MadeSeats
 pub mod Without
 pub mod Finalise
 pub mod SlotLinks

@@ -50,7 +50,7 @@ get_push (x ∷ us) u n (suc p) =
     longer : (a b : ℕ) → eqb a b ≡ eqb (suc a) (suc b)
     longer a b = grind (arith, nat_tests)
 
-at_suc : (us : List Update) (p : ℕ) → update_at us (suc p) ≡ slice_get us p
+pub at_suc : (us : List Update) (p : ℕ) → update_at us (suc p) ≡ slice_get us p
 at_suc us p =
     ap (λ (b : Bool). cond b None (slice_get us (suc p - 1))) (not_zero p) ∙ ap (slice_get us) (before p)
   where

@@ -26,6 +26,8 @@ use Rattle.core_rule.specs.LinkLaw.{Kept, KeepsSelections}
 use Rattle.core_rule.specs.Steps.{needs, carries, allowed, allowed_at, after, after_at, views_after, words_after, join_found, KeepsLaw}
 use Rattle.core_rule.specs.SectionRule.{IsIdle}
 use Rattle.core_rule.specs.SpentViews.{IsSpent}
+use Rattle.core_rule.specs.Numbers.{IsSpare}
+use Rattle.core_rule.specs.OwnPlaces.{KnowsPlaces}
 use Rattle.core_rule.proofs.EachKind.{item_from_get, own_section, outside_idle, enter_kept, leave_kept, look_kept}
 use Rattle.core_rule.proofs.Idle.{nameless_idle}
 use Rattle.core_rule.proofs.OneView.{seat_at}
@@ -35,6 +37,8 @@ use Rattle.core_rule.proofs.TwoViews.{split_kept, join_kept}
 use Rattle.core_rule.proofs.LinkLaw.{selections_kept}
 use Rattle.core_rule.proofs.Needed.{never, not_equal, either_true, not_true, none_of}
 use Rattle.core_rule.proofs.SpentViews.{spent_after}
+use Rattle.core_rule.proofs.SectionWords.{spare_after}
+use Rattle.core_rule.proofs.OwnPlaces.{places_after}
 use Rattle.core_rule.proofs.StepGives.{After, kept_same, store_right, load_right}
 use Rattle.core_rule.proofs.StepLoads.{stamp_found, head_found, ts_found, ptr_found, next_found}
 use Rattle.core_rule.proofs.StepUpdates.{prepare_found, finalise_found, raise_found, try_lock_found, unlock_found, load_mark_found, mark_found, load_pair_found}
@@ -160,10 +164,10 @@ pub record AfterTable (t u : Table) : Type 0 where
   pub right : IsRight u
   pub same : KeepsSelections t u
 
-after_of : (z : Layout) (words : List ℕ) (vs : List View) (right : InRule z words vs) (words' : List ℕ) (ws : List View) → After z words vs right words' ws → All IsSpent ws
+after_of : (z : Layout) (words : List ℕ) (vs : List View) (right : InRule z words vs) (words' : List ℕ) (ws : List View) → After z words vs right words' ws → All IsSpent ws → All (IsSpare (memory z words')) ws → All KnowsPlaces ws
     → AfterTable (record { layout = z; words = words; views = vs }) (record { layout = z; words = words'; views = ws })
-after_of z words vs right words' ws gives spent = record {
-  right = record { size = gives.size; meaning = gives.kept.meaning; rule = gives.kept.rule; spent = spent };
+after_of z words vs right words' ws gives spent spare places = record {
+  right = record { size = gives.size; meaning = gives.kept.meaning; rule = gives.kept.rule; spent = spent; spare = spare; places = places };
   same = selections_kept z (memory z words) (memory z words') vs ws right.meaning gives.kept.meaning right.rule gives.kept.rule gives.kept.same;
 }
 
@@ -177,8 +181,11 @@ after_right t e (Some v) (Some w) is found right met =
     let one = and_parts (a && b) c met in
     let two = and_parts a b one.0 in
     let live : v.joined ≡ false = not_true v.joined two.1 in
-    after_of t.layout t.words t.views right _ _ (kind_right t.layout t.words t.views right e.seat v (item_from_get t.views e.seat v is) live e.word w found e.value e.kind e.update two.0 one.1)
+    let at = item_from_get t.views e.seat v is in
+    after_of t.layout t.words t.views right _ _ (kind_right t.layout t.words t.views right e.seat v at live e.word w found e.value e.kind e.update two.0 one.1)
     (spent_after t.layout (held_by t) t.views e.seat v w e.value e.update right.spent live e.kind)
+    (spare_after t.layout t.words t.views right e.seat v at e.word w found e.value e.update e.kind one.1)
+    (places_after t.layout t.words t.views right e.seat v at w e.value e.kind e.update two.0 one.1)
 
 -- the law on an allowed event: the rule holds after it, and what was selected is selected
 pub stepped_right : (t : Table) (e : Event) → IsRight t → allowed t e ≡ true → AfterTable t (after t e)

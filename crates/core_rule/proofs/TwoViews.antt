@@ -37,14 +37,14 @@ use Rattle.core_rule.proofs.Idle.{idle_nodes, idle_entry}
 use Rattle.core_rule.proofs.OneView.{seat_at, idle_marked}
 use Rattle.core_rule.proofs.Joins.{seen_joined, ended_append, ended_own, knows_joined}
 
-count-take-drop : (k n : ℕ) (xs : List ℕ) → count k (drop n xs) + count k (take n xs) ≡ count k xs
+pub count-take-drop : (k n : ℕ) (xs : List ℕ) → count k (drop n xs) + count k (take n xs) ≡ count k xs
 count-take-drop k n xs = omega (arith, count-append k (take n xs) (drop n xs), ap (count k) (take-append-drop n xs))
 
 -- where a view has the entry pending, it works on the node
 abbrev pub WorksIf : ℕ → ℕ → View → Type 0
 WorksIf k e u = 0 < pending_count e u → 0 < count k (work_nodes u)
 
-knows_push : (updates : List Update) (vs : List View) (y : View) → KnowsAll updates vs → KnowsAll updates (vs ++ y ∷ [])
+pub knows_push : (updates : List Update) (vs : List View) (y : View) → KnowsAll updates vs → KnowsAll updates (vs ++ y ∷ [])
 knows_push updates vs y knows = record {
   place = knows.place;
   view = knows.view;
@@ -53,9 +53,8 @@ knows_push updates vs y knows = record {
 }
 
 module _ (z : Layout) (m : Memory) (vs : List View) (g : Meaning) where
-  idle_bare : (y : View) → IsIdle y → y.number ≡ None → y.grace ≡ record { found = []; passed = [] } → IsBare z (linked_by g) HoldsNode (HoldsEntry g.bundles) y
-  idle_bare y idle number grace = record {
-    number = number;
+  pub idle_bare : (y : View) → IsIdle y → y.grace ≡ record { found = []; passed = [] } → IsBare z (linked_by g) HoldsNode (HoldsEntry g.bundles) y
+  idle_bare y idle grace = record {
     grace = grace;
     nodes = λ k holds. omega (arith, holds, ap (count k) (idle_nodes y idle));
     entries = λ e holds. idle_entry g.bundles y e idle holds;
@@ -130,7 +129,7 @@ module _ (z : Layout) (m : Memory) (vs : List View) (g : Meaning) where
         };
         slots = split_slots z (linked_by g) HoldsNode (HoldsEntry g.bundles) vs i v w y at rule.slots
             (record { number = refl; section_word = refl; batch = refl; grace = refl; nodes = λ k h. h; entries = λ e h. h })
-            (idle_bare y idle refl refl) (λ k. count-take-drop k n v.free.nodes) (λ e. omega arith) refl refl refl;
+            (idle_bare y idle refl) (λ k. count-take-drop k n v.free.nodes) (λ e. omega arith) refl refl refl;
         locks = λ k. sum_split (lock_count k) vs i v w y at (omega arith) ∙ rule.locks k;
         tree = rule.tree;
         marks = rule.marks;
@@ -240,7 +239,7 @@ module _ (z : Layout) (m : Memory) (vs : List View) (g : Meaning) where
         };
         slots = join_slots z (linked_by g) HoldsNode (HoldsEntry g.bundles) vs i j v u w spent_view at of other rule.slots
             (record { number = refl; section_word = refl; batch = refl; grace = refl; nodes = λ k h. h; entries = λ e h. h })
-            (idle_bare spent_view idle' refl refl) refl refl refl refl refl;
+            (idle_bare spent_view idle' refl) refl refl refl refl refl;
         locks = λ k. sum_joined (lock_count k) vs i j v u w spent_view at of other (omega (arith, unlocked k)) ∙ rule.locks k;
         tree = rule.tree;
         marks = rule.marks;

@@ -19,6 +19,7 @@ pub mod Sights
 pub mod Meanings
 pub mod Numbers
 pub mod Histories
+pub mod OwnPlaces
 pub mod SectionRule
 pub mod SpentViews
 pub mod Locks
@@ -28,6 +29,8 @@ pub mod FilledRule
 pub mod SeatRule
 pub mod Rule
 pub mod LinkLaw
+pub mod KeepsSeen
+pub mod SectionMoves
 pub mod Remembered
 pub mod Owners
 pub mod ViewNeeds

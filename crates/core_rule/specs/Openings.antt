@@ -1,6 +1,6 @@
 -- The table at the start: all words are 0, each pass has its slots free and its calls left, and behind the
 -- passes stands the emptied first view.
-use Rattle.std.specs.Prelude.{ℕ, zero, suc, ◌+◌, List, [], ◌∷◌, ◌++◌, Some, replicate}
+use Rattle.std.specs.Prelude.{◌≡◌, ℕ, zero, suc, ◌+◌, ◌-◌, ◌≤◌, List, [], ◌∷◌, ◌++◌, Some, false, replicate, take, drop}
 use Rattle.index_words.specs.declared.layout.Layout.{Layout}
 use Rattle.key_map.specs.declared.pass.PassSize.{PassSize}
 use Rattle.index_words.specs.declared.view.View.{View}
@@ -29,3 +29,36 @@ pass_views z number node entry (size ∷ sizes) =
 
 abbrev pub opening : Layout → List PassSize → Table
 opening z sizes = record { layout = z; words = replicate (word_count z) 0; views = pass_views z 0 1 1 sizes ++ empty_view z ∷ [] }
+
+-- the first view has no number, all slots and calls free, and all numbers still to give; the table begins with it alone
+abbrev pub first_view : Layout → View
+first_view z = record (empty_view z) {
+  to_give = from_up 0 z.passes;
+  history = record (empty_view z).history { left = z.calls };
+  free = record { nodes = from_up 1 z.nodes; entries = from_up 1 z.entries };
+}
+
+abbrev pub first_table : Layout → Table
+first_table z = record { layout = z; words = replicate (word_count z) 0; views = first_view z ∷ [] }
+
+-- a seat is made: the next number, and the slots and the calls of a pass, move to a new view
+abbrev pub made_left : View → PassSize → View
+made_left v size = record v {
+  to_give = drop 1 v.to_give;
+  history = record v.history { left = v.history.left - size.calls };
+  free = record { nodes = drop size.nodes v.free.nodes; entries = drop size.entries v.free.entries };
+}
+
+abbrev pub made_right : View → ℕ → PassSize → View
+made_right v number size = record (empty_view v.layout) {
+  number = Some number;
+  history = record (empty_view v.layout).history { left = size.calls };
+  free = record { nodes = take size.nodes v.free.nodes; entries = take size.entries v.free.entries };
+}
+
+-- the view has this number to give next, and so many calls left
+pub record MayMake (v : View) (number : ℕ) (size : PassSize) : Type 0 where
+  pub live : v.joined ≡ false
+  pub rest : List ℕ
+  pub next : v.to_give ≡ number ∷ rest
+  pub calls : size.calls ≤ v.history.left

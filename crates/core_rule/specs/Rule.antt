@@ -11,8 +11,9 @@ use Rattle.index_words.specs.Words.{Memory, memory, word_count}
 use Rattle.core_grace.specs.Holds.{HoldsNode, HoldsEntry}
 use Rattle.core_grace.specs.Slots.{SlotRule}
 use Rattle.core_rule.specs.Meanings.{Meaning, linked_by}
-use Rattle.core_rule.specs.Numbers.{NumbersRight}
+use Rattle.core_rule.specs.Numbers.{NumbersRight, IsSpare}
 use Rattle.core_rule.specs.Histories.{HistoryRight}
+use Rattle.core_rule.specs.OwnPlaces.{KnowsPlaces}
 use Rattle.core_rule.specs.Locks.{lock_count, TreeUnmarked}
 use Rattle.core_rule.specs.BundleRule.{IsLive, IsBundle, pending_count}
 use Rattle.core_rule.specs.SeatRule.{SeatRight}
@@ -31,12 +32,15 @@ pub record Rule (z : Layout) (m : Memory) (vs : List View) (g : Meaning) : Type 
   pub single : (e : ℕ) → sum_by (pending_count e) vs ≤ 1
   pub seats : All (SeatRight z m g) vs
 
--- a table that meets the rule, where nothing is left of a view that was joined into another one
+-- a table that meets the rule, where nothing is left of a view that was joined into another one, no word of a number
+-- that is still to be given is used, and each view knows where its own updates stand
 pub record InRule (z : Layout) (words : List ℕ) (vs : List View) : Type 0 where
   pub size : length words ≡ word_count z
   pub meaning : Meaning
   pub rule : Rule z (memory z words) vs meaning
   pub spent : All IsSpent vs
+  pub spare : All (IsSpare (memory z words)) vs
+  pub places : All KnowsPlaces vs
 
 abbrev pub IsRight : Table → Type 0
 IsRight t = InRule t.layout t.words t.views

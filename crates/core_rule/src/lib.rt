@@ -29,4 +29,5 @@ mod view_laws;
 pub use event::{Event, Kind};
 pub use run::{RunError, run_of};
 pub use state::{State, StepError};
+pub use tree_moves::TreeMove;
 pub use view_laws::{needs_of_views, what_loads_find, where_counts_rise, who_writes_what};

@@ -1,7 +1,8 @@
-ghost use Rattle.std.specs.Prelude.{◌≡◌, IfOk, IfErr, Some, None};
+ghost use Rattle.std.specs.Prelude.{◌≡◌, All, IfOk, IfErr, Some, None};
 ghost use Rattle.index_words.specs.Sizes.{FitTable, layout_of};
 ghost use Rattle.core_rule.specs.Openings.{opening};
 ghost use Rattle.core_rule.specs.Rule.{IsRight};
+ghost use Rattle.core_rule.specs.OwnPlaces.{KnowsPlaces};
 ghost use Rattle.core_rule.specs.TreeLaw.{SpellsMap};
 ghost use Rattle.core_rule.specs.Remembered.{KeepsRemembered, RemembersSelected};
 ghost use Rattle.core_rule.specs.FilledRule.{KnowsFilled};
@@ -33,6 +34,7 @@ pub fn run_of(
     ensures allowed { IfOk result (λ s. first_refused (opening layout.now sizes.now) events.now ≡ None) }
     ensures state { IfOk result (λ s. s ≡ after_all (opening layout.now sizes.now) events.now) }
     ensures rule { IfOk result IsRight }
+    ensures places { IfOk result (λ s. All KnowsPlaces s.views) }
     ensures trees { IfOk result SpellsMap }
     ensures selected { IfOk result RemembersSelected }
     ensures remembered { IfOk result KeepsRemembered }

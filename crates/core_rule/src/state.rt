@@ -1,4 +1,4 @@
-ghost use Rattle.std.specs.Prelude.{◌≡◌, ◌↔◌, ◌≤◌, OnOk, OnErr, IfOk, IsNone, IfSome, true, false, slice_index};
+ghost use Rattle.std.specs.Prelude.{◌≡◌, ◌↔◌, ◌≤◌, All, OnOk, OnErr, IfOk, IsNone, IfSome, true, false, slice_index};
 ghost use Rattle.std.specs.List.{slice_get};
 ghost use Rattle.std.specs.Option.{option_copied};
 ghost use Rattle.index_words.specs.Sizes.{FitTable, layout_of};
@@ -6,6 +6,9 @@ ghost use Rattle.index_words.specs.Words.{word_count};
 ghost use Rattle.core_rule.specs.Steps.{allowed, after};
 ghost use Rattle.core_rule.specs.Rule.{IsRight};
 ghost use Rattle.core_rule.specs.LinkLaw.{KeepsSelections};
+ghost use Rattle.core_rule.specs.KeepsSeen.{KeepsSeen};
+ghost use Rattle.core_rule.specs.SectionMoves.{MovesSections};
+ghost use Rattle.core_rule.specs.OwnPlaces.{KnowsPlaces};
 ghost use Rattle.core_rule.specs.TreeLaw.{SpellsMap};
 ghost use Rattle.core_rule.specs.Remembered.{KeepsRemembered, RemembersSelected};
 ghost use Rattle.core_rule.specs.FilledRule.{KnowsFilled};
@@ -89,6 +92,10 @@ impl State {
     /// without a number; where it finds the link's node unmarked and not locked by another, and the bundle's
     /// head as it was, the link is so in the tree at the stamp. What a seat has filled in its section is what
     /// the word holds, as long as the slot is its own free one, or its own pending entry before the raise.
+    ///
+    /// No event makes what a seat has seen shorter; a load of the stamp makes it the whole history, a split copies
+    /// it, and a join is told what the other seat had seen. An enter takes the own section word from even to odd, a
+    /// leave from odd to even, and no event changes another pass's. Each view knows the places of its own updates.
     pub fn step(&mut self, alloc: Global, event: &Event) -> Result<(), StepError>
         ensures ok { OnOk result ((allowed self.old event.now ≡ true) × (self.new ≡ after self.old event.now)) }
         ensures refused { (result ≡ Err StepError.NotAllowed) ↔ (allowed self.old event.now ≡ false) }
@@ -96,6 +103,9 @@ impl State {
         ensures rule { IsRight self.new }
         ensures owners { KeepsOwners event.now.seat self.old self.new }
         ensures links { KeepsSelections self.old self.new }
+        ensures seen { OnOk result (KeepsSeen self.old event.now self.new) }
+        ensures sections { OnOk result (MovesSections self.old event.now self.new) }
+        ensures places { All KnowsPlaces self.new.views }
         ensures trees { SpellsMap self.new }
         ensures selected { RemembersSelected self.new }
         ensures remembered { KeepsRemembered self.new }

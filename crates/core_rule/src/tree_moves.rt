@@ -14,9 +14,9 @@ use crate::tree_steps::{Heads, Taken, plan_of, whole};
 use index_words::{Field, Items, Layout, NoMemory, Side, Update, View, Word};
 use std::alloc::Global;
 
-/// What a raise moves, beside the number of its entries.
+/// What a raise moves, beside the number of its entries. Contracts of crates above name it.
 #[derive(Drop)]
-pub(crate) struct TreeMove {
+pub struct TreeMove {
     /// The node that the update brings in.
     pub added: Option<u32>,
     /// The entries of that node's bundles.

@@ -1,5 +1,6 @@
 mod counts;
 mod filled;
+mod history;
 mod locks;
 mod needs;
 mod puts;

@@ -19,3 +19,6 @@ returns-clause-remembered c = (laws_of _ c.loop-place.invariant.rule).remembered
 
 pub returns-clause-filled : goal.returns-clause-filled
 returns-clause-filled c = (laws_of _ c.loop-place.invariant.rule).filled
+
+pub returns-clause-places : goal.returns-clause-places
+returns-clause-places c = (laws_of _ c.loop-place.invariant.rule).places

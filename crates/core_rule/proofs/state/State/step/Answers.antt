@@ -1,7 +1,12 @@
 use Rattle.std.proofs.Common.{ℕ, List, sym, subst}
 use Rattle.core_rule.specs.LinkLaw.{KeepsSelections}
+use Rattle.core_rule.specs.KeepsSeen.{KeepsSeen}
+use Rattle.core_rule.specs.SectionMoves.{MovesSections}
 use Rattle.core_rule.specs.Rule.{InRule}
 use Rattle.core_rule.specs.Tables.{Table}
+use Rattle.core_rule.proofs.Finished.{finished_law}
+use Rattle.core_rule.proofs.SeenLaw.{keeps_seen}
+use Rattle.core_rule.proofs.SectionLaw.{moves_sections}
 use Rattle.core_rule.proofs.Laws.{laws_of, laws_same, laws_refused}
 use Rattle.core_rule.specs.Owners.{KeepsOwners}
 use Rattle.core_rule.proofs.StepOwners.{owners_finished, owners_refused, owners_stay}
@@ -125,3 +130,35 @@ returns-then-is_err-clause-filled c =
 
 pub returns-clause-filled : goal.returns-clause-filled
 returns-clause-filled c = (laws_of _ (returns-clause-rule c)).filled
+
+pub returns-clause-seen : goal.returns-clause-seen
+returns-clause-seen c =
+    subst (λ (u : Table). KeepsSeen u c.args.event.now (record { layout = c.self.inside.layout; words = c.store.new.words.items; views = c.change.new.views.items })) c.self.view_is
+    (finished_law KeepsSeen keeps_seen
+    c.self.inside.layout c.self.inside.words.items c.as_slice.result.now c.as_slice-3.result.now c.self.inside.views.items c.as_slice-2.result.now c.args.event.now c.in-Some.word
+    c.is_allowed.result c.is_err.result c.change.result c.store.new.words.items c.change.new.views.items
+    c.self.invariant c.in-Some.ensures.value c.as_slice.ensures.value c.as_slice-2.ensures.value c.is_allowed.ensures c.if-not-is_allowed.false
+    c.as_slice-3.ensures.value c.is_err.ensures.value c.if-is_err.false c.change.ensures.ok c.store.ensures)
+
+pub returns-clause-sections : goal.returns-clause-sections
+returns-clause-sections c =
+    subst (λ (u : Table). MovesSections u c.args.event.now (record { layout = c.self.inside.layout; words = c.store.new.words.items; views = c.change.new.views.items })) c.self.view_is
+    (finished_law MovesSections moves_sections
+    c.self.inside.layout c.self.inside.words.items c.as_slice.result.now c.as_slice-3.result.now c.self.inside.views.items c.as_slice-2.result.now c.args.event.now c.in-Some.word
+    c.is_allowed.result c.is_err.result c.change.result c.store.new.words.items c.change.new.views.items
+    c.self.invariant c.in-Some.ensures.value c.as_slice.ensures.value c.as_slice-2.ensures.value c.is_allowed.ensures c.if-not-is_allowed.false
+    c.as_slice-3.ensures.value c.is_err.ensures.value c.if-is_err.false c.change.ensures.ok c.store.ensures)
+
+pub returns-in_default-clause-places : goal.returns-in_default-clause-places
+returns-in_default-clause-places c = (laws_same _ c.args.self.now c.self.invariant c.self.view_is).places
+
+pub returns-then-not-is_allowed-clause-places : goal.returns-then-not-is_allowed-clause-places
+returns-then-not-is_allowed-clause-places c = (laws_same _ c.args.self.now c.self.invariant c.self.view_is).places
+
+pub returns-then-is_err-clause-places : goal.returns-then-is_err-clause-places
+returns-then-is_err-clause-places c =
+    (laws_refused c.self.inside.layout c.self.inside.words.items c.self.inside.views.items c.change.new.views.items c.is_err.result c.change.result
+    c.self.invariant c.is_err.ensures.value c.if-is_err.true c.change.ensures.err).places
+
+pub returns-clause-places : goal.returns-clause-places
+returns-clause-places c = (laws_of _ (returns-clause-rule c)).places
