@@ -1,14 +1,11 @@
 -- What a seat knows from its view where a count is to rise.
-use Rattle.std.proofs.Common.{◌≡◌, ◌≢◌, ℕ, ◌+◌, ◌<◌, ◌≤◌, ◌⊎◌, cond, List, [], ◌∷◌, Bool, true, false, eqb, arith, refl, ap, ◌∙◌, sym, subst, inl, inr, Option, Some, None}
-use Rattle.std.specs.Prelude.{IfSome, slice_index}
-use Rattle.std.specs.List.{sum_by}
+use Rattle.std.proofs.Common.{◌≡◌, ◌≢◌, ℕ, ◌<◌, ◌≤◌, cond, List, [], ◌∷◌, arith, refl, ap, ◌∙◌, sym, subst, inl, inr, Option, Some, None}
 use Rattle.std.proofs.lemmas.Bool.{eq-eqb, cases_lt}
 use Rattle.index_words.specs.declared.layout.Layout.{Layout}
 use Rattle.index_words.specs.declared.side.Side.{Side}
 use Rattle.index_words.specs.declared.view.View.{View}
 use Rattle.index_words.specs.declared.view.reading.Link.{Link}
 use Rattle.index_words.specs.declared.view.reading.Reading.{Reading}
-use Rattle.index_words.specs.declared.view.reading.LinkSource.{LinkSource}
 use Rattle.index_words.specs.declared.view.reading.LinkSource.TheVariants.{Bundle}
 use Rattle.index_words.specs.declared.word.Field.TheVariants.{Head}
 use Rattle.index_words.specs.declared.word.Part.TheVariants.{Child, Stamp as Number, Next}
@@ -19,13 +16,13 @@ use Rattle.key_map.specs.Lists.{count, Every, IsItem}
 use Rattle.core_grace.specs.Slots.{own, nodes_of}
 use Rattle.core_links.specs.Bundle.{IsChain, select}
 use Rattle.core_links.proofs.Chains.{select-here}
-use Rattle.core_rule.specs.Counts.{RemembersOther, OtherHeadLaw, TakenLaw, TreeNotRetiredLaw}
-use Rattle.core_rule.specs.Tables.{Table, held_by}
+use Rattle.core_rule.specs.Counts.{OtherHeadLaw, TakenLaw, TreeNotRetiredLaw}
+use Rattle.core_rule.specs.Tables.{held_by}
 use Rattle.core_rule.specs.BundleRule.{IsLive, IsNumbered}
 use Rattle.core_rule.specs.Histories.{own_place, place_count}
 use Rattle.core_rule.specs.Meanings.{Meaning}
 use Rattle.core_rule.specs.Readers.{IsReachable, LinkRight, SourceRight}
-use Rattle.core_rule.specs.Rule.{Rule, InRule, IsRight}
+use Rattle.core_rule.specs.Rule.{Rule}
 use Rattle.core_rule.specs.SeatRule.{SeatRight}
 use Rattle.core_rule.specs.Versions.{slots_of}
 use Rattle.core_rule.proofs.Frames.{every_at}

@@ -1,7 +1,6 @@
 -- Where the counts of a view rise.
-use Rattle.std.proofs.Common.{◌≡◌, ◌≢◌, ℕ, zero, suc, ◌+◌, ◌<◌, ◌≤◌, ◌⊎◌, cond, List, [], ◌∷◌, ◌++◌, length, Bool, true, false, not, eqb, ltb, leb, ◌&&◌, ◌||◌, set, arith, refl, ap, ◌∙◌, sym, subst, inl, inr, slice_index, Option, Some, None, is_none}
-use Rattle.std.specs.Prelude.{nat_lt, nat_le}
-use Rattle.std.specs.List.{slice_get, list_any, sum_by, All}
+use Rattle.std.proofs.Common.{◌≡◌, ◌≢◌, ℕ, zero, suc, ◌+◌, ◌<◌, ◌⊎◌, cond, List, [], ◌∷◌, ◌++◌, Bool, true, false, not, eqb, ◌&&◌, ◌||◌, set, arith, refl, ap, ◌∙◌, sym, subst, inl, inr, slice_index, Option, Some, None}
+use Rattle.std.specs.List.{slice_get, list_any}
 use Rattle.std.proofs.lemmas.Bool.{and_parts, eqb-true, eq-eqb, ne_eqb}
 use Rattle.std.proofs.lemmas.Bool.Decides.{nat_tests}
 use Rattle.std.proofs.lemmas.List.{get_or_append_left, length-append}
@@ -22,12 +21,11 @@ use Rattle.index_words.specs.declared.word.Part.TheVariants.{Child, Stamp as Num
 use Rattle.index_words.specs.declared.word.Word.{Word}
 use Rattle.index_words.specs.declared.word.Word.TheVariants.{Stamp, Section, Announced, Node, Entry}
 use Rattle.index_words.specs.Views.{no_slots, no_looks, spent_view}
-use Rattle.index_words.specs.Words.{Memory, memory, word_at, same_side}
+use Rattle.index_words.specs.Words.{Memory, word_at, same_side}
 use Rattle.index_words.proofs.Seats.{item_set, beside_item}
 use Rattle.key_map.specs.Lists.{count, has, IsItem}
 use Rattle.key_map.proofs.Counting.{has-count, count-has}
-use Rattle.core_grace.specs.Batches.{batch_taken, batch_freed, settled, looked, looked_at, all_passed, is_empty, is_number}
-use Rattle.core_grace.specs.Holds.{tree_slots}
+use Rattle.core_grace.specs.Batches.{batch_taken, batch_freed, settled, looked, looked_at, all_passed, is_empty}
 use Rattle.core_grace.specs.Sections.{is_even}
 use Rattle.core_rule.specs.declared.event.Event.{Event}
 use Rattle.core_rule.specs.declared.event.Kind.{Kind}
@@ -36,15 +34,14 @@ use Rattle.core_rule.specs.FillMoves.{filled_view, filled_with, with_filled}
 use Rattle.core_rule.specs.Counts.{MeetsLock, FindsNoNumber, RemembersOther, FindsOtherHead, FindsMark, FixesPlace, RisesWhere, CountsRise, CountsLaw}
 use Rattle.core_rule.specs.Tables.{Table, held_by}
 use Rattle.core_rule.specs.Locks.{lock_count}
-use Rattle.core_rule.specs.LoadMoves.{locks, risen, raised_if, has_moved, has_other_source, stored_by, head_loaded, ts_loaded, next_at, longest}
-use Rattle.core_rule.specs.LoadNeeds.{is_part, is_reachable, reads_tree, stands_at, may_load_head, may_load_field, may_load_part}
+use Rattle.core_rule.specs.LoadMoves.{locks, raised_if, has_moved, has_other_source, stored_by, head_loaded, ts_loaded, next_at}
+use Rattle.core_rule.specs.LoadNeeds.{is_reachable, reads_tree, may_load_head, may_load_field, may_load_part}
 use Rattle.core_rule.specs.LockMoves.{finds_mark, mark_loaded, tried, locked_view, met_lock, names_other}
-use Rattle.core_rule.specs.LockNeeds.{is_mark, names_pass, may_try_lock, may_load_mark}
+use Rattle.core_rule.specs.LockNeeds.{names_pass, may_try_lock, may_load_mark}
 use Rattle.core_rule.specs.Moves.{in_section, joined_with, split_left, split_right}
 use Rattle.core_rule.specs.Needs.{is_lock, is_stamp, may_join, may_join_found}
-use Rattle.core_rule.specs.Readers.{IsLocked}
-use Rattle.core_rule.specs.Rule.{InRule, IsRight}
-use Rattle.core_rule.specs.Steps.{needs, carries, allowed, allowed_at, after, after_at, view_after, views_after, join_found, look_from, head_at, head_from, ts_from, ptr_from, next_from, prepared_at, prepared_from, raised_from, finalised_from, tried_from, unlocked_from, mark_from, marked_from, pair_from}
+use Rattle.core_rule.specs.Rule.{IsRight}
+use Rattle.core_rule.specs.Steps.{needs, carries, allowed_at, after_at, view_after, views_after, join_found, look_from, head_at, head_from, ts_from, ptr_from, next_from, prepared_at, prepared_from, raised_from, finalised_from, tried_from, unlocked_from, mark_from, marked_from, pair_from}
 use Rattle.core_rule.specs.ViewNeeds.{IsInReach}
 use Rattle.core_rule.proofs.EachKind.{item_from_get}
 use Rattle.core_rule.proofs.Frames.{same_item}

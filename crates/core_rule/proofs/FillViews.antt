@@ -1,5 +1,5 @@
 -- A fill keeps the rule: the word of a free slot is stored, and the view knows what it holds.
-use Rattle.std.proofs.Common.{◌≡◌, ℕ, cond, List, ◌∷◌, ◌++◌, Bool, true, false, set, refl, ap, ◌∙◌, sym, subst, inl}
+use Rattle.std.proofs.Common.{◌≡◌, ℕ, cond, List, Bool, true, false, set, refl, ap, sym, subst, inl}
 use Rattle.std.proofs.lemmas.List.{set-set}
 use Rattle.index_words.specs.declared.layout.Layout.{Layout}
 use Rattle.index_words.specs.declared.view.View.{View}

@@ -13,7 +13,7 @@ use Rattle.index_words.specs.declared.view.update.HeldNext.{HeldNext}
 use Rattle.index_words.specs.declared.view.update.Updating.{Updating}
 use Rattle.index_words.specs.declared.view.reading.Place.{Place}
 use Rattle.index_words.specs.declared.view.reading.Place.TheVariants.{Nowhere, Entry as AtEntry, Node as AtNode, Gap}
-use Rattle.index_words.specs.declared.word.Field.TheVariants.{Mark, Head}
+use Rattle.index_words.specs.declared.word.Field.TheVariants.{Head}
 use Rattle.index_words.specs.declared.word.Part.TheVariants.{Stamp as Number}
 use Rattle.index_words.specs.declared.word.Word.{Word}
 use Rattle.index_words.specs.declared.word.Word.TheVariants.{Stamp, Section, Announced, Node, Entry}

@@ -1,20 +1,18 @@
 -- What the words are of the tree that a seat reads.
-use Rattle.std.proofs.Common.{◌≡◌, ℕ, zero, suc, ◌+◌, ◌<◌, ◌≤◌, ◌⊎◌, cond, List, [], ◌∷◌, ◌++◌, length, take, drop, Bool, true, false, not, eqb, ltb, leb, ◌&&◌, arith, refl, ap, ◌∙◌, sym, subst, inl, inr, Option, Some, None, map, is_some}
+use Rattle.std.proofs.Common.{◌≡◌, ℕ, zero, suc, ◌+◌, ◌<◌, ◌≤◌, ◌⊎◌, cond, List, [], ◌∷◌, ◌++◌, length, take, drop, Bool, true, false, not, eqb, ◌&&◌, arith, refl, ap, ◌∙◌, sym, subst, inl, inr, Option, Some, map, is_some}
 use Rattle.std.specs.Prelude.{IfSome, nat_lt, nat_le}
-use Rattle.std.proofs.lemmas.Bool.{eqb-true, cases_lt}
+use Rattle.std.proofs.lemmas.Bool.{cases_lt}
 use Rattle.std.proofs.lemmas.Bool.Decides.{nat_tests, eqb_tells}
 use Rattle.std.proofs.lemmas.List.{take-append-drop}
 use Rattle.key_map.specs.declared.update.Update.{Update}
 use Rattle.key_map.specs.History.{after}
-use Rattle.key_map.specs.Lists.{count, has, Every, IsItem}
+use Rattle.key_map.specs.Lists.{count, Every, IsItem}
 use Rattle.key_map.proofs.Counting.{count-append}
 use Rattle.key_map.proofs.HistoryLaws.{after-append}
-use Rattle.index_words.specs.declared.layout.Layout.{Layout}
 use Rattle.index_words.specs.declared.side.Side.{Side}
 use Rattle.index_words.specs.declared.side.Side.TheVariants.{Left, Right}
 use Rattle.index_words.specs.declared.view.View.{View}
 use Rattle.index_words.specs.declared.view.reading.Link.{Link}
-use Rattle.index_words.specs.declared.view.reading.LinkSource.{LinkSource}
 use Rattle.index_words.specs.declared.view.reading.LinkSource.TheVariants.{Bundle}
 use Rattle.index_words.specs.declared.view.reading.Place.TheVariants.{Entry as AtEntry}
 use Rattle.index_words.specs.declared.view.reading.TreeNode.{TreeNode}
@@ -29,13 +27,11 @@ use Rattle.core_trees.specs.NamedTree.{NamedTree, Null, Branch, IsLawful, conten
 use Rattle.core_trees.specs.SpelledAt.{graph_at}
 use Rattle.core_trees.specs.SpelledTree.{Graph, IsSpelled}
 use Rattle.core_rule.specs.BundleRule.{IsLive, Falls}
-use Rattle.core_rule.specs.Found.{child_on, LeadsTo, FindsPair, FindsHead, FindsChild, FindsNext, ReadsTree, ReadLaw, FindsStamp, StampLaw, BundleLengthLaw}
+use Rattle.core_rule.specs.Found.{child_on, LeadsTo, FindsPair, FindsHead, FindsChild, FindsNext, ReadsTree, ReadLaw, StampLaw, BundleLengthLaw}
 use Rattle.core_rule.specs.LinkLaw.{IsBundleOf}
-use Rattle.core_rule.specs.LoadMoves.{is_above, is_selected, locks, longest}
-use Rattle.core_rule.specs.Locks.{lock_count}
+use Rattle.core_rule.specs.LoadMoves.{is_above, is_selected, longest}
 use Rattle.core_rule.specs.Meanings.{Meaning}
 use Rattle.core_rule.specs.Readers.{IsLocked, LinkRight, SourceRight, StandsAt, IsPassed, PlaceRight, IsReachable}
-use Rattle.core_rule.specs.Remembered.{IsSelectedAt}
 use Rattle.core_rule.specs.Rule.{Rule, IsRight}
 use Rattle.core_rule.specs.SeatRule.{SeatRight}
 use Rattle.core_rule.specs.SpelledNow.{tree_now}
@@ -43,7 +39,7 @@ use Rattle.core_rule.specs.Tables.{Table, held_by}
 use Rattle.core_rule.specs.UpdateMoves.{without}
 use Rattle.core_rule.specs.Versions.{top_slot, tree_nodes, slots_of, ReadsVersion}
 use Rattle.core_rule.specs.ViewNeeds.{IsInReach}
-use Rattle.core_rule.proofs.Fills.{chain_head, count-middle}
+use Rattle.core_rule.proofs.Fills.{chain_head}
 use Rattle.core_rule.proofs.Frames.{one_counted}
 use Rattle.core_rule.proofs.HeadLoads.{longest_is}
 use Rattle.core_rule.proofs.LinkLaw.{selection_is}

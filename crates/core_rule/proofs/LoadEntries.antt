@@ -10,7 +10,7 @@ use Rattle.index_words.specs.declared.view.reading.Reading.{Reading}
 use Rattle.index_words.specs.declared.view.reading.Place.{Place}
 use Rattle.index_words.specs.declared.view.reading.Place.TheVariants.{Nowhere, Entry as AtEntry}
 use Rattle.index_words.specs.declared.view.update.HeldNode.{HeldNode}
-use Rattle.index_words.specs.declared.word.Field.TheVariants.{Mark, Head}
+use Rattle.index_words.specs.declared.word.Field.TheVariants.{Head}
 use Rattle.index_words.specs.declared.word.Part.TheVariants.{Child, Stamp as Number, Next}
 use Rattle.index_words.specs.declared.word.Word.TheVariants.{Stamp, Node, Entry}
 use Rattle.index_words.specs.Words.{Memory}

@@ -1,9 +1,8 @@
 -- Who writes what: each kind of event stores to a word of the seat's own, or to the stamp.
-use Rattle.std.proofs.Common.{◌≡◌, ◌≢◌, ℕ, ◌+◌, ◌<◌, ◌≤◌, ◌⊎◌, cond, List, length, Bool, true, false, not, eqb, ◌&&◌, ◌||◌, arith, set, refl, ap, ◌∙◌, sym, subst, slice_index, inl, inr, Option, Some, None}
+use Rattle.std.proofs.Common.{◌≡◌, ◌≢◌, ℕ, ◌+◌, ◌<◌, ◌≤◌, ◌⊎◌, cond, List, length, Bool, true, false, not, eqb, ◌&&◌, arith, set, refl, ap, ◌∙◌, sym, subst, slice_index, inl, inr, Option, Some, None}
 use Rattle.std.specs.List.{slice_get, sum_by}
 use Rattle.std.proofs.lemmas.Bool.{and_parts, eqb-true, eq-eqb}
 use Rattle.index_words.specs.declared.layout.Layout.{Layout}
-use Rattle.index_words.specs.declared.side.Side.{Side}
 use Rattle.key_map.specs.declared.update.Update.{Update}
 use Rattle.index_words.specs.declared.view.View.{View}
 use Rattle.index_words.specs.declared.word.Field.{Field}
@@ -26,24 +25,23 @@ use Rattle.core_rule.specs.declared.event.Kind.{Kind}
 use Rattle.core_rule.specs.declared.event.Kind.TheVariants.{MakeSeat, SplitSeat, JoinSeat, Enter, Leave, LookSec, Fill, LoadStamp, LoadHead, LoadTs, LoadPtr, LoadNext, Prepare, Raise, Finalise, TryLock, Unlock, LoadMark, Mark as MarkNode, LoadKeyOrVal}
 use Rattle.core_rule.specs.Tables.{Table, held_by}
 use Rattle.core_rule.specs.Meanings.{Meaning}
-use Rattle.core_rule.specs.BundleRule.{IsLive, IsPending, pending_count}
+use Rattle.core_rule.specs.BundleRule.{IsPending, pending_count}
 use Rattle.core_rule.specs.Locks.{lock_count}
 use Rattle.core_rule.specs.Readers.{IsLocked, IsReachable}
 use Rattle.core_rule.specs.Rule.{Rule, InRule, IsRight}
-use Rattle.core_rule.specs.LinkLaw.{IsBundleOf}
 use Rattle.core_rule.specs.LoadMoves.{locks}
 use Rattle.core_rule.specs.LoadNeeds.{is_part, is_reachable}
 use Rattle.core_rule.specs.LockNeeds.{is_mark, names_pass, may_try_lock, may_unlock, may_mark}
-use Rattle.core_rule.specs.Needs.{is_lock, is_outside, is_own_section, is_stamp, nothing_pending, may_enter, may_leave, may_fill}
-use Rattle.core_rule.specs.UpdateNeeds.{may_prepare_head, may_prepare, may_raise, may_finalise, may_raise_number, is_raise_of}
+use Rattle.core_rule.specs.Needs.{is_lock, is_outside, is_own_section, nothing_pending, may_enter, may_leave, may_fill}
+use Rattle.core_rule.specs.UpdateNeeds.{may_prepare_head, may_prepare, may_raise, may_finalise}
 use Rattle.core_rule.specs.Owners.{HasFreeNode, HasFreeEntry, IsInLockedBundle, IsSteadyFor, IsSteadyField, IsSteadyPart, IsFixed, KeepsOwners, OwnersLaw}
-use Rattle.core_rule.specs.Steps.{needs, carries, allowed, allowed_at, after, after_at, words_after}
-use Rattle.core_rule.proofs.Frames.{Term, term_of, same_item, every_at}
+use Rattle.core_rule.specs.Steps.{needs, carries, allowed_at, after_at, words_after}
+use Rattle.core_rule.proofs.Frames.{every_at}
 use Rattle.core_rule.proofs.EachKind.{item_from_get, own_section}
 use Rattle.core_rule.proofs.Idle.{number_apart}
 use Rattle.core_rule.proofs.OneView.{seat_at}
 use Rattle.core_rule.proofs.Owned.{once_node, once_entry, held_live, not_in_bundle, in_entries, free_not_live, reachable_live}
-use Rattle.core_rule.proofs.Fills.{held_holds, work_holds, head_apart}
+use Rattle.core_rule.proofs.Fills.{work_holds, head_apart}
 use Rattle.core_rule.proofs.Locked.{locked_apart, locked_live}
 use Rattle.core_rule.proofs.LoadEntries.{locks-count}
 use Rattle.core_rule.proofs.Needed.{never, not_true, node_there, reach_is, ready_is}

@@ -18,7 +18,7 @@ use Rattle.index_words.specs.declared.view.update.HeldNode.{HeldNode}
 use Rattle.index_words.specs.declared.view.update.Updating.{Updating}
 use Rattle.index_words.specs.declared.word.Field.TheVariants.{Mark, Head}
 use Rattle.index_words.specs.declared.word.Part.{Part}
-use Rattle.index_words.specs.declared.word.Part.TheVariants.{Child, Stamp as Number, Next}
+use Rattle.index_words.specs.declared.word.Part.TheVariants.{Child, Stamp as Number}
 use Rattle.index_words.specs.declared.word.Word.{Word}
 use Rattle.index_words.specs.declared.word.Word.TheVariants.{Stamp, Section, Announced, Node, Entry}
 use Rattle.index_words.specs.Words.{Memory, written, same_side}

@@ -1,14 +1,14 @@
 -- A seat whose view meets the need of an event may make it, in every table that meets the rule.
-use Rattle.std.proofs.Common.{◌≡◌, ◌≢◌, ℕ, zero, suc, ◌+◌, ◌-◌, ◌*◌, ◌/◌, ◌%◌, ◌<◌, ◌≤◌, ◌⊎◌, cond, List, [], ◌∷◌, length, Bool, true, false, not, eqb, leb, ltb, ◌&&◌, ◌||◌, arith, refl, ap, ◌∙◌, sym, subst, inl, inr, Option, Some, None, is_none, find}
+use Rattle.std.proofs.Common.{◌≡◌, ◌≢◌, ℕ, ◌+◌, ◌-◌, ◌/◌, ◌%◌, ◌<◌, ◌≤◌, ◌⊎◌, cond, List, [], ◌∷◌, length, Bool, true, false, not, eqb, ◌&&◌, ◌||◌, arith, refl, ap, ◌∙◌, sym, subst, inl, inr, Option, Some, None, is_none, find}
 use Rattle.std.specs.Prelude.{IfSome, nat_lt, nat_le}
-use Rattle.std.specs.List.{slice_get, list_all, list_any, All}
+use Rattle.std.specs.List.{slice_get, list_all}
 use Rattle.std.proofs.lemmas.Bool.{eqb-true, eq-eqb, ne_eqb}
 use Rattle.std.proofs.lemmas.Bool.Decides.{nat_tests}
 use Rattle.index_words.specs.declared.layout.Layout.{Layout}
 use Rattle.index_words.specs.declared.side.Side.{Side}
 use Rattle.index_words.specs.declared.view.View.{View}
 use Rattle.index_words.specs.declared.view.reading.Place.{Place}
-use Rattle.index_words.specs.declared.view.reading.Place.TheVariants.{Nowhere, Entry as AtEntry}
+use Rattle.index_words.specs.declared.view.reading.Place.TheVariants.{Entry as AtEntry}
 use Rattle.index_words.specs.declared.view.reading.TreeNode.{TreeNode}
 use Rattle.index_words.specs.declared.view.update.HeldNode.{HeldNode}
 use Rattle.index_words.specs.declared.view.update.LoadedHead.{LoadedHead}
@@ -41,13 +41,13 @@ use Rattle.core_rule.specs.SpentViews.{IsSpent}
 use Rattle.core_rule.specs.LoadMoves.{locks, is_above}
 use Rattle.core_rule.specs.LoadNeeds.{is_reachable, reads_tree, stands_at, may_go_on, is_part}
 use Rattle.core_rule.specs.LockNeeds.{is_pair, names_pass}
-use Rattle.core_rule.specs.Needs.{is_lock, is_outside, is_marked_node, is_own_section, is_stamp, nothing_pending, may_join_found, may_join_view}
+use Rattle.core_rule.specs.Needs.{is_lock, is_outside, is_marked_node, is_own_section, is_stamp, nothing_pending, may_join_found}
 use Rattle.core_rule.specs.Owners.{HasFreeNode, HasFreeEntry}
 use Rattle.core_rule.specs.Steps.{needs, allowed, allowed_at, carries}
 use Rattle.core_rule.specs.FilledRule.{FilledRight}
 use Rattle.core_rule.specs.UpdateNeeds.{held_at, is_next_of, is_ready, is_slot_number, is_written, side_of}
 use Rattle.core_rule.proofs.Remembered.{every_item}
-use Rattle.core_rule.specs.ViewNeeds.{May, event_at, IsOutside, IsInside, IsInReach, IsAtEntry, MayEnter, MayLeave, MayLook, MayFill, MayLoadStamp, MayFix, MayReadHead, MayReadNumber, MayReadChild, MayReadNext, HasFilled, MayPrepare, MayFinalise, MayLock, MayUnlock, MayReadMark, MayReadPair, MayMark, MaySplit, MayJoin, EnterLaw, LeaveLaw, LookLaw, FillLaw, LoadStampLaw, FixLaw, ReadHeadLaw, ReadNumberLaw, ReadChildLaw, ReadNextLaw, PrepareLaw, FinaliseLaw, LockLaw, UnlockLaw, ReadMarkLaw, MarkLaw, ReadKeyLaw, ReadValLaw, SplitLaw, JoinLaw}
+use Rattle.core_rule.specs.ViewNeeds.{event_at, IsOutside, IsInside, IsInReach, IsAtEntry, MayEnter, MayLeave, MayLook, MayFill, MayReadHead, MayReadNumber, MayReadChild, MayReadNext, HasFilled, MayPrepare, MayFinalise, MayLock, MayUnlock, MayReadMark, MayReadPair, MayMark, MaySplit, MayJoin, EnterLaw, LeaveLaw, LookLaw, FillLaw, LoadStampLaw, FixLaw, ReadHeadLaw, ReadNumberLaw, ReadChildLaw, ReadNextLaw, PrepareLaw, FinaliseLaw, LockLaw, UnlockLaw, ReadMarkLaw, MarkLaw, ReadKeyLaw, ReadValLaw, SplitLaw, JoinLaw}
 use Rattle.core_rule.proofs.EachKind.{item_from_get}
 use Rattle.core_rule.proofs.Frames.{every_at, every_map}
 use Rattle.core_rule.proofs.Fills.{work_holds, chain_head}

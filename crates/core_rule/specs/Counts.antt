@@ -8,7 +8,7 @@ use Rattle.index_words.specs.declared.view.reading.Link.{Link}
 use Rattle.index_words.specs.declared.view.reading.LinkSource.TheVariants.{Bundle}
 use Rattle.index_words.specs.declared.word.Field.TheVariants.{Mark, Head}
 use Rattle.index_words.specs.declared.word.Part.TheVariants.{Stamp as Number}
-use Rattle.index_words.specs.declared.word.Word.TheVariants.{Stamp, Node, Entry}
+use Rattle.index_words.specs.declared.word.Word.TheVariants.{Node, Entry}
 use Rattle.index_words.specs.Words.{word_at}
 use Rattle.key_map.specs.Lists.{count, Every, IsItem}
 use Rattle.core_rule.specs.declared.event.Event.{Event}

@@ -1,9 +1,7 @@
 -- What a load finds: what the words are of the links and of the nodes of the tree that a seat reads.
 use Rattle.std.specs.Prelude.{◌≡◌, ℕ, ◌<◌, ◌≤◌, List, length, take, true, Option, Some}
-use Rattle.key_map.specs.declared.update.Update.{Update}
 use Rattle.key_map.specs.History.{after}
-use Rattle.key_map.specs.Lists.{count, Every, IsItem}
-use Rattle.index_words.specs.declared.layout.Layout.{Layout}
+use Rattle.key_map.specs.Lists.{count, IsItem}
 use Rattle.index_words.specs.declared.side.Side.{Side}
 use Rattle.index_words.specs.declared.side.Side.TheVariants.{Left, Right}
 use Rattle.index_words.specs.declared.view.View.{View}
@@ -12,7 +10,7 @@ use Rattle.index_words.specs.declared.view.reading.LinkSource.TheVariants.{Bundl
 use Rattle.index_words.specs.declared.view.reading.Place.TheVariants.{Entry as AtEntry}
 use Rattle.index_words.specs.declared.view.reading.TreeNode.{TreeNode}
 use Rattle.index_words.specs.declared.word.Field.TheVariants.{Key, Val, Head}
-use Rattle.index_words.specs.declared.word.Part.TheVariants.{Child, Stamp as Number, Next}
+use Rattle.index_words.specs.declared.word.Part.TheVariants.{Child, Next}
 use Rattle.index_words.specs.declared.word.Word.TheVariants.{Stamp, Node, Entry}
 use Rattle.core_trees.specs.NamedTree.{NamedTree, IsLawful, contents}
 use Rattle.core_rule.specs.BundleRule.{IsLive}

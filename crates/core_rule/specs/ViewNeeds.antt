@@ -11,7 +11,7 @@ use Rattle.index_words.specs.declared.view.update.LoadedHead.{LoadedHead}
 use Rattle.index_words.specs.declared.word.Field.TheVariants.{Key, Val, Lock, Mark, Head}
 use Rattle.index_words.specs.declared.word.Part.TheVariants.{Child, Stamp as Number, Next}
 use Rattle.index_words.specs.declared.word.Word.{Word}
-use Rattle.index_words.specs.declared.word.Word.TheVariants.{Stamp, Section, Announced, Node, Entry}
+use Rattle.index_words.specs.declared.word.Word.TheVariants.{Stamp, Section, Node, Entry}
 use Rattle.index_words.specs.Words.{address}
 use Rattle.key_map.specs.Lists.{count, Every, IsItem}
 use Rattle.core_grace.specs.Batches.{is_empty}
@@ -21,7 +21,6 @@ use Rattle.core_rule.specs.declared.event.Event.{Event}
 use Rattle.core_rule.specs.declared.event.Kind.{Kind}
 use Rattle.core_rule.specs.declared.event.Kind.TheVariants.{SplitSeat, JoinSeat, Enter, Leave, LookSec, Fill, LoadStamp, LoadHead, LoadTs, LoadPtr, LoadNext, Prepare, Finalise, TryLock, Unlock, LoadMark, Mark as MarkNode, LoadKeyOrVal}
 use Rattle.core_rule.specs.Needs.{is_lock}
-use Rattle.core_rule.specs.LockNeeds.{is_pair}
 use Rattle.core_rule.specs.LoadMoves.{is_above}
 use Rattle.core_rule.specs.Owners.{HasFreeNode, HasFreeEntry}
 use Rattle.core_rule.specs.Readers.{IsLocked}
