@@ -80,3 +80,4 @@ pub mod Counts
 pub mod CountFacts
 pub mod OneTree
 pub mod Found
+pub mod SeatLaws

@@ -39,6 +39,15 @@ given_once : (k n : ℕ) (give rest : List ℕ) → give ≡ n ∷ rest → coun
 given_once k n give rest is = subst (λ (xs : List ℕ). count k (drop 1 xs) + count k (n ∷ []) ≡ count k xs) (sym is) (omega arith)
 
 module _ (z : Layout) (m : Memory) (vs : List View) (g : Meaning) where
+  -- a word of what is left is one of what was there
+  made_own : (v : View) (size : PassSize) (w : Word) → IsOwnSlotWord (made_left v size).free v.update w → IsOwnSlotWord v.free v.update w
+  made_own v size (Node f k) own = (own.0, omega (arith, own.1, count-take-drop k size.nodes v.free.nodes))
+  made_own v size (Entry p e) (inl free) = inl (omega (arith, free, count-take-drop e size.entries v.free.entries))
+  made_own v size (Entry p e) (inr pending) = inr pending
+  made_own v size Stamp own = absurd own
+  made_own v size (Section i) own = absurd own
+  made_own v size (Announced i) own = absurd own
+
   made_pair : (v : View) (n : ℕ) (size : PassSize) → SeatRight z m g v → v.joined ≡ false → (m (Section n) ≡ 0) × (m (Announced n) ≡ 0)
       → SeatRight z m g (made_left v size) × SeatRight z m g (made_right v n size)
   made_pair v n size seat live none = (
@@ -47,7 +56,8 @@ module _ (z : Layout) (m : Memory) (vs : List View) (g : Meaning) where
       section = record {
         section = seat.section.section;
         announced = seat.section.announced;
-        outside = λ even. let idle = seat.section.outside even in record { reading = idle.reading; held = idle.held; update = idle.update };
+        outside = seat.section.outside;
+        unlocked = seat.section.unlocked;
         done = seat.section.done;
       };
       seen = record { seen = seat.seen.seen; told = seat.seen.told; known = seat.seen.known; found = seat.seen.found; given = seat.seen.given };
@@ -59,11 +69,12 @@ module _ (z : Layout) (m : Memory) (vs : List View) (g : Meaning) where
       marks = record { retired = seat.marks.retired; batch = seat.marks.batch; taken = seat.marks.taken };
       pending = seat.pending;
       place = seat.place;
+      filled = every_filled m m v.free (made_left v size).free v.update v.update v.reading.filled (made_own v size) (λ w own. refl) seat.filled;
       links = seat.links;
     },
     record {
       layout = λ _. seat.layout live;
-      section = record { section = none.0; announced = none.1; outside = λ even. record { reading = refl; held = refl; update = refl }; done = λ _. refl };
+      section = record { section = none.0; announced = none.1; outside = λ even. refl; unlocked = λ even. refl; done = λ _. refl };
       seen = record { seen = refl; told = refl; known = omega arith; found = omega arith; given = tt };
       update = record { raised = tt; first = λ _. refl };
       version = record { past = tt; opened = tt; bare = λ _. refl; there = λ k some. absurd (omega (arith, some)) };
@@ -73,6 +84,7 @@ module _ (z : Layout) (m : Memory) (vs : List View) (g : Meaning) where
       marks = record { retired = λ k some. absurd (omega (arith, some)); batch = λ k some. absurd (omega (arith, some)); taken = λ k some. absurd (omega (arith, some)) };
       pending = tt;
       place = tt;
+      filled = tt;
       links = tt;
     },
   )

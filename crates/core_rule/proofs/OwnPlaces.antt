@@ -339,8 +339,8 @@ module _ (z : Layout) (words : List ℕ) (vs : List View) (right : InRule z word
   -- each view knows where its own updates stand after an event whose needs are met
   pub places_after : (kind : Kind) (o : Option Update) → carries kind v o ≡ true → needs kind z m' vs i v w value o ≡ true → All KnowsPlaces (views_after kind z m' vs i v w value o)
   places_after MakeSeat o own met = right.places
-  places_after Fill o own met = right.places
-  places_after LoadKeyOrVal o own met = right.places
+  places_after Fill o own met = still Fill o refl
+  places_after LoadKeyOrVal o own met = still LoadKeyOrVal o refl
   places_after SplitSeat o own met = split_places
   places_after JoinSeat o own met = joined_by (slice_get vs value) refl
   places_after Enter o own met = moved (entered z.passes v value) entered_places

@@ -241,8 +241,8 @@ module _ (z : Layout) (words : List ℕ) (vs : List View) (right : InRule z word
 
     views_spare : (kind : Kind) → All (IsSpare m') (views_after kind z old vs i v w value o)
     views_spare MakeSeat = all
-    views_spare Fill = all
-    views_spare LoadKeyOrVal = all
+    views_spare Fill = still_spare Fill
+    views_spare LoadKeyOrVal = still_spare LoadKeyOrVal
     views_spare SplitSeat = All-push (IsSpare m') (set vs i (split_left v value)) (split_right v value) (moved_spare (split_left v value) refl) tt
     views_spare JoinSeat = joined_spare (slice_get vs value) refl
     views_spare Enter = still_spare Enter

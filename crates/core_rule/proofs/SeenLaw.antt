@@ -125,8 +125,8 @@ module _ (z : Layout) (words : List ℕ) (vs : List View) (right : InRule z word
 
   pub goes_on : (kind : Kind) → GoesOn vs (views_after kind z m vs i v w value o)
   goes_on MakeSeat = goes_same vs
-  goes_on Fill = goes_same vs
-  goes_on LoadKeyOrVal = goes_same vs
+  goes_on Fill = still_goes Fill refl
+  goes_on LoadKeyOrVal = still_goes LoadKeyOrVal refl
   goes_on SplitSeat = goes_push vs (set vs i (split_left v value)) (split_right v value) (own_goes (split_left v value) (begins_self v.history.seen)) (length-set vs i (split_left v value))
   goes_on JoinSeat = joined_goes (slice_get vs value) refl
   goes_on Enter =

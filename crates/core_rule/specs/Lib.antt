@@ -38,3 +38,4 @@ pub mod Counts
 pub mod Found
 pub mod Openings
 pub mod Runs
+pub mod SeatLaws

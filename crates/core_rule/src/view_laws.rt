@@ -2,6 +2,7 @@
 ghost use Rattle.core_rule.specs.Counts.{CountsLaw, OtherHeadLaw, TakenLaw, TreeNotRetiredLaw};
 ghost use Rattle.core_rule.specs.Found.{ReadLaw, StampLaw, OneTreeLaw, BundleLengthLaw};
 ghost use Rattle.core_rule.specs.Owners.{OwnersLaw};
+ghost use Rattle.core_rule.specs.SeatLaws.{FirstLaw, MakeLaw, MadeLaw, WholeLaw};
 ghost use Rattle.core_rule.specs.ViewNeeds.{EnterLaw, LeaveLaw, LookLaw, FillLaw, LoadStampLaw, FixLaw, ReadHeadLaw, ReadNumberLaw, ReadChildLaw, ReadNextLaw, PrepareLaw, FinaliseLaw, LockLaw, UnlockLaw, ReadMarkLaw, MarkLaw, ReadKeyLaw, ReadValLaw, SplitLaw, JoinLaw};
 
 /// Who writes what. An event of one seat changes no word that another seat alone changes: its section word and its
@@ -61,4 +62,14 @@ pub fn what_loads_find()
     ensures stamp { StampLaw }
     ensures one_tree { OneTreeLaw }
     ensures bundle_length { BundleLengthLaw }
+{}
+
+/// How seats are made. The table with the first view alone meets the rule, and making a seat keeps it. Made one after
+/// another, the seats of the passes stand behind the first view, which is empty then. And a view that has every number,
+/// as its own or given up to it, knows as many updates as the stamp says.
+pub fn how_seats_are_made()
+    ensures first { FirstLaw }
+    ensures make { MakeLaw }
+    ensures made { MadeLaw }
+    ensures whole { WholeLaw }
 {}
