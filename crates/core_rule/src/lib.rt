@@ -30,4 +30,6 @@ pub use event::{Event, Kind};
 pub use run::{RunError, run_of};
 pub use state::{State, StepError};
 pub use tree_moves::TreeMove;
-pub use view_laws::{how_seats_are_made, needs_of_views, what_loads_find, where_counts_rise, who_writes_what};
+pub use view_laws::{
+    how_seats_are_made, needs_of_views, what_loads_find, where_counts_rise, who_writes_what,
+};
