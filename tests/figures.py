@@ -2,10 +2,10 @@
 """Counts what README says of the repository in figures.
 
     tests/figures.py            prints them
-    tests/figures.py --check    compares them with README.md and docs/PROVED.md
+    tests/figures.py --check    compares them with README.md
     tests/figures.py --write    puts them in there
 
-The tables of README and of PROVED.md stand between the lines `<!-- NAME: .. -->` and `<!-- end -->`.
+The table of README stands between the lines `<!-- NAME: .. -->` and `<!-- end -->`.
 """
 import re
 import sys
@@ -91,25 +91,13 @@ def figures():
     return "\n".join(["| What | How many |", "|---|---|"] + ["| %s | %s |" % (name, shown(value)) for name, value in rows])
 
 
-def files_of_headline():
-    """The files that the headline rests on, each with its first comment and its lines."""
-    paths = trusted(CRATES / "bucketidx" / "src" / "serving.rt")
-    rows = ["| File | What it defines | Lines |", "|---|---|---|"]
-    for path in paths:
-        about = re.match(r"(?:-- .*\n)*", path.read_text()).group().replace("-- ", "").replace("\n", " ")
-        said = re.split(r"(?<=\.) ", about)[0].strip().replace("|", "\\|")
-        rows.append("| `%s` | %s | %d |" % (path.relative_to(TOP), said, lines_in([path])))
-    return "\n".join(rows)
-
-
 def parts():
     yield TOP / "README.md", "figures", figures()
-    yield TOP / "docs" / "PROVED.md", "headline", files_of_headline()
 
 
 def main():
     if sys.argv[1:] == []:
-        print(figures() + "\n\n" + files_of_headline())
+        print(figures())
     elif sys.argv[1:] in (["--check"], ["--write"]):
         wrong = [error for part in parts() for error in held(*part)]
         print("\n".join(wrong) or "the figures are those of the source")
