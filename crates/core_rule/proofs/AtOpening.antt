@@ -1,12 +1,11 @@
--- The table at the start meets the rule.
-use Rattle.std.proofs.Common.{◌≡◌, ℕ, ◌+◌, zero, suc, cond, List, [], ◌∷◌, ◌++◌, length, take, ◌<◌, Bool, true, false, eqb, ltb, leb, ◌&&◌, get_or, arith, refl, ap, ◌∙◌, sym, subst, Option, Some, None, replicate, slice_index}
+-- The table with the first view alone, which has all slots, calls and numbers, meets the rule.
+use Rattle.std.proofs.Common.{◌≡◌, ℕ, ◌+◌, zero, suc, cond, List, [], ◌∷◌, length, take, ◌<◌, Bool, true, false, eqb, ltb, leb, ◌&&◌, get_or, arith, refl, ap, ◌∙◌, sym, subst, Option, Some, None, replicate, slice_index}
 use Rattle.std.specs.List.{All, sum_by, slice_get}
 use Rattle.std.proofs.lemmas.Bool.Decides.{nat_tests}
-use Rattle.std.proofs.lemmas.List.{length-replicate, length-append, get_or_push}
-use Rattle.std.proofs.lemmas.List.Elements.{All-nil, All-cons, All-append, All-weaker}
-use Rattle.std.proofs.lemmas.List.Sums.{sum_by-cons, sum_by_push}
+use Rattle.std.proofs.lemmas.List.{length-replicate}
+use Rattle.std.proofs.lemmas.List.Elements.{All-nil, All-cons, All-weaker}
+use Rattle.std.proofs.lemmas.List.Sums.{sum_by-cons}
 use Rattle.index_words.specs.declared.layout.Layout.{Layout}
-use Rattle.key_map.specs.declared.pass.PassSize.{PassSize}
 use Rattle.index_words.specs.declared.view.View.{View}
 use Rattle.index_words.specs.declared.view.slots.Slots.{Slots}
 use Rattle.index_words.specs.declared.word.Word.{Word}
@@ -16,8 +15,7 @@ use Rattle.key_map.specs.declared.update.Update.{Update}
 use Rattle.index_words.specs.declared.word.Field.TheVariants.{Lock, Mark, Head}
 use Rattle.index_words.specs.declared.word.Part.TheVariants.{Child, Stamp as Number}
 use Rattle.index_words.specs.declared.word.Word.TheVariants.{Section, Announced, Stamp, Node, Entry}
-use Rattle.index_words.specs.Sizes.{all_nodes, all_entries, all_calls, layout_of, FitTable}
-use Rattle.index_words.specs.Views.{empty_view, no_slots, no_looks, no_reading, no_update}
+use Rattle.index_words.specs.Views.{no_slots, no_looks, no_reading, no_update}
 use Rattle.index_words.specs.Words.{memory, word_count, is_there, address}
 use Rattle.key_map.specs.Lists.{count, Every}
 use Rattle.key_map.proofs.Counting.{count-push}
@@ -39,7 +37,7 @@ use Rattle.core_rule.specs.Readers.{VersionRight, PlaceRight, LinkRight}
 use Rattle.core_rule.specs.FilledRule.{FilledRight}
 use Rattle.core_rule.specs.SeatRule.{TreeRight, SeatRight}
 use Rattle.core_rule.specs.Rule.{InRule, IsRight}
-use Rattle.core_rule.specs.Openings.{from_up, pass_view, pass_views, opening, first_view, first_table}
+use Rattle.core_rule.specs.Openings.{from_up, first_view, first_table}
 use Rattle.core_rule.specs.SpentViews.{IsSpent}
 use Rattle.core_rule.proofs.SpentViews.{live_spent}
 use Rattle.core_rule.proofs.Idle.{idle_nodes, idle_entry}
@@ -53,9 +51,6 @@ between_none x first = grind (arith, nat_tests)
 
 between_more : (x first n : ℕ) → between x first n + cond (eqb (first + n) x) 1 0 ≡ between x first (suc n)
 between_more x first n = grind (arith, nat_tests)
-
-between_both : (x first m n : ℕ) → between x first m + between x (first + m) n ≡ between x first (m + n)
-between_both x first m n = grind (arith, nat_tests)
 
 pub count-from_up : (x first n : ℕ) → count x (from_up first n) ≡ between x first n
 count-from_up x first zero = sym (between_none x first)
@@ -77,80 +72,6 @@ record IsFresh (z : Layout) (v : View) : Type 0 where
   section_word : v.section_word ≡ 0
   announced : v.announced ≡ 0
   places : KnowsPlaces v
-
-pass_fresh : (z : Layout) (k a b : ℕ) (size : PassSize) → IsFresh z (pass_view z k a b size)
-pass_fresh z k a b size = record { layout = refl; live = refl; idle = record { reading = refl; held = refl; update = refl }; seen = refl; told = refl; given = refl; found = refl; grace = refl; retired = refl; batch = refl; nexts = refl; section_word = refl; announced = refl; places = record { own = refl; given = tt; section = tt; opened = tt } }
-
-empty_fresh : (z : Layout) → IsFresh z (empty_view z)
-empty_fresh z = record { layout = refl; live = refl; idle = record { reading = refl; held = refl; update = refl }; seen = refl; told = refl; given = refl; found = refl; grace = refl; retired = refl; batch = refl; nexts = refl; section_word = refl; announced = refl; places = record { own = tt; given = tt; section = tt; opened = tt } }
-
-passes_fresh : (z : Layout) (k a b : ℕ) (sizes : List PassSize) → All (IsFresh z) (pass_views z k a b sizes)
-passes_fresh z k a b [] = All-nil (IsFresh z)
-passes_fresh z k a b (size ∷ sizes) =
-    All-cons (IsFresh z) (pass_view z k a b size) (pass_views z (k + 1) (a + size.nodes) (b + size.entries) sizes) (pass_fresh z k a b size) (passes_fresh z (k + 1) (a + size.nodes) (b + size.entries) sizes)
-
-all_fresh : (z : Layout) (sizes : List PassSize) → All (IsFresh z) (opening z sizes).views
-all_fresh z sizes =
-    All-append (IsFresh z) (pass_views z 0 1 1 sizes) (empty_view z ∷ []) (passes_fresh z 0 1 1 sizes) (All-cons (IsFresh z) (empty_view z) [] (empty_fresh z) (All-nil (IsFresh z)))
-
-one_number : (x k : ℕ) → count x (k ∷ []) ≡ between x k 1
-one_number x k = grind (arith, nat_tests)
-
-sum_numbers : (x : ℕ) (z : Layout) (k a b : ℕ) (sizes : List PassSize) → sum_by (number_count x) (pass_views z k a b sizes) ≡ between x k (length sizes)
-sum_numbers x z k a b [] = sym (between_none x k)
-sum_numbers x z k a b (size ∷ sizes) =
-    let head = sum_by-cons (number_count x) (pass_view z k a b size) (pass_views z (k + 1) (a + size.nodes) (b + size.entries) sizes) in
-    let step : number_count x (pass_view z k a b size) + sum_by (number_count x) (pass_views z (k + 1) (a + size.nodes) (b + size.entries) sizes) ≡ between x k (1 + length sizes) =
-    omega (arith, sum_numbers x z (k + 1) (a + size.nodes) (b + size.entries) sizes, between_both x k 1 (length sizes), one_number x k) in
-    let long : 1 + length sizes ≡ length (size ∷ sizes) = omega arith in
-    head ∙ step ∙ ap (between x k) long
-
-sum_nodes : (x : ℕ) (z : Layout) (k a b : ℕ) (sizes : List PassSize) → sum_by (own nodes_of x) (pass_views z k a b sizes) ≡ between x a (all_nodes sizes)
-sum_nodes x z k a b [] = sym (between_none x a)
-sum_nodes x z k a b (size ∷ sizes) =
-    let head = sum_by-cons (own nodes_of x) (pass_view z k a b size) (pass_views z (k + 1) (a + size.nodes) (b + size.entries) sizes) in
-    let step : own nodes_of x (pass_view z k a b size) + sum_by (own nodes_of x) (pass_views z (k + 1) (a + size.nodes) (b + size.entries) sizes) ≡ between x a (size.nodes + all_nodes sizes) =
-    omega (arith, sum_nodes x z (k + 1) (a + size.nodes) (b + size.entries) sizes, between_both x a size.nodes (all_nodes sizes), count-from_up x a size.nodes) in
-    head ∙ step ∙ ap (between x a) (sym (sum_by-cons (λ (s : PassSize). s.nodes) size sizes))
-
-sum_entries : (x : ℕ) (z : Layout) (k a b : ℕ) (sizes : List PassSize) → sum_by (own entries_in x) (pass_views z k a b sizes) ≡ between x b (all_entries sizes)
-sum_entries x z k a b [] = sym (between_none x b)
-sum_entries x z k a b (size ∷ sizes) =
-    let head = sum_by-cons (own entries_in x) (pass_view z k a b size) (pass_views z (k + 1) (a + size.nodes) (b + size.entries) sizes) in
-    let step : own entries_in x (pass_view z k a b size) + sum_by (own entries_in x) (pass_views z (k + 1) (a + size.nodes) (b + size.entries) sizes) ≡ between x b (size.entries + all_entries sizes) =
-    omega (arith, sum_entries x z (k + 1) (a + size.nodes) (b + size.entries) sizes, between_both x b size.entries (all_entries sizes), count-from_up x b size.entries) in
-    head ∙ step ∙ ap (between x b) (sym (sum_by-cons (λ (s : PassSize). s.entries) size sizes))
-
-sum_places : (n x : ℕ) (z : Layout) (k a b : ℕ) (sizes : List PassSize) → sum_by (place_count n x) (pass_views z k a b sizes) ≡ 0
-sum_places n x z k a b [] = refl
-sum_places n x z k a b (size ∷ sizes) =
-    omega (
-      arith,
-      sum_by-cons (place_count n x) (pass_view z k a b size) (pass_views z (k + 1) (a + size.nodes) (b + size.entries) sizes),
-      no_place (eqb k n),
-      sum_places n x z (k + 1) (a + size.nodes) (b + size.entries) sizes,
-    )
-  where
-    no_place : (c : Bool) → 0 + cond c 0 0 ≡ 0
-    no_place true = refl
-    no_place false = refl
-
-sum_calls : (z : Layout) (k a b : ℕ) (sizes : List PassSize) → sum_by calls_left (pass_views z k a b sizes) ≡ all_calls sizes
-sum_calls z k a b [] = refl
-sum_calls z k a b (size ∷ sizes) =
-    sum_by-cons calls_left (pass_view z k a b size) (pass_views z (k + 1) (a + size.nodes) (b + size.entries) sizes)
-    ∙ ap (λ n. size.calls + n) (sum_calls z (k + 1) (a + size.nodes) (b + size.entries) sizes)
-    ∙ sym (sum_by-cons (λ (s : PassSize). s.calls) size sizes)
-
-sum_none : (f : View → ℕ) (z : Layout) (k a b : ℕ) (sizes : List PassSize) → ((c d e : ℕ) (size : PassSize) → f (pass_view z c d e size) ≡ 0) → sum_by f (pass_views z k a b sizes) ≡ 0
-sum_none f z k a b [] none = refl
-sum_none f z k a b (size ∷ sizes) none =
-    omega (
-      arith,
-      sum_by-cons f (pass_view z k a b size) (pass_views z (k + 1) (a + size.nodes) (b + size.entries) sizes),
-      none k a b size,
-      sum_none f z (k + 1) (a + size.nodes) (b + size.entries) sizes none,
-    )
 
 between_slot : (x n : ℕ) → between x 1 n ≡ is_slot n x
 between_slot x n = grind (arith, nat_tests)
@@ -302,35 +223,6 @@ module _ (z : Layout) (vs : List View) (starts : StartsWith z vs) where
     places = All-weaker (IsFresh z) KnowsPlaces (λ v fresh. fresh.places) vs starts.fresh;
   }
 
--- the views of the passes, and behind them the emptied first view
-module _ (z : Layout) (sizes : List PassSize) where
-  abbrev passes : List View
-  passes = pass_views z 0 1 1 sizes
-
-  nothing_in : (f : View → ℕ) → ((c d e : ℕ) (size : PassSize) → f (pass_view z c d e size) ≡ 0) → f (empty_view z) ≡ 0 → sum_by f (passes ++ empty_view z ∷ []) ≡ 0
-  nothing_in f none last = omega (arith, sum_by_push f passes (empty_view z), sum_none f z 0 1 1 sizes none, last)
-
-  opening_starts : z ≡ layout_of sizes → StartsWith z (passes ++ empty_view z ∷ [])
-  opening_starts is = record {
-    fresh = all_fresh z sizes;
-    numbers = λ n. sum_by_push (number_count n) passes (empty_view z) ∙ omega (arith, sum_numbers n z 0 1 1 sizes) ∙ between_number n (length sizes) ∙ ap (λ (y : Layout). cond (ltb n y.passes) 1 0) (sym is);
-    nodes = λ k. sum_by_push (own nodes_of k) passes (empty_view z) ∙ omega (arith, sum_nodes k z 0 1 1 sizes) ∙ between_slot k (all_nodes sizes) ∙ ap (λ (y : Layout). is_slot y.nodes k) (sym is);
-    entries = λ e. sum_by_push (own entries_in e) passes (empty_view z) ∙ omega (arith, sum_entries e z 0 1 1 sizes) ∙ between_slot e (all_entries sizes) ∙ ap (λ (y : Layout). is_slot y.entries e) (sym is);
-    calls = omega (arith, sum_by_push calls_left passes (empty_view z), sum_calls z 0 1 1 sizes, ap (λ (y : Layout). y.calls) is);
-    places = λ n x. omega (arith, sum_by_push (place_count n x) passes (empty_view z), sum_places n x z 0 1 1 sizes);
-    locks = λ k. nothing_in (lock_count k) (λ c d x size. refl) refl;
-    pending = λ e. nothing_in (pending_count e) (λ c d x size. refl) refl;
-    known = record {
-      place = length passes;
-      view = empty_view z;
-      at = record { within = omega (arith, length-append passes (empty_view z ∷ [])); is = λ d. get_or_push passes (empty_view z) d (length passes) refl };
-      all = refl;
-    };
-  }
-
-  pub opening_right : z ≡ layout_of sizes → all_calls sizes < no_number → IsRight (opening z sizes)
-  opening_right is few = starts_right z (passes ++ empty_view z ∷ []) (opening_starts is) (omega (arith, few, ap (λ (y : Layout). y.calls) is))
-
 -- the table with the first view alone
 first_fresh : (z : Layout) → IsFresh z (first_view z)
 first_fresh z = record {
@@ -366,11 +258,3 @@ first_starts z = record {
 -- it meets the rule
 pub first_right : (z : Layout) → z.calls < no_number → IsRight (first_table z)
 first_right z few = starts_right z (first_view z ∷ []) (first_starts z) few
-
--- the same for what the code makes
-pub started : (z : Layout) (sizes : List PassSize) (words : List ℕ) (views : List View) (n : ℕ) → FitTable sizes → z ≡ layout_of sizes → n ≡ word_count z → words ≡ replicate n 0
-    → views ≡ pass_views z 0 1 1 sizes ++ empty_view z ∷ [] → InRule z words views
-started z sizes words views n fit is count_is words_are views_are =
-    let words_now : words ≡ replicate (word_count z) 0 = words_are ∙ ap (λ k. replicate k 0) count_is in
-    subst (λ (xs : List ℕ). InRule z xs views) (sym words_now)
-    (subst (λ (xs : List View). InRule z (replicate (word_count z) 0) xs) (sym views_are) (opening_right z sizes is (omega (arith, fit.calls))))

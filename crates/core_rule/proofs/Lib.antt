@@ -27,7 +27,9 @@ pub mod Finished
 pub mod SeenLaw
 pub mod SectionLaw
 pub mod AtOpening
+pub mod LastView
 pub mod MadeSeats
+pub mod Opened
 pub mod Without
 pub mod Finalise
 pub mod SlotLinks

@@ -1,9 +1,9 @@
 -- Each view knows where its own updates stand, after every event.
-use Rattle.std.proofs.Common.{◌≡◌, ℕ, zero, suc, ◌+◌, ◌-◌, ◌<◌, ◌≤◌, ◌⊎◌, cond, List, [], ◌∷◌, ◌++◌, length, take, ltb, Bool, true, false, not, eqb, ◌&&◌, ◌||◌, is_none, set, arith, refl, ap, ◌∙◌, sym, subst, inl, inr, Option, Some, None, map}
+use Rattle.std.proofs.Common.{◌≡◌, ℕ, zero, suc, ◌+◌, ◌<◌, ◌≤◌, cond, List, [], ◌∷◌, ◌++◌, length, take, ltb, Bool, true, false, not, eqb, ◌&&◌, ◌||◌, is_none, set, arith, refl, ap, ◌∙◌, sym, subst, inl, inr, Option, Some, None, map}
 use Rattle.std.specs.Prelude.{IfSome}
 use Rattle.std.specs.List.{All, sum_by, slice_get}
 use Rattle.std.proofs.lemmas.Bool.{eqb-true, eq-eqb, cases_lt}
-use Rattle.std.proofs.lemmas.Bool.Decides.{nat_tests, eqb_tells}
+use Rattle.std.proofs.lemmas.Bool.Decides.{nat_tests}
 use Rattle.std.proofs.lemmas.List.{take_all}
 use Rattle.std.proofs.lemmas.List.Elements.{All-set, All-push}
 use Rattle.std.proofs.lemmas.List.Sums.{sum_by-cons}

@@ -1,5 +1,5 @@
 -- The laws on how seats are made, and on what a view knows that has every number.
-use Rattle.std.proofs.Common.{◌≡◌, length, ap, ◌∙◌}
+use Rattle.std.proofs.Common.{length, ap, ◌∙◌}
 use Rattle.index_words.specs.Words.{memory}
 use Rattle.index_words.proofs.Seats.{at_item}
 use Rattle.core_rule.specs.OwnPlaces.{KnowsPlaces}

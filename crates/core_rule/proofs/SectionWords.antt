@@ -1,8 +1,8 @@
 -- The section words and the announcements of passes: an enter and a leave alone store to one, and to their own.
-use Rattle.std.proofs.Common.{◌≡◌, ◌≢◌, ℕ, ◌+◌, ◌-◌, ◌%◌, ◌<◌, ◌≤◌, ◌⊎◌, cond, List, [], ◌∷◌, ◌++◌, length, Bool, true, false, not, eqb, ltb, ◌&&◌, set, arith, refl, ap, ◌∙◌, sym, subst, inl, inr, Option, Some, None, slice_index}
+use Rattle.std.proofs.Common.{◌≡◌, ◌≢◌, ℕ, ◌+◌, ◌<◌, ◌⊎◌, cond, List, [], ◌∷◌, length, Bool, true, false, not, eqb, ltb, ◌&&◌, set, arith, refl, ap, ◌∙◌, sym, subst, inl, inr, Option, Some, None, slice_index}
 use Rattle.std.specs.List.{All, slice_get}
 use Rattle.std.proofs.lemmas.Bool.{and_parts, eqb-true, eq-eqb}
-use Rattle.std.proofs.lemmas.Bool.Decides.{nat_tests, eqb_tells}
+use Rattle.std.proofs.lemmas.Bool.Decides.{eqb_tells}
 use Rattle.std.proofs.lemmas.List.Elements.{All-set, All-push}
 use Rattle.index_words.specs.declared.layout.Layout.{Layout}
 use Rattle.key_map.specs.declared.update.Update.{Update}
@@ -15,16 +15,15 @@ use Rattle.index_words.specs.Words.{Memory, memory, written, word_at, word_count
 use Rattle.index_words.specs.Views.{spent_view}
 use Rattle.key_map.specs.Lists.{count, Every, IsItem}
 use Rattle.index_words.proofs.Store.{stored_at}
-use Rattle.index_words.proofs.Seats.{Beside, at_item, all_moved, one_term, two_terms}
-use Rattle.core_grace.specs.Sections.{is_even, left_word, last_word}
+use Rattle.index_words.proofs.Seats.{at_item, all_moved, one_term, two_terms}
+use Rattle.core_grace.specs.Sections.{is_even, left_word}
 use Rattle.core_grace.specs.Batches.{is_number}
-use Rattle.core_grace.proofs.RuleMoves.{every_weaker}
 use Rattle.core_rule.specs.declared.event.Kind.{Kind}
 use Rattle.core_rule.specs.declared.event.Kind.TheVariants.{MakeSeat, SplitSeat, JoinSeat, Enter, Leave, LookSec, Fill, LoadStamp, LoadHead, LoadTs, LoadPtr, LoadNext, Prepare, Raise, Finalise, TryLock, Unlock, LoadMark, Mark as MarkNode, LoadKeyOrVal}
 use Rattle.core_rule.specs.Moves.{split_left, split_right, joined_with}
-use Rattle.core_rule.specs.Needs.{is_outside, is_own_section, is_stamp, may_enter, may_leave, may_fill, nothing_pending}
+use Rattle.core_rule.specs.Needs.{is_outside, is_own_section, may_enter, may_leave, may_fill, nothing_pending}
 use Rattle.core_rule.specs.Numbers.{number_count, IsSpare}
-use Rattle.core_rule.specs.UpdateNeeds.{may_prepare, may_raise, may_raise_number, is_raise_of, may_finalise}
+use Rattle.core_rule.specs.UpdateNeeds.{may_prepare, may_raise, may_finalise}
 use Rattle.core_rule.specs.LockNeeds.{may_try_lock, may_unlock, may_mark}
 use Rattle.core_rule.specs.Steps.{needs, view_after, views_after, words_after, join_found}
 use Rattle.core_rule.specs.Rule.{InRule}

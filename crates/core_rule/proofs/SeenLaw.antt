@@ -1,9 +1,9 @@
 -- No event makes what a seat has seen shorter.
-use Rattle.std.proofs.Common.{◌≡◌, ℕ, ◌+◌, ◌<◌, ◌≤◌, List, [], ◌∷◌, ◌++◌, length, take, Bool, true, false, not, eqb, ltb, cond, ◌&&◌, get_or, set, arith, refl, ap, ◌∙◌, sym, subst, inl, inr, Option, Some, None}
+use Rattle.std.proofs.Common.{◌≡◌, ℕ, ◌<◌, ◌≤◌, List, [], ◌∷◌, ◌++◌, length, take, Bool, true, false, not, eqb, cond, ◌&&◌, get_or, set, arith, refl, ap, ◌∙◌, sym, subst, inl, inr, Option, Some, None}
 use Rattle.std.specs.List.{slice_get}
 use Rattle.std.proofs.lemmas.Bool.{and_parts, eq-eqb}
 use Rattle.std.proofs.lemmas.Bool.Decides.{eqb_tells}
-use Rattle.std.proofs.lemmas.List.{take_all, take-take, take-append-le, length-set, length-append, get_or-set_other, get_or_append_left, get_or_push, get_or_default}
+use Rattle.std.proofs.lemmas.List.{take_all, take-take, take-append-le, length-set, get_or-set_other, get_or_append_left, get_or_push, get_or_default}
 use Rattle.index_words.specs.declared.layout.Layout.{Layout}
 use Rattle.key_map.specs.declared.update.Update.{Update}
 use Rattle.index_words.specs.declared.view.View.{View}
@@ -17,10 +17,8 @@ use Rattle.core_rule.specs.declared.event.Event.{Event}
 use Rattle.core_rule.specs.declared.event.Kind.{Kind}
 use Rattle.core_rule.specs.declared.event.Kind.TheVariants.{MakeSeat, SplitSeat, JoinSeat, Enter, Leave, LookSec, Fill, LoadStamp, LoadHead, LoadTs, LoadPtr, LoadNext, Prepare, Raise, Finalise, TryLock, Unlock, LoadMark, Mark as MarkNode, LoadKeyOrVal}
 use Rattle.core_rule.specs.Moves.{longer, split_left, split_right, joined_with}
-use Rattle.core_rule.specs.Needs.{is_stamp, may_join, may_join_found, may_join_view}
-use Rattle.core_rule.specs.LoadMoves.{longest, stamp_loaded}
-use Rattle.core_rule.specs.Versions.{tree_nodes}
-use Rattle.core_rule.specs.SpelledNow.{tree_now}
+use Rattle.core_rule.specs.Needs.{is_stamp, may_join_found}
+use Rattle.core_rule.specs.LoadMoves.{longest}
 use Rattle.core_rule.specs.Tables.{Table, held_by}
 use Rattle.core_rule.specs.Rule.{InRule, IsRight}
 use Rattle.core_rule.specs.Steps.{needs, carries, allowed, allowed_at, after, after_at, view_after, views_after, words_after, join_found, raised_from}
@@ -33,7 +31,7 @@ use Rattle.core_rule.proofs.HeadLoads.{longest_is}
 use Rattle.core_rule.proofs.Needed.{never, not_equal}
 use Rattle.core_rule.proofs.Allowed.{stamp_named}
 use Rattle.core_rule.proofs.OwnPlaces.{stamp_needed}
-use Rattle.core_rule.proofs.KeptViews.{SeatPart, part_of, entered_part, is_still, still_kept}
+use Rattle.core_rule.proofs.KeptViews.{SeatPart, entered_part, is_still, still_kept}
 
 -- of two beginnings of one history the shorter is a beginning of the longer
 begins_of : (updates xs ys : List Update) → Begins updates xs → Begins updates ys → length xs ≤ length ys → IsBeginning xs ys

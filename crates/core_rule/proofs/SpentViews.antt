@@ -1,28 +1,17 @@
 -- No event but a join changes whether a view was joined, and a join leaves nothing of the other view.
-use Rattle.std.proofs.Common.{◌≡◌, ℕ, List, [], ◌∷◌, ◌++◌, cond, Bool, true, false, eqb, set, refl, ◌∙◌, Option, Some, None}
+use Rattle.std.proofs.Common.{◌≡◌, ℕ, List, [], ◌∷◌, ◌++◌, Bool, true, false, set, refl, ◌∙◌, Option, Some, None}
 use Rattle.std.specs.List.{All, slice_get}
 use Rattle.std.proofs.lemmas.List.Elements.{All-set, All-push}
 use Rattle.index_words.specs.declared.layout.Layout.{Layout}
 use Rattle.key_map.specs.declared.update.Update.{Update}
 use Rattle.index_words.specs.declared.view.View.{View}
-use Rattle.index_words.specs.declared.view.reading.Place.{Place}
-use Rattle.index_words.specs.declared.view.reading.Place.TheVariants.{Nowhere, Entry as AtEntry, Node as AtNode, Gap}
-use Rattle.index_words.specs.declared.word.Field.{Field}
-use Rattle.index_words.specs.declared.word.Field.TheVariants.{Key, Val, Lock, Mark, Head, Link, Tag}
-use Rattle.index_words.specs.declared.word.Part.TheVariants.{Stamp as Number}
 use Rattle.index_words.specs.declared.word.Word.{Word}
-use Rattle.index_words.specs.declared.word.Word.TheVariants.{Stamp, Section, Announced, Node, Entry}
 use Rattle.index_words.specs.Words.{Memory}
-use Rattle.index_words.specs.Views.{spent_view, no_slots, no_looks}
-use Rattle.core_grace.specs.Sections.{is_even}
-use Rattle.core_grace.specs.Batches.{is_empty, batch_taken, batch_freed, all_passed, settled, looked, looked_at}
+use Rattle.index_words.specs.Views.{spent_view}
 use Rattle.core_rule.specs.declared.event.Kind.{Kind}
 use Rattle.core_rule.specs.declared.event.Kind.TheVariants.{MakeSeat, SplitSeat, JoinSeat, Enter, Leave, LookSec, Fill, LoadStamp, LoadHead, LoadTs, LoadPtr, LoadNext, Prepare, Raise, Finalise, TryLock, Unlock, LoadMark, Mark as MarkNode, LoadKeyOrVal}
-use Rattle.core_rule.specs.Moves.{in_section, split_left, split_right, joined_with}
-use Rattle.core_rule.specs.FillMoves.{filled_with, with_filled}
-use Rattle.core_rule.specs.LoadMoves.{next_at}
-use Rattle.core_rule.specs.LockMoves.{locked_view, met_lock}
-use Rattle.core_rule.specs.Steps.{view_after, views_after, join_found, look_from, head_at, head_from, ts_from, ptr_from, next_from, prepared_at, prepared_from, raised_from, finalised_from, tried_from, unlocked_from, mark_from, marked_from, pair_from}
+use Rattle.core_rule.specs.Moves.{split_left, split_right, joined_with}
+use Rattle.core_rule.specs.Steps.{view_after, views_after, join_found}
 use Rattle.core_rule.specs.SpentViews.{IsSpent}
 use Rattle.core_rule.proofs.KeptViews.{joined_kept}
 

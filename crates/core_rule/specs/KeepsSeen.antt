@@ -1,5 +1,5 @@
 -- What a seat has seen, over one event: no event makes it shorter.
-use Rattle.std.specs.Prelude.{◌≡◌, ℕ, ◌≤◌, List, length, take, false, Some}
+use Rattle.std.specs.Prelude.{◌≡◌, ℕ, List, length, take, false, Some}
 use Rattle.key_map.specs.declared.update.Update.{Update}
 use Rattle.key_map.specs.Lists.{IsItem}
 use Rattle.index_words.specs.declared.view.View.{View}

@@ -1,5 +1,5 @@
 -- What a view knows of itself: where its own updates stand, and how far what it has seen reaches.
-use Rattle.std.specs.Prelude.{◌≡◌, ℕ, ◌<◌, ◌≤◌, List, length, ◌⊎◌, Some, IfSome}
+use Rattle.std.specs.Prelude.{◌≡◌, ℕ, ◌<◌, ◌≤◌, length, ◌⊎◌, Some, IfSome}
 use Rattle.key_map.specs.Lists.{count, Every}
 use Rattle.key_map.specs.History.{own_places}
 use Rattle.index_words.specs.declared.view.View.{View}
