@@ -205,7 +205,7 @@ def layers():
     def level(name):
         return max([level(dep) + 1 for dep in below[name]], default=0)
 
-    is_core = lambda name: name.startswith("core_") or name == "index_words"
+    is_core = lambda name: name.startswith(("core_", "kept_")) or name == "index_words"
     rows = {}
     for name in below:
         rows.setdefault(level(name), []).append(name)

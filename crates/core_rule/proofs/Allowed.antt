@@ -10,22 +10,22 @@ use Rattle.index_words.specs.declared.word.Field.{Field}
 use Rattle.index_words.specs.declared.word.Field.TheVariants.{Key, Val, Lock, Mark, Head, Link, Tag}
 use Rattle.index_words.specs.declared.word.Word.{Word}
 use Rattle.index_words.specs.declared.word.Word.TheVariants.{Stamp, Section, Announced, Node, Entry}
-use Rattle.core_rule.specs.declared.event.Event.{Event}
-use Rattle.core_rule.specs.declared.event.Kind.{Kind}
-use Rattle.core_rule.specs.declared.event.Kind.TheVariants.{SplitSeat, JoinSeat, LoadStamp, Prepare, Raise}
-use Rattle.core_rule.specs.Needs.{may_join_found, is_stamp}
-use Rattle.core_rule.specs.UpdateNeeds.{is_slot_number, may_prepare_entry, may_prepare_head, may_prepare, may_raise_number, is_raise_of}
-use Rattle.core_rule.specs.Histories.{calls_left}
-use Rattle.core_rule.specs.Rule.{IsRight}
-use Rattle.core_rule.specs.Tables.{Table, held_by}
-use Rattle.core_rule.specs.Seats.{HasFree, HasCalls}
-use Rattle.core_rule.specs.Steps.{needs, carries, allowed_at}
+use Rattle.core_events.specs.declared.event.Event.{Event}
+use Rattle.core_events.specs.declared.event.Kind.{Kind}
+use Rattle.core_events.specs.declared.event.Kind.TheVariants.{SplitSeat, JoinSeat, LoadStamp, Prepare, Raise}
+use Rattle.core_events.specs.Needs.{may_join_found, is_stamp}
+use Rattle.core_events.specs.UpdateNeeds.{is_slot_number, may_prepare_entry, may_prepare_head, may_prepare, may_raise_number, is_raise_of}
+use Rattle.core_invariant.specs.Histories.{calls_left}
+use Rattle.core_invariant.specs.Rule.{IsRight}
+use Rattle.core_events.specs.Tables.{Table, held_by}
+use Rattle.core_events.specs.Seats.{HasFree, HasCalls}
+use Rattle.core_events.specs.Steps.{needs, carries, allowed_at}
 use Rattle.index_words.specs.Words.{Memory}
-use Rattle.core_rule.specs.TreeMoves.{is_tree_step}
+use Rattle.core_events.specs.TreeMoves.{is_tree_step}
 use Rattle.core_grace.specs.Sections.{is_even}
 use Rattle.index_words.proofs.Seats.{one_term}
-use Rattle.core_rule.proofs.EachKind.{item_from_get}
-use Rattle.core_rule.proofs.Needed.{never, not_equal}
+use Rattle.core_invariant.proofs.OneView.{item_from_get}
+use Rattle.core_invariant.proofs.Needed.{never, not_equal, stamp_named}
 
 pub record Needed (t : Table) (e : Event) (w : Word) : Type 0 where
   pub v : View
@@ -165,14 +165,6 @@ raise_steps t e w met is u carried v at =
     let met_at : allowed_at t e (Some v) (Some w) ≡ true = subst (λ (o : Option View). allowed_at t e o (Some w) ≡ true) at met in
     let need = (and_parts (carries e.kind v e.update && not v.joined) (needs e.kind t.layout (held_by t) t.views e.seat v w e.value e.update) met_at).1 in
     subst (λ (o : Option Update). is_raise_of t.layout (held_by t) t.views v o ≡ true) carried (raise_met t e w v need is).1
-
--- a load of the stamp is one at the stamp
-pub stamp_named : (w : Word) → is_stamp w ≡ true → w ≡ Stamp
-stamp_named Stamp is = refl
-stamp_named (Section i) is = absurd (never is)
-stamp_named (Announced i) is = absurd (never is)
-stamp_named (Node f k) is = absurd (never is)
-stamp_named (Entry p e) is = absurd (never is)
 
 pub loads_stamp : (t : Table) (e : Event) (w : Word) → allowed_at t e (slice_get t.views e.seat) (Some w) ≡ true → e.kind ≡ LoadStamp → w ≡ Stamp
 loads_stamp t e w met is =

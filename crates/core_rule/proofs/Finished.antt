@@ -5,10 +5,10 @@ use Rattle.index_words.specs.declared.layout.Layout.{Layout}
 use Rattle.index_words.specs.declared.view.View.{View}
 use Rattle.index_words.specs.declared.word.Word.{Word}
 use Rattle.index_words.specs.Words.{word_at}
-use Rattle.core_rule.specs.declared.event.Event.{Event}
-use Rattle.core_rule.specs.Tables.{Table}
-use Rattle.core_rule.specs.Rule.{InRule, IsRight}
-use Rattle.core_rule.specs.Steps.{allowed, allowed_at, after, words_after, IsChange}
+use Rattle.core_events.specs.declared.event.Event.{Event}
+use Rattle.core_events.specs.Tables.{Table}
+use Rattle.core_invariant.specs.Rule.{InRule, IsRight}
+use Rattle.core_events.specs.Steps.{allowed, allowed_at, after, words_after, IsChange}
 use Rattle.core_rule.proofs.Stepped.{allowed_word, stepped, met_now}
 
 -- a law on each allowed event, from what the code has found on its way

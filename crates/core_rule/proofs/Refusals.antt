@@ -1,8 +1,8 @@
 -- The event at which a run is refused.
 use Rattle.std.proofs.Common.{◌≡◌, ℕ, zero, suc, ◌+◌, ◌<◌, List, [], ◌∷◌, length, drop, get_or, cond, Bool, false, arith, ap, Some}
-use Rattle.core_rule.specs.declared.event.Event.{Event}
-use Rattle.core_rule.specs.Tables.{Table}
-use Rattle.core_rule.specs.Steps.{allowed, after}
+use Rattle.core_events.specs.declared.event.Event.{Event}
+use Rattle.core_events.specs.Tables.{Table}
+use Rattle.core_events.specs.Steps.{allowed, after}
 use Rattle.core_rule.specs.Runs.{refused_from}
 
 pub refused_at : (place : ℕ) (t : Table) (es : List Event) (i : ℕ) (d : Event) → i < length es → allowed t (get_or es i d) ≡ false → refused_from place t (drop i es) ≡ Some place

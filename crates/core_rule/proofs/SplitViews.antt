@@ -4,7 +4,7 @@ use Rattle.std.specs.List.{slice_get}
 use Rattle.std.proofs.lemmas.List.{set-append_left, get_or_append_left}
 use Rattle.std.proofs.lemmas.Option.{get_or_from_slice_get}
 use Rattle.index_words.specs.declared.view.View.{View}
-use Rattle.core_rule.specs.Moves.{split_left, split_right}
+use Rattle.core_events.specs.Moves.{split_left, split_right}
 
 pub split_views : (vs ws : List View) (i n : ℕ) (first shown part kept v : View) → i < length vs → slice_get vs i ≡ Some v
     → first ≡ get_or vs i first → part ≡ split_right first n

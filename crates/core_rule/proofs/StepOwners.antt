@@ -5,12 +5,12 @@ use Rattle.index_words.specs.declared.layout.Layout.{Layout}
 use Rattle.index_words.specs.declared.view.View.{View}
 use Rattle.index_words.specs.declared.word.Word.{Word}
 use Rattle.index_words.specs.Words.{word_at}
-use Rattle.core_rule.specs.declared.event.Event.{Event}
-use Rattle.core_rule.specs.Tables.{Table}
-use Rattle.core_rule.specs.Rule.{InRule}
-use Rattle.core_rule.specs.Owners.{KeepsOwners}
-use Rattle.core_rule.specs.Steps.{allowed_at, words_after, IsChange}
-use Rattle.core_rule.proofs.Owners.{owners, owners_same}
+use Rattle.core_events.specs.declared.event.Event.{Event}
+use Rattle.core_events.specs.Tables.{Table}
+use Rattle.core_invariant.specs.Rule.{InRule}
+use Rattle.core_laws.specs.Owners.{KeepsOwners}
+use Rattle.core_events.specs.Steps.{allowed_at, words_after, IsChange}
+use Rattle.core_laws.proofs.Owners.{owners, owners_same}
 use Rattle.core_rule.proofs.Stepped.{allowed_word, stepped, met_now}
 
 -- after a step, as the code makes it

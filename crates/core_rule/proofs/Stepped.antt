@@ -5,18 +5,18 @@ use Rattle.index_words.specs.declared.layout.Layout.{Layout}
 use Rattle.index_words.specs.declared.view.View.{View}
 use Rattle.index_words.specs.declared.word.Word.{Word}
 use Rattle.index_words.specs.Words.{word_at}
-use Rattle.core_rule.specs.declared.event.Event.{Event}
-use Rattle.core_rule.specs.Tables.{Table, held_by}
-use Rattle.core_rule.specs.Rule.{InRule, IsRight}
-use Rattle.core_rule.specs.Steps.{allowed, allowed_at, after, after_at, words_after, IsChange}
+use Rattle.core_events.specs.declared.event.Event.{Event}
+use Rattle.core_events.specs.Tables.{Table, held_by}
+use Rattle.core_invariant.specs.Rule.{InRule, IsRight}
+use Rattle.core_events.specs.Steps.{allowed, allowed_at, after, after_at, words_after, IsChange}
 use Rattle.index_words.specs.declared.word.Field.TheVariants.{Head}
 use Rattle.index_words.specs.declared.word.Part.TheVariants.{Next}
 use Rattle.index_words.specs.declared.word.Word.TheVariants.{Stamp, Node, Entry}
 use Rattle.index_words.proofs.Store.{word_there}
 use Rattle.core_links.specs.Bundle.{select}
 use Rattle.core_links.proofs.Chains.{chain-same}
-use Rattle.core_rule.specs.declared.event.Kind.TheVariants.{Raise}
-use Rattle.core_rule.specs.LinkLaw.{KeepsSelections, entry_number}
+use Rattle.core_events.specs.declared.event.Kind.TheVariants.{Raise}
+use Rattle.core_invariant.specs.LinkLaw.{KeepsSelections, entry_number}
 use Rattle.core_rule.proofs.Allowed.{needed, raises}
 use Rattle.core_rule.proofs.StepLaw.{AfterTable, stepped_right}
 

@@ -1,10 +1,10 @@
 -- Runs: the events one after another, up to the first that is not allowed.
 use Rattle.std.specs.Prelude.{◌≡◌, ℕ, ◌+◌, List, [], ◌∷◌, cond, Option, Some, None}
-use Rattle.core_rule.specs.declared.event.Event.{Event}
+use Rattle.core_events.specs.declared.event.Event.{Event}
 use Rattle.core_rule.specs.declared.run.RunError.{RunError}
 use Rattle.core_rule.specs.declared.run.RunError.TheVariants.{NotAllowed, NoMemory}
-use Rattle.core_rule.specs.Tables.{Table}
-use Rattle.core_rule.specs.Steps.{allowed, after}
+use Rattle.core_events.specs.Tables.{Table}
+use Rattle.core_events.specs.Steps.{allowed, after}
 
 -- the table after all events
 abbrev pub after_all : Table → List Event → Table

@@ -2,7 +2,7 @@
 ghost use Rattle.std.specs.Prelude.{◌≡◌, ◌+◌, ◌<◌, ◌≤◌, ◌^◌, ◌++◌, ◌∷◌, [], IfOk, OnOk, length, replicate};
 ghost use Rattle.index_words.specs.Sizes.{all_nodes, all_entries};
 ghost use Rattle.index_words.specs.Views.{empty_view};
-ghost use Rattle.core_rule.specs.Openings.{from_up, pass_view, pass_views};
+ghost use Rattle.core_events.specs.Openings.{from_up, pass_view, pass_views};
 
 use index_words::{Items, Layout, NoMemory, PassSize, View};
 use std::alloc::{AllocError, Global};

@@ -1,15 +1,15 @@
-ghost use Rattle.std.specs.Prelude.{◌≡◌, All, IfOk, IfErr, Some, None};
+ghost use Rattle.std.specs.Prelude.{◌≡◌, All, IfOk, IfErr, None};
 ghost use Rattle.index_words.specs.Sizes.{FitTable, layout_of};
-ghost use Rattle.core_rule.specs.Openings.{opening};
-ghost use Rattle.core_rule.specs.Rule.{IsRight};
-ghost use Rattle.core_rule.specs.OwnPlaces.{KnowsPlaces};
-ghost use Rattle.core_rule.specs.TreeLaw.{SpellsMap};
-ghost use Rattle.core_rule.specs.Remembered.{KeepsRemembered, RemembersSelected};
-ghost use Rattle.core_rule.specs.FilledRule.{KnowsFilled};
+ghost use Rattle.core_events.specs.Openings.{opening};
+ghost use Rattle.core_invariant.specs.Rule.{IsRight};
+ghost use Rattle.core_invariant.specs.OwnPlaces.{KnowsPlaces};
+ghost use Rattle.core_laws.specs.TreeLaw.{SpellsMap};
+ghost use Rattle.core_laws.specs.Remembered.{KeepsRemembered, RemembersSelected};
+ghost use Rattle.core_invariant.specs.FilledRule.{KnowsFilled};
 ghost use Rattle.core_rule.specs.Runs.{after_all, first_refused, IsRefusal};
 
-use crate::event::Event;
 use crate::state::{State, StepError};
+use core_events::Event;
 use index_words::{Layout, PassSize};
 use std::alloc::Global;
 

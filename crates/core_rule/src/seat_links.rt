@@ -2,20 +2,20 @@
 ghost use Rattle.std.specs.Prelude.{◌≡◌, ◌+◌, ◌<◌, ◌^◌, OnOk, OnErr, IfOk, Some, length, slice_set};
 ghost use Rattle.std.specs.List.{slice_get};
 ghost use Rattle.index_words.specs.declared.view.View.{View as SeatView};
-ghost use Rattle.core_rule.specs.LoadMoves.{longest, stamp_loaded};
+ghost use Rattle.core_events.specs.LoadMoves.{longest, stamp_loaded};
 ghost use Rattle.index_words.specs.Words.{memory};
 ghost use Rattle.index_words.specs.declared.word.Word.TheVariants.{Stamp};
-ghost use Rattle.core_rule.specs.Versions.{tree_nodes};
-ghost use Rattle.core_rule.specs.SpelledNow.{tree_now};
-ghost use Rattle.core_rule.specs.UpdateMoves.{raised_view};
-ghost use Rattle.core_rule.specs.Steps.{head_from, ts_from, ptr_from, next_from, prepared_from, finalised_from};
-ghost use Rattle.core_rule.specs.Seats.{HasCalls};
+ghost use Rattle.core_events.specs.Versions.{tree_nodes};
+ghost use Rattle.core_events.specs.SpelledNow.{tree_now};
+ghost use Rattle.core_events.specs.UpdateMoves.{raised_view};
+ghost use Rattle.core_events.specs.Steps.{head_from, ts_from, ptr_from, next_from, prepared_from, finalised_from};
+ghost use Rattle.core_events.specs.Seats.{HasCalls};
 
-use crate::loads::{load_head, load_next, load_ptr, load_stamp, load_ts};
-use crate::needs::held;
-use crate::spelled_now::nodes_now;
-use crate::tree_moves::TreeMove;
-use crate::updates::{finalise, prepare, raise};
+use core_events::TreeMove;
+use core_events::reads::held;
+use core_spelled::spelled_now::nodes_now;
+use core_views::loads::{load_head, load_next, load_ptr, load_stamp, load_ts};
+use core_views::updates::{finalise, prepare, raise};
 use index_words::{Items, Layout, NoMemory, Update, View, Word};
 use std::alloc::Global;
 

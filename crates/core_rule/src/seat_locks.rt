@@ -2,9 +2,9 @@
 ghost use Rattle.std.specs.Prelude.{◌≡◌, ◌<◌, OnOk, OnErr, Some, length, slice_set};
 ghost use Rattle.std.specs.List.{slice_get};
 ghost use Rattle.index_words.specs.declared.view.View.{View as SeatView};
-ghost use Rattle.core_rule.specs.Steps.{tried_from, unlocked_from, mark_from, marked_from, pair_from};
+ghost use Rattle.core_events.specs.Steps.{tried_from, unlocked_from, mark_from, marked_from, pair_from};
 
-use crate::locks::{load_mark, load_pair, mark, try_lock, unlock};
+use core_views::locks::{load_mark, load_pair, mark, try_lock, unlock};
 use index_words::{NoMemory, View, Word};
 use std::alloc::Global;
 

@@ -1,15 +1,15 @@
 // The views of a table after each kind of event.
-ghost use Rattle.std.specs.Prelude.{◌≡◌, ◌≢◌, ℕ, ◌<◌, ◌≤◌, ◌++◌, ◌∷◌, [], OnOk, OnErr, Some, length, slice_set, vec_len};
+ghost use Rattle.std.specs.Prelude.{◌≡◌, ◌≢◌, ◌<◌, ◌≤◌, ◌++◌, ◌∷◌, [], OnOk, OnErr, Some, length, slice_set};
 ghost use Rattle.std.specs.List.{slice_get};
 ghost use Rattle.index_words.specs.Views.{spent_view};
 ghost use Rattle.index_words.specs.declared.view.View.{View as SeatView};
-ghost use Rattle.core_rule.specs.Steps.{look_from};
-ghost use Rattle.core_rule.specs.FillMoves.{filled_view};
-ghost use Rattle.core_rule.specs.Seats.{HasFree};
-ghost use Rattle.core_rule.specs.Moves.{entered, left, split_left, split_right, joined_with};
+ghost use Rattle.core_events.specs.Steps.{look_from};
+ghost use Rattle.core_events.specs.FillMoves.{filled_view};
+ghost use Rattle.core_events.specs.Seats.{HasFree};
+ghost use Rattle.core_events.specs.Moves.{entered, left, split_left, split_right, joined_with};
 
-use crate::fill_words::fill;
-use crate::moves::{enter, gain, keep_rest, leave, look, split_off, take_gain};
+use core_views::fill_words::fill;
+use core_views::moves::{enter, gain, keep_rest, leave, look, split_off, take_gain};
 use index_words::{Layout, NoMemory, View, Word};
 use std::alloc::Global;
 

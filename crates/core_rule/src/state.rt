@@ -3,21 +3,21 @@ ghost use Rattle.std.specs.List.{slice_get};
 ghost use Rattle.std.specs.Option.{option_copied};
 ghost use Rattle.index_words.specs.Sizes.{FitTable, layout_of};
 ghost use Rattle.index_words.specs.Words.{word_count};
-ghost use Rattle.core_rule.specs.Steps.{allowed, after};
-ghost use Rattle.core_rule.specs.Rule.{IsRight};
-ghost use Rattle.core_rule.specs.LinkLaw.{KeepsSelections};
-ghost use Rattle.core_rule.specs.KeepsSeen.{KeepsSeen};
-ghost use Rattle.core_rule.specs.SectionMoves.{MovesSections};
-ghost use Rattle.core_rule.specs.OwnPlaces.{KnowsPlaces};
-ghost use Rattle.core_rule.specs.TreeLaw.{SpellsMap};
-ghost use Rattle.core_rule.specs.Remembered.{KeepsRemembered, RemembersSelected};
-ghost use Rattle.core_rule.specs.FilledRule.{KnowsFilled};
-ghost use Rattle.core_rule.specs.Owners.{KeepsOwners};
-ghost use Rattle.core_rule.specs.Openings.{opening};
+ghost use Rattle.core_events.specs.Steps.{allowed, after};
+ghost use Rattle.core_invariant.specs.Rule.{IsRight};
+ghost use Rattle.core_invariant.specs.LinkLaw.{KeepsSelections};
+ghost use Rattle.kept_views.specs.KeepsSeen.{KeepsSeen};
+ghost use Rattle.kept_views.specs.SectionMoves.{MovesSections};
+ghost use Rattle.core_invariant.specs.OwnPlaces.{KnowsPlaces};
+ghost use Rattle.core_laws.specs.TreeLaw.{SpellsMap};
+ghost use Rattle.core_laws.specs.Remembered.{KeepsRemembered, RemembersSelected};
+ghost use Rattle.core_invariant.specs.FilledRule.{KnowsFilled};
+ghost use Rattle.core_laws.specs.Owners.{KeepsOwners};
+ghost use Rattle.core_events.specs.Openings.{opening};
 
-use crate::event::Event;
 use crate::opening::{opening_views, zeros};
 use crate::step::{change, is_allowed, store};
+use core_events::Event;
 use index_words::{Layout, NoMemory, PassSize, View};
 use std::alloc::Global;
 use std::marker::Model;
@@ -31,11 +31,11 @@ pub struct State {
 }
 
 impl Model for State {
-    ghost use Rattle.core_rule.specs.Tables.{Table};
+    ghost use Rattle.core_events.specs.Tables.{Table};
 
     ghost Value = { Table };
 
-    ghost use Rattle.core_rule.specs.Rule.{InRule};
+    ghost use Rattle.core_invariant.specs.Rule.{InRule};
 
     ghost view = { λ s. record { layout = s.layout; words = s.words.items; views = s.views.items } };
 

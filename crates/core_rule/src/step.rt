@@ -1,25 +1,24 @@
 // One step of a table: whether its event is allowed, and the change that it makes.
-ghost use Rattle.std.specs.Prelude.{◌≡◌, ◌≢◌, ◌+◌, ◌<◌, ◌^◌, OnOk, OnErr, Some, true, slice_index, vec_len};
+ghost use Rattle.std.specs.Prelude.{◌≡◌, ◌≢◌, ◌+◌, ◌<◌, ◌^◌, OnOk, OnErr, Some, true, slice_index, vec_len, slice_set};
 ghost use Rattle.std.specs.List.{slice_get};
-ghost use Rattle.index_words.specs.Words.{word_at, word_count, memory};
-ghost use Rattle.core_rule.specs.Tables.{Table};
-ghost use Rattle.core_rule.specs.declared.event.Kind.TheVariants.{SplitSeat, Raise};
-ghost use Rattle.core_rule.specs.Rule.{InRule};
-ghost use Rattle.std.specs.Prelude.{slice_set};
+ghost use Rattle.index_words.specs.Words.{memory};
+ghost use Rattle.core_events.specs.declared.event.Kind.TheVariants.{SplitSeat, Raise};
+ghost use Rattle.core_invariant.specs.Rule.{InRule};
 ghost use Rattle.index_words.specs.declared.view.View.{View as SeatView};
 ghost use Rattle.index_words.specs.declared.word.Word.TheVariants.{Stamp};
-ghost use Rattle.core_rule.specs.Steps.{is_own_update as own_update, carries as kind_carries, allowed_at, words_after, raised_from, IsChange};
+ghost use Rattle.core_events.specs.Steps.{is_own_update as own_update, carries as kind_carries, allowed_at, words_after, raised_from, IsChange};
 
-use crate::event::{Event, Kind};
-use crate::needs::{are_met, held, number_of};
 use crate::seat_links::{
     finalise_seat, load_head_seat, load_next_seat, load_ptr_seat, load_stamp_seat, load_ts_seat,
     prepare_seat, raise_seat,
 };
 use crate::seat_locks::{load_mark_seat, load_pair_seat, mark_seat, try_lock_seat, unlock_seat};
 use crate::seats::{enter_seat, fill_seat, join_seats, leave_seat, look_seat, split_seat};
-use crate::tree_moves::tree_move;
+use core_events::reads::{held, number_of};
+use core_events::{Event, Kind};
 use core_grace::is_own;
+use core_needs::needs::are_met;
+use core_spelled::tree_moves::tree_move;
 use index_words::{Layout, NoMemory, Update, View, Word};
 use std::alloc::Global;
 

@@ -23,20 +23,20 @@ use Rattle.core_grace.specs.Holds.{held_slots}
 use Rattle.core_trees.specs.NamedTree.{NamedTree}
 use Rattle.core_trees.specs.Gaps.{IsGapLink}
 use Rattle.core_trees.specs.Slots.{occurs}
-use Rattle.core_rule.specs.FilledRule.{IsOwnSlotWord, FilledRight}
-use Rattle.core_rule.specs.Locks.{lock_count, HeadRight, SideRight, IsNodeAt}
-use Rattle.core_rule.specs.Remembered.{Validates, IsUnlocked, IsAsRemembered}
-use Rattle.core_rule.specs.Rule.{InRule}
-use Rattle.core_rule.specs.SpelledNow.{tree_now, child_now}
-use Rattle.core_rule.specs.TreeMoves.{is_tree_step}
-use Rattle.core_rule.specs.Tables.{Table}
-use Rattle.core_rule.specs.Versions.{tree_nodes}
-use Rattle.core_rule.specs.UpdateNeeds.{side_of, may_raise_number}
-use Rattle.core_rule.specs.Steps.{allowed_at}
-use Rattle.core_rule.proofs.EachKind.{item_from_get}
-use Rattle.core_rule.proofs.LoadEntries.{count-locks}
-use Rattle.core_rule.proofs.OneView.{seat_at}
-use Rattle.core_rule.proofs.Remembered.{every_item, remembered_right}
+use Rattle.core_invariant.specs.FilledRule.{IsOwnSlotWord, FilledRight}
+use Rattle.core_invariant.specs.Locks.{lock_count, HeadRight, SideRight, IsNodeAt}
+use Rattle.core_laws.specs.Remembered.{Validates, IsUnlocked, IsAsRemembered}
+use Rattle.core_invariant.specs.Rule.{InRule}
+use Rattle.core_events.specs.SpelledNow.{tree_now, child_now}
+use Rattle.core_events.specs.TreeMoves.{is_tree_step}
+use Rattle.core_events.specs.Tables.{Table}
+use Rattle.core_events.specs.Versions.{tree_nodes}
+use Rattle.core_events.specs.UpdateNeeds.{side_of, may_raise_number}
+use Rattle.core_events.specs.Steps.{allowed_at}
+use Rattle.core_invariant.proofs.OneView.{item_from_get}
+use Rattle.core_invariant.proofs.HeldFacts.{count-locks}
+use Rattle.core_invariant.proofs.OneView.{seat_at}
+use Rattle.core_laws.proofs.Remembered.{every_item, remembered_right}
 use Rattle.core_updates.specs.LinkSteps.{IsLinkIn}
 use Rattle.core_updates.specs.Ready.{LeadsNow, IsPrepared, IsFreshTo, IsNewLink, IsNewNode, FindsKey, FindsSuccessor, IsReadyToGrow, IsReadyToReplace, IsReadyToLift, IsReadyToJoin, IsNear, IsDeep, update_of, MayStep}
 use Rattle.core_updates.specs.Held.{HasFilled, HoldsHead, HoldsLink, HoldsPrepared, HoldsFresh, HoldsNewLink, HoldsNew, HasLoaded, HoldsKey, HoldsSuccessor, HoldsGrow, HoldsReplace, HoldsLift, HoldsJoin, CanRaise, raise_of, MayRaise, GrowFromViewLaw, ReplaceFromViewLaw, LiftFromViewLaw, JoinFromViewLaw}

@@ -10,7 +10,7 @@ use Rattle.core_trees.specs.Slots.{occurs, one_at, first_slots, top_slots, remov
 use Rattle.core_trees.specs.SpelledTree.{Graph, IsSpelled, IsOutside, KeepsOutside}
 use Rattle.core_trees.specs.SpelledStep.{end_child, IsNodeOf, SameIn, behind_first}
 use Rattle.core_updates.specs.LinkSteps.{IsOtherChild, IsTreeAt, IsChildLink, KeepsLinks, IsLink, IsNext, GrowByLinkLaw, ReplaceByLinkLaw, LiftByLinkLaw, JoinNearLaw, JoinDeepLaw}
-use Rattle.core_rule.specs.TreeMoves.{is_branch as tests_branch}
+use Rattle.core_events.specs.TreeMoves.{is_branch as tests_branch}
 use Rattle.core_links.proofs.Compare.{compared, less, more, same}
 use Rattle.core_trees.proofs.Bounds.{first-within}
 use Rattle.core_trees.proofs.Gaps.{gap-ends}

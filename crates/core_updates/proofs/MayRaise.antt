@@ -23,15 +23,15 @@ use Rattle.core_trees.specs.SpelledTree.{Graph, IsSpelled}
 use Rattle.core_trees.specs.SpelledStep.{IsNodeOf}
 use Rattle.core_trees.proofs.SpelledTree.{spelled-frame}
 use Rattle.core_trees.specs.SpelledAt.{graph_at}
-use Rattle.core_rule.specs.LoadMoves.{locks}
-use Rattle.core_rule.specs.Meanings.{Meaning}
-use Rattle.core_rule.specs.UpdateMoves.{listed_entry}
-use Rattle.core_rule.specs.SpelledNow.{tree_now, child_now, graph_now, spells}
-use Rattle.core_rule.specs.TreeMoves.{tree_after, takes, brings, has_key, first_slot, new_entries, node_entries, new_slot, move_at, is_fresh, is_new, is_step}
-use Rattle.core_rule.specs.Rule.{Rule}
-use Rattle.core_rule.proofs.Owned.{free_entry_some, free_node_alone}
-use Rattle.core_rule.proofs.TreeNow.{child_is, node_lives, root_lives, tree_is}
-use Rattle.core_rule.proofs.TreeSteps.{in_listed, listed_is, count-listed}
+use Rattle.core_events.specs.LoadMoves.{locks}
+use Rattle.core_invariant.specs.Meanings.{Meaning}
+use Rattle.core_events.specs.UpdateMoves.{listed_entry}
+use Rattle.core_events.specs.SpelledNow.{tree_now, child_now, graph_now, spells}
+use Rattle.core_events.specs.TreeMoves.{tree_after, takes, brings, has_key, first_slot, new_entries, node_entries, new_slot, move_at, is_fresh, is_new, is_step}
+use Rattle.core_invariant.specs.Rule.{Rule}
+use Rattle.core_invariant.proofs.Owned.{free_entry_some, free_node_alone}
+use Rattle.core_invariant.proofs.TreeNow.{child_is, node_lives, root_lives, tree_is}
+use Rattle.core_invariant.proofs.TreeSteps.{in_listed, listed_is, count-listed}
 use Rattle.core_updates.specs.LinkSteps.{IsLinkIn, IsTreeAt, IsChildLink, KeepsLinks, IsLink, IsOtherChild, IsNext}
 use Rattle.core_updates.specs.Ready.{LeadsNow, IsPrepared, IsNewLink, IsNewNode, FindsKey, FindsSuccessor, IsReadyToGrow, IsReadyToReplace, IsReadyToLift, IsReadyToJoin, IsNear, IsDeep, update_of, MayStep, MayGrowLaw, MayReplaceLaw, MayLiftLaw, MayJoinLaw}
 use Rattle.core_updates.proofs.LinkSteps.{IsEither, gap_ends, end_is, grow_by_link, replace_by_link, lift_by_link, join_near, join_deep, grow_takes, replace_takes, found_there, lift_moves, join_moves}

@@ -18,14 +18,14 @@ use Rattle.core_links.specs.Bundle.{IsChain, child_of_entry}
 use Rattle.core_trees.specs.NamedTree.{NamedTree, Null, Branch}
 use Rattle.core_trees.specs.Slots.{occurs, one_at, NamesOnce}
 use Rattle.core_trees.specs.SpelledTree.{Graph, IsSpelled}
-use Rattle.core_rule.specs.Meanings.{Meaning}
-use Rattle.core_rule.specs.SpelledNow.{was_raised, has_number, child_now, graph_now, spells}
-use Rattle.core_rule.specs.Versions.{slots_of}
-use Rattle.core_rule.specs.Rule.{Rule}
-use Rattle.core_rule.proofs.Frames.{one_counted}
-use Rattle.core_rule.proofs.Owned.{once_entry, linked-at, in_entries, free_entry_some, not_in_bundle}
-use Rattle.core_rule.proofs.TreeFrames.{linked_live}
-use Rattle.core_rule.proofs.TreeNodes.{count_slots}
+use Rattle.core_invariant.specs.Meanings.{Meaning}
+use Rattle.core_events.specs.SpelledNow.{was_raised, has_number, child_now, graph_now, spells}
+use Rattle.core_events.specs.Versions.{slots_of}
+use Rattle.core_invariant.specs.Rule.{Rule}
+use Rattle.core_invariant.proofs.Frames.{one_counted}
+use Rattle.core_invariant.proofs.Owned.{once_entry, linked-at, in_entries, free_entry_some, not_in_bundle}
+use Rattle.core_invariant.proofs.TreeFrames.{linked_live}
+use Rattle.core_invariant.proofs.TreeNodes.{count_slots}
 use Rattle.core_updates.specs.LinkSteps.{KeepsLinks}
 
 -- the test for a spelled tree says so

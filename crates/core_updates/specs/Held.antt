@@ -19,13 +19,13 @@ use Rattle.index_words.specs.Words.{address, memory}
 use Rattle.key_map.specs.Lists.{count, IsItem}
 use Rattle.core_trees.specs.NamedTree.{NamedTree}
 use Rattle.core_trees.specs.Gaps.{IsGapLink}
-use Rattle.core_rule.specs.declared.event.Event.{Event}
-use Rattle.core_rule.specs.declared.event.Kind.TheVariants.{Raise}
-use Rattle.core_rule.specs.Remembered.{Remembers}
-use Rattle.core_rule.specs.Rule.{InRule}
-use Rattle.core_rule.specs.Steps.{allowed}
-use Rattle.core_rule.specs.UpdateNeeds.{side_of}
-use Rattle.core_rule.specs.Versions.{tree_nodes}
+use Rattle.core_events.specs.declared.event.Event.{Event}
+use Rattle.core_events.specs.declared.event.Kind.TheVariants.{Raise}
+use Rattle.core_laws.specs.Remembered.{Remembers}
+use Rattle.core_invariant.specs.Rule.{InRule}
+use Rattle.core_events.specs.Steps.{allowed}
+use Rattle.core_events.specs.UpdateNeeds.{side_of}
+use Rattle.core_events.specs.Versions.{tree_nodes}
 use Rattle.core_updates.specs.Ready.{update_of, MayStep}
 
 -- the seat has put this value into the word

@@ -14,11 +14,11 @@ use Rattle.index_words.specs.declared.word.Word.TheVariants.{Node, Entry}
 use Rattle.index_words.specs.Words.{Memory}
 use Rattle.key_map.specs.Lists.{count, IsItem}
 use Rattle.core_trees.specs.Gaps.{IsGapLink}
-use Rattle.core_rule.specs.LoadMoves.{locks}
-use Rattle.core_rule.specs.Meanings.{Meaning}
-use Rattle.core_rule.specs.Rule.{Rule}
-use Rattle.core_rule.specs.SpelledNow.{tree_now, child_now}
-use Rattle.core_rule.specs.TreeMoves.{new_entries, node_entries, is_tree_step, tree_move}
+use Rattle.core_events.specs.LoadMoves.{locks}
+use Rattle.core_invariant.specs.Meanings.{Meaning}
+use Rattle.core_invariant.specs.Rule.{Rule}
+use Rattle.core_events.specs.SpelledNow.{tree_now, child_now}
+use Rattle.core_events.specs.TreeMoves.{new_entries, node_entries, is_tree_step, tree_move}
 use Rattle.core_updates.specs.LinkSteps.{IsLinkIn}
 
 -- the link is one of the tree at the stamp, and leads there to the child, where 0 is none

@@ -1,5 +1,5 @@
 //! Why an update that has validated may raise: pure laws over the rule of the words, for the four cases of an
-//! update. They stand on `core_rule` and `core_trees`, and have no source of their own for what an update
+//! update. They stand on `core_laws` and `core_trees`, and have no source of their own for what an update
 //! rests on: that a link of the tree at the stamp leads to a node (`LeadsNow`), and that keys are in the gap
 //! of a null link (`GapNow`). The calls below do nothing: their clauses are what is proved.
 #![tactic(auto)]

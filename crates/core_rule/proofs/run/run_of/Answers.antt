@@ -1,5 +1,5 @@
 use Rattle.std.proofs.Common.{ap, ◌∙◌, Err}
-use Rattle.core_rule.proofs.Laws.{laws_of}
+use Rattle.core_laws.proofs.Laws.{laws_of}
 use Rattle.core_rule.proofs.Refusals.{refused_at}
 use Rattle.core_rule.proofs.run.run_of.Goals as goal
 

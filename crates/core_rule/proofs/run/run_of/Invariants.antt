@@ -1,6 +1,6 @@
 use Rattle.std.proofs.Common.{◌≡◌, drop}
-use Rattle.core_rule.specs.Openings.{opening}
-use Rattle.core_rule.specs.Rule.{IsRight}
+use Rattle.core_events.specs.Openings.{opening}
+use Rattle.core_invariant.specs.Rule.{IsRight}
 use Rattle.core_rule.specs.Runs.{after_all, first_refused, refused_from}
 use Rattle.core_rule.proofs.run.run_of.Given as goal
 

@@ -1,5 +1,5 @@
 use Rattle.std.proofs.Common.{◌≡◌, drop}
-use Rattle.core_rule.specs.LoadMoves.{longest, longest_from}
+use Rattle.core_events.specs.LoadMoves.{longest, longest_from}
 use Rattle.core_rule.proofs.seat_links.longest_history.Given as goal
 
 abbrev pub invariant-loop-view : goal.invariant-loop-view

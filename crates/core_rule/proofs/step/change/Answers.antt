@@ -1,8 +1,8 @@
 use Rattle.std.proofs.Common.{length, take, drop, ◌++◌, ap, ◌∙◌, sym}
 use Rattle.std.proofs.Math.Seq.{take-append_seam}
-use Rattle.core_rule.specs.declared.event.Kind.TheVariants.{SplitSeat}
+use Rattle.core_events.specs.declared.event.Kind.TheVariants.{SplitSeat}
 use Rattle.core_rule.proofs.Allowed.{split_few, split_there}
-use Rattle.core_rule.proofs.Changes.{on_ok, change_of, change_whole, err_whole}
+use Rattle.core_events.proofs.Changes.{on_ok, change_of, change_whole, err_whole}
 use Rattle.core_rule.proofs.step.change.Goals as goal
 
 pub split_seat-requires-clause-few : goal.split_seat-requires-clause-few

@@ -1,19 +1,18 @@
-use Rattle.std.proofs.Common.{refl}
-use Rattle.core_rule.specs.declared.event.Kind.TheVariants.{MakeSeat, Enter, Leave, LookSec, Fill, LoadStamp, LoadHead, LoadTs, LoadPtr, LoadNext, Prepare, Raise, Finalise, TryLock, Unlock, LoadMark, Mark, LoadKeyOrVal}
+use Rattle.std.proofs.Common.{refl, ◌≡◌, ◌∙◌, ap, sym, subst, true, Some, ℕ, eqb, slice_set}
+use Rattle.core_events.specs.declared.event.Kind.TheVariants.{MakeSeat, Enter, Leave, LookSec, Fill, LoadStamp, LoadHead, LoadTs, LoadPtr, LoadNext, Prepare, Raise, Finalise, TryLock, Unlock, LoadMark, Mark, LoadKeyOrVal}
 use Rattle.index_words.specs.declared.view.View.{View}
-use Rattle.std.proofs.Common.{◌≡◌, ◌∙◌, ap, sym, subst, true, Some, ℕ, eqb, slice_set}
 use Rattle.std.specs.List.{slice_get}
 use Rattle.index_words.specs.declared.word.Word.{Word}
 use Rattle.index_words.specs.declared.word.Word.TheVariants.{Entry}
 use Rattle.index_words.specs.declared.word.Part.TheVariants.{Stamp as Number}
-use Rattle.core_rule.specs.LoadMoves.{longest, stamp_loaded}
-use Rattle.core_rule.specs.Versions.{tree_nodes}
-use Rattle.core_rule.specs.SpelledNow.{tree_now}
+use Rattle.core_events.specs.LoadMoves.{longest, stamp_loaded}
+use Rattle.core_events.specs.Versions.{tree_nodes}
+use Rattle.core_events.specs.SpelledNow.{tree_now}
 use Rattle.index_words.specs.Words.{memory}
-use Rattle.core_rule.specs.Steps.{allowed_at, look_from, head_from, ts_from, ptr_from, next_from, raised_from, tried_from, mark_from, pair_from}
-use Rattle.core_rule.specs.Tables.{Table}
+use Rattle.core_events.specs.Steps.{allowed_at, look_from, head_from, ts_from, ptr_from, next_from, raised_from, tried_from, mark_from, pair_from}
+use Rattle.core_events.specs.Tables.{Table}
 use Rattle.core_rule.proofs.Allowed.{seat_within, join_other, prepare_small, raises, loads_stamp}
-use Rattle.core_rule.proofs.Changes.{on_ok, change_of, join_change, at_found}
+use Rattle.core_events.proofs.Changes.{on_ok, change_of, join_change, at_found}
 use Rattle.core_rule.proofs.step.change_in_place.Goals as goal
 
 pub join_seats-requires-clause-seat : goal.join_seats-requires-clause-seat

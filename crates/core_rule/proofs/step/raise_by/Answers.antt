@@ -5,14 +5,14 @@ use Rattle.key_map.specs.declared.update.Update.{Update}
 use Rattle.index_words.specs.declared.view.View.{View}
 use Rattle.index_words.specs.declared.word.Word.TheVariants.{Stamp}
 use Rattle.index_words.specs.Words.{memory}
-use Rattle.core_rule.specs.declared.tree_moves.TreeMove.{TreeMove}
-use Rattle.core_rule.specs.LoadMoves.{longest}
-use Rattle.core_rule.specs.Steps.{raised_from}
-use Rattle.core_rule.specs.TreeMoves.{tree_move, is_tree_step}
-use Rattle.core_rule.specs.Tables.{Table}
-use Rattle.core_rule.specs.UpdateMoves.{raised_view}
+use Rattle.core_events.specs.declared.tree_move.TreeMove.{TreeMove}
+use Rattle.core_events.specs.LoadMoves.{longest}
+use Rattle.core_events.specs.Steps.{raised_from}
+use Rattle.core_events.specs.TreeMoves.{tree_move, is_tree_step}
+use Rattle.core_events.specs.Tables.{Table}
+use Rattle.core_events.specs.UpdateMoves.{raised_view}
 use Rattle.core_rule.proofs.Allowed.{needed, raises, raise_steps}
-use Rattle.core_rule.proofs.Changes.{on_ok}
+use Rattle.core_events.proofs.Changes.{on_ok}
 use Rattle.core_rule.proofs.step.raise_by.Goals as goal
 
 -- the item that was read is the seat's view

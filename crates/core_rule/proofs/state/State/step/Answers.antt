@@ -1,14 +1,14 @@
 use Rattle.std.proofs.Common.{ℕ, List, sym, subst}
-use Rattle.core_rule.specs.LinkLaw.{KeepsSelections}
-use Rattle.core_rule.specs.KeepsSeen.{KeepsSeen}
-use Rattle.core_rule.specs.SectionMoves.{MovesSections}
-use Rattle.core_rule.specs.Rule.{InRule}
-use Rattle.core_rule.specs.Tables.{Table}
+use Rattle.core_invariant.specs.LinkLaw.{KeepsSelections}
+use Rattle.kept_views.specs.KeepsSeen.{KeepsSeen}
+use Rattle.kept_views.specs.SectionMoves.{MovesSections}
+use Rattle.core_invariant.specs.Rule.{InRule}
+use Rattle.core_events.specs.Tables.{Table}
 use Rattle.core_rule.proofs.Finished.{finished_law}
-use Rattle.core_rule.proofs.SeenLaw.{keeps_seen}
-use Rattle.core_rule.proofs.SectionLaw.{moves_sections}
-use Rattle.core_rule.proofs.Laws.{laws_of, laws_same, laws_refused}
-use Rattle.core_rule.specs.Owners.{KeepsOwners}
+use Rattle.kept_views.proofs.SeenLaw.{keeps_seen}
+use Rattle.kept_views.proofs.SectionLaw.{moves_sections}
+use Rattle.core_laws.proofs.Laws.{laws_of, laws_same, laws_refused}
+use Rattle.core_laws.specs.Owners.{KeepsOwners}
 use Rattle.core_rule.proofs.StepOwners.{owners_finished, owners_refused, owners_stay}
 use Rattle.core_rule.proofs.Stepped.{finished, same_selections, refused_selections, stored_small}
 use Rattle.core_rule.proofs.state.State.step.Goals as goal

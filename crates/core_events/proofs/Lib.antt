@@ -1,0 +1,2 @@
+-- The views after an event, by the kind of the event.
+pub mod Changes

@@ -1,0 +1,16 @@
+pub mod Tables
+pub mod Needs
+pub mod Moves
+pub mod FillMoves
+pub mod LoadMoves
+pub mod LoadNeeds
+pub mod UpdateMoves
+pub mod UpdateNeeds
+pub mod LockMoves
+pub mod LockNeeds
+pub mod Versions
+pub mod SpelledNow
+pub mod TreeMoves
+pub mod Steps
+pub mod Seats
+pub mod Openings

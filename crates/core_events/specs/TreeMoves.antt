@@ -1,0 +1,109 @@
+-- The tree step of a raise: which node the update brings in, what it takes out, and whether the pending entries
+-- spell the tree after it.
+use Rattle.std.specs.Prelude.{ℕ, ◌+◌, List, [], ◌∷◌, ◌++◌, nat_lt, Bool, true, false, not, ◌==◌, ◌&&◌, ◌||◌, Option, Some, None}
+use Rattle.std.specs.List.{list_all}
+use Rattle.index_words.specs.declared.layout.Layout.{Layout}
+use Rattle.index_words.specs.declared.side.Side.TheVariants.{Left, Right}
+use Rattle.key_map.specs.declared.update.Update.{Update}
+use Rattle.key_map.specs.declared.update.Change.{Change}
+use Rattle.key_map.specs.declared.update.Change.TheVariants.{Put, Remove}
+use Rattle.index_words.specs.declared.view.View.{View}
+use Rattle.index_words.specs.declared.word.Field.TheVariants.{Mark, Head}
+use Rattle.index_words.specs.declared.word.Part.TheVariants.{Stamp as Number, Next}
+use Rattle.index_words.specs.declared.word.Word.TheVariants.{Stamp, Node, Entry}
+use Rattle.index_words.specs.Words.{Memory}
+use Rattle.key_map.specs.Lists.{has}
+use Rattle.core_trees.specs.NamedTree.{NamedTree, Null, Branch}
+use Rattle.core_trees.specs.Search.{end_node, end_side}
+use Rattle.core_trees.specs.Slots.{put_takes, remove_takes, remove_brings}
+use Rattle.core_trees.specs.TreeStep.{subtree_at, tree_put, tree_remove}
+use Rattle.core_events.specs.declared.tree_move.TreeMove.{TreeMove}
+use Rattle.core_events.specs.LoadMoves.{locks}
+use Rattle.core_events.specs.UpdateMoves.{listed_entry}
+use Rattle.core_events.specs.SpelledNow.{child_now, graph_now, tree_now, spells, entries_from}
+
+-- the tree after the update, with the slot of a new node
+abbrev pub tree_after : Change → ℕ → ℕ → NamedTree → NamedTree
+tree_after (Put val) slot key tree = tree_put slot key val tree
+tree_after Remove slot key tree = tree_remove slot key tree
+
+-- the nodes that the update takes out
+abbrev pub takes : Change → ℕ → NamedTree → List ℕ
+takes (Put val) key tree = put_takes key tree
+takes Remove key tree = remove_takes key tree
+
+-- the nodes that it brings in: the new one, or none
+abbrev pub brings : Change → ℕ → ℕ → NamedTree → List ℕ
+brings (Put val) slot key tree = slot ∷ []
+brings Remove slot key tree = remove_brings slot key tree
+
+abbrev pub is_branch : NamedTree → Bool
+is_branch Null = false
+is_branch (Branch slot key val left right) = true
+
+-- a removal is one of a key that is in the tree. That is used by no law; a test alone pins it
+abbrev pub has_key : Change → ℕ → NamedTree → Bool
+has_key (Put val) key tree = true
+has_key Remove key tree = is_branch (subtree_at key tree)
+
+-- a key has 64 bits
+abbrev pub is_key : ℕ → Bool
+is_key key = nat_lt key 18446744073709551616
+
+abbrev pub first_slot : List ℕ → Option ℕ
+first_slot [] = None
+first_slot (k ∷ ks) = Some k
+
+-- the heads of a new node's bundles: each has one entry, or none
+abbrev pub new_entries : Memory → Option ℕ → List ℕ
+new_entries m None = []
+new_entries m (Some k) = listed_entry (m (Node (Head Left) k)) ++ listed_entry (m (Node (Head Right) k))
+
+-- the entries of the bundles of these nodes
+abbrev pub node_entries : Layout → Memory → List ℕ → List ℕ
+node_entries z m [] = []
+node_entries z m (k ∷ ks) =
+    (entries_from (m Stamp + 1) z.entries (λ e. m (Entry Next e)) (m (Node (Head Left) k))
+    ++ entries_from (m Stamp + 1) z.entries (λ e. m (Entry Next e)) (m (Node (Head Right) k)))
+    ++ node_entries z m ks
+
+-- the child, after the raise, of the link at which the search for the key ends: where there is a new node, its slot
+abbrev pub new_slot : Memory → List View → View → ℕ → NamedTree → ℕ
+new_slot m vs v key tree = child_now m vs v.update.pending (end_side key Right tree) (end_node key 0 tree)
+
+abbrev pub move_at : Layout → Memory → Update → ℕ → NamedTree → TreeMove
+move_at z m u slot tree = record {
+  added = first_slot (brings u.change slot u.key tree);
+  entries = new_entries m (first_slot (brings u.change slot u.key tree));
+  taken = takes u.change u.key tree;
+  taken_entries = node_entries z m (takes u.change u.key tree);
+}
+
+-- what the raise of this update moves
+abbrev pub tree_move : Layout → Memory → List View → View → Update → TreeMove
+tree_move z m vs v u = move_at z m u (new_slot m vs v u.key (tree_now z m vs)) (tree_now z m vs)
+
+-- a free entry of the seat without a number and without a next
+abbrev pub is_fresh : Memory → View → ℕ → Bool
+is_fresh m v e = has e v.free.entries && m (Entry Number e) == 0 && m (Entry Next e) == 0
+
+-- a new node is a free slot of the seat, unmarked, whose bundles have different fresh entries
+abbrev pub is_new : Memory → View → Option ℕ → Bool
+is_new m v None = true
+is_new m v (Some k) =
+    has k v.free.nodes && m (Node Mark k) == 0 && list_all (is_fresh m v) (new_entries m (Some k))
+    && (m (Node (Head Left) k) == 0 || not (m (Node (Head Left) k) == m (Node (Head Right) k)))
+
+abbrev pub spells_after : Memory → List View → View → Update → ℕ → TreeMove → NamedTree → Bool
+spells_after m vs v u slot move tree =
+    spells (graph_now m vs (v.update.pending ++ move.entries)) (child_now m vs (v.update.pending ++ move.entries) Right 0) (tree_after u.change slot u.key tree)
+
+abbrev pub is_step : Memory → List View → View → Update → ℕ → TreeMove → NamedTree → Bool
+is_step m vs v u slot move tree =
+    is_key u.key && has_key u.change u.key tree && list_all (λ k. locks k v.held.nodes) move.taken && is_new m v move.added && spells_after m vs v u slot move tree
+
+-- the pending entries and those of the new node, with the next number, spell the tree after the update; each node
+-- that is taken out is locked
+abbrev pub is_tree_step : Layout → Memory → List View → View → Update → Bool
+is_tree_step z m vs v u =
+    is_step m vs v u (new_slot m vs v u.key (tree_now z m vs)) (tree_move z m vs v u) (tree_now z m vs)

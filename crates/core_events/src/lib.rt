@@ -1,0 +1,12 @@
+//! The events of the pure machine, and all that is said of one event over a table as plain data: what it needs, what
+//! the views and the words are after it, and the table at the start. It knows nothing of the rule. Its code is the
+//! record of an event, and what its parts read of the words and of a view: the crates of the core use that by its
+//! modules, and no one else.
+#![tactic(auto)]
+
+mod event;
+pub mod reads;
+pub mod tree_move;
+
+pub use event::{Event, Kind};
+pub use tree_move::TreeMove;

@@ -1,0 +1,54 @@
+-- What holds of each item of a list, and of the seats, where only something else has changed.
+pub mod Frames
+-- One bundle, where what it reads stays the same at its entries.
+pub mod BundleFrames
+-- What a seat has filled stays where a store is to another word than one of its own slots.
+pub mod Filled
+-- What idle views hold, and what the rule says of two views with numbers.
+pub mod Idle
+-- Moves of one view's slots that keep the rule.
+pub mod OneView
+-- The entries of live nodes are not free, and what else the counts of slots say.
+pub mod Owned
+-- The histories of two views that are joined.
+pub mod Joins
+-- A list of numbers without one of them.
+pub mod Without
+-- A free entry of a view is put into a bundle of a linked node: the rule on slots is kept.
+pub mod SlotLinks
+-- A bundle that gets an entry without a number in front: what is linked, read and held.
+pub mod Fronts
+-- A node that a view has locked and found unmarked, before its update has raised, is the root or in the tree.
+pub mod Locked
+-- The nodes of a tree, as a list in the order of their keys.
+pub mod TreeNodes
+-- A tree stays spelled, and its gaps stay as they are, where the same is read of the root and of its nodes.
+pub mod TreeFrames
+-- What is read by computation: the newest entry that has a number, the entries from a head on, and the tree from
+pub mod TreeReads
+-- The tree at the stamp and the bundles, as they are read from the words, are what the rule names.
+pub mod TreeNow
+-- The tree after an update, for puts and removals alike, and what the tests of a tree step tell.
+pub mod TreeSteps
+-- A move of one view that leaves its slots and its update keeps the rule, where the rule on its seat is kept.
+pub mod Quiet
+-- The law on links, from what the words of two tables mean to the words themselves.
+pub mod LinkLaw
+-- What the needs of loads and of an update's events say.
+pub mod Needed
+-- What an allowed event gives: the rule over what the words and the views are then.
+pub mod StepGives
+-- What an event of one seat leaves of its view as it is.
+pub mod KeptViews
+-- No event but a join changes whether a view was joined, and a join leaves nothing of the other view.
+pub mod SpentViews
+-- What a view holds by its locks and its new node, and the test for a lock.
+pub mod HeldFacts
+-- The head of a bundle of a live node is 0 or an entry of the bundle, and so no free entry.
+pub mod LiveHeads
+-- The longest history that a view knows is the whole one.
+pub mod Longest
+-- A view that stands at another place, remembers other links, and has loaded more of the same locked nodes keeps the rule.
+pub mod ReadMoves
+-- What a seat knows that stands at an entry: the entry is in the bundle, and its number, and what is selected.
+pub mod AtEntries

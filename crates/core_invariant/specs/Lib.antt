@@ -1,0 +1,16 @@
+pub mod Meanings
+pub mod MeaningMoves
+pub mod Numbers
+pub mod Histories
+pub mod OwnPlaces
+pub mod SectionRule
+pub mod SpentViews
+pub mod Locks
+pub mod BundleRule
+pub mod Readers
+pub mod FilledRule
+pub mod SeatRule
+pub mod Rule
+pub mod LinkLaw
+pub mod KeptRule
+pub mod RuleLaws

@@ -1,0 +1,46 @@
+-- The rule of the table, in its parts. It speaks of no seat's number, so it is the rule of the pure machine
+-- and of the running table alike.
+use Rattle.std.specs.Prelude.{◌≡◌, ℕ, ◌≤◌, ◌==◌, List, length, cond, All, sum_by}
+use Rattle.index_words.specs.declared.layout.Layout.{Layout}
+use Rattle.index_words.specs.declared.side.Side.{Side}
+use Rattle.index_words.specs.declared.view.View.{View}
+use Rattle.index_words.specs.declared.word.Field.TheVariants.{Key, Val, Lock, Mark}
+use Rattle.index_words.specs.declared.word.Part.TheVariants.{Child}
+use Rattle.index_words.specs.declared.word.Word.TheVariants.{Stamp, Node, Entry}
+use Rattle.index_words.specs.Words.{Memory, memory, word_count}
+use Rattle.core_grace.specs.Holds.{HoldsNode, HoldsEntry}
+use Rattle.core_grace.specs.Slots.{SlotRule}
+use Rattle.core_invariant.specs.Meanings.{Meaning, linked_by}
+use Rattle.core_invariant.specs.Numbers.{NumbersRight, IsSpare}
+use Rattle.core_invariant.specs.Histories.{HistoryRight}
+use Rattle.core_invariant.specs.OwnPlaces.{KnowsPlaces}
+use Rattle.core_invariant.specs.Locks.{lock_count, TreeUnmarked}
+use Rattle.core_invariant.specs.BundleRule.{IsLive, IsBundle, pending_count}
+use Rattle.core_invariant.specs.SeatRule.{SeatRight}
+use Rattle.core_invariant.specs.SpentViews.{IsSpent}
+use Rattle.core_events.specs.Versions.{IsVersion, slots_of}
+use Rattle.core_events.specs.Tables.{Table}
+
+pub record Rule (z : Layout) (m : Memory) (vs : List View) (g : Meaning) : Type 0 where
+  pub numbers : NumbersRight z vs
+  pub history : HistoryRight z (m Stamp) g.updates vs
+  pub slots : SlotRule z (linked_by g) HoldsNode (HoldsEntry g.bundles) vs
+  pub locks : (k : ℕ) → sum_by (lock_count k) vs ≡ cond (m (Node Lock k) == 0) 0 1
+  pub tree : IsVersion (λ k. m (Node Key k)) (λ k. m (Node Val k)) (λ e. m (Entry Child e)) g.bundles g.updates (m Stamp) g.tree
+  pub marks : TreeUnmarked (λ k. m (Node Mark k)) (slots_of g.tree)
+  pub bundles : (k : ℕ) → IsLive z vs k → (side : Side) → IsBundle m vs g k side
+  pub single : (e : ℕ) → sum_by (pending_count e) vs ≤ 1
+  pub seats : All (SeatRight z m g) vs
+
+-- a table that meets the rule, where nothing is left of a view that was joined into another one, no word of a number
+-- that is still to be given is used, and each view knows where its own updates stand
+pub record InRule (z : Layout) (words : List ℕ) (vs : List View) : Type 0 where
+  pub size : length words ≡ word_count z
+  pub meaning : Meaning
+  pub rule : Rule z (memory z words) vs meaning
+  pub spent : All IsSpent vs
+  pub spare : All (IsSpare (memory z words)) vs
+  pub places : All KnowsPlaces vs
+
+abbrev pub IsRight : Table → Type 0
+IsRight t = InRule t.layout t.words t.views

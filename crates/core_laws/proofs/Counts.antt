@@ -1,0 +1,673 @@
+-- Where the counts of a view rise.
+use Rattle.std.proofs.Common.{◌≡◌, ◌≢◌, ℕ, zero, suc, ◌+◌, ◌<◌, ◌⊎◌, cond, List, [], ◌∷◌, ◌++◌, Bool, true, false, not, eqb, ◌&&◌, ◌||◌, set, arith, refl, ap, ◌∙◌, sym, subst, inl, inr, slice_index, Option, Some, None}
+use Rattle.std.specs.List.{slice_get, list_any}
+use Rattle.std.proofs.lemmas.Bool.{and_parts, eqb-true, eq-eqb, ne_eqb}
+use Rattle.std.proofs.lemmas.Bool.Decides.{nat_tests}
+use Rattle.std.proofs.lemmas.List.{get_or_append_left, length-append}
+use Rattle.index_words.specs.declared.layout.Layout.{Layout}
+use Rattle.index_words.specs.declared.side.Side.{Side}
+use Rattle.index_words.specs.declared.side.Side.TheVariants.{Left, Right}
+use Rattle.key_map.specs.declared.update.Update.{Update}
+use Rattle.index_words.specs.declared.view.View.{View}
+use Rattle.index_words.specs.declared.view.history.Counts.{Counts}
+use Rattle.index_words.specs.declared.view.reading.Link.{Link}
+use Rattle.index_words.specs.declared.view.reading.LinkSource.{LinkSource}
+use Rattle.index_words.specs.declared.view.reading.LinkSource.TheVariants.{Bundle, Plain}
+use Rattle.index_words.specs.declared.view.reading.Place.{Place}
+use Rattle.index_words.specs.declared.view.reading.Place.TheVariants.{Nowhere, Entry as AtEntry, Node as AtNode, Gap}
+use Rattle.index_words.specs.declared.word.Field.{Field}
+use Rattle.index_words.specs.declared.word.Field.TheVariants.{Key, Val, Lock, Mark, Head, Link as LinkField, Tag}
+use Rattle.index_words.specs.declared.word.Part.TheVariants.{Child, Stamp as Number, Next}
+use Rattle.index_words.specs.declared.word.Word.{Word}
+use Rattle.index_words.specs.declared.word.Word.TheVariants.{Stamp, Section, Announced, Node, Entry}
+use Rattle.index_words.specs.Views.{no_slots, no_looks, spent_view}
+use Rattle.index_words.specs.Words.{Memory, word_at, same_side}
+use Rattle.index_words.proofs.Seats.{item_set, beside_item}
+use Rattle.key_map.specs.Lists.{count, has, IsItem}
+use Rattle.key_map.proofs.Counting.{has-count, count-has}
+use Rattle.core_grace.specs.Batches.{batch_taken, batch_freed, settled, looked, looked_at, all_passed, is_empty}
+use Rattle.core_grace.specs.Sections.{is_even}
+use Rattle.core_events.specs.declared.event.Event.{Event}
+use Rattle.core_events.specs.declared.event.Kind.{Kind}
+use Rattle.core_events.specs.declared.event.Kind.TheVariants.{MakeSeat, SplitSeat, JoinSeat, Enter, Leave, LookSec, Fill, LoadStamp, LoadHead, LoadTs, LoadPtr, LoadNext, Prepare, Raise, Finalise, TryLock, Unlock, LoadMark, Mark as MarkNode, LoadKeyOrVal}
+use Rattle.core_events.specs.FillMoves.{filled_view, filled_with, with_filled}
+use Rattle.core_laws.specs.Counts.{MeetsLock, FindsNoNumber, RemembersOther, FindsOtherHead, FindsMark, FixesPlace, RisesWhere, CountsRise, CountsLaw}
+use Rattle.core_events.specs.Tables.{Table, held_by}
+use Rattle.core_invariant.specs.Locks.{lock_count}
+use Rattle.core_events.specs.LoadMoves.{locks, raised_if, has_moved, has_other_source, stored_by, head_loaded, ts_loaded, next_at}
+use Rattle.core_events.specs.LoadNeeds.{is_reachable, reads_tree, may_load_head, may_load_field, may_load_part}
+use Rattle.core_events.specs.LockMoves.{finds_mark, mark_loaded, tried, locked_view, met_lock, names_other}
+use Rattle.core_events.specs.LockNeeds.{names_pass, may_try_lock, may_load_mark}
+use Rattle.core_events.specs.Moves.{in_section, joined_with, split_left, split_right}
+use Rattle.core_events.specs.Needs.{is_lock, is_stamp, may_join, may_join_found}
+use Rattle.core_invariant.specs.Rule.{IsRight}
+use Rattle.core_events.specs.Steps.{needs, carries, allowed_at, after_at, view_after, views_after, join_found, look_from, head_at, head_from, ts_from, ptr_from, next_from, prepared_at, prepared_from, raised_from, finalised_from, tried_from, unlocked_from, mark_from, marked_from, pair_from}
+use Rattle.core_laws.specs.ViewNeeds.{IsInReach}
+use Rattle.core_invariant.proofs.OneView.{item_from_get}
+use Rattle.core_invariant.proofs.Frames.{same_item}
+use Rattle.core_laws.proofs.HeldLocks.{counted_busy}
+use Rattle.core_invariant.proofs.HeldFacts.{locks-count, count-locks}
+use Rattle.core_invariant.proofs.Needed.{never, not_true, not_equal, either_true, tree-count}
+use Rattle.core_laws.proofs.Owners.{found_at}
+use Rattle.core_laws.proofs.ViewNeeds.{reaches}
+
+-- what of a view a count is
+record Tally (v w : View) : Type 0 where
+  counts : w.counts ≡ v.counts
+  looks : w.history.looks ≡ v.history.looks
+
+either_tally : (b : Bool) (v x y : View) → Tally v x → Tally v y → Tally v (cond b x y)
+either_tally true v x y one two = one
+either_tally false v x y one two = two
+
+on_tally : (u v w : View) → Tally u v → Tally v w → Tally u w
+on_tally u v w one two = record { counts = two.counts ∙ one.counts; looks = two.looks ∙ one.looks }
+
+same_tally : (v : View) → Tally v v
+same_tally v = record { counts = refl; looks = refl }
+
+taken_tally : (v : View) → Tally v (batch_taken v)
+taken_tally v = either_tally (is_empty v.batch) v (record v { retired = no_slots; batch = v.retired; grace = no_looks }) v (record { counts = refl; looks = refl }) (same_tally v)
+
+settled_tally : (passes : ℕ) (v : View) → Tally v (settled passes v)
+settled_tally passes v = either_tally (all_passed passes v.number v.grace.passed) v (batch_freed v) v (record { counts = refl; looks = refl }) (same_tally v)
+
+looked_tally : (passes : ℕ) (v : View) (pass word : ℕ) → Tally v (looked passes v pass word)
+looked_tally passes v pass word =
+    let taken : View = batch_taken v in
+    let noted : View = record taken { grace = looked_at taken.grace pass word } in
+    let one = taken_tally v in
+    on_tally v noted (settled passes noted) (record { counts = one.counts; looks = one.looks }) (settled_tally passes noted)
+
+look_tally : (z : Layout) (v : View) (w : Word) (x : ℕ) → Tally v (look_from z v w x)
+look_tally z v (Section pass) x = looked_tally z.passes v pass x
+look_tally z v Stamp x = same_tally v
+look_tally z v (Announced k) x = same_tally v
+look_tally z v (Node f k) x = same_tally v
+look_tally z v (Entry p e) x = same_tally v
+
+enter_tally : (passes : ℕ) (v : View) (word : ℕ) → Tally v (settled passes (batch_taken (in_section v word)))
+enter_tally passes v word =
+    let inside : View = in_section v word in
+    on_tally v (batch_taken inside) (settled passes (batch_taken inside)) (on_tally v inside (batch_taken inside) (record { counts = refl; looks = refl }) (taken_tally inside))
+    (settled_tally passes (batch_taken inside))
+
+ptr_tally : (v : View) (w : Word) (x : ℕ) → Tally v (ptr_from v w x)
+ptr_tally v (Entry p e) x = record { counts = refl; looks = refl }
+ptr_tally v Stamp x = same_tally v
+ptr_tally v (Section k) x = same_tally v
+ptr_tally v (Announced k) x = same_tally v
+ptr_tally v (Node f k) x = same_tally v
+
+next_at_tally : (v : View) (place : Place) (e x : ℕ) → Tally v (next_at v place e x)
+next_at_tally v (AtEntry node side entry found) e x = record { counts = refl; looks = refl }
+next_at_tally v Nowhere e x = same_tally v
+next_at_tally v (AtNode node key) e x = same_tally v
+next_at_tally v (Gap node side) e x = same_tally v
+
+next_tally : (v : View) (w : Word) (x : ℕ) → Tally v (next_from v w x)
+next_tally v (Entry p e) x = next_at_tally v v.reading.place e x
+next_tally v Stamp x = same_tally v
+next_tally v (Section k) x = same_tally v
+next_tally v (Announced k) x = same_tally v
+next_tally v (Node f k) x = same_tally v
+
+prepared_at_tally : (v : View) (f : Field) (k e : ℕ) → Tally v (prepared_at v f k e)
+prepared_at_tally v (Head side) k e = record { counts = refl; looks = refl }
+prepared_at_tally v Key k e = same_tally v
+prepared_at_tally v Val k e = same_tally v
+prepared_at_tally v Lock k e = same_tally v
+prepared_at_tally v Mark k e = same_tally v
+prepared_at_tally v (LinkField side) k e = same_tally v
+prepared_at_tally v (Tag side) k e = same_tally v
+
+prepared_tally : (v : View) (w : Word) (e : ℕ) → Tally v (prepared_from v w e)
+prepared_tally v (Node f k) e = prepared_at_tally v f k e
+prepared_tally v Stamp e = same_tally v
+prepared_tally v (Section k) e = same_tally v
+prepared_tally v (Announced k) e = same_tally v
+prepared_tally v (Entry p k) e = same_tally v
+
+filled_tally : (v : View) (w : Word) (x : ℕ) → Tally v (filled_view v w x)
+filled_tally v w x = either_tally (is_even v.section_word) v v (with_filled v (filled_with v.reading.filled w x)) (same_tally v) (record { counts = refl; looks = refl })
+
+pair_tally : (v : View) (w : Word) (x : ℕ) → Tally v (pair_from v w x)
+pair_tally v (Node f k) x = record { counts = refl; looks = refl }
+pair_tally v Stamp x = same_tally v
+pair_tally v (Section k) x = same_tally v
+pair_tally v (Announced k) x = same_tally v
+pair_tally v (Entry p e) x = same_tally v
+
+raised_tally : (z : Layout) (m : Memory) (vs : List View) (v : View) (x : ℕ) (o : Option Update) → Tally v (raised_from z m vs v x o)
+raised_tally z m vs v x None = same_tally v
+raised_tally z m vs v x (Some u) = record { counts = refl; looks = refl }
+
+finalised_tally : (v : View) (w : Word) → Tally v (finalised_from v w)
+finalised_tally v (Entry p e) = record { counts = refl; looks = refl }
+finalised_tally v Stamp = same_tally v
+finalised_tally v (Section k) = same_tally v
+finalised_tally v (Announced k) = same_tally v
+finalised_tally v (Node f k) = same_tally v
+
+unlocked_tally : (v : View) (w : Word) → Tally v (unlocked_from v w)
+unlocked_tally v (Node f k) = record { counts = refl; looks = refl }
+unlocked_tally v Stamp = same_tally v
+unlocked_tally v (Section k) = same_tally v
+unlocked_tally v (Announced k) = same_tally v
+unlocked_tally v (Entry p e) = same_tally v
+
+marked_tally : (v : View) (w : Word) → Tally v (marked_from v w)
+marked_tally v (Node f k) = record { counts = refl; looks = refl }
+marked_tally v Stamp = same_tally v
+marked_tally v (Section k) = same_tally v
+marked_tally v (Announced k) = same_tally v
+marked_tally v (Entry p e) = same_tally v
+
+-- a test for where a count rises
+rises_by : (P : Type 0) (b : Bool) (old new : ℕ) → new ≡ raised_if b old → (P → b ≡ true) → (b ≡ true → P) → RisesWhere P old new
+rises_by P true old new is tests says = record { rises = λ p. is; stays = λ none. absurd (none (says refl)) }
+rises_by P false old new is tests says = record { rises = λ p. absurd (never (tests p)); stays = λ none. is }
+
+stays_by : (P : Type 0) (old new : ℕ) → new ≡ old → (P → ⊥) → RisesWhere P old new
+stays_by P old new is none = record { rises = λ p. absurd (none p); stays = λ _. is }
+
+any_step : {X : Type 0} (on : X → Bool) (x : X) (xs : List X) (b : Bool) → on x ≡ b → (b || list_any on xs) ≡ true
+    → (list_any on xs ≡ true → (i : ℕ) × (y : X) × IsItem xs i y × (on y ≡ true)) → (i : ℕ) × (y : X) × IsItem (x ∷ xs) i y × (on y ≡ true)
+any_step on x xs true is holds rest = (0, x, record { within = omega arith; is = λ d. refl }, is)
+any_step on x xs false is holds rest =
+    let found = rest holds in
+    (suc found.0, found.1, record { within = omega (arith, found.2.within); is = λ d. found.2.is d }, found.3)
+
+-- the item at which a test holds
+any_item : {X : Type 0} (on : X → Bool) (xs : List X) → list_any on xs ≡ true → (i : ℕ) × (y : X) × IsItem xs i y × (on y ≡ true)
+any_item on [] holds = absurd (never holds)
+any_item on (x ∷ xs) holds = any_step on x xs (on x) refl holds (any_item on xs)
+
+any_later : (b c : Bool) → c ≡ true → (b || c) ≡ true
+any_later true c p = refl
+any_later false c p = p
+
+any_here : (b c : Bool) → b ≡ true → (b || c) ≡ true
+any_here true c p = refl
+any_here false c p = cc
+
+item_any : {X : Type 0} (on : X → Bool) (xs : List X) (i : ℕ) (x : X) → IsItem xs i x → on x ≡ true → list_any on xs ≡ true
+item_any on [] i x at holds = absurd (omega (arith, at.within))
+item_any on (y ∷ ys) zero x at holds = any_here (on y) (list_any on ys) (ap on (at.is x) ∙ holds)
+item_any on (y ∷ ys) (suc i) x at holds = any_later (on y) (list_any on ys) (item_any on ys i x (record { within = omega (arith, at.within); is = λ d. at.is d }) holds)
+
+both : (a b : Bool) → a ≡ true → b ≡ true → (a && b) ≡ true
+both true true p q = refl
+both true false p q = q
+both false b p q = p
+
+none_has : (x : ℕ) (xs : List ℕ) → count x xs ≡ 0 → has x xs ≡ false
+none_has x xs none = none_by (has x xs) refl
+  where
+    none_by : (b : Bool) → has x xs ≡ b → b ≡ false
+    none_by true is = absurd (omega (arith, none, has-count x xs is))
+    none_by false is = refl
+
+has_none : (x : ℕ) (xs : List ℕ) → has x xs ≡ false → count x xs ≡ 0
+has_none x xs none = counted_by (count x xs) refl
+  where
+    counted_by : (n : ℕ) → count x xs ≡ n → n ≡ 0
+    counted_by zero is = refl
+    counted_by (suc n) is = absurd (never (sym none ∙ count-has x xs (omega (arith, is))))
+
+not_false : (b : Bool) → b ≡ false → not b ≡ true
+not_false true p = cc
+not_false false p = refl
+
+neither : (a b : Bool) → (a || b) ≡ false → (a ≡ false) × (b ≡ false)
+neither true b p = cc
+neither false b p = (refl, p)
+
+not_either : (a b : Bool) → a ≡ false → b ≡ false → (a || b) ≡ false
+not_either a b p q = ap (λ c. c || b) p ∙ q
+
+sides_same : (s t : Side) → same_side s t ≡ true → s ≡ t
+sides_same Left Left p = refl
+sides_same Right Right p = refl
+sides_same Left Right p = absurd (never p)
+sides_same Right Left p = absurd (never p)
+
+same_sides : (s t : Side) → s ≡ t → same_side s t ≡ true
+same_sides Left t p = subst (λ u. same_side Left u ≡ true) p refl
+same_sides Right t p = subst (λ u. same_side Right u ≡ true) p refl
+
+-- a link that is remembered with another entry
+source_other : (source : LinkSource) (head : ℕ) → has_other_source source head ≡ true → (entry : ℕ) × (source ≡ Bundle entry) × (entry ≢ head)
+source_other (Bundle entry) head is = (entry, refl, not_equal entry head is)
+source_other (Plain tag above below) head is = absurd (never is)
+
+other_source : (source : LinkSource) (head entry : ℕ) → source ≡ Bundle entry → entry ≢ head → has_other_source source head ≡ true
+other_source source head entry is apart = ap (λ s. has_other_source s head) is ∙ not_false (eqb entry head) (ne_eqb entry head apart)
+
+module _ (v : View) (node : ℕ) (side : Side) (head : ℕ) where
+  abbrev Tests : Link → Bool
+  Tests l = eqb l.node node && same_side l.side side && has_other_source l.source head
+
+  moved_says : has_moved v.reading.links node side head ≡ true → RemembersOther v node side head
+  moved_says is =
+      let found = any_item Tests v.reading.links is in
+      let l : Link = found.1 in
+      let one = and_parts (eqb l.node node && same_side l.side side) (has_other_source l.source head) found.3 in
+      let two = and_parts (eqb l.node node) (same_side l.side side) one.0 in
+      let other = source_other l.source head one.1 in
+      record {
+        place = found.0;
+        link = l;
+        is = found.2;
+        node_is = eqb-true l.node node two.0;
+        side_is = sides_same l.side side two.1;
+        entry = other.0;
+        source = other.1;
+        apart = other.2;
+      }
+
+  says_moved : RemembersOther v node side head → has_moved v.reading.links node side head ≡ true
+  says_moved other =
+      let l : Link = other.link in
+      item_any Tests v.reading.links other.place l other.is
+      (both (eqb l.node node && same_side l.side side) (has_other_source l.source head)
+      (both (eqb l.node node) (same_side l.side side) (eq-eqb l.node node other.node_is) (same_sides l.side side other.side_is)) (other_source l.source head other.entry other.source other.apart))
+
+reach_says : (v : View) (k : ℕ) → is_reachable v k ≡ true → IsInReach v k
+reach_says v k is =
+    elim (either_true (eqb k 0 || reads_tree k v.reading.tree) (locks k v.held.nodes) is) as (λ _. IsInReach v k) [
+      | inr held ↦ inr (inr (locks-count k v.held.nodes held))
+      | inl first ↦ elim (either_true (eqb k 0) (reads_tree k v.reading.tree) first) as (λ _. IsInReach v k) [
+        | inl root ↦ inl (eqb-true k 0 root)
+        | inr tree ↦ inr (inl (tree-count k v.reading.tree tree))
+      ]
+    ]
+
+same_node : (f h : Field) (k j : ℕ) → Some (Node f k) ≡ Some (Node h j) → (f ≡ h) × (k ≡ j)
+same_node f h k j is = (cc, cc)
+
+same_entry : (e d : ℕ) → Some (Entry Number e) ≡ Some (Entry Number d) → e ≡ d
+same_entry e d is = cc
+
+same_head : (s t : Side) → Head s ≡ Head t → s ≡ t
+same_head s t is = cc
+
+module _ (t : Table) (e : Event) (right : IsRight t) (v : View) (at : IsItem t.views e.seat v) (word : Word) (found : word_at t.layout e.word ≡ Some word) where
+  abbrev m : Memory
+  m = held_by t
+
+  -- the kinds that raise no count
+  still : (kind : Kind) (w : View) → e.kind ≡ kind → Tally v w → kind ≢ TryLock → kind ≢ LoadTs → kind ≢ LoadHead → kind ≢ LoadMark → kind ≢ LoadStamp → CountsRise t e v w
+  still kind w is same lock stamp head mark fix = record {
+    busy = stays_by (MeetsLock t e) v.counts.busy w.counts.busy (ap (λ (c : Counts). c.busy) same.counts) (λ p. lock (sym is ∙ p.kind));
+    waits = stays_by (FindsNoNumber t e v) v.counts.waits w.counts.waits (ap (λ (c : Counts). c.waits) same.counts) (λ p. stamp (sym is ∙ p.kind));
+    moves = stays_by (FindsOtherHead t e v ⊎ FindsMark t e v) v.counts.moves w.counts.moves (ap (λ (c : Counts). c.moves) same.counts) (moved_not);
+    looks = stays_by (FixesPlace e) v.history.looks w.history.looks same.looks (λ p. fix (sym is ∙ p.0));
+  }
+    where
+      moved_not : FindsOtherHead t e v ⊎ FindsMark t e v → ⊥
+      moved_not (inl p) = head (sym is ∙ p.kind)
+      moved_not (inr p) = mark (sym is ∙ p.kind)
+
+  not_moved : (kind : Kind) → e.kind ≡ kind → kind ≢ LoadHead → kind ≢ LoadMark → FindsOtherHead t e v ⊎ FindsMark t e v → ⊥
+  not_moved kind is head mark (inl p) = head (sym is ∙ p.kind)
+  not_moved kind is head mark (inr p) = mark (sym is ∙ p.kind)
+
+  stamp_counts : (w : View) → e.kind ≡ LoadStamp → w.counts ≡ v.counts → w.history.looks ≡ raised_if (eqb e.value 1) v.history.looks → CountsRise t e v w
+  stamp_counts w is same looks = record {
+    busy = stays_by (MeetsLock t e) v.counts.busy w.counts.busy (ap (λ (c : Counts). c.busy) same) (λ p. apart (sym is ∙ p.kind));
+    waits = stays_by (FindsNoNumber t e v) v.counts.waits w.counts.waits (ap (λ (c : Counts). c.waits) same) (λ p. apart_too (sym is ∙ p.kind));
+    moves = stays_by (FindsOtherHead t e v ⊎ FindsMark t e v) v.counts.moves w.counts.moves (ap (λ (c : Counts). c.moves) same) (not_moved LoadStamp is (λ p. cc) (λ p. cc));
+    looks = rises_by (FixesPlace e) (eqb e.value 1) v.history.looks w.history.looks looks (λ p. eq-eqb e.value 1 p.1) (λ p. (is, eqb-true e.value 1 p));
+  }
+    where
+      apart : LoadStamp ≡ TryLock → ⊥
+      apart p = cc
+
+      apart_too : LoadStamp ≡ LoadTs → ⊥
+      apart_too p = cc
+
+  ts_counts : (u : Word) → word ≡ u → e.kind ≡ LoadTs → may_load_part Number v u e.value ≡ true → CountsRise t e v (ts_from v u (m u))
+  ts_counts (Entry Number d) named is met =
+      let x : ℕ = m (Entry Number d) in
+      let w : View = ts_loaded v d x in
+      record {
+        busy = stays_by (MeetsLock t e) v.counts.busy w.counts.busy refl (λ p. apart (sym is ∙ p.kind));
+        waits = rises_by (FindsNoNumber t e v) (eqb x 0 && not (has d v.update.pending)) v.counts.waits w.counts.waits refl
+            (λ p.
+            let one : d ≡ p.entry = same_entry d p.entry (ap Some (sym named) ∙ sym found ∙ p.word) in
+            both (eqb x 0) (not (has d v.update.pending)) (eq-eqb x 0 (ap (λ y. m (Entry Number y)) one ∙ p.none))
+            (not_false (has d v.update.pending) (none_has d v.update.pending (ap (λ y. count y v.update.pending) one ∙ p.other))))
+            (λ b.
+            let parts = and_parts (eqb x 0) (not (has d v.update.pending)) b in
+            record {
+              kind = is;
+              entry = d;
+              word = found ∙ ap Some named;
+              none = eqb-true x 0 parts.0;
+              other = has_none d v.update.pending (not_true (has d v.update.pending) parts.1);
+            });
+        moves = stays_by (FindsOtherHead t e v ⊎ FindsMark t e v) v.counts.moves w.counts.moves refl (not_moved LoadTs is (λ p. cc) (λ p. cc));
+        looks = stays_by (FixesPlace e) v.history.looks w.history.looks refl (λ p. apart_too (sym is ∙ p.0));
+      }
+    where
+      apart : LoadTs ≡ TryLock → ⊥
+      apart p = cc
+
+      apart_too : LoadTs ≡ LoadStamp → ⊥
+      apart_too p = cc
+  ts_counts (Entry Child d) named is met = absurd (never met)
+  ts_counts (Entry Next d) named is met = absurd (never met)
+  ts_counts Stamp named is met = absurd (never met)
+  ts_counts (Section k) named is met = absurd (never met)
+  ts_counts (Announced k) named is met = absurd (never met)
+  ts_counts (Node f k) named is met = absurd (never met)
+
+  abbrev at_head : ℕ → Side → ℕ
+  at_head j s = m (Node (Head s) j)
+
+  abbrev Stored : ℕ → Bool
+  Stored x = stored_by v x (m (Entry Number x))
+
+  head_field : (f : Field) (k : ℕ) → word ≡ Node f k → e.kind ≡ LoadHead → may_load_field v f k e.value ≡ true
+      → CountsRise t e v (head_at v f k (m (Node f k)) (m (Entry Number (m (Node f k)))))
+  head_field (Head side) k named is met =
+      let x : ℕ = m (Node (Head side) k) in
+      let n : ℕ = m (Entry Number x) in
+      let w : View = head_loaded v k side x n in
+      record {
+        busy = stays_by (MeetsLock t e) v.counts.busy w.counts.busy refl (λ p. apart (sym is ∙ p.kind));
+        waits = stays_by (FindsNoNumber t e v) v.counts.waits w.counts.waits refl (λ p. apart_too (sym is ∙ p.kind));
+        moves = rises_by (FindsOtherHead t e v ⊎ FindsMark t e v) (has_moved v.reading.links k side x && not (stored_by v x n)) v.counts.moves w.counts.moves refl tested says;
+        looks = stays_by (FixesPlace e) v.history.looks w.history.looks refl (λ p. apart_last (sym is ∙ p.0));
+      }
+    where
+      apart : LoadHead ≡ TryLock → ⊥
+      apart p = cc
+
+      apart_too : LoadHead ≡ LoadTs → ⊥
+      apart_too p = cc
+
+      apart_last : LoadHead ≡ LoadStamp → ⊥
+      apart_last p = cc
+
+      apart_mark : LoadHead ≡ LoadMark → ⊥
+      apart_mark p = cc
+
+      tested : FindsOtherHead t e v ⊎ FindsMark t e v → (has_moved v.reading.links k side (at_head k side) && not (Stored (at_head k side))) ≡ true
+      tested (inr p) = absurd (apart_mark (sym is ∙ p.kind))
+      tested (inl p) =
+          let one = same_node (Head side) (Head p.side) k p.node (ap Some (sym named) ∙ sym found ∙ p.word) in
+          let same : side ≡ p.side = same_head side p.side one.0 in
+          subst (λ j. (has_moved v.reading.links j side (at_head j side) && not (Stored (at_head j side))) ≡ true) (sym one.1)
+          (subst (λ s. (has_moved v.reading.links p.node s (at_head p.node s) && not (Stored (at_head p.node s))) ≡ true) (sym same)
+          (both (has_moved v.reading.links p.node p.side (at_head p.node p.side)) (not (Stored (at_head p.node p.side)))
+          (says_moved v p.node p.side (at_head p.node p.side) p.other)
+          (not_false (Stored (at_head p.node p.side)) (not_either (has (at_head p.node p.side) v.update.pending) (has (m (Entry Number (at_head p.node p.side))) v.history.mine)
+          (none_has (at_head p.node p.side) v.update.pending p.apart.0) (none_has (m (Entry Number (at_head p.node p.side))) v.history.mine p.apart.1)))))
+
+      says : (has_moved v.reading.links k side (at_head k side) && not (Stored (at_head k side))) ≡ true → FindsOtherHead t e v ⊎ FindsMark t e v
+      says b =
+          let x : ℕ = at_head k side in
+          let parts = and_parts (has_moved v.reading.links k side x) (not (Stored x)) b in
+          let none = neither (has x v.update.pending) (has (m (Entry Number x)) v.history.mine) (not_true (Stored x) parts.1) in
+          inl (record {
+            kind = is;
+            node = k;
+            side = side;
+            word = found ∙ ap Some named;
+            other = moved_says v k side x parts.0;
+            apart = (has_none x v.update.pending none.0, has_none (m (Entry Number x)) v.history.mine none.1);
+          })
+  head_field Key k named is met = absurd (never met)
+  head_field Val k named is met = absurd (never met)
+  head_field Lock k named is met = absurd (never met)
+  head_field Mark k named is met = absurd (never met)
+  head_field (LinkField side) k named is met = absurd (never met)
+  head_field (Tag side) k named is met = absurd (never met)
+
+  head_counts : (u : Word) → word ≡ u → e.kind ≡ LoadHead → may_load_head v u e.value ≡ true → CountsRise t e v (head_from v u (m u) (m (Entry Number (m u))))
+  head_counts (Node f k) named is met = head_field f k named is met
+  head_counts Stamp named is met = absurd (never met)
+  head_counts (Section k) named is met = absurd (never met)
+  head_counts (Announced k) named is met = absurd (never met)
+  head_counts (Entry p d) named is met = absurd (never met)
+
+  mark_field : (f : Field) (k : ℕ) → word ≡ Node f k → e.kind ≡ LoadMark → may_load_mark v (Node f k) e.value ≡ true → CountsRise t e v (mark_loaded v k (m (Node f k)))
+  mark_field Mark k named is met =
+      let x : ℕ = m (Node Mark k) in
+      let w : View = mark_loaded v k x in
+      record {
+        busy = stays_by (MeetsLock t e) v.counts.busy w.counts.busy refl (λ p. apart (sym is ∙ p.kind));
+        waits = stays_by (FindsNoNumber t e v) v.counts.waits w.counts.waits refl (λ p. apart_too (sym is ∙ p.kind));
+        moves = rises_by (FindsOtherHead t e v ⊎ FindsMark t e v) (finds_mark v k x) v.counts.moves w.counts.moves refl tested says;
+        looks = stays_by (FixesPlace e) v.history.looks w.history.looks refl (λ p. apart_last (sym is ∙ p.0));
+      }
+    where
+      apart : LoadMark ≡ TryLock → ⊥
+      apart p = cc
+
+      apart_too : LoadMark ≡ LoadTs → ⊥
+      apart_too p = cc
+
+      apart_last : LoadMark ≡ LoadStamp → ⊥
+      apart_last p = cc
+
+      apart_head : LoadMark ≡ LoadHead → ⊥
+      apart_head p = cc
+
+      tested : FindsOtherHead t e v ⊎ FindsMark t e v → finds_mark v k (m (Node Mark k)) ≡ true
+      tested (inl p) = absurd (apart_head (sym is ∙ p.kind))
+      tested (inr p) =
+          let one = same_node Mark Mark k p.node (ap Some (sym named) ∙ sym found ∙ p.word) in
+          let x : ℕ = m (Node Mark p.node) in
+          let a = eqb x 1 in
+          let b = is_reachable v p.node in
+          let c = not (has p.node v.update.taken) in
+          let d = not (has p.node v.retired.nodes) in
+          subst (λ j. finds_mark v j (m (Node Mark j)) ≡ true) (sym one.1)
+          (both (a && b && c) d (both (a && b) c (both a b (eq-eqb x 1 p.marked) (reaches v p.node p.reach)) (not_false (has p.node v.update.taken) (none_has p.node v.update.taken p.kept.0)))
+          (not_false (has p.node v.retired.nodes) (none_has p.node v.retired.nodes p.kept.1)))
+
+      says : finds_mark v k (m (Node Mark k)) ≡ true → FindsOtherHead t e v ⊎ FindsMark t e v
+      says is_true =
+          let x : ℕ = m (Node Mark k) in
+          let a = eqb x 1 in
+          let b = is_reachable v k in
+          let c = not (has k v.update.taken) in
+          let d = not (has k v.retired.nodes) in
+          let one = and_parts (a && b && c) d is_true in
+          let two = and_parts (a && b) c one.0 in
+          let three = and_parts a b two.0 in
+          inr (record {
+            kind = is;
+            node = k;
+            word = found ∙ ap Some named;
+            marked = eqb-true x 1 three.0;
+            reach = reach_says v k three.1;
+            kept = (has_none k v.update.taken (not_true (has k v.update.taken) two.1), has_none k v.retired.nodes (not_true (has k v.retired.nodes) one.1));
+          })
+  mark_field Key k named is met = absurd (never met)
+  mark_field Val k named is met = absurd (never met)
+  mark_field Lock k named is met = absurd (never met)
+  mark_field (Head side) k named is met = absurd (never met)
+  mark_field (LinkField side) k named is met = absurd (never met)
+  mark_field (Tag side) k named is met = absurd (never met)
+
+  mark_counts : (u : Word) → word ≡ u → e.kind ≡ LoadMark → may_load_mark v u e.value ≡ true → CountsRise t e v (mark_from v u (m u))
+  mark_counts (Node f k) named is met = mark_field f k named is met
+  mark_counts Stamp named is met = absurd (never met)
+  mark_counts (Section k) named is met = absurd (never met)
+  mark_counts (Announced k) named is met = absurd (never met)
+  mark_counts (Entry p d) named is met = absurd (never met)
+
+  -- a try of a lock whose word names its pass
+  named_of : (o : Option ℕ) (value : ℕ) → names_pass o value ≡ true → (n : ℕ) × (o ≡ Some n) × (value ≡ n + 1)
+  named_of None value is = absurd (never is)
+  named_of (Some n) value is = (n, refl, eqb-true value (n + 1) is)
+
+  unlocked_count : (k : ℕ) → not (locks k v.held.nodes) ≡ true → lock_count k v ≡ 0
+  unlocked_count k none = counted_by (lock_count k v) refl
+    where
+      counted_by : (n : ℕ) → lock_count k v ≡ n → n ≡ 0
+      counted_by zero is = refl
+      counted_by (suc n) is = absurd (never (sym (not_true (locks k v.held.nodes) none) ∙ count-locks k v.held.nodes (omega (arith, is))))
+
+  lock_field : (f : Field) (k : ℕ) → word ≡ Node f k → e.kind ≡ TryLock → may_try_lock v (Node f k) e.value ≡ true → CountsRise t e v (tried v k e.value (m (Node f k)))
+  lock_field Lock k named is met = lock_by (eqb x 0) refl
+    where
+      x : ℕ
+      x = m (Node Lock k)
+
+      read : slice_index t.words e.word ≡ x
+      read = found_at t.layout t.words e.word (Node Lock k) (found ∙ ap Some named)
+
+      apart : TryLock ≡ LoadTs → ⊥
+      apart p = cc
+
+      apart_too : TryLock ≡ LoadStamp → ⊥
+      apart_too p = cc
+
+      others : (w : View) (busy : RisesWhere (MeetsLock t e) v.counts.busy w.counts.busy) → w.counts.waits ≡ v.counts.waits → w.counts.moves ≡ v.counts.moves → w.history.looks ≡ v.history.looks → CountsRise t e v w
+      others w busy waits moves looks = record {
+        busy = busy;
+        waits = stays_by (FindsNoNumber t e v) v.counts.waits w.counts.waits waits (λ p. apart (sym is ∙ p.kind));
+        moves = stays_by (FindsOtherHead t e v ⊎ FindsMark t e v) v.counts.moves w.counts.moves moves (not_moved TryLock is (λ p. cc) (λ p. cc));
+        looks = stays_by (FixesPlace e) v.history.looks w.history.looks looks (λ p. apart_too (sym is ∙ p.0));
+      }
+
+      counted : 0 < x → names_other e.value x ≡ true
+      counted held =
+          let b = not (is_even v.section_word) in
+          let c = is_reachable v k in
+          let d = not (locks k v.held.nodes) in
+          let one = and_parts (is_lock Lock && b && c && d) (names_pass v.number e.value) met in
+          let two = and_parts (is_lock Lock && b && c) d one.0 in
+          let own = named_of v.number e.value one.1 in
+          subst (λ y. names_other y x ≡ true) (sym own.2)
+          (counted_busy t.layout m t.views right.meaning right.rule e.seat k own.0 v at own.1 (unlocked_count k two.1) held)
+
+      lock_by : (b : Bool) → eqb x 0 ≡ b → CountsRise t e v (cond b (locked_view v k) (met_lock v e.value x))
+      lock_by true free =
+          others (locked_view v k) (stays_by (MeetsLock t e) v.counts.busy v.counts.busy refl (λ p. omega (arith, p.held, read, eqb-true x 0 free))) refl refl refl
+      lock_by false held =
+          let w : View = met_lock v e.value x in
+          let some : 0 < x = positive x held in
+          others w (record { rises = λ p. ap (λ b. raised_if b v.counts.busy) (counted some); stays = λ none. absurd (none (record { kind = is; held = omega (arith, read, some) })) }) refl refl refl
+        where
+          positive : (y : ℕ) → eqb y 0 ≡ false → 0 < y
+          positive y p = grind (arith, nat_tests)
+  lock_field Key k named is met = absurd (never met)
+  lock_field Val k named is met = absurd (never met)
+  lock_field Mark k named is met = absurd (never met)
+  lock_field (Head side) k named is met = absurd (never met)
+  lock_field (LinkField side) k named is met = absurd (never met)
+  lock_field (Tag side) k named is met = absurd (never met)
+
+  lock_counts : (u : Word) → word ≡ u → e.kind ≡ TryLock → may_try_lock v u e.value ≡ true → CountsRise t e v (tried_from v u e.value (m u))
+  lock_counts (Node f k) named is met = lock_field f k named is met
+  lock_counts Stamp named is met = absurd (never met)
+  lock_counts (Section k) named is met = absurd (never met)
+  lock_counts (Announced k) named is met = absurd (never met)
+  lock_counts (Entry p d) named is met = absurd (never met)
+
+  -- the view of the seat after an event that moves it alone
+  abbrev Moved : Kind → View
+  Moved kind = view_after kind t.layout m t.views v word (m word) e.value e.update
+
+  moved_counts : (kind : Kind) → e.kind ≡ kind → needs kind t.layout m t.views e.seat v word e.value e.update ≡ true → CountsRise t e v (Moved kind)
+  moved_counts Enter is met = still Enter (Moved Enter) is (enter_tally t.layout.passes v e.value) (λ p. cc) (λ p. cc) (λ p. cc) (λ p. cc) (λ p. cc)
+  moved_counts Leave is met = still Leave (Moved Leave) is (record { counts = refl; looks = refl }) (λ p. cc) (λ p. cc) (λ p. cc) (λ p. cc) (λ p. cc)
+  moved_counts LookSec is met = still LookSec (Moved LookSec) is (look_tally t.layout v word (m word)) (λ p. cc) (λ p. cc) (λ p. cc) (λ p. cc) (λ p. cc)
+  moved_counts LoadStamp is met = stamp_counts (Moved LoadStamp) is refl refl
+  moved_counts LoadHead is met = head_counts word refl is met
+  moved_counts LoadTs is met = ts_counts word refl is met
+  moved_counts LoadPtr is met = still LoadPtr (Moved LoadPtr) is (ptr_tally v word (m word)) (λ p. cc) (λ p. cc) (λ p. cc) (λ p. cc) (λ p. cc)
+  moved_counts LoadNext is met = still LoadNext (Moved LoadNext) is (next_tally v word (m word)) (λ p. cc) (λ p. cc) (λ p. cc) (λ p. cc) (λ p. cc)
+  moved_counts Prepare is met = still Prepare (Moved Prepare) is (prepared_tally v word e.value) (λ p. cc) (λ p. cc) (λ p. cc) (λ p. cc) (λ p. cc)
+  moved_counts Raise is met = still Raise (Moved Raise) is (raised_tally t.layout m t.views v (m word) e.update) (λ p. cc) (λ p. cc) (λ p. cc) (λ p. cc) (λ p. cc)
+  moved_counts Finalise is met = still Finalise (Moved Finalise) is (finalised_tally v word) (λ p. cc) (λ p. cc) (λ p. cc) (λ p. cc) (λ p. cc)
+  moved_counts TryLock is met = lock_counts word refl is met
+  moved_counts Unlock is met = still Unlock (Moved Unlock) is (unlocked_tally v word) (λ p. cc) (λ p. cc) (λ p. cc) (λ p. cc) (λ p. cc)
+  moved_counts LoadMark is met = mark_counts word refl is met
+  moved_counts MarkNode is met = still MarkNode (Moved MarkNode) is (marked_tally v word) (λ p. cc) (λ p. cc) (λ p. cc) (λ p. cc) (λ p. cc)
+  moved_counts MakeSeat is met = still MakeSeat v is (same_tally v) (λ p. cc) (λ p. cc) (λ p. cc) (λ p. cc) (λ p. cc)
+  moved_counts SplitSeat is met = still SplitSeat v is (same_tally v) (λ p. cc) (λ p. cc) (λ p. cc) (λ p. cc) (λ p. cc)
+  moved_counts JoinSeat is met = still JoinSeat v is (same_tally v) (λ p. cc) (λ p. cc) (λ p. cc) (λ p. cc) (λ p. cc)
+  moved_counts Fill is met = still Fill (Moved Fill) is (filled_tally v word e.value) (λ p. cc) (λ p. cc) (λ p. cc) (λ p. cc) (λ p. cc)
+  moved_counts LoadKeyOrVal is met = still LoadKeyOrVal (Moved LoadKeyOrVal) is (pair_tally v word (m word)) (λ p. cc) (λ p. cc) (λ p. cc) (λ p. cc) (λ p. cc)
+
+  module _ (w : View) where
+    -- the seat's view in the list in which one view was set
+    set_is : (x : View) → slice_get (set t.views e.seat x) e.seat ≡ Some w → x ≡ w
+    set_is x is = same_item (set t.views e.seat x) e.seat e.seat x w (item_set t.views e.seat v x at) (item_from_get (set t.views e.seat x) e.seat w is) refl
+
+    same_is : slice_get t.views e.seat ≡ Some w → v ≡ w
+    same_is is = same_item t.views e.seat e.seat v w at (item_from_get t.views e.seat w is) refl
+
+    split_is : (x y : View) → slice_get (set t.views e.seat x ++ y ∷ []) e.seat ≡ Some w → x ≡ w
+    split_is x y is =
+        let us : List View = set t.views e.seat x in
+        let here = item_set t.views e.seat v x at in
+        same_item (us ++ y ∷ []) e.seat e.seat x w
+        (record { within = omega (arith, length-append us (y ∷ []), here.within); is = λ d. get_or_append_left us (y ∷ []) d e.seat here.within ∙ here.is d })
+        (item_from_get (us ++ y ∷ []) e.seat w is) refl
+
+    join_is : (value : ℕ) (x y : View) → value ≢ e.seat → slice_get (set (set t.views e.seat x) value y) e.seat ≡ Some w → x ≡ w
+    join_is value x y apart is =
+        same_item (set (set t.views e.seat x) value y) e.seat e.seat x w
+        (beside_item (set t.views e.seat x) value e.seat x y (item_set t.views e.seat v x at) (λ same. apart (sym same)))
+        (item_from_get (set (set t.views e.seat x) value y) e.seat w is) refl
+
+    join_tally : (o : Option View) → slice_get t.views e.value ≡ o → e.value ≢ e.seat → slice_get (join_found t.views e.seat v e.value o) e.seat ≡ Some w → Tally v w
+    join_tally None is apart now = subst (Tally v) (same_is now) (same_tally v)
+    join_tally (Some u) is apart now = subst (Tally v) (join_is e.value (joined_with v u) spent_view apart now) (record { counts = refl; looks = refl })
+
+    join_apart : may_join t.views e.seat v word e.value ≡ true → e.value ≢ e.seat
+    join_apart met =
+        let a = not (eqb e.value e.seat) in
+        let one = and_parts (is_stamp word && a) (may_join_found v (slice_get t.views e.value)) met in
+        not_equal e.value e.seat (and_parts (is_stamp word) a one.0).1
+
+    set_counts : (kind : Kind) → e.kind ≡ kind → needs kind t.layout m t.views e.seat v word e.value e.update ≡ true → slice_get (set t.views e.seat (Moved kind)) e.seat ≡ Some w → CountsRise t e v w
+    set_counts kind is met now = subst (CountsRise t e v) (set_is (Moved kind) now) (moved_counts kind is met)
+
+    pub kind_counts : (kind : Kind) → e.kind ≡ kind → needs kind t.layout m t.views e.seat v word e.value e.update ≡ true
+        → slice_get (views_after kind t.layout m t.views e.seat v word e.value e.update) e.seat ≡ Some w → CountsRise t e v w
+    kind_counts MakeSeat is met now = absurd (never met)
+    kind_counts Fill is met now = set_counts Fill is met now
+    kind_counts LoadKeyOrVal is met now = set_counts LoadKeyOrVal is met now
+    kind_counts SplitSeat is met now =
+        subst (CountsRise t e v) (split_is (split_left v e.value) (split_right v e.value) now)
+        (still SplitSeat (split_left v e.value) is (record { counts = refl; looks = refl }) (λ p. cc) (λ p. cc) (λ p. cc) (λ p. cc) (λ p. cc))
+    kind_counts JoinSeat is met now =
+        still JoinSeat w is (join_tally (slice_get t.views e.value) refl (join_apart met) now) (λ p. cc) (λ p. cc) (λ p. cc) (λ p. cc) (λ p. cc)
+    kind_counts Enter is met now = set_counts Enter is met now
+    kind_counts Leave is met now = set_counts Leave is met now
+    kind_counts LookSec is met now = set_counts LookSec is met now
+    kind_counts LoadStamp is met now = set_counts LoadStamp is met now
+    kind_counts LoadHead is met now = set_counts LoadHead is met now
+    kind_counts LoadTs is met now = set_counts LoadTs is met now
+    kind_counts LoadPtr is met now = set_counts LoadPtr is met now
+    kind_counts LoadNext is met now = set_counts LoadNext is met now
+    kind_counts Prepare is met now = set_counts Prepare is met now
+    kind_counts Raise is met now = set_counts Raise is met now
+    kind_counts Finalise is met now = set_counts Finalise is met now
+    kind_counts TryLock is met now = set_counts TryLock is met now
+    kind_counts Unlock is met now = set_counts Unlock is met now
+    kind_counts LoadMark is met now = set_counts LoadMark is met now
+    kind_counts MarkNode is met now = set_counts MarkNode is met now
+
+counts_at : (t : Table) (e : Event) (v w : View) (o : Option Word) → word_at t.layout e.word ≡ o → IsRight t → slice_get t.views e.seat ≡ Some v → allowed_at t e (Some v) o ≡ true
+    → slice_get (after_at t e (Some v) o).views e.seat ≡ Some w → CountsRise t e v w
+counts_at t e v w None found right is met now = absurd (never met)
+counts_at t e v w (Some word) found right is met now =
+    let c = needs e.kind t.layout (held_by t) t.views e.seat v word e.value e.update in
+    let need = (and_parts (carries e.kind v e.update && not v.joined) c met).1 in
+    kind_counts t e right v (item_from_get t.views e.seat v is) word found w e.kind refl need now
+
+pub counts_law : CountsLaw
+counts_law t e v w right met is now =
+    counts_at t e v w (word_at t.layout e.word) refl right is
+    (subst (λ o. allowed_at t e o (word_at t.layout e.word) ≡ true) is met)
+    (subst (λ o. slice_get (after_at t e o (word_at t.layout e.word)).views e.seat ≡ Some w) is now)

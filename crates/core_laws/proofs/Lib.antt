@@ -1,0 +1,22 @@
+-- The law on trees.
+pub mod TreeLaw
+-- The null links and the gaps of a tree, as far as the list of its nodes tells them.
+pub mod TreeGaps
+-- The law on remembered links.
+pub mod Remembered
+-- What holds of each table that meets the rule.
+pub mod Laws
+-- Who writes what: each kind of event stores to a word of the seat's own, or to the stamp.
+pub mod Owners
+-- A seat whose view meets the need of an event may make it, in every table that meets the rule.
+pub mod ViewNeeds
+-- A lock word that is found held by a seat that has not locked the node names another pass.
+pub mod HeldLocks
+-- Where the counts of a view rise.
+pub mod Counts
+-- What a seat knows from its view where a count is to rise.
+pub mod CountFacts
+-- A tree is determined by the list of its nodes.
+pub mod OneTree
+-- What the words are of the tree that a seat reads.
+pub mod Found

@@ -1,0 +1,382 @@
+-- Who writes what: each kind of event stores to a word of the seat's own, or to the stamp.
+use Rattle.std.proofs.Common.{◌≡◌, ◌≢◌, ℕ, ◌+◌, ◌<◌, ◌≤◌, ◌⊎◌, cond, List, length, Bool, true, false, not, eqb, ◌&&◌, arith, set, refl, ap, ◌∙◌, sym, subst, slice_index, inl, inr, Option, Some, None}
+use Rattle.std.specs.List.{slice_get, sum_by}
+use Rattle.std.proofs.lemmas.Bool.{and_parts, eqb-true, eq-eqb}
+use Rattle.index_words.specs.declared.layout.Layout.{Layout}
+use Rattle.key_map.specs.declared.update.Update.{Update}
+use Rattle.index_words.specs.declared.view.View.{View}
+use Rattle.index_words.specs.declared.word.Field.{Field}
+use Rattle.index_words.specs.declared.word.Field.TheVariants.{Key, Val, Lock, Mark, Head, Link, Tag}
+use Rattle.index_words.specs.declared.word.Part.{Part}
+use Rattle.index_words.specs.declared.word.Part.TheVariants.{Child, Stamp as Number, Next}
+use Rattle.index_words.specs.declared.word.Word.{Word}
+use Rattle.index_words.specs.declared.word.Word.TheVariants.{Stamp, Section, Announced, Node, Entry}
+use Rattle.index_words.specs.Words.{Memory, memory, written, word_at, address, same_word}
+use Rattle.index_words.proofs.Seats.{Beside, one_term, two_terms}
+use Rattle.index_words.proofs.Store.{same_word-true, stored_at, word_there}
+use Rattle.key_map.specs.Lists.{count, has, IsItem}
+use Rattle.key_map.proofs.Counting.{has-count}
+use Rattle.core_grace.specs.Slots.{own_free, nodes_of, entries_in, own}
+use Rattle.core_grace.specs.Batches.{is_number}
+use Rattle.core_grace.specs.Sections.{is_even, left_word}
+use Rattle.core_links.proofs.Chains.{chain-same}
+use Rattle.core_events.specs.declared.event.Event.{Event}
+use Rattle.core_events.specs.declared.event.Kind.{Kind}
+use Rattle.core_events.specs.declared.event.Kind.TheVariants.{MakeSeat, SplitSeat, JoinSeat, Enter, Leave, LookSec, Fill, LoadStamp, LoadHead, LoadTs, LoadPtr, LoadNext, Prepare, Raise, Finalise, TryLock, Unlock, LoadMark, Mark as MarkNode, LoadKeyOrVal}
+use Rattle.core_events.specs.Tables.{Table, held_by}
+use Rattle.core_invariant.specs.Meanings.{Meaning}
+use Rattle.core_invariant.specs.BundleRule.{IsPending, pending_count}
+use Rattle.core_invariant.specs.Locks.{lock_count}
+use Rattle.core_invariant.specs.Readers.{IsLocked, IsReachable}
+use Rattle.core_invariant.specs.Rule.{Rule, InRule, IsRight}
+use Rattle.core_events.specs.LoadMoves.{locks}
+use Rattle.core_events.specs.LoadNeeds.{is_part, is_reachable}
+use Rattle.core_events.specs.LockNeeds.{is_mark, names_pass, may_try_lock, may_unlock, may_mark}
+use Rattle.core_events.specs.Needs.{is_lock, is_outside, is_own_section, nothing_pending, may_enter, may_leave, may_fill}
+use Rattle.core_events.specs.UpdateNeeds.{may_prepare_head, may_prepare, may_raise, may_finalise}
+use Rattle.core_laws.specs.Owners.{HasFreeNode, HasFreeEntry, IsInLockedBundle, IsSteadyFor, IsSteadyField, IsSteadyPart, IsFixed, KeepsOwners, OwnersLaw}
+use Rattle.core_events.specs.Steps.{needs, carries, allowed_at, after_at, words_after}
+use Rattle.core_invariant.proofs.Frames.{every_at}
+use Rattle.core_invariant.proofs.OneView.{item_from_get, seat_at}
+use Rattle.core_invariant.proofs.Needed.{own_section, never, not_true, node_there, reach_is, ready_is}
+use Rattle.core_invariant.proofs.Idle.{number_apart}
+use Rattle.core_invariant.proofs.Owned.{once_node, once_entry, held_live, not_in_bundle, in_entries, free_not_live, reachable_live}
+use Rattle.core_invariant.proofs.HeldFacts.{work_holds, locks-count}
+use Rattle.core_invariant.proofs.LiveHeads.{head_apart}
+use Rattle.core_invariant.proofs.Locked.{locked_apart, locked_live}
+
+own_number_is : (n : ℕ) (o : Option ℕ) → o ≡ Some n → is_number n o ≡ false → ⊥
+own_number_is n None is other = cc
+own_number_is n (Some k) is other = let same : k ≡ n = cc in cc (eq-eqb k n same)
+
+module _ (z : Layout) (m : Memory) (vs : List View) (g : Meaning) (rule : Rule z m vs g) (i : ℕ) (v : View) (at : IsItem vs i v) where
+  -- what the seat may store to
+  abbrev WritesField : Field → ℕ → Type 0
+  WritesField Key k = HasFreeNode v k
+  WritesField Val k = HasFreeNode v k
+  WritesField Lock k = IsLocked v k ⊎ (IsReachable z v k × (m (Node Lock k) ≡ 0))
+  WritesField Mark k = HasFreeNode v k ⊎ IsLocked v k
+  WritesField (Head side) k = HasFreeNode v k ⊎ IsLocked v k
+  WritesField (Link side) k = HasFreeNode v k
+  WritesField (Tag side) k = HasFreeNode v k
+
+  abbrev WritesPart : Part → ℕ → Type 0
+  WritesPart Child e = HasFreeEntry v e
+  WritesPart Number e = HasFreeEntry v e ⊎ (0 < count e v.update.pending)
+  WritesPart Next e = HasFreeEntry v e
+
+  abbrev pub Writes : Word → Type 0
+  Writes Stamp = Unit {0}
+  Writes (Section n) = v.number ≡ Some n
+  Writes (Announced n) = ⊥
+  Writes (Node field k) = WritesField field k
+  Writes (Entry part e) = WritesPart part e
+
+  -- a pending entry is not free
+  pending_in_use : (n e j : ℕ) (x u : View) → IsItem vs n x → IsItem vs j u → 0 < count e x.update.pending → HasFreeEntry u e → ⊥
+  pending_in_use n e j x u of by some free =
+      let seat = seat_at z m vs g n x of rule in
+      let right = every_at (IsPending z (λ s k. m (Node (Head s) k)) (λ d. m (Entry Number d)) g.bundles.number x) e x.update.pending seat.pending some in
+      head_apart z m vs g rule j e right.2.node u right.2.side by free
+      (held_live z vs g rule.slots n right.2.node x of (work_holds x right.2.node right.2.of) right.2.there) right.2.is
+
+  pending_unwritten : (n e : ℕ) (x : View) → IsItem vs n x → 0 < count e x.update.pending → m (Entry Number e) ≡ 0
+  pending_unwritten n e x of some =
+      (every_at (IsPending z (λ s k. m (Node (Head s) k)) (λ d. m (Entry Number d)) g.bundles.number x) e x.update.pending (seat_at z m vs g n x of rule).pending some).0
+
+  module _ (j : ℕ) (u : View) (of : IsItem vs j u) (other : j ≢ i) where
+    beside : Beside vs i u
+    beside = record { place = j; at = of; other = other }
+
+    free_apart : (k : ℕ) → HasFreeNode v k → HasFreeNode u k → ⊥
+    free_apart k mine also = omega (arith, once_node z vs g rule.slots k, two_terms (own nodes_of k) vs i v u at beside, mine, also)
+
+    free_locked : (k n l : ℕ) (x y : View) → IsItem vs n x → IsItem vs l y → HasFreeNode x k → IsLocked y k → ⊥
+    free_locked k n l x y first second free locked = free_not_live z vs g rule.slots n k x first free (locked_live z m vs g rule l k y second locked)
+
+    node_apart : (k : ℕ) → HasFreeNode v k ⊎ IsLocked v k → HasFreeNode u k ⊎ IsLocked u k → ⊥
+    node_apart k (inl a) (inl b) = free_apart k a b
+    node_apart k (inl a) (inr b) = free_locked k i j v u at of a b
+    node_apart k (inr a) (inl b) = free_locked k j i u v of at b a
+    node_apart k (inr a) (inr b) = omega (arith, b, locked_apart z m vs g rule i k v u at beside a)
+
+    lock_apart : (k : ℕ) → IsLocked v k ⊎ (IsReachable z v k × (m (Node Lock k) ≡ 0)) → HasFreeNode u k ⊎ IsLocked u k → ⊥
+    lock_apart k (inl a) steady = node_apart k (inr a) steady
+    lock_apart k (inr a) (inl b) = free_not_live z vs g rule.slots j k u of b (reachable_live z vs g rule.slots i k v at a.0)
+    lock_apart k (inr a) (inr b) =
+        omega (arith, rule.locks k, ap (λ x. 0 + cond (eqb x 0) 0 1) a.1, one_term (lock_count k) vs j u of, b)
+
+    field_apart : (f : Field) (k : ℕ) → WritesField f k → IsSteadyField f u k → ⊥
+    field_apart Key k writes steady = free_apart k writes steady
+    field_apart Val k writes steady = free_apart k writes steady
+    field_apart Lock k writes steady = lock_apart k writes steady
+    field_apart Mark k writes steady = node_apart k writes steady
+    field_apart (Head side) k writes steady = node_apart k writes steady
+    field_apart (Link side) k writes steady = node_apart k (inl writes) steady
+    field_apart (Tag side) k writes steady = node_apart k (inl writes) steady
+
+    entry_apart : (e : ℕ) → HasFreeEntry v e → HasFreeEntry u e → ⊥
+    entry_apart e mine also = omega (arith, once_entry z vs g rule.slots e, two_terms (own entries_in e) vs i v u at beside, mine, also)
+
+    number_part : (e : ℕ) → HasFreeEntry v e ⊎ (0 < count e v.update.pending) → HasFreeEntry u e ⊎ (0 < count e u.update.pending) → ⊥
+    number_part e (inl a) (inl b) = entry_apart e a b
+    number_part e (inl a) (inr b) = pending_in_use j e i u v of at b a
+    number_part e (inr a) (inl b) = pending_in_use i e j v u at of a b
+    number_part e (inr a) (inr b) = omega (arith, rule.single e, two_terms (pending_count e) vs i v u at beside, a, b)
+
+    -- an entry of a bundle of a locked node is not free
+    in_bundle_apart : (e : ℕ) → HasFreeEntry v e → IsInLockedBundle m u e → ⊥
+    in_bundle_apart e free here =
+        let live = locked_live z m vs g rule j here.node u of here.locked in
+        let same : here.entries ≡ g.bundles.bundle here.side here.node =
+        chain-same (λ d. m (Entry Next d)) (m (Node (Head here.side) here.node)) here.entries (g.bundles.bundle here.side here.node) here.bundle (rule.bundles here.node live here.side).chain in
+        not_in_bundle z vs g rule.slots i here.node e v at free live
+        (in_entries g.bundles here.node e here.side (subst (λ es. 0 < count e es) same here.here))
+
+    part_apart : (p : Part) (e : ℕ) → WritesPart p e → IsSteadyPart p m u e → ⊥
+    part_apart Child e writes steady = entry_apart e writes steady
+    part_apart Number e writes steady = number_part e writes steady
+    part_apart Next e writes (inl free) = entry_apart e writes free
+    part_apart Next e writes (inr here) = in_bundle_apart e writes here
+
+    -- it is no word that another seat alone changes
+    pub writes_apart : (w : Word) → Writes w → IsSteadyFor m u w → ⊥
+    writes_apart Stamp writes steady = absurd steady
+    writes_apart (Section n) writes steady =
+        own_number_is n v.number writes (number_apart z vs i v u n rule.numbers at beside steady)
+    writes_apart (Announced n) writes steady = absurd writes
+    writes_apart (Node f k) writes steady = field_apart f k writes steady
+    writes_apart (Entry p e) writes steady = part_apart p e writes steady
+
+  -- nor one that nobody changes
+  fixed_node : (k : ℕ) → HasFreeNode v k → sum_by (own_free nodes_of k) vs ≡ 0 → ⊥
+  fixed_node k free none = omega (arith, one_term (own_free nodes_of k) vs i v at, free, none)
+
+  fixed_entry : (e : ℕ) → HasFreeEntry v e → sum_by (own_free entries_in e) vs ≡ 0 → ⊥
+  fixed_entry e free none = omega (arith, one_term (own_free entries_in e) vs i v at, free, none)
+
+  pub writes_unfixed : (w : Word) → Writes w → IsFixed m vs w → ⊥
+  writes_unfixed Stamp writes fixed = absurd fixed
+  writes_unfixed (Section n) writes fixed = absurd fixed
+  writes_unfixed (Announced n) writes fixed = absurd fixed
+  writes_unfixed (Node Key k) writes fixed = fixed_node k writes fixed
+  writes_unfixed (Node Val k) writes fixed = fixed_node k writes fixed
+  writes_unfixed (Node Lock k) writes fixed = absurd fixed
+  writes_unfixed (Node Mark k) writes fixed = absurd fixed
+  writes_unfixed (Node (Head side) k) writes fixed = absurd fixed
+  writes_unfixed (Node (Link side) k) writes fixed = absurd fixed
+  writes_unfixed (Node (Tag side) k) writes fixed = absurd fixed
+  writes_unfixed (Entry Child e) writes fixed = fixed_entry e writes fixed
+  writes_unfixed (Entry Number e) (inl free) fixed = fixed_entry e free fixed.0
+  writes_unfixed (Entry Number e) (inr pending) fixed = omega (arith, fixed.1, pending_unwritten i e v at pending)
+  writes_unfixed (Entry Next e) writes fixed = absurd fixed
+
+other_word : (m : Memory) (w u : Word) (x : ℕ) → (u ≡ w → ⊥) → written m w x u ≡ m u
+other_word m w u x apart = other_by (same_word u w) refl
+  where
+    other_by : (b : Bool) → same_word u w ≡ b → cond b x (m u) ≡ m u
+    other_by true is = absurd (apart (same_word-true u w is))
+    other_by false is = refl
+
+-- what the word of a number holds
+pub found_at : (z : Layout) (words : List ℕ) (n : ℕ) (w : Word) → word_at z n ≡ Some w → slice_index words n ≡ memory z words w
+found_at z words n w is =
+    let there = word_there z n w is in
+    ap (slice_index words) (sym there.1) ∙ sym (ap (λ b. cond b (slice_index words (address z w)) 0) there.0)
+
+module _ (z : Layout) (words : List ℕ) (vs : List View) (right : InRule z words vs) (i : ℕ) (v : View) (at : IsItem vs i v) (n : ℕ) (w : Word) (found : word_at z n ≡ Some w) (value : ℕ) where
+  abbrev m : Memory
+  m = memory z words
+
+  abbrev W : Word → Type 0
+  W = Writes z m vs right.meaning right.rule i v at
+
+  own_writes : (u : Word) → is_own_section v.number u ≡ true → W u
+  own_writes u is = let own = own_section v.number u is in subst W (sym own.word) own.named
+
+  enter_writes : may_enter v w value ≡ true → W w
+  enter_writes met =
+      own_writes w (and_parts (is_own_section v.number w) (is_outside v) (and_parts (is_own_section v.number w && is_outside v) (eqb value (v.section_word + 1)) met).0).0
+
+  leave_writes : may_leave m v w value ≡ true → W w
+  leave_writes met =
+      let a = is_own_section v.number w in
+      let b = not (is_even v.section_word) in
+      let c = eqb (length v.held.nodes) 0 in
+      let d = nothing_pending m v in
+      own_writes w (and_parts a b (and_parts (a && b) c (and_parts (a && b && c) d (and_parts (a && b && c && d) (eqb value (left_word v.section_word)) met).0).0).0).0
+
+  fill_field : (f : Field) (k : ℕ) → is_lock f ≡ false → HasFreeNode v k → W (Node f k)
+  fill_field Key k is free = free
+  fill_field Val k is free = free
+  fill_field Lock k is free = cc
+  fill_field Mark k is free = inl free
+  fill_field (Head side) k is free = inl free
+  fill_field (Link side) k is free = free
+  fill_field (Tag side) k is free = free
+
+  fill_part : (p : Part) (e : ℕ) → HasFreeEntry v e → W (Entry p e)
+  fill_part Child e free = free
+  fill_part Number e free = inl free
+  fill_part Next e free = free
+
+  fill_writes : (u : Word) → may_fill v u ≡ true → W u
+  fill_writes (Node f k) met =
+      let parts = and_parts (not (is_lock f)) (has k v.free.nodes) met in
+      fill_field f k (not_true (is_lock f) parts.0) (has-count k v.free.nodes parts.1)
+  fill_writes (Entry p e) met = fill_part p e (has-count e v.free.entries met)
+  fill_writes Stamp met = absurd (never met)
+  fill_writes (Section k) met = absurd (never met)
+  fill_writes (Announced k) met = absurd (never met)
+
+  prepare_field : (f : Field) (k : ℕ) → may_prepare_head m v f k value ≡ true → W (Node f k)
+  prepare_field (Head side) k met = inr (ready_is z m right.meaning v side k value (seat_at z m vs right.meaning i v at right.rule) met).locked
+  prepare_field Key k met = absurd (never met)
+  prepare_field Val k met = absurd (never met)
+  prepare_field Lock k met = absurd (never met)
+  prepare_field Mark k met = absurd (never met)
+  prepare_field (Link side) k met = absurd (never met)
+  prepare_field (Tag side) k met = absurd (never met)
+
+  prepare_writes : (u : Word) → may_prepare m v u value ≡ true → W u
+  prepare_writes (Node f k) met = prepare_field f k met
+  prepare_writes Stamp met = absurd (never met)
+  prepare_writes (Section k) met = absurd (never met)
+  prepare_writes (Announced k) met = absurd (never met)
+  prepare_writes (Entry p e) met = absurd (never met)
+
+  raise_writes : (u : Word) (o : Option Update) → may_raise z m vs v u value o ≡ true → W u
+  raise_writes Stamp o met = tt
+  raise_writes (Section k) o met = absurd (never met)
+  raise_writes (Announced k) o met = absurd (never met)
+  raise_writes (Node f k) o met = absurd (never met)
+  raise_writes (Entry p e) o met = absurd (never met)
+
+  finalise_writes : (u : Word) → may_finalise v u value ≡ true → W u
+  finalise_writes (Entry Number e) met =
+      let one = and_parts (is_part Number Number && has e v.update.pending) (is_number value v.update.raised) met in
+      inr (has-count e v.update.pending (and_parts (is_part Number Number) (has e v.update.pending) one.0).1)
+  finalise_writes (Entry Child e) met = absurd (never met)
+  finalise_writes (Entry Next e) met = absurd (never met)
+  finalise_writes Stamp met = absurd (never met)
+  finalise_writes (Section k) met = absurd (never met)
+  finalise_writes (Announced k) met = absurd (never met)
+  finalise_writes (Node f k) met = absurd (never met)
+
+  lock_field : (f : Field) (k : ℕ) → k ≤ z.nodes → may_try_lock v (Node f k) value ≡ true → m (Node f k) ≡ 0 → W (Node f k)
+  lock_field Lock k there met none =
+      let b = not (is_even v.section_word) in
+      let c = is_reachable v k in
+      let d = not (locks k v.held.nodes) in
+      let one = and_parts (is_lock Lock && b && c && d) (names_pass v.number value) met in
+      let two = and_parts (is_lock Lock && b && c) d one.0 in
+      inr (reach_is z v k there (and_parts (is_lock Lock && b) c two.0).1, none)
+  lock_field Key k there met none = absurd (never met)
+  lock_field Val k there met none = absurd (never met)
+  lock_field Mark k there met none = absurd (never met)
+  lock_field (Head side) k there met none = absurd (never met)
+  lock_field (Link side) k there met none = absurd (never met)
+  lock_field (Tag side) k there met none = absurd (never met)
+
+  try_writes : (u : Word) → word_at z n ≡ Some u → may_try_lock v u value ≡ true → m u ≡ 0 → W u
+  try_writes (Node f k) is met none = lock_field f k (node_there z n k f is) met none
+  try_writes Stamp is met none = absurd (never met)
+  try_writes (Section k) is met none = absurd (never met)
+  try_writes (Announced k) is met none = absurd (never met)
+  try_writes (Entry p e) is met none = absurd (never met)
+
+  unlock_field : (f : Field) (k : ℕ) → may_unlock m v (Node f k) value ≡ true → W (Node f k)
+  unlock_field Lock k met =
+      let one = and_parts (is_lock Lock && locks k v.held.nodes && nothing_pending m v) (eqb value 0) met in
+      let two = and_parts (is_lock Lock && locks k v.held.nodes) (nothing_pending m v) one.0 in
+      inl (locks-count k v.held.nodes (and_parts (is_lock Lock) (locks k v.held.nodes) two.0).1)
+  unlock_field Key k met = absurd (never met)
+  unlock_field Val k met = absurd (never met)
+  unlock_field Mark k met = absurd (never met)
+  unlock_field (Head side) k met = absurd (never met)
+  unlock_field (Link side) k met = absurd (never met)
+  unlock_field (Tag side) k met = absurd (never met)
+
+  unlock_writes : (u : Word) → may_unlock m v u value ≡ true → W u
+  unlock_writes (Node f k) met = unlock_field f k met
+  unlock_writes Stamp met = absurd (never met)
+  unlock_writes (Section k) met = absurd (never met)
+  unlock_writes (Announced k) met = absurd (never met)
+  unlock_writes (Entry p e) met = absurd (never met)
+
+  mark_field : (f : Field) (k : ℕ) → may_mark v (Node f k) value ≡ true → W (Node f k)
+  mark_field Mark k met =
+      let one = and_parts (is_mark Mark && locks k v.held.nodes && has k v.update.taken) (eqb value 1) met in
+      let two = and_parts (is_mark Mark && locks k v.held.nodes) (has k v.update.taken) one.0 in
+      inr (locks-count k v.held.nodes (and_parts (is_mark Mark) (locks k v.held.nodes) two.0).1)
+  mark_field Key k met = absurd (never met)
+  mark_field Val k met = absurd (never met)
+  mark_field Lock k met = absurd (never met)
+  mark_field (Head side) k met = absurd (never met)
+  mark_field (Link side) k met = absurd (never met)
+  mark_field (Tag side) k met = absurd (never met)
+
+  mark_writes : (u : Word) → may_mark v u value ≡ true → W u
+  mark_writes (Node f k) met = mark_field f k met
+  mark_writes Stamp met = absurd (never met)
+  mark_writes (Section k) met = absurd (never met)
+  mark_writes (Announced k) met = absurd (never met)
+  mark_writes (Entry p e) met = absurd (never met)
+
+  module _ (u : Word) (unwritten : W u → ⊥) where
+    stored : (x : ℕ) → W w → memory z (set words n x) u ≡ m u
+    stored x writes =
+        ap (λ (h : Memory). h u) (stored_at z words n w x right.size found) ∙ other_word m w u x (λ same. unwritten (subst W (sym same) writes))
+
+    tried : may_try_lock v w value ≡ true → memory z (cond (eqb (slice_index words n) 0) (set words n value) words) u ≡ m u
+    tried met = tried_by (eqb (slice_index words n) 0) refl
+      where
+        tried_by : (b : Bool) → eqb (slice_index words n) 0 ≡ b → memory z (cond b (set words n value) words) u ≡ m u
+        tried_by false is = refl
+        tried_by true is = stored value (try_writes w found met (sym (found_at z words n w found) ∙ eqb-true (slice_index words n) 0 is))
+
+    -- a word that the seat may not store to holds after its event what it held
+    pub words_kept : (kind : Kind) (o : Option Update) → needs kind z m vs i v w value o ≡ true → memory z (words_after kind words n value) u ≡ m u
+    words_kept MakeSeat o met = refl
+    words_kept SplitSeat o met = refl
+    words_kept JoinSeat o met = refl
+    words_kept Enter o met = stored value (enter_writes met)
+    words_kept Leave o met = stored value (leave_writes met)
+    words_kept LookSec o met = refl
+    words_kept Fill o met = stored value (fill_writes w met)
+    words_kept LoadStamp o met = refl
+    words_kept LoadHead o met = refl
+    words_kept LoadTs o met = refl
+    words_kept LoadPtr o met = refl
+    words_kept LoadNext o met = refl
+    words_kept Prepare o met = stored value (prepare_writes w met)
+    words_kept Raise o met = stored (slice_index words n + 1) (raise_writes w o met)
+    words_kept Finalise o met = stored value (finalise_writes w met)
+    words_kept TryLock o met = tried met
+    words_kept Unlock o met = stored value (unlock_writes w met)
+    words_kept LoadMark o met = refl
+    words_kept MarkNode o met = stored value (mark_writes w met)
+    words_kept LoadKeyOrVal o met = refl
+
+owners_at : (t : Table) (e : Event) (o : Option View) (w : Option Word) → slice_get t.views e.seat ≡ o → word_at t.layout e.word ≡ w → IsRight t → allowed_at t e o w ≡ true → KeepsOwners e.seat t (after_at t e o w)
+owners_at t e None w is found right met = absurd (never met)
+owners_at t e (Some v) None is found right met = absurd (never met)
+owners_at t e (Some v) (Some w) is found right met =
+    let c = needs e.kind t.layout (held_by t) t.views e.seat v w e.value e.update in
+    let need = (and_parts (carries e.kind v e.update && not v.joined) c met).1 in
+    let at = item_from_get t.views e.seat v is in
+    record {
+      others = λ i u word of other steady.
+          words_kept t.layout t.words t.views right e.seat v at e.word w found e.value word
+          (λ writes. writes_apart t.layout (held_by t) t.views right.meaning right.rule e.seat v at i u of other word writes steady) e.kind e.update need;
+      fixed = λ word fixed.
+          words_kept t.layout t.words t.views right e.seat v at e.word w found e.value word
+          (λ writes. writes_unfixed t.layout (held_by t) t.views right.meaning right.rule e.seat v at word writes fixed) e.kind e.update need;
+    }
+
+pub owners : OwnersLaw
+owners t e right met = owners_at t e (slice_get t.views e.seat) (word_at t.layout e.word) refl refl right met
+
+-- a table whose words stay keeps all of them
+pub owners_same : (seat : ℕ) (t u : Table) → ((w : Word) → held_by u w ≡ held_by t w) → KeepsOwners seat t u
+owners_same seat t u same = record { others = λ i v w of other steady. same w; fixed = λ w fixed. same w }

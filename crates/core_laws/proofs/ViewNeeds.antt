@@ -1,0 +1,531 @@
+-- A seat whose view meets the need of an event may make it, in every table that meets the rule.
+use Rattle.std.proofs.Common.{◌≡◌, ◌≢◌, ℕ, ◌+◌, ◌-◌, ◌/◌, ◌%◌, ◌<◌, ◌≤◌, ◌⊎◌, cond, List, [], ◌∷◌, length, Bool, true, false, not, eqb, ◌&&◌, ◌||◌, arith, refl, ap, ◌∙◌, sym, subst, inl, inr, Option, Some, None, is_none, find}
+use Rattle.std.specs.Prelude.{IfSome, nat_lt, nat_le}
+use Rattle.std.specs.List.{slice_get, list_all}
+use Rattle.std.proofs.lemmas.Bool.{eqb-true, eq-eqb, ne_eqb}
+use Rattle.std.proofs.lemmas.Bool.Decides.{nat_tests}
+use Rattle.index_words.specs.declared.layout.Layout.{Layout}
+use Rattle.index_words.specs.declared.side.Side.{Side}
+use Rattle.index_words.specs.declared.view.View.{View}
+use Rattle.index_words.specs.declared.view.reading.Place.{Place}
+use Rattle.index_words.specs.declared.view.reading.Place.TheVariants.{Entry as AtEntry}
+use Rattle.index_words.specs.declared.view.reading.TreeNode.{TreeNode}
+use Rattle.index_words.specs.declared.view.update.HeldNode.{HeldNode}
+use Rattle.index_words.specs.declared.view.update.LoadedHead.{LoadedHead}
+use Rattle.index_words.specs.declared.view.update.Updating.{Updating}
+use Rattle.index_words.specs.declared.word.Part.{Part}
+use Rattle.index_words.specs.declared.word.Field.{Field}
+use Rattle.index_words.specs.declared.word.Field.TheVariants.{Key, Val, Lock, Mark, Head}
+use Rattle.index_words.specs.declared.word.Part.TheVariants.{Child, Stamp as Number, Next}
+use Rattle.index_words.specs.declared.word.Word.{Word}
+use Rattle.index_words.specs.declared.word.Word.TheVariants.{Stamp, Section, Announced, Node, Entry}
+use Rattle.index_words.specs.Views.{spent_view}
+use Rattle.index_words.specs.Words.{Memory, memory, word_at, address, is_there, word_count, nodes_begin, entries_begin, field_at, part_at}
+use Rattle.index_words.proofs.Seats.{one_term, at_item}
+use Rattle.index_words.proofs.Store.{address-lt, address-apart, word_there}
+use Rattle.key_map.specs.Lists.{count, has, Every, IsItem}
+use Rattle.key_map.proofs.Counting.{count-has}
+use Rattle.core_grace.specs.Batches.{is_number, is_empty}
+use Rattle.core_grace.specs.Holds.{held_slots, tree_slots}
+use Rattle.core_grace.specs.Sections.{is_even, left_word}
+use Rattle.core_grace.specs.Slots.{own, nodes_of, entries_in}
+use Rattle.core_events.specs.declared.event.Kind.{Kind}
+use Rattle.core_events.specs.declared.event.Kind.TheVariants.{SplitSeat, JoinSeat, Enter, Leave, LookSec, Fill, LoadStamp, LoadHead, LoadTs, LoadPtr, LoadNext, Prepare, Finalise, TryLock, Unlock, LoadMark, Mark as MarkNode, LoadKeyOrVal}
+use Rattle.core_events.specs.Tables.{Table}
+use Rattle.core_invariant.specs.BundleRule.{IsPending}
+use Rattle.core_invariant.specs.Locks.{IsNodeAt, IsTakenOut}
+use Rattle.core_invariant.specs.Readers.{IsLocked}
+use Rattle.core_invariant.specs.Rule.{InRule}
+use Rattle.core_invariant.specs.SeatRule.{SeatRight}
+use Rattle.core_invariant.specs.SpentViews.{IsSpent}
+use Rattle.core_events.specs.LoadMoves.{locks, is_above}
+use Rattle.core_events.specs.LoadNeeds.{is_reachable, reads_tree, stands_at, may_go_on, is_part}
+use Rattle.core_events.specs.LockNeeds.{is_pair, names_pass}
+use Rattle.core_events.specs.Needs.{is_lock, is_outside, is_marked_node, is_own_section, is_stamp, nothing_pending, may_join_found}
+use Rattle.core_laws.specs.Owners.{HasFreeNode, HasFreeEntry}
+use Rattle.core_events.specs.Steps.{needs, allowed, allowed_at, carries}
+use Rattle.core_invariant.specs.FilledRule.{FilledRight}
+use Rattle.core_events.specs.UpdateNeeds.{held_at, is_next_of, is_ready, is_slot_number, is_written, side_of}
+use Rattle.core_laws.proofs.Remembered.{every_item}
+use Rattle.core_laws.specs.ViewNeeds.{event_at, IsOutside, IsInside, IsInReach, IsAtEntry, MayEnter, MayLeave, MayLook, MayFill, MayReadHead, MayReadNumber, MayReadChild, MayReadNext, HasFilled, MayPrepare, MayFinalise, MayLock, MayUnlock, MayReadMark, MayReadPair, MayMark, MaySplit, MayJoin, EnterLaw, LeaveLaw, LookLaw, FillLaw, LoadStampLaw, FixLaw, ReadHeadLaw, ReadNumberLaw, ReadChildLaw, ReadNextLaw, PrepareLaw, FinaliseLaw, LockLaw, UnlockLaw, ReadMarkLaw, MarkLaw, ReadKeyLaw, ReadValLaw, SplitLaw, JoinLaw}
+use Rattle.core_invariant.proofs.OneView.{item_from_get, seat_at}
+use Rattle.core_invariant.proofs.Frames.{every_at, every_map}
+use Rattle.core_invariant.proofs.HeldFacts.{work_holds, locks-count, count-locks}
+use Rattle.core_invariant.proofs.LiveHeads.{chain_head}
+use Rattle.core_invariant.proofs.Idle.{number_low}
+use Rattle.core_invariant.proofs.Needed.{never}
+use Rattle.core_invariant.proofs.Owned.{entry_there, free_entry_some, held_live, in_entries, slot_high}
+
+both : (a b : Bool) → a ≡ true → b ≡ true → (a && b) ≡ true
+both true true p q = refl
+both true false p q = q
+both false b p q = p
+
+left_of : (a b : Bool) → a ≡ true → (a || b) ≡ true
+left_of true b p = refl
+left_of false b p = cc
+
+right_of : (a b : Bool) → b ≡ true → (a || b) ≡ true
+right_of true b p = refl
+right_of false b p = p
+
+not_of : (b : Bool) → b ≡ false → not b ≡ true
+not_of true p = cc
+not_of false p = refl
+
+never_of : (b : Bool) → (b ≡ true → ⊥) → b ≡ false
+never_of true p = absurd (p refl)
+never_of false p = refl
+
+at_most : (a b : ℕ) → a ≤ b → nat_le a b ≡ true
+at_most a b p = grind (arith, nat_tests)
+
+below : (a b : ℕ) → a < b → nat_lt a b ≡ true
+below a b p = grind (arith, nat_tests)
+
+not_below : (a b : ℕ) → a < b → nat_lt a b ≡ false → ⊥
+not_below a b p q = never (sym q ∙ below a b p)
+
+-- a word of the table stands at its number
+no_option : {X : Type 0} (b : Bool) (x : X) (o : Option X) → cond b (Some x) o ≡ None → (b ≡ false) × (o ≡ None)
+no_option true x o is = cc
+no_option false x o is = (refl, is)
+
+word_some : (z : Layout) (n : ℕ) → n < word_count z → word_at z n ≡ None → ⊥
+word_some z n small none =
+    let a = no_option (eqb n 0) Stamp _ none in
+    let b = no_option (nat_le n z.passes) (Section (n - 1)) _ a.1 in
+    let c = no_option (nat_lt n (nodes_begin z)) (Announced (n - 1 - z.passes)) _ b.1 in
+    let d = no_option (nat_lt n (entries_begin z)) (Node (field_at ((n - nodes_begin z) % 10)) ((n - nodes_begin z) / 10)) _ c.1 in
+    let e = no_option (nat_lt n (word_count z)) (Entry (part_at ((n - entries_begin z) % 3)) ((n - entries_begin z) / 3 + 1)) None d.1 in
+    not_below n (word_count z) small e.0
+
+pub word_named : (z : Layout) (w : Word) → is_there z w ≡ true → word_at z (address z w) ≡ Some w
+word_named z w there = named_by (word_at z (address z w)) refl
+  where
+    named_by : (o : Option Word) → word_at z (address z w) ≡ o → o ≡ Some w
+    named_by None is = absurd (word_some z (address z w) (address-lt z w there) is)
+    named_by (Some u) is =
+        let found = word_there z (address z w) u is in
+        ap Some (address-apart z u w found.0 there found.1)
+
+-- a view that has what no spent view has was not joined away
+live_of : (z : Layout) (words : List ℕ) (vs : List View) (i : ℕ) (v : View) (P : View → Type 0) → InRule z words vs → IsItem vs i v → P v → (P spent_view → ⊥) → v.joined ≡ false
+live_of z words vs i v P right at holds none = never_of v.joined (λ gone. none (subst P (at_item IsSpent vs i v at right.spent gone) holds))
+
+tree_counted : (node x : ℕ) (b c : Bool) (n : ℕ) → eqb x node ≡ b → 0 < cond b 1 0 + n → (0 < n → c ≡ true) → (b || c) ≡ true
+tree_counted node x true c n is some rest = refl
+tree_counted node x false c n is some rest = rest (omega (arith, some))
+
+count-tree : (node : ℕ) (ns : List TreeNode) → 0 < count node (tree_slots ns) → reads_tree node ns ≡ true
+count-tree node [] some = absurd (omega (arith, some))
+count-tree node (x ∷ ns) some = tree_counted node x.slot (eqb x.slot node) (reads_tree node ns) (count node (tree_slots ns)) refl some (count-tree node ns)
+
+found_step : (k : ℕ) (x h : HeldNode) (hs : List HeldNode) (b : Bool) → cond b (Some x) (find (λ (y : HeldNode). eqb y.node k) hs) ≡ Some h
+    → (find (λ (y : HeldNode). eqb y.node k) hs ≡ Some h → locks k hs ≡ true) → (b || locks k hs) ≡ true
+found_step k x h hs true found later = refl
+found_step k x h hs false found later = later found
+
+-- a node that was found among those that are locked
+found-locks : (k : ℕ) (hs : List HeldNode) (h : HeldNode) → held_at k hs ≡ Some h → locks k hs ≡ true
+found-locks k [] h found = cc
+found-locks k (x ∷ hs) h found = found_step k x h hs (eqb x.node k) found (found-locks k hs h)
+
+-- a node in reach is reachable
+pub reaches : (v : View) (k : ℕ) → IsInReach v k → is_reachable v k ≡ true
+reaches v k (inl root) = left_of (eqb k 0 || reads_tree k v.reading.tree) (locks k v.held.nodes) (left_of (eqb k 0) (reads_tree k v.reading.tree) (eq-eqb k 0 root))
+reaches v k (inr (inl tree)) = left_of (eqb k 0 || reads_tree k v.reading.tree) (locks k v.held.nodes) (right_of (eqb k 0) (reads_tree k v.reading.tree) (count-tree k v.reading.tree tree))
+reaches v k (inr (inr locked)) = right_of (eqb k 0 || reads_tree k v.reading.tree) (locks k v.held.nodes) (count-locks k v.held.nodes locked)
+
+none_is : {X : Type 0} (o : Option X) → o ≡ None → is_none o ≡ true
+none_is None is = refl
+none_is (Some x) is = cc
+
+number_is : (n : ℕ) (o : Option ℕ) → o ≡ Some n → is_number n o ≡ true
+number_is n o is = ap (is_number n) is ∙ eq-eqb n n refl
+
+other_number : (n : ℕ) (o : Option ℕ) → o ≢ Some n → is_number n o ≡ false
+other_number n None other = refl
+other_number n (Some k) other = ne_eqb k n (λ same. other (ap Some same))
+
+own_section_is : (n : ℕ) (o : Option ℕ) → o ≡ Some n → is_own_section o (Section n) ≡ true
+own_section_is n o is = ap (λ u. is_own_section u (Section n)) is ∙ eq-eqb n n refl
+
+empty_length : {X : Type 0} (xs : List X) → xs ≡ [] → eqb (length xs) 0 ≡ true
+empty_length {X = X} xs is = ap (λ (ys : List X). eqb (length ys) 0) is
+
+some_length : (n : ℕ) → 0 < n → eqb n 0 ≡ false
+some_length n some = grind (arith, nat_tests)
+
+outside_is : (v : View) → IsOutside v → is_outside v ≡ true
+outside_is v out = both (is_even v.section_word) (eqb (length v.held.nodes) 0) out.even (empty_length v.held.nodes out.unlocked)
+
+all_tested : (on : ℕ → Bool) (xs : List ℕ) → ((x : ℕ) → 0 < count x xs → on x ≡ true) → list_all on xs ≡ true
+all_tested on [] each = refl
+all_tested on (x ∷ xs) each = both (on x) (list_all on xs) (each x (counted (eqb x x) (eq-eqb x x refl))) (all_tested on xs (λ y some. each y (omega (arith, some))))
+  where
+    counted : (b : Bool) → b ≡ true → 0 < cond b 1 0 + count x xs
+    counted true is = omega arith
+    counted false is = cc
+
+-- the locked node of a number
+record HeldAt (P : HeldNode → Type 0) (k : ℕ) : Type 0 where
+  item : HeldNode
+  same : item.node ≡ k
+  has_it : P item
+
+held_by : (P : HeldNode → Type 0) (k : ℕ) (h : HeldNode) (n : ℕ) (b : Bool) → eqb h.node k ≡ b → P h → 0 < cond b 1 0 + n → (0 < n → HeldAt P k) → HeldAt P k
+held_by P k h n true is here more rest = record { item = h; same = eqb-true h.node k is; has_it = here }
+held_by P k h n false is here more rest = rest (omega (arith, more))
+
+held_item : (P : HeldNode → Type 0) (k : ℕ) (hs : List HeldNode) → Every P hs → 0 < count k (held_slots hs) → HeldAt P k
+held_item P k [] all some = absurd (omega (arith, some))
+held_item P k (h ∷ hs) all some = held_by P k h (count k (held_slots hs)) (eqb h.node k) refl all.0 some (held_item P k hs all.1)
+
+every_two : {X : Type 0} (P Q : X → Type 0) (xs : List X) → Every P xs → Every Q xs → Every (λ x. P x × Q x) xs
+every_two P Q [] p q = tt
+every_two P Q (x ∷ xs) p q = ((p.0, q.0), every_two P Q xs p.1 q.1)
+
+module _ (z : Layout) (words : List ℕ) (vs : List View) (right : InRule z words vs) (i : ℕ) (v : View) (is : slice_get vs i ≡ Some v) where
+  abbrev m : Memory
+  m = memory z words
+
+  abbrev t : Table
+  t = record { layout = z; words = words; views = vs }
+
+  at : IsItem vs i v
+  at = item_from_get vs i v is
+
+  seat : SeatRight z m right.meaning v
+  seat = seat_at z m vs right.meaning i v at right.rule
+
+  alive : (P : View → Type 0) → P v → (P spent_view → ⊥) → v.joined ≡ false
+  alive P holds none = live_of z words vs i v P right at holds none
+
+  inside_alive : IsInside v → v.joined ≡ false
+  inside_alive inside = alive IsInside inside (λ none. cc)
+
+  named_alive : (n : ℕ) → v.number ≡ Some n → v.joined ≡ false
+  named_alive n own = alive (λ (x : View). x.number ≡ Some n) own (λ none. cc)
+
+  locked_alive : (k : ℕ) → IsLocked v k → v.joined ≡ false
+  locked_alive k locked = alive (λ x. IsLocked x k) locked (λ none. omega (arith, none))
+
+  allowed_by : (kind : Kind) (w : Word) (value : ℕ) → v.joined ≡ false → is_there z w ≡ true → carries kind v None ≡ true → needs kind z m vs i v w value None ≡ true
+      → allowed t (event_at z i kind w value) ≡ true
+  allowed_by kind w value live there own met =
+      ap (λ o. allowed_at t (event_at z i kind w value) o (word_at z (address z w))) is
+      ∙ ap (allowed_at t (event_at z i kind w value) (Some v)) (word_named z w there)
+      ∙ both (carries kind v None && not v.joined) (needs kind z m vs i v w value None) (both (carries kind v None) (not v.joined) own (not_of v.joined live)) met
+
+  node_high : (k : ℕ) → IsInReach v k → k ≤ z.nodes
+  node_high k (inl root) = omega (arith, root)
+  node_high k (inr (inl tree)) = seat.version.there k tree
+  node_high k (inr (inr locked)) = (seat.locks k locked).0
+
+  reach_there : (f : Field) (k : ℕ) → IsInReach v k → is_there z (Node f k) ≡ true
+  reach_there f k reach = at_most k z.nodes (node_high k reach)
+
+  section_there : (n : ℕ) → n < v.layout.passes → v.joined ≡ false → is_there z (Section n) ≡ true
+  section_there n low live = below n z.passes (subst (λ (y : Layout). n < y.passes) (seat.layout live) low)
+
+  own_there : (n : ℕ) → v.number ≡ Some n → is_there z (Section n) ≡ true
+  own_there n own = below n z.passes (number_low z vs i v n right.rule.numbers at own)
+
+  -- nothing pending, where no lock is held
+  nothing_by : v.held.nodes ≡ [] → nothing_pending m v ≡ true
+  nothing_by none = ap (λ (u : Updating). eqb (length u.pending) 0 && list_all (is_marked_node m) u.taken) (seat.section.done none)
+
+  -- nor where what is pending is none, and each locked node that was taken out is marked
+  taken_marked : Every (λ (h : HeldNode). 0 < count h.node v.update.taken → h.mark ≡ Some 1) v.held.nodes → (k : ℕ) → 0 < count k v.update.taken → is_marked_node m k ≡ true
+  taken_marked marked k taken =
+      elim (seat.marks.retired k (seat.marks.taken k taken)) as (λ _. is_marked_node m k ≡ true) [
+        | inl one ↦ eq-eqb (m (Node Mark k)) 1 one
+        | inr out ↦ locked_marked out
+      ]
+    where
+      Loaded : HeldNode → Type 0
+      Loaded h = IfSome h.mark (λ x. m (Node Mark h.node) ≡ x)
+
+      mark_is : (h : HeldNode) → Loaded h → h.mark ≡ Some 1 → m (Node Mark h.node) ≡ 1
+      mark_is h loaded is = subst (λ (o : Option ℕ). IfSome o (λ x. m (Node Mark h.node) ≡ x)) is loaded
+
+      locked_marked : IsTakenOut v k → is_marked_node m k ≡ true
+      locked_marked out =
+          let held = held_item (λ (h : HeldNode). Loaded h × (0 < count h.node v.update.taken → h.mark ≡ Some 1)) k v.held.nodes
+          (every_two Loaded (λ (h : HeldNode). 0 < count h.node v.update.taken → h.mark ≡ Some 1) v.held.nodes loaded_marks marked) out.2 in
+          eq-eqb (m (Node Mark k)) 1
+          (subst (λ j. m (Node Mark j) ≡ 1) held.same (mark_is held.item held.has_it.0 (held.has_it.1 (subst (λ j. 0 < count j v.update.taken) (sym held.same) taken))))
+        where
+          loaded_marks : Every Loaded v.held.nodes
+          loaded_marks = every_map (IsNodeAt m) Loaded v.held.nodes (λ h known. known.mark) seat.loaded.nodes
+
+  done_by : v.update.pending ≡ [] → Every (λ (h : HeldNode). 0 < count h.node v.update.taken → h.mark ≡ Some 1) v.held.nodes → nothing_pending m v ≡ true
+  done_by none marked =
+      both (eqb (length v.update.pending) 0) (list_all (is_marked_node m) v.update.taken) (empty_length v.update.pending none)
+      (all_tested (is_marked_node m) v.update.taken (taken_marked marked))
+
+  pub enter_may : (n : ℕ) → MayEnter v n → allowed t (event_at z i Enter (Section n) (v.section_word + 1)) ≡ true
+  enter_may n may =
+      allowed_by Enter (Section n) (v.section_word + 1) (named_alive n may.own) (own_there n may.own) refl
+      (both (is_own_section v.number (Section n) && is_outside v) (eqb (v.section_word + 1) (v.section_word + 1))
+      (both (is_own_section v.number (Section n)) (is_outside v) (own_section_is n v.number may.own) (outside_is v may.outside)) (eq-eqb (v.section_word + 1) (v.section_word + 1) refl))
+
+  pub leave_may : (n : ℕ) → MayLeave v n → allowed t (event_at z i Leave (Section n) (left_word v.section_word)) ≡ true
+  leave_may n may =
+      let a = is_own_section v.number (Section n) in
+      let b = not (is_even v.section_word) in
+      let c = eqb (length v.held.nodes) 0 in
+      let d = nothing_pending m v in
+      allowed_by Leave (Section n) (left_word v.section_word) (named_alive n may.own) (own_there n may.own) refl
+      (both (a && b && c && d) (eqb (left_word v.section_word) (left_word v.section_word))
+      (both (a && b && c) d (both (a && b) c (both a b (own_section_is n v.number may.own) (not_of (is_even v.section_word) may.inside)) (empty_length v.held.nodes may.unlocked)) (nothing_by may.unlocked))
+      (eq-eqb (left_word v.section_word) (left_word v.section_word) refl))
+
+  pub look_may : (pass : ℕ) → MayLook v pass → allowed t (event_at z i LookSec (Section pass) 0) ≡ true
+  look_may pass may =
+      let a = not (is_number pass v.number) in
+      let b = is_outside v in
+      let c = not (is_empty v.batch && is_empty v.retired) in
+      let live = alive (λ (x : View). (is_empty x.batch && is_empty x.retired) ≡ false) may.waiting (λ none. cc) in
+      allowed_by LookSec (Section pass) 0 live (section_there pass may.there live) refl
+      (both (a && b && c) (eqb 0 0)
+      (both (a && b) c (both a b (not_of (is_number pass v.number) (other_number pass v.number may.other)) (outside_is v may.outside)) (not_of (is_empty v.batch && is_empty v.retired) may.waiting)) refl)
+
+  fill_node : (f : Field) (k value : ℕ) → is_lock f ≡ false → HasFreeNode v k → allowed t (event_at z i Fill (Node f k) value) ≡ true
+  fill_node f k value other free =
+      allowed_by Fill (Node f k) value (alive (λ x. HasFreeNode x k) free (λ none. omega (arith, none)))
+      (at_most k z.nodes (slot_high z.nodes k (omega (arith, right.rule.slots.nodes.one k, one_term (own nodes_of k) vs i v at, free)))) refl
+      (both (not (is_lock f)) (has k v.free.nodes) (not_of (is_lock f) other) (count-has k v.free.nodes free))
+
+  entry_is : (e : ℕ) → 0 < e → e ≤ z.entries → (nat_lt 0 e && nat_le e z.entries) ≡ true
+  entry_is e some high = both (nat_lt 0 e) (nat_le e z.entries) (below 0 e some) (at_most e z.entries high)
+
+  pub fill_may : (w : Word) (value : ℕ) → MayFill v w → allowed t (event_at z i Fill w value) ≡ true
+  fill_may (Node f k) value may = fill_node f k value may.0 may.1
+  fill_may (Entry p e) value may =
+      allowed_by Fill (Entry p e) value (alive (λ x. HasFreeEntry x e) may (λ none. omega (arith, none)))
+      (entry_is e (free_entry_some z vs right.meaning right.rule.slots i e v at may)
+      (slot_high z.entries e (omega (arith, right.rule.slots.entries.one e, one_term (own entries_in e) vs i v at, may)))) refl
+      (count-has e v.free.entries may)
+  fill_may Stamp value may = absurd may
+  fill_may (Section n) value may = absurd may
+  fill_may (Announced n) value may = absurd may
+
+  stamp_by : (value : ℕ) → (eqb value 0 || eqb value 1) ≡ true → IsInside v → v.reading.opened ≡ None → allowed t (event_at z i LoadStamp Stamp value) ≡ true
+  stamp_by value few inside closed =
+      let b = not (is_even v.section_word) in
+      let c = is_none v.reading.opened in
+      allowed_by LoadStamp Stamp value (inside_alive inside) refl refl
+      (both (is_stamp Stamp && b && c) (eqb value 0 || eqb value 1) (both (is_stamp Stamp && b) c (both (is_stamp Stamp) b refl (not_of (is_even v.section_word) inside)) (none_is v.reading.opened closed)) few)
+
+  pub head_may : (k : ℕ) (side : Side) → MayReadHead v k → allowed t (event_at z i LoadHead (Node (Head side) k) 0) ≡ true
+  head_may k side may =
+      let b = not (is_even v.section_word) in
+      let c = is_reachable v k in
+      allowed_by LoadHead (Node (Head side) k) 0 (inside_alive may.inside) (reach_there (Head side) k may.reach) refl
+      (both (b && c) (eqb 0 0) (both b c (not_of (is_even v.section_word) may.inside) (reaches v k may.reach)) refl)
+
+  module _ (e : ℕ) (stood : IsAtEntry v e) where
+    entry_alive : v.joined ≡ false
+    entry_alive = alive (λ (x : View). x.reading.place ≡ AtEntry stood.node stood.side e stood.found) stood.place (λ none. cc)
+
+    entry_high : e ≤ z.entries
+    entry_high = subst (λ (y : Layout). e ≤ y.entries) (seat.layout entry_alive) stood.there
+
+    stands : stands_at v.reading.place e ≡ true
+    stands = ap (λ (p : Place). stands_at p e) stood.place ∙ eq-eqb e e refl
+
+    goes_on : IsLocked v stood.node ⊎ (is_above v e stood.found ≡ true) → may_go_on v v.reading.place e ≡ true
+    goes_on on = ap (λ (p : Place). may_go_on v p e) stood.place ∙ on_by on
+      where
+        on_by : IsLocked v stood.node ⊎ (is_above v e stood.found ≡ true) → (locks stood.node v.held.nodes || is_above v e stood.found) ≡ true
+        on_by (inl locked) = left_of (locks stood.node v.held.nodes) (is_above v e stood.found) (count-locks stood.node v.held.nodes locked)
+        on_by (inr above) = right_of (locks stood.node v.held.nodes) (is_above v e stood.found) above
+
+  pub number_may : (e : ℕ) → MayReadNumber v e → allowed t (event_at z i LoadTs (Entry Number e) 0) ≡ true
+  number_may e may =
+      allowed_by LoadTs (Entry Number e) 0 (entry_alive e may.at) (entry_is e may.at.some (entry_high e may.at)) refl
+      (both (is_part Number Number && stands_at v.reading.place e) (eqb 0 0) (both (is_part Number Number) (stands_at v.reading.place e) refl (stands e may.at)) refl)
+
+  pub child_may : (e : ℕ) → MayReadChild v e → allowed t (event_at z i LoadPtr (Entry Child e) 0) ≡ true
+  child_may e may =
+      allowed_by LoadPtr (Entry Child e) 0 (entry_alive e may.at) (entry_is e may.at.some (entry_high e may.at)) refl
+      (both (is_part Child Child && stands_at v.reading.place e) (eqb 0 0) (both (is_part Child Child) (stands_at v.reading.place e) refl (stands e may.at)) refl)
+
+  pub next_may : (e : ℕ) → MayReadNext v e → allowed t (event_at z i LoadNext (Entry Next e) 0) ≡ true
+  next_may e may =
+      allowed_by LoadNext (Entry Next e) 0 (entry_alive e may.at) (entry_is e may.at.some (entry_high e may.at)) refl
+      (both (is_part Next Next && stands_at v.reading.place e && eqb 0 0) (may_go_on v v.reading.place e)
+      (both (is_part Next Next && stands_at v.reading.place e) (eqb 0 0) (both (is_part Next Next) (stands_at v.reading.place e) refl (stands e may.at)) refl) (goes_on e may.at may.on))
+
+  pending_high : (e : ℕ) → 0 < count e v.update.pending → (0 < e) × (e ≤ z.entries)
+  pending_high e some =
+      let rule = right.rule in
+      let g = right.meaning in
+      let head = (every_at (IsPending z (λ s k. m (Node (Head s) k)) (λ d. m (Entry Number d)) g.bundles.number v) e v.update.pending seat.pending some).2 in
+      let live = held_live z vs g rule.slots i head.node v at (work_holds v head.node head.of) head.there in (
+        head.some,
+        elim (chain_head (λ d. m (Entry Next d)) (m (Node (Head head.side) head.node)) (g.bundles.bundle head.side head.node) (rule.bundles head.node live head.side).chain) as (λ _. e ≤ z.entries) [
+          | inl none ↦ absurd (omega (arith, none, head.is, head.some))
+          | inr here ↦ entry_there z vs g rule.slots head.node e live (in_entries g.bundles head.node e head.side (subst (λ d. 0 < count d (g.bundles.bundle head.side head.node)) head.is here))
+        ],
+      )
+
+  -- a filled word of an own free entry holds what was put in
+  filled_is : (p : Part) (e x : ℕ) → HasFreeEntry v e → HasFilled v (Entry p e) x → m (Entry p e) ≡ x
+  filled_is p e x free put = every_item (FilledRight m v.free v.update) v.reading.filled put.place (record { word = Entry p e; value = x }) put.is seat.filled (inl free)
+
+  ready_by : (side : Side) (e : ℕ) (h : HeldNode) (o : Option HeldNode) (l : LoadedHead) → o ≡ Some h → h.mark ≡ Some 0 → (side_of side h).head ≡ Some l
+      → (l.entry ≡ 0) ⊎ (is_written l.stamp ≡ true) → m (Entry Next e) ≡ l.entry → is_ready m side e o ≡ true
+  ready_by side e h o l is unmarked loaded old next =
+      ap (is_ready m side e) is
+      ∙ both (is_number 0 h.mark) (is_next_of m e (side_of side h).head) (number_is 0 h.mark unmarked)
+      (ap (is_next_of m e) loaded
+      ∙ both (eqb l.entry 0 || is_written l.stamp) (eqb (m (Entry Next e)) l.entry) (elim old as (λ _. (eqb l.entry 0 || is_written l.stamp) ≡ true) [
+        | inl none ↦ left_of (eqb l.entry 0) (is_written l.stamp) (eq-eqb l.entry 0 none)
+        | inr written ↦ right_of (eqb l.entry 0) (is_written l.stamp) written
+      ]) (eq-eqb (m (Entry Next e)) l.entry next))
+
+  pub prepare_may : (k : ℕ) (side : Side) (e : ℕ) → MayPrepare v k side e → allowed t (event_at z i Prepare (Node (Head side) k) e) ≡ true
+  prepare_may k side e may =
+      let a = is_none v.update.raised in
+      let b = is_ready m side e (held_at k v.held.nodes) in
+      let c = has e v.free.entries in
+      let d = eqb (m (Entry Number e)) 0 in
+      let locked : IsLocked v k = locks-count k v.held.nodes (found-locks k v.held.nodes may.node may.locked) in
+      allowed_by Prepare (Node (Head side) k) e (locked_alive k locked) (reach_there (Head side) k (inr (inr locked))) refl
+      (both (is_slot_number e) (a && b && c && d) (below e 4294967296 may.small)
+      (both (a && b && c) d
+      (both (a && b) c
+      (both a b (none_is v.update.raised may.unraised)
+      (ready_by side e may.node (held_at k v.held.nodes) may.head may.locked may.unmarked may.loaded may.old (filled_is Next e may.head.entry may.free may.next)))
+      (count-has e v.free.entries may.free))
+      (eq-eqb (m (Entry Number e)) 0 (filled_is Number e 0 may.free may.unnumbered))))
+
+  pub finalise_may : (e place : ℕ) → MayFinalise v e place → allowed t (event_at z i Finalise (Entry Number e) place) ≡ true
+  finalise_may e place may =
+      let high = pending_high e may.pending in
+      allowed_by Finalise (Entry Number e) place (alive (λ (x : View). x.update.raised ≡ Some place) may.raised (λ none. cc)) (entry_is e high.0 high.1) refl
+      (both (is_part Number Number && has e v.update.pending) (is_number place v.update.raised)
+      (both (is_part Number Number) (has e v.update.pending) refl (count-has e v.update.pending may.pending)) (number_is place v.update.raised may.raised))
+
+  pub lock_may : (n k : ℕ) → MayLock v n k → allowed t (event_at z i TryLock (Node Lock k) (n + 1)) ≡ true
+  lock_may n k may =
+      let b = not (is_even v.section_word) in
+      let c = is_reachable v k in
+      let d = not (locks k v.held.nodes) in
+      allowed_by TryLock (Node Lock k) (n + 1) (inside_alive may.inside) (reach_there Lock k may.reach) refl
+      (both (is_lock Lock && b && c && d) (names_pass v.number (n + 1))
+      (both (is_lock Lock && b && c) d (both (is_lock Lock && b) c (both (is_lock Lock) b refl (not_of (is_even v.section_word) may.inside)) (reaches v k may.reach))
+      (not_of (locks k v.held.nodes) (never_of (locks k v.held.nodes) (λ held. may.unlocked (locks-count k v.held.nodes held)))))
+      (ap (λ o. names_pass o (n + 1)) may.own ∙ eq-eqb (n + 1) (n + 1) refl))
+
+  pub unlock_may : (k : ℕ) → MayUnlock v k → allowed t (event_at z i Unlock (Node Lock k) 0) ≡ true
+  unlock_may k may =
+      allowed_by Unlock (Node Lock k) 0 (locked_alive k may.locked) (reach_there Lock k (inr (inr may.locked))) refl
+      (both (is_lock Lock && locks k v.held.nodes && nothing_pending m v) (eqb 0 0)
+      (both (is_lock Lock && locks k v.held.nodes) (nothing_pending m v) (both (is_lock Lock) (locks k v.held.nodes) refl (count-locks k v.held.nodes may.locked)) (done_by may.done may.marked)) refl)
+
+  node_there : (f : Field) (k : ℕ) → IsInside v → k ≤ v.layout.nodes → is_there z (Node f k) ≡ true
+  node_there f k inside high = at_most k z.nodes (subst (λ (y : Layout). k ≤ y.nodes) (seat.layout (inside_alive inside)) high)
+
+  pub read_mark_may : (k : ℕ) → MayReadMark v k → allowed t (event_at z i LoadMark (Node Mark k) 0) ≡ true
+  read_mark_may k may =
+      let b = not (is_even v.section_word) in
+      allowed_by LoadMark (Node Mark k) 0 (inside_alive may.inside) (node_there Mark k may.inside may.there) refl
+      (both (true && b) (eqb 0 0) (both true b refl (not_of (is_even v.section_word) may.inside)) refl)
+
+  pub mark_may : (k : ℕ) → MayMark v k → allowed t (event_at z i MarkNode (Node Mark k) 1) ≡ true
+  mark_may k may =
+      allowed_by MarkNode (Node Mark k) 1 (locked_alive k may.locked) (reach_there Mark k (inr (inr may.locked))) refl
+      (both (true && locks k v.held.nodes && has k v.update.taken) (eqb 1 1)
+      (both (true && locks k v.held.nodes) (has k v.update.taken) (both true (locks k v.held.nodes) refl (count-locks k v.held.nodes may.locked)) (count-has k v.update.taken may.taken)) refl)
+
+  pair_may : (f : Field) (k : ℕ) → is_pair f ≡ true → MayReadPair v k → allowed t (event_at z i LoadKeyOrVal (Node f k) 0) ≡ true
+  pair_may f k pair may =
+      let b = not (is_even v.section_word) in
+      allowed_by LoadKeyOrVal (Node f k) 0 (inside_alive may.inside) (node_there f k may.inside may.there) refl
+      (both (is_pair f && b) (eqb 0 0) (both (is_pair f) b pair (not_of (is_even v.section_word) may.inside)) refl)
+
+  pub split_may : (nodes : ℕ) → MaySplit v nodes → allowed t (event_at z i SplitSeat Stamp nodes) ≡ true
+  split_may nodes may =
+      let rest = eqb nodes 1 && not (eqb (length v.free.nodes) 0) in
+      allowed_by SplitSeat Stamp nodes may.live refl refl
+      (both (is_stamp Stamp) (eqb nodes 0 || rest) refl (elim may.few as (λ _. (eqb nodes 0 || rest) ≡ true) [
+        | inl none ↦ left_of (eqb nodes 0) rest (eq-eqb nodes 0 none)
+        | inr one ↦ right_of (eqb nodes 0) rest (both (eqb nodes 1) (not (eqb (length v.free.nodes) 0)) (eq-eqb nodes 1 one.0) (not_of (eqb (length v.free.nodes) 0) (some_length (length v.free.nodes) one.1)))
+      ]))
+
+  pub join_may : (other : ℕ) (u : View) → other ≢ i → MayJoin v u → slice_get vs other ≡ Some u → allowed t (event_at z i JoinSeat Stamp other) ≡ true
+  join_may other u apart may found =
+      let a = not (eqb other i) in
+      let n = is_none u.number in
+      let o = is_outside v && is_outside u in
+      allowed_by JoinSeat Stamp other may.live refl refl
+      (both (is_stamp Stamp && a) (may_join_found v (slice_get vs other)) (both (is_stamp Stamp) a refl (not_of (eqb other i) (ne_eqb other i apart)))
+      (ap (may_join_found v) found
+      ∙ both (not u.joined) (n || o) (not_of u.joined may.other_live) (elim may.apart as (λ _. (n || o) ≡ true) [
+        | inl none ↦ left_of n o (none_is u.number none)
+        | inr out ↦ right_of n o (both (is_outside v) (is_outside u) (outside_is v out.0) (outside_is u out.1))
+      ])))
+
+pub may_enter_law : EnterLaw
+may_enter_law z v seat n may words vs right is = enter_may z words vs right seat v is n may
+
+pub may_leave_law : LeaveLaw
+may_leave_law z v seat n may words vs right is = leave_may z words vs right seat v is n may
+
+pub may_look_law : LookLaw
+may_look_law z v seat pass may words vs right is = look_may z words vs right seat v is pass may
+
+pub may_fill_law : FillLaw
+may_fill_law z v seat w value may words vs right is = fill_may z words vs right seat v is w value may
+
+pub may_load_stamp_law : LoadStampLaw
+may_load_stamp_law z v seat may words vs right is = stamp_by z words vs right seat v is 0 refl may.inside may.closed
+
+pub may_fix_law : FixLaw
+may_fix_law z v seat may words vs right is = stamp_by z words vs right seat v is 1 refl may.inside may.closed
+
+pub may_read_head_law : ReadHeadLaw
+may_read_head_law z v seat k side may words vs right is = head_may z words vs right seat v is k side may
+
+pub may_read_number_law : ReadNumberLaw
+may_read_number_law z v seat e may words vs right is = number_may z words vs right seat v is e may
+
+pub may_read_child_law : ReadChildLaw
+may_read_child_law z v seat e may words vs right is = child_may z words vs right seat v is e may
+
+pub may_read_next_law : ReadNextLaw
+may_read_next_law z v seat e may words vs right is = next_may z words vs right seat v is e may
+
+pub may_prepare_law : PrepareLaw
+may_prepare_law z v seat k side e may words vs right is = prepare_may z words vs right seat v is k side e may
+
+pub may_finalise_law : FinaliseLaw
+may_finalise_law z v seat e place may words vs right is = finalise_may z words vs right seat v is e place may
+
+pub may_lock_law : LockLaw
+may_lock_law z v seat n k may words vs right is = lock_may z words vs right seat v is n k may
+
+pub may_unlock_law : UnlockLaw
+may_unlock_law z v seat k may words vs right is = unlock_may z words vs right seat v is k may
+
+pub may_read_mark_law : ReadMarkLaw
+may_read_mark_law z v seat k may words vs right is = read_mark_may z words vs right seat v is k may
+
+pub may_mark_law : MarkLaw
+may_mark_law z v seat k may words vs right is = mark_may z words vs right seat v is k may
+
+pub may_read_key_law : ReadKeyLaw
+may_read_key_law z v seat k may words vs right is = pair_may z words vs right seat v is Key k refl may
+
+pub may_read_val_law : ReadValLaw
+may_read_val_law z v seat k may words vs right is = pair_may z words vs right seat v is Val k refl may
+
+pub may_split_law : SplitLaw
+may_split_law z v seat nodes may words vs right is = split_may z words vs right seat v is nodes may
+
+pub may_join_law : JoinLaw
+may_join_law z v u seat other apart may words vs right is found = join_may z words vs right seat v is other u apart may found

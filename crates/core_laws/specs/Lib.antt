@@ -1,0 +1,6 @@
+pub mod TreeLaw
+pub mod Remembered
+pub mod Owners
+pub mod ViewNeeds
+pub mod Counts
+pub mod Found

@@ -1,0 +1,9 @@
+//! The laws that callers cite, of each table that meets the rule: who writes what, what a view shows that its seat may
+//! do, what a load finds, where the counts of a view rise, what numbers select, the trees in the words, and remembered
+//! links. The running table stands on this crate, without the code of the machine. The calls do nothing: their clauses
+//! are what is proved.
+#![tactic(auto)]
+
+mod view_laws;
+
+pub use view_laws::{needs_of_views, what_loads_find, where_counts_rise, who_writes_what};

@@ -1,0 +1,64 @@
+// Laws on the tables that meet the rule. These calls do nothing: their clauses are what is proved.
+ghost use Rattle.core_laws.specs.Counts.{CountsLaw, OtherHeadLaw, TakenLaw, TreeNotRetiredLaw};
+ghost use Rattle.core_laws.specs.Found.{ReadLaw, StampLaw, OneTreeLaw, BundleLengthLaw};
+ghost use Rattle.core_laws.specs.Owners.{OwnersLaw};
+ghost use Rattle.core_laws.specs.ViewNeeds.{EnterLaw, LeaveLaw, LookLaw, FillLaw, LoadStampLaw, FixLaw, ReadHeadLaw, ReadNumberLaw, ReadChildLaw, ReadNextLaw, PrepareLaw, FinaliseLaw, LockLaw, UnlockLaw, ReadMarkLaw, MarkLaw, ReadKeyLaw, ReadValLaw, SplitLaw, JoinLaw};
+
+/// Who writes what. An event of one seat changes no word that another seat alone changes: its section word and its
+/// announcement; each word of its free slots; lock, mark, heads, links and tags of a node that it has locked, and the
+/// next of each entry in such a node's bundles; the stamp of an entry that it has pending. No event changes the key or
+/// the value of a node that is not free, nor the child of an entry that is not free, nor its stamp once it is written.
+pub fn who_writes_what()
+    ensures owners { OwnersLaw }
+{}
+
+/// What a view shows: where a seat's view meets the need of an event, as it stands over the view alone, the event is
+/// allowed in every table that meets the rule and has this view at the seat. A join needs both views.
+pub fn needs_of_views()
+    ensures enter { EnterLaw }
+    ensures leave { LeaveLaw }
+    ensures look { LookLaw }
+    ensures fill { FillLaw }
+    ensures load_stamp { LoadStampLaw }
+    ensures fix { FixLaw }
+    ensures read_head { ReadHeadLaw }
+    ensures read_number { ReadNumberLaw }
+    ensures read_child { ReadChildLaw }
+    ensures read_next { ReadNextLaw }
+    ensures prepare { PrepareLaw }
+    ensures finalise { FinaliseLaw }
+    ensures lock { LockLaw }
+    ensures unlock { UnlockLaw }
+    ensures read_mark { ReadMarkLaw }
+    ensures mark { MarkLaw }
+    ensures read_key { ReadKeyLaw }
+    ensures read_val { ReadValLaw }
+    ensures split { SplitLaw }
+    ensures join { JoinLaw }
+{}
+
+/// Where the counts of a view rise. `busy` rises where a try of a lock finds the word held, which another pass then
+/// holds; `waits` where a load of an entry's stamp finds 0 and the seat has not the entry pending; `moves` where a load
+/// of a head finds another entry than the one that the seat remembers, and the seat did not store it, or where a load
+/// of a mark finds 1 on a node in reach that is not among the seat's retired ones; `looks` where a load of the stamp
+/// fixes a place. At every other event the count stays. A seat with nothing pending, whose own updates are ones that its
+/// section number has, did not store the other head. What an update took out is among the seat's retired nodes, and no
+/// node of the tree at the stamp is.
+pub fn where_counts_rise()
+    ensures counts { CountsLaw }
+    ensures other_head { OtherHeadLaw }
+    ensures taken { TakenLaw }
+    ensures not_retired { TreeNotRetiredLaw }
+{}
+
+/// What a load finds. A seat with a section number has the nodes of a search tree, whose contents are the map after so
+/// many updates. At a node of that tree the key and the value are the node's. The child at the entry whose number is at
+/// most the section number, the null link where a head or a next is found 0, and each remembered link are the tree's,
+/// and that entry is the selected one. A load of the stamp finds the whole history, of which the seat has seen a
+/// beginning. A tree is determined by its list of nodes; a bundle has at most as many entries as the table.
+pub fn what_loads_find()
+    ensures reads { ReadLaw }
+    ensures stamp { StampLaw }
+    ensures one_tree { OneTreeLaw }
+    ensures bundle_length { BundleLengthLaw }
+{}

@@ -1,6 +1,0 @@
-use Rattle.core_rule.proofs.Found.{read_law, stamp_law, bundle_length_law}
-use Rattle.core_rule.proofs.OneTree.{one_tree}
-use Rattle.core_rule.proofs.view_laws.what_loads_find.Goals as goal
-
-pub returns : goal.returns
-returns c = record { reads = read_law; stamp = stamp_law; one_tree = one_tree; bundle_length = bundle_length_law }

@@ -1,0 +1,2 @@
+-- A list whose items are changed one after another.
+pub mod InPlace

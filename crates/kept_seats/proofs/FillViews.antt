@@ -1,0 +1,83 @@
+-- A fill keeps the rule: the word of a free slot is stored, and the view knows what it holds.
+use Rattle.std.proofs.Common.{◌≡◌, ℕ, cond, List, Bool, true, false, set, refl, ap, sym, subst, inl}
+use Rattle.std.proofs.lemmas.List.{set-set}
+use Rattle.index_words.specs.declared.layout.Layout.{Layout}
+use Rattle.index_words.specs.declared.view.View.{View}
+use Rattle.index_words.specs.declared.view.slots.Slots.{Slots}
+use Rattle.index_words.specs.declared.view.reading.Reading.{Reading}
+use Rattle.index_words.specs.declared.view.reading.Filled.{Filled}
+use Rattle.index_words.specs.declared.word.Word.{Word}
+use Rattle.index_words.specs.Views.{no_reading}
+use Rattle.index_words.specs.Words.{Memory, written}
+use Rattle.key_map.specs.Lists.{Every, IsItem}
+use Rattle.index_words.proofs.Seats.{item_set}
+use Rattle.core_grace.specs.Sections.{is_even}
+use Rattle.core_grace.proofs.RuleMoves.{every_push}
+use Rattle.core_invariant.specs.Meanings.{Meaning}
+use Rattle.core_events.specs.FillMoves.{filled_other, filled_with, with_filled, filled_view}
+use Rattle.core_invariant.specs.FilledRule.{FilledRight}
+use Rattle.core_invariant.specs.Rule.{Rule}
+use Rattle.core_invariant.proofs.Filled.{IsNotAmong, other_apart, other_every, word-refl}
+use Rattle.core_invariant.proofs.OneView.{seat_at, set_same}
+use Rattle.core_invariant.proofs.Quiet.{quiet_kept}
+use Rattle.core_invariant.proofs.ReadMoves.{inside_only}
+
+-- a view that knows of other filled words, which hold this
+pub knows_filled : (z : Layout) (m : Memory) (vs : List View) (g : Meaning) (rule : Rule z m vs g) (i : ℕ) (v : View) → IsItem vs i v → (fs : List Filled) → is_even v.section_word ≡ false
+    → Every (FilledRight m v.free v.update) fs → Rule z m (set vs i (with_filled v fs)) g
+knows_filled z m vs g rule i v at fs inside right =
+    let w : View = with_filled v fs in
+    let seat = seat_at z m vs g i v at rule in
+    quiet_kept z m vs g rule i v at w.history w.counts w.reading w.held (record { mine = refl; ended = refl; ended_places = refl; left = refl }) (λ known. known) refl
+    (record { nodes = λ k holds. inl holds; entries = λ x holds. inl holds })
+    (record {
+      layout = seat.layout;
+      section = record { section = seat.section.section; announced = seat.section.announced; outside = λ even. absurd (inside_only z m vs g rule v inside even); unlocked = seat.section.unlocked; done = seat.section.done };
+      seen = seat.seen;
+      update = seat.update;
+      version = record { past = seat.version.past; opened = seat.version.opened; bare = seat.version.bare; there = seat.version.there };
+      tree = seat.tree;
+      locks = seat.locks;
+      loaded = record { nodes = seat.loaded.nodes; nexts = seat.loaded.nexts };
+      marks = record { retired = seat.marks.retired; batch = seat.marks.batch; taken = seat.marks.taken };
+      pending = seat.pending;
+      place = seat.place;
+      filled = right;
+      links = seat.links;
+    })
+
+module _ (z : Layout) (m : Memory) (g : Meaning) (i : ℕ) (w : Word) (x : ℕ) where
+  abbrev m' : Memory
+  m' = written m w x
+
+  -- the store alone keeps the rule, where the seat knows of nothing in the word
+  abbrev pub Stores : Slots → Type 0
+  Stores free = (us : List View) (u : View) → Rule z m us g → IsItem us i u → u.free ≡ free → IsNotAmong w u.reading.filled → Rule z m' us g
+
+  module _ (vs : List View) (rule : Rule z m vs g) (v : View) (at : IsItem vs i v) (stored : Stores v.free) where
+    inside_filled : is_even v.section_word ≡ false → Rule z m' (set vs i (with_filled v (filled_with v.reading.filled w x))) g
+    inside_filled inside =
+        let others : List Filled = filled_other w v.reading.filled in
+        let u : View = with_filled v others in
+        let us : List View = set vs i u in
+        let kept = other_every (FilledRight m v.free v.update) w v.reading.filled (seat_at z m vs g i v at rule).filled in
+        let first : Rule z m us g = knows_filled z m vs g rule i v at others inside kept in
+        let here : IsItem us i u = item_set vs i v u at in
+        let second : Rule z m' us g = stored us u first here refl (other_apart w v.reading.filled) in
+        let right : Every (FilledRight m' v.free v.update) (filled_with v.reading.filled w x) = every_push (FilledRight m' v.free v.update) others (record { word = w; value = x }) (seat_at z m' us g i u here second).filled
+        (λ own. ap (λ b. cond b x (m w)) (word-refl w)) in
+        let third : Rule z m' (set us i (with_filled u (filled_with v.reading.filled w x))) g = knows_filled z m' us g second i u here (filled_with v.reading.filled w x) inside right in
+        subst (λ (ws : List View). Rule z m' ws g) (set-set vs i u (with_filled u (filled_with v.reading.filled w x))) third
+
+    outside_filled : is_even v.section_word ≡ true → Rule z m' (set vs i v) g
+    outside_filled outside =
+        let none : v.reading ≡ no_reading = (seat_at z m vs g i v at rule).section.outside outside in
+        let fresh : IsNotAmong w v.reading.filled = subst (λ (r : Reading). IsNotAmong w r.filled) (sym none) tt in
+        subst (λ (ws : List View). Rule z m' ws g) (sym (set_same vs i v at)) (stored vs v rule at refl fresh)
+
+    fill_by : (c : Bool) → is_even v.section_word ≡ c → Rule z m' (set vs i (cond c v (with_filled v (filled_with v.reading.filled w x)))) g
+    fill_by true outside = outside_filled outside
+    fill_by false inside = inside_filled inside
+
+    pub fill_kept : Rule z m' (set vs i (filled_view v w x)) g
+    fill_kept = fill_by (is_even v.section_word) refl

@@ -1,0 +1,3 @@
+pub mod KeepsSeen
+pub mod SectionMoves
+pub mod ViewLaws
