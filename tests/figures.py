@@ -31,7 +31,7 @@ def files(kind):
 
 
 def is_test(path):
-    return "tests" in path.parts or path.name == "tests.rt" or path.parts[-3] == "core_tests"
+    return "tests" in path.parts or path.name == "tests.rt" or path.parts[-3] in ("core_tests", "core_runs")
 
 
 def imports(text):

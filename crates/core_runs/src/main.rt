@@ -1,25 +1,64 @@
-// Runs the pure machine. With a number it runs one pass in and out of its section, so many events, and
-// prints the section word afterwards; `bench/README.md` says how to measure with it. Without one it reads a
-// run from standard input, and prints the words afterwards, or the place of the first event that is refused.
+// Runs the pure machine. With the word `rows` it reads tests from standard input, as `rows.rt` says, and prints
+// each row that does not hold, and how many there were. With a number it runs one pass in and out of its section,
+// so many events, and prints the section word afterwards; `bench/README.md` says how to measure with it. Without a
+// word it reads a run from standard input, and prints the words of the table afterwards, or the place of the first
+// event that is refused.
 #![tactic(auto)]
 
 mod reading;
+mod row;
+mod rows;
+mod shown;
+mod table;
 mod turns;
+mod words;
 
 use core_rule::{RunError, State, run_of};
 use index_words::{Layout, PassSize};
 use outside_io::{StdSource, read_all};
 use reading::{Run, run_of_text};
+use rows::check_row;
 use std::{env, io};
+use table::Table;
 use turns::{SIZE, turns};
 
 const MOST_BYTES: usize = 1 << 30;
 
 fn main(rt: HostRuntime) -> io::Result<()> {
     match env::args(&rt)?.nth(1) {
-        Some(count) => run_turns(&rt, count.as_str().parse::<u64>().unwrap_or(0)),
         None => run_input(&rt),
+        Some(word) if word.as_str() == "rows" => run_rows(&rt),
+        Some(count) => run_turns(&rt, count.as_str().parse::<u64>().unwrap_or(0)),
     }
+}
+
+fn run_rows(rt: &HostRuntime) -> io::Result<()> {
+    let alloc = rt.alloc();
+    let Ok(bytes) = read_all(alloc, &mut StdSource::new(rt), MOST_BYTES) else {
+        return println!(rt; "no input");
+    };
+    let Ok(text) = std::str::from_utf8(&bytes) else {
+        return println!(rt; "no rows");
+    };
+    let mut table: Option<Table> = None;
+    let (mut tests, mut rows, mut failed) = (0usize, 0usize, 0usize);
+    for (place, row) in text.lines().enumerate() {
+        if row.is_empty() || row.starts_with('#') {
+            continue;
+        }
+        if row.starts_with("test ") {
+            table = None;
+            tests = tests.saturating_add(1);
+            continue;
+        }
+        rows = rows.saturating_add(1);
+        if let Err(fault) = check_row(alloc, &mut table, row) {
+            failed = failed.saturating_add(1);
+            let line = place.saturating_add(1);
+            println!(rt; "line {line}: {row}: {fault:?}")?;
+        }
+    }
+    println!(rt; "{tests} tests of {rows} rows, {failed} do not hold")
 }
 
 fn run_turns(rt: &HostRuntime, count: u64) -> io::Result<()> {

@@ -1,6 +1,6 @@
 // A run as text. The first line has the size of each pass, as `nodes,entries,calls`, between single spaces.
 // Each line behind it is an event: seat, kind, word and value, and for a raise the update as client, line,
-// key, and `Put` with its value or `Remove`.
+// key, and `Put` with its value or `Remove`. A word is given by its number.
 use core_rule::{Event, Kind};
 use index_words::{Change, PassSize, Update};
 use std::alloc::Global;
@@ -27,7 +27,7 @@ pub(crate) fn run_of_text(alloc: Global, text: &str) -> Option<Run> {
     Some(Run { sizes, events })
 }
 
-fn size_of(text: &str) -> Option<PassSize> {
+pub(crate) fn size_of(text: &str) -> Option<PassSize> {
     let mut fields = text.split(',');
     Some(PassSize {
         nodes: fields.next()?.parse::<u32>().ok()?,
@@ -43,11 +43,11 @@ fn event_of(line: &str) -> Option<Event> {
         kind: kind_of(fields.next()?)?,
         word: fields.next()?.parse::<u64>().ok()?,
         value: fields.next()?.parse::<u64>().ok()?,
-        update: update_of(fields),
+        update: update_of(&mut fields),
     })
 }
 
-fn update_of(mut fields: Split<'_, char>) -> Option<Update> {
+pub(crate) fn update_of(fields: &mut Split<'_, char>) -> Option<Update> {
     Some(Update {
         client: fields.next()?.parse::<u32>().ok()?,
         line: fields.next()?.parse::<u32>().ok()?,
@@ -60,7 +60,7 @@ fn update_of(mut fields: Split<'_, char>) -> Option<Update> {
     })
 }
 
-fn kind_of(name: &str) -> Option<Kind> {
+pub(crate) fn kind_of(name: &str) -> Option<Kind> {
     Some(match name {
         "MakeSeat" => Kind::MakeSeat,
         "SplitSeat" => Kind::SplitSeat,

@@ -1,5 +1,5 @@
-//! Tests of the pure machine, over the public calls of `core_rule` alone. `tests/table.rt` is their
-//! harness: a table that is stepped by the names of its words, and the events of each kind of update.
+//! Tests of the pure machine's public calls. The tests of each event and of whole updates are rows of text, which
+//! `core_runs` reads and compares.
 #![tactic(auto)]
 
 #[cfg(test)]

@@ -1,0 +1,194 @@
+// What a seat does in a row of a test, read from its text: words between single spaces.
+use crate::reading::{kind_of, size_of, update_of};
+use crate::table::{NewLink, NewNode, Turn};
+use crate::words::{LinkName, address_of, link_named};
+use core_rule::{Event, Kind};
+use index_words::{Change, Layout, PassSize, TreeNode};
+use std::alloc::Global;
+use std::str::Split;
+
+/// What a seat does by its own steps, which must all be allowed.
+#[derive(Clone, Copy)]
+pub(crate) enum Act {
+    Begin,
+    Enter,
+    Leave,
+    Lock(u32),
+    Unlock(u32),
+    LoadHead(LinkName),
+    FillEntry { entry: u32, child: u32, next: u64 },
+    Fill(NewNode),
+    Prepare(Turn),
+    Finalise(u32),
+    Mark(u32),
+    Put { at: Turn, key: u64, val: u64 },
+    Remove { at: Turn, old: u32, key: u64 },
+}
+
+/// What a seat does: one event, or steps that belong together.
+#[derive(Clone, Copy)]
+pub(crate) enum Doing {
+    Event(Event),
+    Raise { key: u64, change: Change },
+    Act(Act),
+}
+
+pub(crate) fn sizes_of(alloc: Global, text: &str) -> Option<Vec<PassSize>> {
+    let mut sizes = Vec::new(alloc);
+    for size in text.split(' ') {
+        sizes.push(size_of(size)?).ok()?;
+    }
+    Some(sizes)
+}
+
+/// The nodes of a tree, each as `slot,key,val,left,right`.
+pub(crate) fn nodes_of(alloc: Global, texts: Split<'_, char>) -> Option<Vec<TreeNode>> {
+    let mut nodes = Vec::new(alloc);
+    for text in texts {
+        nodes.push(node_of(text)?).ok()?;
+    }
+    Some(nodes)
+}
+
+fn node_of(text: &str) -> Option<TreeNode> {
+    let mut fields = text.split(',');
+    Some(TreeNode {
+        slot: fields.next()?.parse::<u32>().ok()?,
+        key: fields.next()?.parse::<u64>().ok()?,
+        val: fields.next()?.parse::<u64>().ok()?,
+        left: fields.next()?.parse::<u32>().ok()?,
+        right: fields.next()?.parse::<u32>().ok()?,
+    })
+}
+
+/// What a seat does. None where the text says nothing of the kind, or more than that.
+pub(crate) fn doing_of(layout: &Layout, seat: u32, text: &str) -> Option<Doing> {
+    let (name, rest) = match text.split_once(' ') {
+        None => (text, ""),
+        Some(parts) => parts,
+    };
+    if let Some(kind) = kind_of(name) {
+        return event_of(layout, seat, kind, rest);
+    }
+    let mut words = rest.split(' ');
+    let doing = match name {
+        "raise" => raise_of(&mut words)?,
+        "begin" | "enter" | "leave" => return simple_act(name, rest),
+        _ => Doing::Act(act_of(name, &mut words)?),
+    };
+    if words.next().is_none() {
+        Some(doing)
+    } else {
+        None
+    }
+}
+
+fn event_of(layout: &Layout, seat: u32, kind: Kind, rest: &str) -> Option<Doing> {
+    let mut words = rest.split(' ');
+    let word = address_of(layout, words.next()?)?;
+    let value = words.next()?.parse::<u64>().ok()?;
+    let update = match rest.split(' ').count() {
+        2 => None,
+        _ => Some(update_of(&mut words)?),
+    };
+    if words.next().is_some() {
+        return None;
+    }
+    Some(Doing::Event(Event {
+        seat,
+        kind,
+        word,
+        value,
+        update,
+    }))
+}
+
+fn raise_of(words: &mut Split<'_, char>) -> Option<Doing> {
+    Some(Doing::Raise {
+        key: number_of(words)?,
+        change: match words.next()? {
+            "Put" => Change::Put(number_of(words)?),
+            "Remove" => Change::Remove,
+            _ => return None,
+        },
+    })
+}
+
+fn simple_act(name: &str, rest: &str) -> Option<Doing> {
+    if !rest.is_empty() {
+        return None;
+    }
+    Some(Doing::Act(match name {
+        "begin" => Act::Begin,
+        "enter" => Act::Enter,
+        _ => Act::Leave,
+    }))
+}
+
+fn act_of(name: &str, words: &mut Split<'_, char>) -> Option<Act> {
+    Some(match name {
+        "lock" => Act::Lock(slot_of(words)?),
+        "unlock" => Act::Unlock(slot_of(words)?),
+        "finalise" => Act::Finalise(slot_of(words)?),
+        "mark" => Act::Mark(slot_of(words)?),
+        "head" => Act::LoadHead(link_named(words.next()?)?),
+        "entry" => Act::FillEntry {
+            entry: slot_of(words)?,
+            child: slot_of(words)?,
+            next: number_of(words)?,
+        },
+        "fill" => Act::Fill(new_node_of(words)?),
+        "prepare" => Act::Prepare(turn_of(words)?),
+        "put" => Act::Put {
+            at: turn_of(words)?,
+            key: number_of(words)?,
+            val: number_of(words)?,
+        },
+        "remove" => Act::Remove {
+            at: turn_of(words)?,
+            old: slot_of(words)?,
+            key: number_of(words)?,
+        },
+        _ => return None,
+    })
+}
+
+fn slot_of(words: &mut Split<'_, char>) -> Option<u32> {
+    words.next()?.parse::<u32>().ok()
+}
+
+fn number_of(words: &mut Split<'_, char>) -> Option<u64> {
+    words.next()?.parse::<u64>().ok()
+}
+
+/// A link, the entry that is to be put in front there, and its child.
+fn turn_of(words: &mut Split<'_, char>) -> Option<Turn> {
+    Some(Turn {
+        link: link_named(words.next()?)?,
+        entry: slot_of(words)?,
+        child: slot_of(words)?,
+    })
+}
+
+/// A new node: its slot, its key, its value, and its left and right link.
+fn new_node_of(words: &mut Split<'_, char>) -> Option<NewNode> {
+    Some(NewNode {
+        slot: slot_of(words)?,
+        key: number_of(words)?,
+        val: number_of(words)?,
+        left: new_link_of(words.next()?)?,
+        right: new_link_of(words.next()?)?,
+    })
+}
+
+/// A link of a new node: `-` for none, or `entry,child`.
+fn new_link_of(text: &str) -> Option<Option<NewLink>> {
+    if text == "-" {
+        return Some(None);
+    }
+    let (entry, child) = text.split_once(',')?;
+    Some(Some(NewLink {
+        entry: entry.parse::<u32>().ok()?,
+        child: child.parse::<u32>().ok()?,
+    }))
+}

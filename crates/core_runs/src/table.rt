@@ -1,0 +1,266 @@
+// A table that is stepped by the names of its words, and by the steps of an update that belong together.
+use crate::words::LinkName;
+use core_rule::{Event, Kind, State};
+use index_words::{Change, Field, Layout, Part, PassSize, Side, TreeNode, Update, View, Word};
+use std::alloc::Global;
+
+/// A link, and the entry that is to lead it to another child.
+#[derive(Clone, Copy)]
+pub(crate) struct Turn {
+    pub(crate) link: LinkName,
+    pub(crate) entry: u32,
+    pub(crate) child: u32,
+}
+
+/// A link of a new node: its one entry, with its child.
+#[derive(Clone, Copy)]
+pub(crate) struct NewLink {
+    pub(crate) entry: u32,
+    pub(crate) child: u32,
+}
+
+/// A new node: its slot, its pair, and the entry of the bundle on each side, where there is one.
+#[derive(Clone, Copy)]
+pub(crate) struct NewNode {
+    pub(crate) slot: u32,
+    pub(crate) key: u64,
+    pub(crate) val: u64,
+    pub(crate) left: Option<NewLink>,
+    pub(crate) right: Option<NewLink>,
+}
+
+#[derive(Drop)]
+pub(crate) struct Table {
+    alloc: Global,
+    layout: Layout,
+    state: State,
+}
+
+/// The slot that a word names, as far as it fits.
+const fn slot_of(word: u64) -> u32 {
+    if word < 4_294_967_296 {
+        word as u32
+    } else {
+        u32::MAX
+    }
+}
+
+impl Table {
+    /// The table at the start. None where there is no such layout, or memory ran out.
+    pub(crate) fn start(alloc: Global, sizes: &[PassSize]) -> Option<Table> {
+        let layout = Layout::new(sizes)?;
+        let state = State::start(alloc, &layout, sizes).ok()?;
+        Some(Table {
+            alloc,
+            layout,
+            state,
+        })
+    }
+
+    pub(crate) fn layout(&self) -> &Layout {
+        &self.layout
+    }
+
+    pub(crate) fn view(&self, seat: u32) -> Option<&View> {
+        self.state.view(seat)
+    }
+
+    /// What the word with this number holds. None where there is no such word.
+    pub(crate) fn word(&self, number: u64) -> Option<u64> {
+        self.state.word(number)
+    }
+
+    /// Makes a step. Whether it was allowed.
+    pub(crate) fn makes(&mut self, event: &Event) -> bool {
+        self.state.step(self.alloc, event).is_ok()
+    }
+
+    fn does(&mut self, seat: u32, kind: Kind, word: Word, value: u64) -> bool {
+        let event = Event {
+            seat,
+            kind,
+            word: self.layout.address(word),
+            value,
+            update: None,
+        };
+        self.makes(&event)
+    }
+
+    fn holds(&self, word: Word) -> u64 {
+        self.state
+            .word(self.layout.address(word))
+            .unwrap_or(u64::MAX)
+    }
+
+    fn head(&self, link: LinkName) -> u64 {
+        self.holds(Word::Node(Field::Head(link.side), link.node))
+    }
+
+    /// The child of the newest entry of a bundle, 0 for none.
+    fn child(&self, node: u32, side: Side) -> u64 {
+        match self.head(LinkName { node, side }) {
+            0 => 0,
+            head => self.holds(Word::Entry(Part::Child, slot_of(head))),
+        }
+    }
+
+    fn has_node(&self, row: &TreeNode) -> bool {
+        self.holds(Word::Node(Field::Key, row.slot)) == row.key
+            && self.holds(Word::Node(Field::Val, row.slot)) == row.val
+            && self.child(row.slot, Side::Left) == u64::from(row.left)
+            && self.child(row.slot, Side::Right) == u64::from(row.right)
+    }
+
+    /// Whether the words spell the tree with this top and these nodes, by the newest entries.
+    pub(crate) fn spells(&self, top: u64, rows: &[TreeNode]) -> bool {
+        rows.iter().all(|row| self.has_node(row)) && self.child(0, Side::Right) == top
+    }
+
+    /// Whether the seat has read just these nodes.
+    pub(crate) fn reads(&self, seat: u32, rows: &[TreeNode]) -> bool {
+        match self.view(seat) {
+            None => false,
+            Some(view) => view.reading.tree.as_slice() == rows,
+        }
+    }
+
+    pub(crate) fn enters(&mut self, seat: u32) -> bool {
+        let word = self.holds(Word::Section(seat)).wrapping_add(1);
+        self.does(seat, Kind::Enter, Word::Section(seat), word)
+    }
+
+    pub(crate) fn leaves(&mut self, seat: u32) -> bool {
+        let word = self.holds(Word::Section(seat)).wrapping_add(1);
+        self.does(seat, Kind::Leave, Word::Section(seat), word)
+    }
+
+    /// Enters and loads the stamp.
+    pub(crate) fn begins(&mut self, seat: u32) -> bool {
+        self.enters(seat) && self.does(seat, Kind::LoadStamp, Word::Stamp, 0)
+    }
+
+    /// Locks a node and loads its mark.
+    pub(crate) fn locks(&mut self, seat: u32, node: u32) -> bool {
+        let own = u64::from(seat) + 1;
+        self.does(seat, Kind::TryLock, Word::Node(Field::Lock, node), own)
+            && self.does(seat, Kind::LoadMark, Word::Node(Field::Mark, node), 0)
+    }
+
+    pub(crate) fn unlocks(&mut self, seat: u32, node: u32) -> bool {
+        self.does(seat, Kind::Unlock, Word::Node(Field::Lock, node), 0)
+    }
+
+    pub(crate) fn loads_head(&mut self, seat: u32, link: LinkName) -> bool {
+        let head = Word::Node(Field::Head(link.side), link.node);
+        self.does(seat, Kind::LoadHead, head, 0)
+    }
+
+    pub(crate) fn fills_entry(&mut self, seat: u32, entry: u32, child: u32, next: u64) -> bool {
+        let child_word = Word::Entry(Part::Child, entry);
+        self.does(seat, Kind::Fill, child_word, u64::from(child))
+            && self.does(seat, Kind::Fill, Word::Entry(Part::Stamp, entry), 0)
+            && self.does(seat, Kind::Fill, Word::Entry(Part::Next, entry), next)
+    }
+
+    fn fills_field(&mut self, seat: u32, field: Field, node: u32, value: u64) -> bool {
+        self.does(seat, Kind::Fill, Word::Node(field, node), value)
+    }
+
+    fn fills_side(&mut self, seat: u32, node: u32, side: Side, link: Option<NewLink>) -> bool {
+        match link {
+            None => self.fills_field(seat, Field::Head(side), node, 0),
+            Some(link) => {
+                self.fills_field(seat, Field::Head(side), node, u64::from(link.entry))
+                    && self.fills_entry(seat, link.entry, link.child, 0)
+            }
+        }
+    }
+
+    /// Fills a new node, with its bundles.
+    pub(crate) fn fills(&mut self, seat: u32, node: NewNode) -> bool {
+        self.fills_field(seat, Field::Key, node.slot, node.key)
+            && self.fills_field(seat, Field::Val, node.slot, node.val)
+            && self.fills_field(seat, Field::Mark, node.slot, 0)
+            && self.fills_side(seat, node.slot, Side::Left, node.left)
+            && self.fills_side(seat, node.slot, Side::Right, node.right)
+    }
+
+    /// Fills an entry, loads the head of the link with its number, and prepares the entry there.
+    pub(crate) fn prepares(&mut self, seat: u32, at: Turn) -> bool {
+        let head = self.head(at.link);
+        let word = Word::Node(Field::Head(at.link.side), at.link.node);
+        let number = Word::Entry(Part::Stamp, slot_of(head));
+        self.fills_entry(seat, at.entry, at.child, head)
+            && self.loads_head(seat, at.link)
+            && (head == 0 || self.does(seat, Kind::LoadTs, number, 0))
+            && self.does(seat, Kind::Prepare, word, u64::from(at.entry))
+    }
+
+    /// The raise of an update by the pass of the seat's number.
+    pub(crate) fn raising(&self, seat: u32, key: u64, change: Change) -> Event {
+        Event {
+            seat,
+            kind: Kind::Raise,
+            word: self.layout.address(Word::Stamp),
+            value: 0,
+            update: Some(Update {
+                client: seat,
+                line: 0,
+                key,
+                change,
+            }),
+        }
+    }
+
+    fn raises(&mut self, seat: u32, key: u64, change: Change) -> bool {
+        let event = self.raising(seat, key, change);
+        self.makes(&event)
+    }
+
+    /// Writes the number of the seat's raise into an entry.
+    pub(crate) fn finalises(&mut self, seat: u32, entry: u32) -> bool {
+        let number = match self.view(seat) {
+            None => 0,
+            Some(view) => view.update.raised.unwrap_or(0),
+        };
+        let word = Word::Entry(Part::Stamp, entry);
+        self.does(seat, Kind::Finalise, word, number)
+    }
+
+    pub(crate) fn marks(&mut self, seat: u32, node: u32) -> bool {
+        self.does(seat, Kind::Mark, Word::Node(Field::Mark, node), 1)
+    }
+
+    /// A whole put of an absent key. The new node's slot is the child of the turn.
+    pub(crate) fn puts(&mut self, seat: u32, at: Turn, key: u64, val: u64) -> bool {
+        let node = NewNode {
+            slot: at.child,
+            key,
+            val,
+            left: None,
+            right: None,
+        };
+        self.begins(seat)
+            && self.fills(seat, node)
+            && self.locks(seat, at.link.node)
+            && self.prepares(seat, at)
+            && self.raises(seat, key, Change::Put(val))
+            && self.finalises(seat, at.entry)
+            && self.unlocks(seat, at.link.node)
+            && self.leaves(seat)
+    }
+
+    /// A whole removal of the node in the old slot, which has at most one child: the child of the turn.
+    pub(crate) fn removes(&mut self, seat: u32, at: Turn, old: u32, key: u64) -> bool {
+        self.begins(seat)
+            && self.locks(seat, at.link.node)
+            && self.locks(seat, old)
+            && self.prepares(seat, at)
+            && self.raises(seat, key, Change::Remove)
+            && self.finalises(seat, at.entry)
+            && self.marks(seat, old)
+            && self.unlocks(seat, old)
+            && self.unlocks(seat, at.link.node)
+            && self.leaves(seat)
+    }
+}
