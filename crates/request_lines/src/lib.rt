@@ -9,7 +9,6 @@ mod command;
 mod counts;
 mod limits;
 mod line_error;
-mod lists;
 mod parameter;
 mod parts;
 mod put;
@@ -23,7 +22,6 @@ mod verb;
 
 pub use cause::Cause;
 pub use limits::MAX_INPUT_BYTES;
-pub use lists::{AskedLines, ClientParts, Records};
 pub use read::read_session;
 pub use session::{Asked, ClientPart, Session};
 pub use session_error::{InputError, SessionError};
