@@ -16,3 +16,4 @@ pub mod SessionLaws
 pub mod Fine
 pub mod Refusal
 pub mod ReadAnswers
+pub mod Sample

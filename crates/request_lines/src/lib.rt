@@ -15,6 +15,7 @@ mod put;
 mod query;
 mod read;
 mod reader;
+mod sample;
 mod session;
 mod session_error;
 mod texts;
@@ -23,6 +24,7 @@ mod verb;
 pub use cause::Cause;
 pub use limits::MAX_INPUT_BYTES;
 pub use read::read_session;
+pub use sample::sample_input;
 pub use session::{Asked, ClientPart, Session};
 pub use session_error::{InputError, SessionError};
 
