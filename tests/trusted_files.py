@@ -4,7 +4,9 @@
     tests/trusted_files.py [--list]
 
 The files are the closure of the imports of the file of `serve`, and of the two traits of its source and sink.
-With `--list` they are printed, with their lines, in place of the check.
+Each other definition file of the crates below `serve` says in its first line that it is a helper.
+With `--list` the files are printed in place of the check, each with its lines, and with those of them that are
+neither empty nor an import.
 """
 import re
 import sys
@@ -13,6 +15,7 @@ from pathlib import Path
 HERE = Path(__file__).resolve().parent.parent
 DOCUMENT = HERE / "docs" / "TRUSTED.md"
 ROOTS = ["bucketidx/src/serving.rt", "outside_io/src/source.rt", "outside_io/src/sink.rt"]
+HELPER = "-- Helper: the headline does not rest on this file."
 IMPORT = re.compile(r"^\s*(?:pub |ghost )*use Rattle\.(\w+)\.specs\.([\w.]+)\.\{", re.MULTILINE)
 
 
@@ -31,27 +34,60 @@ def closure():
             if found not in seen:
                 seen.add(found)
                 waiting.append(found)
-    return {str(path.relative_to(HERE)) for path in seen}
+    return names_of(seen)
+
+
+def crates_below(crate):
+    """This crate, and those of the repository that it stands on."""
+    below = dict(re.findall(r"^(\w+)[^:\n]*:(.*)$", (HERE / "crates.txt").read_text(), re.MULTILINE))
+    seen, waiting = set(), [crate]
+    while waiting:
+        name = waiting.pop()
+        if name in below and name not in seen:
+            seen.add(name)
+            waiting += below[name].split()
+    return seen
+
+
+def marked():
+    """The definition files that say of themselves that they are helpers, and those that do not."""
+    files = [path for crate in crates_below("bucketidx") for path in (HERE / "crates" / crate / "specs").rglob("*.antt")]
+    files = [path for path in files if path.name != "Lib.antt"]
+    helpers = {path for path in files if path.read_text().startswith(HELPER + "\n")}
+    return names_of(helpers), names_of(set(files) - helpers)
+
+
+def names_of(paths):
+    return {str(path.relative_to(HERE)) for path in paths}
 
 
 def lines_of(name):
-    return len((HERE / name).read_text().splitlines())
+    """The lines of a file, and those that are neither empty nor an import."""
+    lines = (HERE / name).read_text().splitlines()
+    return len(lines), sum(1 for line in lines if line and not re.match(r"(pub )?use ", line))
+
+
+def sums(names):
+    return tuple(map(sum, zip(*map(lines_of, names))))
 
 
 def main():
     needed = closure()
     if sys.argv[1:] == ["--list"]:
         for name in sorted(needed):
-            print("%4d  %s" % (lines_of(name), name))
-        return print("%d files, %d lines" % (len(needed), sum(map(lines_of, needed))))
+            print("%4d %4d  %s" % (*lines_of(name), name))
+        return print("%d files, %d lines, %d of them neither empty nor an import" % (len(needed), *sums(needed)))
     listed = re.findall(r"^\d+\. `(crates/[\w/]+\.antt)`", DOCUMENT.read_text(), re.MULTILINE)
     wrong = ["%s is not listed" % name for name in sorted(needed - set(listed))]
     wrong += ["%s is listed and no clause of serve rests on it" % name for name in sorted(set(listed) - needed)]
     wrong += ["%s is listed twice" % name for name in sorted(set(listed)) if listed.count(name) > 1]
+    helpers, others = marked()
+    wrong += ["%s calls itself a helper, and a clause of serve rests on it" % name for name in sorted(helpers & needed)]
+    wrong += ["%s does not call itself a helper in its first line" % name for name in sorted(others - needed)]
     if wrong:
         print("docs/TRUSTED.md:\n  " + "\n  ".join(wrong))
         sys.exit(1)
-    print("docs/TRUSTED.md: %d files, %d lines" % (len(needed), sum(map(lines_of, needed))), file=sys.stderr)
+    print("docs/TRUSTED.md: %d files, %d lines" % (len(needed), sums(needed)[0]), file=sys.stderr)
 
 
 if __name__ == "__main__":

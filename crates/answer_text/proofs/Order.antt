@@ -4,7 +4,7 @@ use Rattle.std.specs.Ordering.{is_lt}
 use Rattle.std.specs.declared.cmp.Ordering.{Ordering}
 use Rattle.std.specs.declared.cmp.Ordering.TheVariants.{Less, Equal, Greater}
 use Rattle.serde_json.specs.Data.{Data}
-use Rattle.key_names.specs.Names.{is_before}
+use Rattle.key_names.specs.Ranks.{is_before}
 use Rattle.key_names.proofs.Places.{before_downward}
 use Rattle.bucket_terms.specs.declared.record.Record.{Record}
 use Rattle.bucket_terms.specs.declared.list_query.ListQuery.{ListQuery}
@@ -12,7 +12,7 @@ use Rattle.bucket_terms.specs.declared.reply.Reply.{Reply}
 use Rattle.bucket_terms.specs.declared.reply.Reply.TheVariants.{Put, Deleted, Found, Missing, Listed, BadToken, NoSlot}
 use Rattle.answer_text.specs.Objects.{Member, only_if}
 use Rattle.answer_text.specs.MemberOrder.{RiseAbove, StandInOrder}
-use Rattle.answer_text.specs.Lines.{PageShown, record_at, page_shown, is_given, short_members, found_members, listed_members, reply_members, content_members, journal_members}
+use Rattle.answer_text.specs.Lines.{PageShown, page_shown, is_given, short_members, listed_members, reply_members, content_members, journal_members}
 
 less_from_before : (o : Ordering) → is_lt o ≡ true → o ≡ Less
 less_from_before Less h = refl

@@ -1,3 +1,4 @@
+-- Helper: the headline does not rest on this file.
 -- What a reply must be to have a line: its ranks and the places of its records are in range.
 use Rattle.std.specs.Prelude.{ℕ, ◌<◌, List, length, All}
 use Rattle.bucket_terms.specs.declared.record.Record.{Record}
@@ -6,7 +7,7 @@ use Rattle.bucket_terms.specs.declared.page.PageEntry.TheVariants.{Key, Group}
 use Rattle.bucket_terms.specs.declared.page.Page.{Page}
 use Rattle.bucket_terms.specs.declared.reply.Reply.{Reply}
 use Rattle.bucket_terms.specs.declared.reply.Reply.TheVariants.{Put, Deleted, Found, Missing, Listed, BadToken, NoSlot}
-use Rattle.bucket_terms.specs.Page.{IsInRange}
+use Rattle.bucket_terms.specs.PageInRange.{IsInRange}
 
 -- a key's value is the place of a record
 abbrev pub HasRecord : List Record → PageEntry → Type 0

@@ -1,6 +1,7 @@
+-- Helper: the headline does not rest on this file.
 -- The order of the members of an object.
 use Rattle.std.specs.Prelude.{◌≡◌, ℕ, true, List, [], ◌∷◌, Option, Some, None}
-use Rattle.key_names.specs.Names.{is_before}
+use Rattle.key_names.specs.Ranks.{is_before}
 use Rattle.answer_text.specs.Objects.{Member}
 
 -- the names of the members that are there rise strictly in byte order, the first of them above `low`

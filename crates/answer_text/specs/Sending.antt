@@ -1,3 +1,4 @@
+-- Helper: the headline does not rest on this file.
 -- What the members of an object send to a `Serializer`.
 use Rattle.std.specs.Prelude.{◌≡◌, List, [], ◌∷◌, Option, Some, None}
 use Rattle.serde.specs.Event.{Log, Logs, field_key}

@@ -1,3 +1,4 @@
+-- Helper: the headline does not rest on this file.
 -- What each value that is written stands for.
 use Rattle.std.specs.Prelude.{List, map, Option}
 use Rattle.std.specs.Cow.{cow_str_bytes}

@@ -1,7 +1,8 @@
 // The line of a listing.
 ghost use Rattle.std.specs.Prelude.{◌≡◌, IfOk, OnOk, take, drop};
 ghost use Rattle.serde_json.specs.Events.{SendsValue, members_len};
-ghost use Rattle.bucket_terms.specs.Page.{IsInRange, page_point};
+ghost use Rattle.bucket_terms.specs.Page.{page_point};
+ghost use Rattle.bucket_terms.specs.PageInRange.{IsInRange};
 ghost use Rattle.answer_text.specs.Objects.{members_there, object_of, line_of};
 ghost use Rattle.answer_text.specs.Lines.{is_given, page_shown, point_token, listed_members};
 ghost use Rattle.answer_text.specs.InRange.{IsPageOf};

@@ -2,7 +2,7 @@
 ghost use Rattle.std.specs.Prelude.{◌≡◌, ◌++◌, map, codes, All, IfOk, OnOk, option_to_list};
 ghost use Rattle.std.specs.List.{filter_map};
 ghost use Rattle.serde_json.specs.Events.{SendsValue};
-ghost use Rattle.bucket_terms.specs.Page.{IsEntryInRange};
+ghost use Rattle.bucket_terms.specs.PageInRange.{IsEntryInRange};
 ghost use Rattle.answer_text.specs.Lines.{content_of, prefix_of};
 ghost use Rattle.answer_text.specs.InRange.{HasRecord};
 ghost use Rattle.answer_text.specs.Objects.{always, array_of};

@@ -1,7 +1,7 @@
 // The lines of replies and of the history, byte for byte.
 use super::*;
-use bucket_terms::{ListQuery, Page, PageEntries, PageEntry, Placed, Record, Reply};
-use key_map::{Change, Update};
+use bucket_terms::{ListQuery, Page, PageEntry, Placed, Record, Reply};
+use key_map::{Change, Items, Update};
 use key_names::{Directory, Text};
 use std::alloc::Global;
 use std::process::Abort;
@@ -54,7 +54,7 @@ fn listed(
     truncated: bool,
 ) -> Result<Reply, Fail> {
     let page = Page {
-        entries: PageEntries::new(Vec::from_slice(alloc, entries)?),
+        entries: Items::from_vec(Vec::from_slice(alloc, entries)?),
         truncated,
     };
     Ok(Reply::Listed { query, page })

@@ -9,3 +9,4 @@ pub mod PlainInside
 pub use Rattle.key_map.specs.Map
 pub use Rattle.key_map.specs.History
 pub use Rattle.key_names.specs.Names
+pub mod PageInRange

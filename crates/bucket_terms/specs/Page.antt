@@ -1,6 +1,5 @@
 -- The page of a query (Amazon S3 API reference, ListObjectsV2: `MaxKeys`, `KeyCount`, `IsTruncated`).
-use Rattle.std.specs.Prelude.{◌≡◌, ℕ, ◌<◌, ◌&&◌, Bool, true, false, nat_lt, List, [], ◌∷◌, length, take, All, Option, Some, None}
-use Rattle.std.specs.Str.{IsCharBoundary}
+use Rattle.std.specs.Prelude.{ℕ, ◌&&◌, Bool, true, false, nat_lt, List, [], ◌∷◌, length, take, Option, Some, None}
 use Rattle.key_names.specs.Names.{name_at}
 use Rattle.key_map.specs.declared.pair.Pair.{Pair}
 use Rattle.bucket_terms.specs.declared.list_query.ListQuery.{ListQuery}
@@ -38,18 +37,3 @@ page_point dir page = point_if page.truncated (last_point dir page.entries)
     point_if : Bool → Option TokenPoint → Option TokenPoint
     point_if true p = p
     point_if false p = None
-
--- the rank is that of a name, and the common prefix has a byte at least and ends with a character of the name
-pub record IsGroupInRange (dir : List (List ℕ)) (rank len : ℕ) : Type 0 where
-  pub below : rank < length dir
-  pub not_empty : 0 < len
-  pub whole : IsCharBoundary (name_at dir rank) len
-
-abbrev pub IsEntryInRange : List (List ℕ) → PageEntry → Type 0
-IsEntryInRange dir (Key rank val) = rank < length dir
-IsEntryInRange dir (Group rank len) = IsGroupInRange dir rank len
-
--- a page in range: so are its entries, and it has one where it is truncated
-pub record IsInRange (dir : List (List ℕ)) (page : Page) : Type 0 where
-  pub entries : All (IsEntryInRange dir) page.entries
-  pub some : page.truncated ≡ true → 0 < length page.entries

@@ -1,3 +1,4 @@
+-- Helper: the headline does not rest on this file.
 -- What a pass of the index is to its caller: its number, the history that it knows, its slots and its
 -- open snapshot. Nothing here says that nobody else changes the map between two calls.
 use Rattle.std.specs.Prelude.{◌≡◌, ℕ, ◌+◌, ◌-◌, ◌<◌, ◌≤◌, ◌^◌, min, ◌⊎◌, true, false, MatchBool, if◌then◌else◌, List, [], ◌∷◌, ◌++◌, length, Option, Some, None}

@@ -1,3 +1,4 @@
+-- Helper: the headline does not rest on this file.
 -- What a plain pass keeps.
 use Rattle.std.specs.Prelude.{◌≡◌, ◌+◌, ◌^◌, ◌≤◌, length, All, vec_capacity}
 use Rattle.std.specs.Option.{ForSome}

@@ -1,3 +1,4 @@
+-- Helper: the headline does not rest on this file.
 -- The plain pass as its caller sees it at the start, and where it looks.
 use Rattle.std.specs.Prelude.{◌≡◌, ℕ, MatchBool, [], None}
 use Rattle.key_map.specs.declared.pass.Done.{Done}

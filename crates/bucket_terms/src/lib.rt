@@ -17,7 +17,7 @@ mod token_point;
 
 pub use key_pass::KeyPass;
 pub use list_query::ListQuery;
-pub use page::{Page, PageEntries, PageEntry};
+pub use page::{Page, PageEntry};
 pub use plain_pass::PlainPass;
 pub use record::Record;
 pub use reply::{Placed, Reply};

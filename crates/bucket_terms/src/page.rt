@@ -1,10 +1,8 @@
 // A page of a listing, in ranks of names: no text is copied to make one.
-ghost use Rattle.std.specs.Prelude.{◌≡◌};
-
 use crate::TokenPoint;
+use key_map::Items;
 use key_names::{Directory, NoMemory, Text};
 use std::alloc::Global;
-use std::marker::Model;
 
 /// One return of a listing.
 #[derive(Clone, Copy, Debug, PartialEq, Eq)]
@@ -20,7 +18,8 @@ impl PageEntry {
     ghost use Rattle.std.specs.Prelude.{◌≡◌, IfOk};
     ghost use Rattle.key_names.specs.Names.{IsFine};
     ghost use Rattle.bucket_terms.specs.Token.{point_text};
-    ghost use Rattle.bucket_terms.specs.Page.{IsEntryInRange, entry_point};
+    ghost use Rattle.bucket_terms.specs.Page.{entry_point};
+    ghost use Rattle.bucket_terms.specs.PageInRange.{IsEntryInRange};
 
     /// Where a listing goes on behind this entry: behind its key, or behind all keys of its common prefix.
     pub fn point(&self, alloc: Global, dir: &Directory) -> Result<TokenPoint, NoMemory>
@@ -40,47 +39,10 @@ impl PageEntry {
     }
 }
 
-/// The entries of a page, in order. Contracts see the list.
-#[derive(Debug, Drop)]
-pub struct PageEntries {
-    items: Vec<PageEntry>,
-}
-
-impl Model for PageEntries {
-    ghost use Rattle.std.specs.Prelude.{List};
-    ghost use Rattle.bucket_terms.specs.declared.page.PageEntry.{PageEntry};
-
-    ghost Value = { List PageEntry };
-
-    ghost view = { λ entries. entries.items.items };
-}
-
-impl PageEntries {
-    /// The list of the items, which are not copied.
-    pub fn new(items: Vec<PageEntry>) -> PageEntries
-        ensures { result ≡ items.items }
-    {
-        PageEntries { items }
-    }
-
-    pub fn as_slice(&self) -> &[PageEntry]
-        ensures { result.now ≡ self.now }
-    {
-        self.items.as_slice()
-    }
-
-    /// The items, which are not copied.
-    pub fn into_vec(self) -> Vec<PageEntry>
-        ensures { result.items ≡ self }
-    {
-        self.items
-    }
-}
-
 /// A page of a listing: its entries, at most 1,000, and whether it has some and more are left behind them.
 #[derive(Debug, Drop)]
 pub struct Page {
-    pub entries: PageEntries,
+    pub entries: Items<PageEntry>,
     pub truncated: bool,
 }
 
@@ -88,7 +50,8 @@ impl Page {
     ghost use Rattle.std.specs.Prelude.{◌≡◌, is_some, IfOk, IfSome};
     ghost use Rattle.key_names.specs.Names.{IsFine};
     ghost use Rattle.bucket_terms.specs.Token.{point_text};
-    ghost use Rattle.bucket_terms.specs.Page.{IsInRange, page_point};
+    ghost use Rattle.bucket_terms.specs.Page.{page_point};
+    ghost use Rattle.bucket_terms.specs.PageInRange.{IsInRange};
 
     /// Where the next page begins: behind the last entry of a truncated page, and nowhere behind another
     /// page (Amazon S3 API reference, ListObjectsV2: `NextContinuationToken`).

@@ -1,6 +1,6 @@
 // Answers written by hand from the definitions of a pass and of a page's point.
 use super::*;
-use key_map::{Change, Done, Pair, PassError, PassSize, Update};
+use key_map::{Change, Done, Items, Pair, PassError, PassSize, Update};
 use key_names::{Directory, NoMemory, Text};
 use std::alloc::Global;
 use std::test::Fail;
@@ -120,7 +120,7 @@ fn directory(alloc: Global, names: &[&str]) -> Result<Directory, Fail> {
 
 fn page(alloc: Global, entries: &[PageEntry], truncated: bool) -> Result<Page, NoMemory> {
     Ok(Page {
-        entries: PageEntries::new(Vec::from_slice(alloc, entries)?),
+        entries: Items::from_vec(Vec::from_slice(alloc, entries)?),
         truncated,
     })
 }

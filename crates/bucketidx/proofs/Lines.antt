@@ -1,5 +1,5 @@
 -- The lines of a run, one after another.
-use Rattle.std.proofs.Common.{◌≡◌, ℕ, ◌+◌, ◌<◌, ◌≤◌, length, get_or, take, drop, List, [], ◌∷◌, ◌++◌, Option, Some, None, inl, inr, refl, sym, ap, ◌∙◌, subst, arith, append_assoc, append-nil, length-append}
+use Rattle.std.proofs.Common.{◌≡◌, ℕ, ◌+◌, ◌<◌, length, get_or, take, drop, List, [], ◌∷◌, ◌++◌, Option, Some, None, refl, sym, ap, ◌∙◌, subst, arith, append_assoc, append-nil, length-append}
 use Rattle.std.proofs.lemmas.List.{take_all, take_more, length-take, take-append-le, take-append-drop}
 use lib.Seq.{take-append-add}
 use Rattle.std.proofs.lemmas.Grind.{flat_map-append}
@@ -10,7 +10,7 @@ use Rattle.bucket_terms.specs.declared.record.Record.{Record}
 use Rattle.bucket_terms.specs.declared.reply.Placed.{Placed}
 use Rattle.answer_text.specs.Objects.{line_of}
 use Rattle.answer_text.specs.Lines.{reply_data, journal_data, last_data, reply_lines, journal_lines}
-use Rattle.bucketidx.specs.Served.{client_text}
+use Rattle.bucketidx.specs.ClientText.{client_text}
 
 pub taken_nothing : (o : Option (List ℕ)) → IsTaken o o []
 taken_nothing (Some taken) = sym (append-nil taken)

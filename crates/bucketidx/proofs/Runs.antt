@@ -1,25 +1,21 @@
 -- The run of one client over a plain pass is legal.
-use Rattle.std.proofs.Common.{◌≡◌, ℕ, zero, suc, ◌+◌, ◌*◌, ◌<◌, ◌≤◌, All, Any, Contains, IfSome, length, get_or, map, List, [], ◌∷◌, Some, refl, sym, ap, ◌∙◌, subst, arith}
+use Rattle.std.proofs.Common.{◌≡◌, ℕ, zero, suc, ◌+◌, ◌*◌, ◌<◌, ◌≤◌, All, Any, length, get_or, map, List, [], ◌∷◌, Some, refl, sym, ap, ◌∙◌, subst, arith}
 use Rattle.std.specs.List.{slice_get}
 use Rattle.std.proofs.lemmas.Option.{slice_get_within, slice_get-get_or, get_or_from_slice_get}
-use Rattle.std.proofs.lemmas.List.Elements.{All-nil, All-cons, All-map, All-weaker}
-use Rattle.std.proofs.lemmas.List.Kept.{AllPairs-cons}
-use Rattle.key_names.specs.Names.{HoldsEachOnce}
+use Rattle.std.proofs.lemmas.List.Elements.{All-nil, All-map, All-weaker}
 use Rattle.key_map.specs.declared.update.Update.{Update}
 use Rattle.key_map.specs.declared.pass.PassSize.{PassSize}
 use Rattle.bucket_terms.specs.declared.record.Record.{Record}
-use Rattle.bucket_terms.specs.declared.request.Request.{Request}
-use Rattle.bucket_terms.specs.declared.request.Request.TheVariants.{Put, Delete, Head, List as ListRequest, Next}
 use Rattle.bucket_terms.specs.declared.reply.Placed.{Placed}
 use Rattle.bucket_terms.specs.PassView.{PassView}
 use Rattle.bucket_terms.specs.PlainPass.{fresh}
 use Rattle.bucket_terms.specs.LegalRun.{RequestLine, IsLegal, AreAnswered, IsMadeBy, answered_lines, default_slots, lines_of, replies_of, setting_of, updates_in}
 use Rattle.request_lines.specs.declared.session.Asked.{Asked}
-use Rattle.request_lines.specs.Session.{request_line, IsServed, LinesRise, requested_name}
+use Rattle.request_lines.specs.Session.{request_line}
+use Rattle.request_lines.specs.SessionLaws.{IsServed, HasRecordBelow}
 use Rattle.answer_text.specs.InRange.{IsReplyOf}
-use Rattle.client_run.specs.ClientRun.{RanClient, IsAskable, IsLaterLine, Rise}
+use Rattle.client_run.specs.ClientRun.{RanClient, IsLaterLine}
 use Rattle.client_run.specs.Listing.{HasPageInRange}
-use Rattle.bucketidx.specs.Places.{HasRecordBelow}
 use Rattle.bucketidx.specs.Served.{slots_of}
 use Rattle.bucketidx.proofs.Values.{PutsBelow, replies_recorded, made_below}
 

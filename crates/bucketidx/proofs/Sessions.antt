@@ -1,5 +1,5 @@
 -- From the run of the one client, or of none, to the run of the session.
-use Rattle.std.proofs.Common.{◌≡◌, ℕ, ◌<◌, ◌≤◌, All, length, map, List, [], ◌∷◌, Some, None, Bool, true, refl, sym, ap, ◌∙◌, subst, arith, nat_eq}
+use Rattle.std.proofs.Common.{◌≡◌, ℕ, ◌<◌, ◌≤◌, length, map, List, [], ◌∷◌, Some, None, Bool, true, refl, sym, ap, ◌∙◌, subst, arith, nat_eq}
 use Rattle.std.specs.List.{slice_get, slice_index_or}
 use Rattle.std.specs.Cmp.Lexicographic.{pointwise, bytes_decides}
 use Rattle.std.proofs.lemmas.Option.{slice_get_within, get_or_from_slice_get, none-some}
@@ -7,8 +7,9 @@ use Rattle.key_names.specs.Names.{HoldsEachOnce}
 use Rattle.bucket_terms.specs.LegalRun.{IsLegal, Run}
 use Rattle.request_lines.specs.declared.session.ClientPart.{ClientPart}
 use Rattle.request_lines.specs.declared.session.Session.{Session}
-use Rattle.request_lines.specs.Session.{request_lines, IsServed}
-use Rattle.bucketidx.specs.Served.{HoldsOfSession, HoldsOfRun, slots_of, client_text}
+use Rattle.request_lines.specs.Session.{request_lines}
+use Rattle.bucketidx.specs.Served.{HoldsOfSession, HoldsOfRun, slots_of}
+use Rattle.bucketidx.specs.ClientText.{client_text}
 
 one_client : (clients : List ClientPart) (part : ClientPart) → slice_get clients 0 ≡ Some part → length clients ≤ 1 → clients ≡ part ∷ []
 one_client [] part is le = absurd (none-some part is)

@@ -1,4 +1,5 @@
 -- The values of a run's updates are places of records, and so are those of its maps, pages and replies.
+use Rattle.request_lines.specs.SessionLaws.{HasRecordBelow}
 use Rattle.std.proofs.Common.{◌≡◌, ℕ, ◌<◌, All, Any, IfSome, length, take, List, [], ◌∷◌, ◌++◌, Option, Some, None, inl, inr, sym, ap, ◌∙◌, subst, fold, nat_lt, ◌==◌}
 use Rattle.std.proofs.lemmas.Bool.{cases_Bool}
 use Rattle.std.proofs.lemmas.List.Elements.{All-nil, All-cons, All-head, All-tail, All-map, All-take, All-filter, All-weaker}
@@ -19,13 +20,13 @@ use Rattle.bucket_terms.specs.declared.reply.Reply.{Reply}
 use Rattle.bucket_terms.specs.declared.reply.Reply.TheVariants.{Put as PutReply, Deleted, Found, Missing, Listed, BadToken, NoSlot}
 use Rattle.bucket_terms.specs.declared.reply.Placed.{Placed}
 use Rattle.bucket_terms.specs.Entries.{is_under, is_admitted, group_len, entry_by, entry_of, is_same_group, listing, entries_of}
-use Rattle.bucket_terms.specs.Page.{page_of, IsInRange}
+use Rattle.bucket_terms.specs.Page.{page_of}
+use Rattle.bucket_terms.specs.PageInRange.{IsInRange}
 use Rattle.bucket_terms.specs.Answer.{head_by}
 use Rattle.bucket_terms.specs.LegalRun.{RequestLine, Setting, Answered, AreAnswered, IsRight, IsChangeOf, IsMadeBy, answered_lines, last_listing}
 use Rattle.key_names.specs.Names.{name_at}
 use Rattle.answer_text.specs.InRange.{HasRecord, IsPageOf, IsReplyOf}
 use Rattle.client_run.specs.Listing.{HasPageInRange}
-use Rattle.bucketidx.specs.Places.{HasRecordBelow}
 
 -- the change puts, where it puts, a value below the count
 abbrev pub PutsBelow : ℕ → Change → Type 0

@@ -1,4 +1,4 @@
 pub mod Words
 pub mod Statuses
-pub mod Places
 pub mod Served
+pub mod ClientText

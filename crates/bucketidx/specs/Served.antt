@@ -1,10 +1,8 @@
 -- What a call of `serve` has read and written, by how it ended.
-use Rattle.std.specs.Prelude.{◌≡◌, ℕ, ◌≤◌, List, [], ◌∷◌, length, map, Option, Some}
+use Rattle.std.specs.Prelude.{◌≡◌, ℕ, ◌≤◌, List, length, map, Option, Some}
 use Rattle.key_names.specs.Names.{HoldsEachOnce}
 use Rattle.outside_io.specs.Source.{IsReadToEnd}
-use Rattle.key_map.specs.declared.update.Update.{Update}
 use Rattle.bucket_terms.specs.declared.record.Record.{Record}
-use Rattle.bucket_terms.specs.declared.reply.Placed.{Placed}
 use Rattle.bucket_terms.specs.LegalRun.{RequestLine, Run, IsLegal, default_slots, lines_of}
 use Rattle.request_lines.specs.declared.session.Session.{Session}
 use Rattle.request_lines.specs.declared.session_error.InputError.{InputError}
@@ -58,8 +56,3 @@ EndsUnwritten (BadInput e) = Unit {0}
 EndsUnwritten TooLong = Unit {0}
 EndsUnwritten ReadFault = Unit {0}
 EndsUnwritten status = ⊥
-
--- the text of a run of one client, by its replies and the updates; without replies and updates that of a
--- run of none
-abbrev pub client_text : List (List ℕ) → List Record → List Placed → List Update → List ℕ
-client_text dir records replies updates = session_text dir records (record { updates = updates; replies = replies ∷ [] })

@@ -1,3 +1,4 @@
+-- Helper: the headline does not rest on this file.
 -- The exit status of the process for each end of serving.
 use Rattle.std.specs.Prelude.{ℕ}
 use Rattle.bucketidx.specs.declared.status.Status.{Status}

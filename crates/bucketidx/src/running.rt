@@ -1,12 +1,11 @@
 // The run of a session: its one client over a plain pass.
-ghost use Rattle.std.specs.Prelude.{◌≡◌, ◌⊎◌, ◌≤◌, ◌^◌, [], ◌∷◌, All, length, OnOk, IsErrOf};
+ghost use Rattle.std.specs.Prelude.{◌≡◌, ◌⊎◌, ◌≤◌, [], ◌∷◌, All, length, OnOk, IsErrOf};
 ghost use Rattle.outside_io.specs.Faults.{one_more};
 ghost use Rattle.outside_io.specs.Sink.{IsTaken, TakesStart};
 ghost use Rattle.request_lines.specs.Limits.{most_requests};
-ghost use Rattle.request_lines.specs.Session.{LinesRise, request_lines, HasNames, HasRequests, HasLines, IsSmall};
-ghost use Rattle.client_run.specs.ClientRun.{IsAskable};
+ghost use Rattle.request_lines.specs.Session.{request_lines};
+ghost use Rattle.request_lines.specs.SessionLaws.{Rise, HasNames, HasRequests, HasLines, IsSmall, IsAskable, HasRecordBelow};
 ghost use Rattle.bucketidx.specs.Served.{HoldsOfSession, HoldsOfRun, slots_of};
-ghost use Rattle.bucketidx.specs.Places.{HasRecordBelow};
 
 use crate::naming::directory_of;
 use crate::stop::Stop;
@@ -62,7 +61,7 @@ fn run_part<K: Sink, G: Gate, Rt: Wait>(
 ) -> Result<(), Stop>
     requires askable { All (IsAskable dir.now) (request_lines part.now) }
     requires recorded { All (HasRecordBelow (length records.now)) (request_lines part.now) }
-    requires rising { LinesRise 0 (2 ^ 32) (request_lines part.now) }
+    requires rising { Rise (request_lines part.now) }
     requires few { length part.now.requests ≤ most_requests }
     ensures wrote { OnOk result (HoldsOfRun dir.now records.now (request_lines part.now ∷ []) (slots_of (request_lines part.now ∷ [])) (λ _ text. IsTaken (K.taken sink.old) (K.taken sink.new) text)) }
     ensures start { IsErrOf result Stop.Fault → HoldsOfRun dir.now records.now (request_lines part.now ∷ []) (slots_of (request_lines part.now ∷ [])) (λ _ text. TakesStart (K.taken sink.old) (K.taken sink.new) text) }

@@ -7,7 +7,7 @@ ghost use Rattle.outside_io.specs.Sink.{IsTaken, TakesStart};
 ghost use Rattle.answer_text.specs.Lines.{reply_lines, journal_lines};
 ghost use Rattle.answer_text.specs.InRange.{IsReplyOf};
 ghost use Rattle.bucketidx.specs.declared.stop.Stop.{Stop};
-ghost use Rattle.bucketidx.specs.Served.{client_text};
+ghost use Rattle.bucketidx.specs.ClientText.{client_text};
 
 use crate::stop::Stop;
 use answer_text::{journal_line, last_line, reply_line};

@@ -1,27 +1,15 @@
 -- What a session that was read gives for the run of its clients.
-use Rattle.std.proofs.Common.{◌≡◌, ℕ, ◌<◌, All, Contains, IfSome, map, List, [], ◌∷◌, Some, subst, arith}
+use Rattle.std.proofs.Common.{◌≡◌, ℕ, All, Contains, IfSome, map, List, Some, subst}
 use Rattle.std.specs.List.{slice_get}
 use Rattle.std.proofs.lemmas.Option.{slice_get_within, get_or_from_slice_get}
-use Rattle.std.proofs.lemmas.List.Elements.{All-nil, All-cons, All-map, All-weaker}
-use Rattle.std.proofs.lemmas.List.Kept.{AllPairs-cons}
+use Rattle.std.proofs.lemmas.List.Elements.{All-map, All-weaker}
 use Rattle.key_names.specs.Names.{HoldsEachOnce}
 use Rattle.bucket_terms.specs.declared.request.Request.{Request}
 use Rattle.bucket_terms.specs.declared.request.Request.TheVariants.{Put, Delete, Head, List as ListRequest, Next}
-use Rattle.bucket_terms.specs.LegalRun.{RequestLine}
 use Rattle.request_lines.specs.declared.session.Asked.{Asked}
 use Rattle.request_lines.specs.declared.session.ClientPart.{ClientPart}
-use Rattle.request_lines.specs.Session.{request_line, IsServed, LinesRise, requested_name}
-use Rattle.client_run.specs.ClientRun.{IsAskable, Rise}
-
-above_all : (low high : ℕ) (lines : List RequestLine) → LinesRise low high lines → All (λ (m : RequestLine). low < m.line) lines
-above_all low high [] rise = All-nil (λ (m : RequestLine). low < m.line)
-above_all low high (l ∷ lines) rise =
-    All-cons (λ (m : RequestLine). low < m.line) l lines rise.0
-    (All-weaker (λ (m : RequestLine). l.line < m.line) (λ (m : RequestLine). low < m.line) (λ m lt. omega (arith, lt, rise.0)) lines (above_all l.line high lines rise.2))
-
-pub rise_of : (low high : ℕ) (lines : List RequestLine) → LinesRise low high lines → Rise lines
-rise_of low high [] rise = λ i j d lt below. absurd (omega arith)
-rise_of low high (l ∷ lines) rise = AllPairs-cons (λ (k m : RequestLine). k.line < m.line) l lines (above_all l.line high lines rise.2) (rise_of l.line high lines rise.2)
+use Rattle.request_lines.specs.Session.{request_line}
+use Rattle.request_lines.specs.SessionLaws.{IsServed, requested_name, IsAskable}
 
 askable_by : (dir names : List (List ℕ)) (request : Request) (line : ℕ) → HoldsEachOnce names dir → IfSome (requested_name request) (Contains names)
     → IsAskable dir (record { line = line; request = request })

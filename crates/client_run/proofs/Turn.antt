@@ -10,7 +10,8 @@ use Rattle.bucket_terms.specs.declared.reply.Reply.{Reply}
 use Rattle.bucket_terms.specs.declared.reply.Placed.{Placed}
 use Rattle.bucket_terms.specs.PassView.{PassView}
 use Rattle.bucket_terms.specs.LegalRun.{RequestLine, Answered, answered_lines, last_listing, is_listing, is_update, updates_in}
-use Rattle.client_run.specs.ClientRun.{Answers, IsLaterLine, Rise}
+use Rattle.client_run.specs.ClientRun.{Answers, IsLaterLine}
+use Rattle.request_lines.specs.SessionLaws.{Rise}
 use Rattle.client_run.specs.Listing.{HasPageInRange}
 use Rattle.client_run.proofs.Places.{slice_get-append_front, slice_get-append_back}
 use Rattle.client_run.proofs.Growing.{Running, later_now, answered_lines-push}

@@ -1,8 +1,8 @@
+-- Helper: the headline does not rest on this file.
 -- What running one client over a pass has done, by what the pass knows before and after.
-use Rattle.std.specs.Prelude.{◌≡◌, ℕ, ◌+◌, ◌*◌, ◌<◌, ◌≤◌, ⊤, ◌==◌, ◌&&◌, Bool, true, false, not, if◌then◌else◌, List, [], ◌∷◌, ◌++◌, length, count_by, All, Any, AllPairs, Contains, Option, Some, None, MatchOption, slice_get}
+use Rattle.std.specs.Prelude.{◌≡◌, ℕ, ◌+◌, ◌*◌, ◌<◌, ◌≤◌, ⊤, ◌==◌, ◌&&◌, Bool, true, false, not, if◌then◌else◌, List, [], ◌∷◌, ◌++◌, length, count_by, All, Any, Option, Some, None, MatchOption, slice_get}
 use Rattle.key_map.specs.declared.update.Update.{Update}
 use Rattle.bucket_terms.specs.declared.request.Request.{Request}
-use Rattle.bucket_terms.specs.declared.request.Request.TheVariants.{Put as PutRequest, Delete, Head, List as ListRequest, Next}
 use Rattle.bucket_terms.specs.declared.reply.Reply.{Reply}
 use Rattle.bucket_terms.specs.declared.reply.Reply.TheVariants.{Deleted, Found, Missing, Listed, NoSlot}
 use Rattle.bucket_terms.specs.declared.reply.Placed.{Placed}
@@ -13,21 +13,6 @@ use Rattle.bucket_terms.specs.LegalRun.{RequestLine, Setting, Answered, AreAnswe
 -- the line is later than those of the pass's updates so far
 abbrev pub IsLaterLine : PassView → ℕ → Type 0
 IsLaterLine pass line = All (λ (u : Update). u.client ≡ pass.number → u.line < line) pass.seen
-
--- the names that the request speaks of are in the directory
-abbrev pub IsAskable : List (List ℕ) → RequestLine → Type 0
-IsAskable dir l = by_request l.request
-  where
-    by_request : Request → Type 0
-    by_request (PutRequest name val) = Contains dir name
-    by_request (Delete name) = Contains dir name
-    by_request (Head name) = Contains dir name
-    by_request (ListRequest query) = Unit {0}
-    by_request Next = Unit {0}
-
--- the lines rise strictly
-abbrev pub Rise : List RequestLine → Type 0
-Rise lines = AllPairs (λ (l m : RequestLine). l.line < m.line) lines
 
 -- what the pass's client is answered in
 abbrev pub setting : List (List ℕ) → PassView → ℕ → Setting

@@ -1,3 +1,4 @@
+-- Helper: the headline does not rest on this file.
 -- What a listing over a pass has done, by what the pass knows before and after.
 use Rattle.std.specs.Prelude.{◌≡◌, ℕ, ◌≤◌, List, Option, None, Some}
 use Rattle.key_map.specs.History.{after}
@@ -7,7 +8,8 @@ use Rattle.bucket_terms.specs.declared.page.Page.{Page}
 use Rattle.bucket_terms.specs.declared.reply.Reply.{Reply}
 use Rattle.bucket_terms.specs.declared.reply.Reply.TheVariants.{Listed}
 use Rattle.bucket_terms.specs.declared.reply.Placed.{Placed}
-use Rattle.bucket_terms.specs.Page.{page_of, IsInRange}
+use Rattle.bucket_terms.specs.Page.{page_of}
+use Rattle.bucket_terms.specs.PageInRange.{IsInRange}
 use Rattle.bucket_terms.specs.PassView.{PassView, KnowsOwn, Looked, RoseByOne, Extends}
 
 -- the page is the map's at the place of one look, which `found` has

@@ -1,3 +1,4 @@
+-- Helper: the headline does not rest on this file.
 -- Where a listing begins.
 use Rattle.std.specs.Prelude.{Some, None}
 use Rattle.bucket_terms.specs.declared.list_query.ListQuery.{ListQuery}

@@ -3,14 +3,15 @@ ghost use Rattle.std.specs.Prelude.{◌≡◌, None, Some, Option, IfOk, OnErr};
 ghost use Rattle.std.specs.Option.{option_copied, option_map, ForSome};
 ghost use Rattle.bucket_terms.specs.declared.request.Request.TheVariants.{List as ListRequest, Next};
 ghost use Rattle.bucket_terms.specs.declared.reply.Reply.{Reply};
-ghost use Rattle.bucket_terms.specs.Page.{IsInRange, page_point};
+ghost use Rattle.bucket_terms.specs.Page.{page_point};
+ghost use Rattle.bucket_terms.specs.PageInRange.{IsInRange};
 ghost use Rattle.bucket_terms.specs.LegalRun.{Resumed, next_of, resumed_from, resumed_at};
 ghost use Rattle.client_run.specs.ClientRun.{answered, Answers, Stopped};
 ghost use Rattle.client_run.specs.Listing.{HasPageInRange, ListedAs};
 ghost use Rattle.client_run.specs.Starts.{IsStartOf, resumed};
 
 use crate::list;
-use crate::updates::refused;
+use crate::updates::{answer_at, refused};
 use bucket_terms::{KeyPass, ListQuery, Page, Placed, Reply, TokenPoint};
 use key_names::{Directory, NoMemory};
 use page_token::TokenError;
@@ -179,10 +180,5 @@ fn listed<P: KeyPass, Rt: Wait>(
 {
     let client = pass.client();
     let (at, page) = list(rt, alloc, pass, dir, &query, point.as_ref())?;
-    Ok(Placed {
-        client,
-        line,
-        at: Some(at),
-        reply: Reply::Listed { query, page },
-    })
+    Ok(answer_at(client, line, at, Reply::Listed { query, page }))
 }

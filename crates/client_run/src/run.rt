@@ -4,7 +4,8 @@ ghost use Rattle.std.specs.Option.{ForSome, option_copied, option_map, option_an
 ghost use Rattle.bucket_terms.specs.LegalRun.{RequestLine, is_listing, updates_in};
 ghost use Rattle.request_lines.specs.Session.{request_line, request_lines};
 ghost use Rattle.client_run.specs.Listing.{HasPageInRange};
-ghost use Rattle.client_run.specs.ClientRun.{Answers, RanClient, IsAskable, IsLaterLine, Rise, Stopped};
+ghost use Rattle.client_run.specs.ClientRun.{Answers, RanClient, IsLaterLine, Stopped};
+ghost use Rattle.request_lines.specs.SessionLaws.{IsAskable, Rise};
 
 use crate::{Gate, pages, updates};
 use bucket_terms::{KeyPass, Placed, Reply, Request};

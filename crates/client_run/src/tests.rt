@@ -1,9 +1,9 @@
 // Sessions of one client over a plain pass: what each request is answered, and what a gate is told.
 ghost use Rattle.std.specs.Prelude.{◌≤◌, ◌^◌, [], All, length, IfOk};
 ghost use Rattle.request_lines.specs.Limits.{most_requests};
-ghost use Rattle.request_lines.specs.Session.{request_lines, LinesRise};
+ghost use Rattle.request_lines.specs.Session.{request_lines};
+ghost use Rattle.request_lines.specs.SessionLaws.{Rise, IsAskable};
 ghost use Rattle.bucket_terms.specs.declared.reply.Placed.{Placed as PlacedReply};
-ghost use Rattle.client_run.specs.ClientRun.{IsAskable};
 ghost use Rattle.client_run.specs.Listing.{HasPageInRange};
 
 use super::*;
@@ -113,7 +113,7 @@ fn run_part<G: Gate + Watch, Rt: Wait>(
     gate: &G,
 ) -> Result<Vec<Placed>, Fail>
     requires askable { All (IsAskable dir.now) (request_lines part.now) }
-    requires rising { LinesRise 0 (2 ^ 32) (request_lines part.now) }
+    requires rising { Rise (request_lines part.now) }
     requires few { length part.now.requests ≤ most_requests }
     ensures { IfOk result (λ replies. All (λ (p : PlacedReply). HasPageInRange dir.now p.reply) replies.items) }
 {

@@ -1,5 +1,5 @@
 // PUT, DELETE and HEAD, each answered by calls of the pass.
-ghost use Rattle.std.specs.Prelude.{◌≡◌, ◌<◌, None, Option, Contains};
+ghost use Rattle.std.specs.Prelude.{◌≡◌, ◌<◌, None, Some, Option, Contains};
 ghost use Rattle.key_names.specs.Names.{IsRank};
 ghost use Rattle.key_map.specs.Map.{value_at};
 ghost use Rattle.bucket_terms.specs.declared.request.Request.TheVariants.{Put, Delete, Head};
@@ -32,12 +32,7 @@ pub(crate) fn put<P: KeyPass, Rt: Wait>(
     let client = pass.client();
     let key = rank_of(dir, name);
     match pass.put(rt, line, key, val) {
-        Ok(done) => Placed {
-            client,
-            line,
-            at: Some(done.at),
-            reply: Reply::Put { was: done.was },
-        },
+        Ok(done) => answer_at(client, line, done.at, Reply::Put { was: done.was }),
         Err(PassError::NoSlot) => refused(client, line, Reply::NoSlot),
         Err(PassError::Spent) => unreachable!(),
     }
@@ -62,12 +57,7 @@ pub(crate) fn delete<P: KeyPass, Rt: Wait>(
     let client = pass.client();
     let key = rank_of(dir, name);
     match pass.remove(rt, line, key) {
-        Ok(done) => Placed {
-            client,
-            line,
-            at: Some(done.at),
-            reply: Reply::Deleted,
-        },
+        Ok(done) => answer_at(client, line, done.at, Reply::Deleted),
         Err(PassError::NoSlot) => refused(client, line, Reply::NoSlot),
         Err(PassError::Spent) => unreachable!(),
     }
@@ -92,12 +82,7 @@ pub(crate) fn head<P: KeyPass, Rt: Wait>(
     let at = pass.begin();
     let first = pass.next_from(rt, key);
     pass.end();
-    Placed {
-        client,
-        line,
-        at: Some(at),
-        reply: head_reply(key, first),
-    }
+    answer_at(client, line, at, head_reply(key, first))
 }
 
 // The answer of a HEAD of this key, where `first` is the first pair from the key on.
@@ -118,6 +103,18 @@ fn rank_of(dir: &Directory, name: &Text) -> u64
     match dir.rank(name.bytes()) {
         Some(rank) => rank,
         None => unreachable!(),
+    }
+}
+
+// A request that was answered at this place of the history.
+pub(crate) fn answer_at(client: u32, line: u32, at: u64, reply: Reply) -> Placed
+    ensures { result ≡ record { client = client; line = line; at = Some at; reply = reply } }
+{
+    Placed {
+        client,
+        line,
+        at: Some(at),
+        reply,
     }
 }
 

@@ -1,3 +1,4 @@
+-- Helper: the headline does not rest on this file.
 -- Lists of slots and of pass numbers.
 use Rattle.std.specs.Prelude.{◌≡◌, ℕ, ◌+◌, ◌<◌, cond, List, [], ◌∷◌, Bool, ◌==◌, length, slice_index_or}
 use Rattle.std.specs.List.{list_any}

@@ -1,3 +1,4 @@
+-- Helper: the headline does not rest on this file.
 -- What contracts see of a map kept as one sorted list.
 use Rattle.std.specs.Prelude.{ℕ, List}
 use Rattle.key_map.specs.declared.pair.Pair.{Pair}

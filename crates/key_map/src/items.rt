@@ -5,7 +5,7 @@ use std::alloc::Global;
 use std::marker::Model;
 
 /// A list with its `Vec` hidden. Contracts see the list of its items.
-#[derive(Drop)]
+#[derive(Debug, Drop)]
 pub struct Items<T> {
     items: Vec<T>,
 }

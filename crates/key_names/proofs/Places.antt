@@ -9,7 +9,8 @@ use Rattle.std.proofs.lemmas.Bool.{cases_lt, or_cases, or_left, or_right, lt-ltb
 use Rattle.std.proofs.lemmas.List.Sums.{sum_by-cons}
 use Rattle.std.proofs.lemmas.Bool.Decides.{nat_tests}
 use Rattle.std.proofs.lemmas.Map.Keys.{Less-from_sorted}
-use Rattle.key_names.specs.Names.{byte_order, Rises, name_at, is_before, is_upto, begins_with, is_upto_prefix, StandFirst, StandTogether}
+use Rattle.key_names.specs.Names.{byte_order, Rises, name_at, begins_with}
+use Rattle.key_names.specs.Ranks.{is_before, is_upto, is_upto_prefix, StandFirst, StandTogether}
 use Rattle.key_names.proofs.ByteOrder.{same_from_tied}
 
 -- a test that each name below a passing one passes too

@@ -1,3 +1,4 @@
+-- Helper: the headline does not rest on this file.
 -- Why a list of names makes no directory.
 use Rattle.std.specs.Prelude.{◌≡◌, ℕ, ◌<◌, List, length}
 use Rattle.std.specs.List.{AllWithin}

@@ -1,16 +1,14 @@
 //! Names of objects: texts as their UTF-8 bytes, and the directory, the sorted list of a session's names.
 //! It stands on nothing of this repository. The layers above put the rank of a name in the directory in
-//! place of the name; they use `Text`, `Names`, `Directory` and the definitions of `specs/`.
+//! place of the name; they use `Text`, `Directory` and the definitions of `specs/`.
 #![tactic(auto)]
 
 mod directory;
-mod names;
 mod names_error;
 mod no_memory;
 mod text;
 
 pub use directory::{Directory, MAX_NAME_BYTES};
-pub use names::Names;
 pub use names_error::NamesError;
 pub use no_memory::NoMemory;
 pub use text::Text;

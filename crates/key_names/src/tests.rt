@@ -68,15 +68,6 @@ fn copies_and_compares_texts(rt: HostRuntime) -> Result<(), Fail> {
 }
 
 #[test]
-fn gives_a_list_of_names_back(rt: HostRuntime) -> Result<(), Fail> {
-    let names = Names::new(texts(rt.alloc(), &["b", "a"])?);
-    assert_eq!(rt; names.as_slice().len(), 2);
-    let given = names.into_vec();
-    assert_eq!(rt; given.len(), 2);
-    Ok(())
-}
-
-#[test]
 fn counts_names_by_their_places(rt: HostRuntime) -> Result<(), Fail> {
     let dir = directory_of(rt.alloc(), &["b", "a/1", "a/2", "a0"])?;
     assert_eq!(rt; (dir.at_or_after(b"a/2"), dir.after(b"a/2")), (1, 2));

@@ -1,3 +1,4 @@
+-- Helper: the headline does not rest on this file.
 -- A source and a sink that fail by a plan.
 use Rattle.std.specs.Prelude.{ℕ, ◌-◌, ◌==◌, List, ◌++◌, take, drop, min, nat_le, if◌then◌else◌, Option, Some, None, Result, Ok, Err}
 use Rattle.outside_io.specs.declared.failed.Failed.{Failed}

@@ -1,5 +1,5 @@
 // A sink that fails where it is told to.
-ghost use Rattle.std.specs.Prelude.{◌≡◌, ◌<◌, ◌≤◌, ◌↔◌, ◌⊎◌, Some, None, [], length, Contains, IsErr, IfOk};
+ghost use Rattle.std.specs.Prelude.{◌≡◌, ◌<◌, ◌≤◌, ◌↔◌, ◌⊎◌, Some, None, [], length, Contains, IsErr, IfOk, IfSome};
 ghost use Rattle.outside_io.specs.Faults.{one_more};
 ghost use Rattle.outside_io.specs.Failing.{SinkPlan, sink_plan, let_in, after_piece};
 
@@ -36,14 +36,7 @@ impl FailingSink {
     pub fn with_room(alloc: Global, room: usize, fails: Vec<u64>) -> Result<FailingSink, NoMemory>
         ensures { IfOk result (λ sink. sink ≡ sink_plan [] room None fails.items 0 0) }
     {
-        Ok(FailingSink {
-            bytes: Vec::with_capacity(alloc, room)?,
-            room,
-            step: None,
-            fails,
-            writes: 0,
-            faults: 0,
-        })
+        FailingSink::empty(alloc, room, None, fails)
     }
 
     /// A sink that takes at most `step` bytes of a piece, and fails also where it is offered a byte and no
@@ -57,10 +50,23 @@ impl FailingSink {
         requires { 0 < step }
         ensures { IfOk result (λ sink. sink ≡ sink_plan [] room (Some step) fails.items 0 0) }
     {
+        FailingSink::empty(alloc, room, Some(step), fails)
+    }
+
+    // A sink that has taken nothing yet.
+    fn empty(
+        alloc: Global,
+        room: usize,
+        step: Option<usize>,
+        fails: Vec<u64>,
+    ) -> Result<FailingSink, NoMemory>
+        requires { IfSome step (λ most. 0 < most) }
+        ensures { IfOk result (λ sink. sink ≡ sink_plan [] room step fails.items 0 0) }
+    {
         Ok(FailingSink {
             bytes: Vec::with_capacity(alloc, room)?,
             room,
-            step: Some(step),
+            step,
             fails,
             writes: 0,
             faults: 0,

@@ -1,7 +1,7 @@
 // A source and a sink in memory.
 ghost use Rattle.std.specs.Prelude.{◌≡◌, ◌≤◌, ◌↔◌, Some, Ok, [], ◌++◌, length, take, drop, min, IfOk, IsOk};
 ghost use Rattle.outside_io.specs.Source.{EndsExactly};
-ghost use Rattle.outside_io.specs.Sink.{Store, store, after_write};
+ghost use Rattle.outside_io.specs.Memory.{Store, store, after_write};
 
 use crate::{Failed, Sink, Source};
 use key_names::NoMemory;
@@ -71,7 +71,7 @@ pub struct MemSink {
 
 impl Model for MemSink {
     ghost use Rattle.std.specs.Prelude.{◌+◌, ◌≤◌, vec_len, vec_capacity};
-    ghost use Rattle.outside_io.specs.Sink.{Store, store};
+    ghost use Rattle.outside_io.specs.Memory.{Store, store};
 
     ghost Value = { Store };
 

@@ -2,7 +2,7 @@
 ghost use Rattle.std.specs.Prelude.{◌≡◌, ◌≤◌, vec_len, IfOk, IfErr, IsErrOf};
 ghost use Rattle.outside_io.specs.Faults.{one_more};
 ghost use Rattle.outside_io.specs.Source.{IsReadToEnd};
-ghost use Rattle.outside_io.specs.Reading.{IsReadError};
+ghost use Rattle.outside_io.specs.ReadErrors.{IsReadError};
 
 use crate::{Failed, Source};
 use std::alloc::{AllocError, Global};

@@ -12,7 +12,8 @@ use Rattle.bucket_terms.specs.declared.list_query.ListQuery.{ListQuery}
 use Rattle.bucket_terms.specs.declared.token_point.TokenPoint.{TokenPoint}
 use Rattle.bucket_terms.specs.declared.page.Page.{Page}
 use Rattle.bucket_terms.specs.Entries.{is_under, is_admitted, group_len, entry_by, entry_of, is_same_group, listing, entries_of}
-use Rattle.bucket_terms.specs.Page.{page_of, IsGroupInRange, IsEntryInRange, IsInRange}
+use Rattle.bucket_terms.specs.Page.{page_of}
+use Rattle.bucket_terms.specs.PageInRange.{IsGroupInRange, IsEntryInRange, IsInRange}
 use Rattle.page_rules.proofs.NameOrder.{begins_take}
 use Rattle.page_rules.proofs.Groups.{rolled_up}
 use Rattle.page_rules.proofs.Listing.{rank_below}

@@ -4,7 +4,8 @@ use Rattle.std.specs.Option.{IfSome}
 use Rattle.std.proofs.lemmas.Bool.{cases_Bool, cases_lt, and_from, and_left, and_right, and_parts, both_ways, false_from_ne_true, lt-ltb, le-ltb, le-leb, lt-leb, leb-true, leb-false}
 use Rattle.std.proofs.lemmas.Bool.Decides.{nat_tests}
 use Rattle.std.proofs.lemmas.List.{append-nil, take_all, take_at, length-append}
-use Rattle.key_names.specs.Names.{Rises, name_at, is_before}
+use Rattle.key_names.specs.Names.{Rises, name_at}
+use Rattle.key_names.specs.Ranks.{is_before}
 use Rattle.key_map.specs.declared.pair.Pair.{Pair}
 use Rattle.key_map.specs.Map.{IsMap, RisesFrom, first_from}
 use Rattle.bucket_terms.specs.declared.list_query.ListQuery.{ListQuery}

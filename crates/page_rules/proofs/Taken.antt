@@ -4,7 +4,8 @@ use Rattle.std.specs.Option.{IfSome, IsSome, option_map_or}
 use Rattle.std.specs.Bool.{⊤}
 use Rattle.std.proofs.lemmas.Bool.{and_from, and_left, and_right, and_parts, lt-ltb, le-ltb, false≢true}
 use Rattle.std.proofs.lemmas.List.{append_assoc, take-take}
-use Rattle.key_names.specs.Names.{Rises, name_at, is_before}
+use Rattle.key_names.specs.Names.{Rises, name_at}
+use Rattle.key_names.specs.Ranks.{is_before}
 use Rattle.key_map.specs.declared.pair.Pair.{Pair}
 use Rattle.key_map.specs.Map.{IsMap, first_from}
 use Rattle.bucket_terms.specs.declared.list_query.ListQuery.{ListQuery}

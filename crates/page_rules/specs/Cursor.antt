@@ -1,7 +1,8 @@
+-- Helper: the headline does not rest on this file.
 -- A page that is made from one look-up after another.
 use Rattle.std.specs.Prelude.{◌≡◌, ℕ, ◌+◌, ◌-◌, ◌<◌, ◌≤◌, ◌&&◌, ◌||◌, not, Bool, true, false, nat_lt, nat_le, if◌then◌else◌, List, [], ◌∷◌, ◌++◌, length, filter, Option, Some, MatchOption, IfSome}
 use Rattle.std.specs.Option.{option_map_or}
-use Rattle.key_names.specs.Names.{is_before, StandFirst}
+use Rattle.key_names.specs.Ranks.{is_before, StandFirst}
 use Rattle.key_map.specs.declared.pair.Pair.{Pair}
 use Rattle.key_map.specs.Map.{IsMap, first_from}
 use Rattle.bucket_terms.specs.declared.list_query.ListQuery.{ListQuery}

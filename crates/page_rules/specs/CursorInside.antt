@@ -1,7 +1,9 @@
+-- Helper: the headline does not rest on this file.
 -- What a cursor keeps.
 use Rattle.std.specs.Prelude.{◌≡◌, ℕ, ◌<◌, ◌≤◌, true, false, ⊤, length, All, MatchOption}
-use Rattle.key_names.specs.Names.{name_at, is_before}
-use Rattle.bucket_terms.specs.Page.{IsEntryInRange}
+use Rattle.key_names.specs.Names.{name_at}
+use Rattle.key_names.specs.Ranks.{is_before}
+use Rattle.bucket_terms.specs.PageInRange.{IsEntryInRange}
 use Rattle.page_rules.specs.Cursor.{CursorView}
 use Rattle.page_rules.specs.declared.cursor.PageCursor.TheInside.{Inside}
 

@@ -1,3 +1,4 @@
+-- Helper: the headline does not rest on this file.
 -- The law of pages: pages that go on from each other's points give all entries of a query, each once
 -- (Amazon S3 API reference, ListObjectsV2: `IsTruncated`, `NextContinuationToken`).
 use Rattle.std.specs.Prelude.{◌≡◌, ℕ, ◌<◌, true, MatchBool, List, [], ◌∷◌, ◌++◌, AllPairs, Option}

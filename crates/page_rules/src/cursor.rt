@@ -2,8 +2,8 @@
 // many look-ups as it has entries, and one more, however many keys its groups hide.
 use crate::resume::{first_rank, rank_behind};
 use crate::rules::{entry_of, is_under};
-use bucket_terms::{ListQuery, Page, PageEntries, PageEntry, TokenPoint};
-use key_map::Pair;
+use bucket_terms::{ListQuery, Page, PageEntry, TokenPoint};
+use key_map::{Items, Pair};
 use key_names::{Directory, NoMemory};
 use std::alloc::Global;
 use std::marker::Model;
@@ -49,7 +49,8 @@ impl<'a> PageCursor<'a> {
     ghost use Rattle.key_map.specs.Map.{IsMap};
     ghost use Rattle.key_map.specs.declared.pair.Pair.{Pair};
     ghost use Rattle.bucket_terms.specs.declared.token_point.TokenPoint.{TokenPoint};
-    ghost use Rattle.bucket_terms.specs.Page.{page_of, IsInRange};
+    ghost use Rattle.bucket_terms.specs.Page.{page_of};
+    ghost use Rattle.bucket_terms.specs.PageInRange.{IsInRange};
     ghost use Rattle.page_rules.specs.Cursor.{IsNew, IsOnWay, IsOver, Took, page_so_far};
 
     /// A cursor for the page of the query, from a point on. It takes no memory yet.
@@ -116,7 +117,7 @@ impl<'a> PageCursor<'a> {
         ensures in_range { IsInRange self.entry.dir result }
     {
         Page {
-            entries: PageEntries::new(self.entries),
+            entries: Items::from_vec(self.entries),
             truncated: self.truncated,
         }
     }

@@ -3,12 +3,13 @@ ghost use Rattle.std.specs.Option.{option_copied};
 ghost use Rattle.key_names.specs.Names.{name_at};
 ghost use Rattle.key_map.specs.Map.{IsMap};
 ghost use Rattle.bucket_terms.specs.Entries.{is_admitted, is_under, entry_of, entries_of};
-ghost use Rattle.bucket_terms.specs.Page.{cut_at, page_of, IsInRange};
+ghost use Rattle.bucket_terms.specs.Page.{cut_at, page_of};
+ghost use Rattle.bucket_terms.specs.PageInRange.{IsInRange};
 ghost use Rattle.page_rules.specs.PageLaw.{LeavesTheRest, BeginsAll, RiseByText};
 
 use crate::rules::{entry_of, is_admitted, is_same_group, is_under, name_at};
-use bucket_terms::{ListQuery, Page, PageEntries, PageEntry, TokenPoint};
-use key_map::Pair;
+use bucket_terms::{ListQuery, Page, PageEntry, TokenPoint};
+use key_map::{Items, Pair};
 use key_names::{Directory, NoMemory};
 use std::alloc::Global;
 
@@ -50,7 +51,7 @@ fn cut_at(max_keys: u32, mut entries: Vec<PageEntry>) -> Page
     let truncated = 0 < most && most < entries.len();
     entries.truncate(most);
     Page {
-        entries: PageEntries::new(entries),
+        entries: Items::from_vec(entries),
         truncated,
     }
 }

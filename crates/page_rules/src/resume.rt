@@ -1,9 +1,10 @@
 // The rank at which a listing goes on.
 ghost use Rattle.std.specs.Prelude.{◌≡◌, ◌≤◌, not, false, Some, length};
 ghost use Rattle.std.specs.Option.{option_copied};
-ghost use Rattle.key_names.specs.Names.{is_before, StandFirst};
+ghost use Rattle.key_names.specs.Ranks.{is_before, StandFirst};
 ghost use Rattle.bucket_terms.specs.Entries.{is_admitted};
-ghost use Rattle.bucket_terms.specs.Page.{entry_point, IsEntryInRange};
+ghost use Rattle.bucket_terms.specs.Page.{entry_point};
+ghost use Rattle.bucket_terms.specs.PageInRange.{IsEntryInRange};
 ghost use Rattle.page_rules.specs.PageLaw.{entry_text};
 ghost use Rattle.page_rules.specs.Cursor.{GoesOnAt};
 

@@ -1,5 +1,5 @@
 ghost use Rattle.std.specs.Prelude.{IfOk};
-ghost use Rattle.bucket_terms.specs.Page.{IsInRange};
+ghost use Rattle.bucket_terms.specs.PageInRange.{IsInRange};
 
 use super::*;
 use bucket_terms::{ListQuery, Page, PageEntry, TokenPoint};

@@ -1,12 +1,12 @@
 -- A point is told by its token.
-use Rattle.std.proofs.Common.{◌≡◌, ℕ, ◌<◌, zero, suc, List, [], ◌∷◌, get_or, Ok, refl, sym, ap, ◌∙◌, arith, lit<}
+use Rattle.std.proofs.Common.{◌≡◌, ℕ, ◌<◌, zero, suc, List, ◌∷◌, get_or, refl, sym, ap, ◌∙◌, arith, lit<}
 use Rattle.base64.specs.Engines.{url_safe_no_pad}
-use Rattle.base64.specs.GeneralPurpose.{encode_of, decode_of, IsBytes, IsConsistent}
+use Rattle.base64.specs.GeneralPurpose.{encode_of, decode_of, IsBytes}
 use Rattle.base64.proofs.EngineFacts.{decode_of-encode_of}
 use Rattle.key_names.specs.Names.{IsFine}
 use Rattle.bucket_terms.specs.declared.token_point.TokenPoint.{TokenPoint}
 use Rattle.bucket_terms.specs.declared.token_point.TokenPoint.TheVariants.{Key, Group}
-use Rattle.bucket_terms.specs.Token.{point_text, token_bytes, IsTokenOf}
+use Rattle.bucket_terms.specs.Token.{point_text, token_bytes}
 use Rattle.page_token.specs.OnePoint.{HasOnePoint}
 use Rattle.page_token.proofs.TextBytes.{text_bytes}
 

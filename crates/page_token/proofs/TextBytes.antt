@@ -1,5 +1,5 @@
 -- The bytes of a UTF-8 text are bytes: each is below 256.
-use Rattle.std.proofs.Common.{◌≡◌, ℕ, ◌+◌, ◌<◌, true, false, ltb, cond, Bool, List, [], ◌∷◌, ◌++◌, zero, suc, get_or, arith, subst, lit<, ◌⊎◌, inl, inr, ◌&&◌, refl}
+use Rattle.std.proofs.Common.{◌≡◌, ℕ, ◌<◌, true, false, ltb, Bool, List, [], ◌∷◌, ◌++◌, zero, suc, arith, subst, lit<, inl, inr, ◌&&◌, refl}
 use Rattle.std.specs.Str.{IsUtf8}
 use Rattle.std.proofs.lemmas.Bool.{cond_both, ltb-true}
 use Rattle.base64.specs.GeneralPurpose.{IsBytes}

@@ -1,3 +1,4 @@
+-- Helper: the headline does not rest on this file.
 -- No text is the token of two points.
 use Rattle.std.specs.Prelude.{◌≡◌, ℕ, List}
 use Rattle.bucket_terms.specs.declared.token_point.TokenPoint.{TokenPoint}

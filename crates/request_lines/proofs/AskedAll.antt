@@ -1,5 +1,5 @@
 -- What is asked by all parameters that are left: the meaning of the loop over a query's pieces.
-use Rattle.std.proofs.Common.{ℕ, List, [], ◌∷◌, None, Result, Ok, Err}
+use Rattle.std.proofs.Common.{ℕ, List, [], ◌∷◌, None, Result}
 use Rattle.std.specs.Prelude.{if◌then◌else◌}
 use Rattle.bucket_terms.specs.declared.list_query.ListQuery.{ListQuery}
 use Rattle.request_lines.specs.declared.cause.Cause.{Cause}

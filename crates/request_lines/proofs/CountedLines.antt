@@ -32,8 +32,8 @@ lines_from number before (text ∷ texts) =
     else record { number = number; reading = reading_of text; before = before }
     ∷ lines_from (number + 1) (counted_with before (reading_of text)) texts
 
-unfoldable pub lines_of : List ℕ → List Line
-lines_of bytes = lines_from 1 none_counted (texts_of bytes)
+unfoldable pub input_lines : List ℕ → List Line
+input_lines bytes = lines_from 1 none_counted (texts_of bytes)
 
 -- ---- refusal
 
@@ -42,7 +42,7 @@ error_of line = error_at line.number (cause_by_counts line.before line.reading)
 
 -- the refusal of an input: the first line that has a cause, with its first cause
 unfoldable pub refusal_of : List ℕ → Option InputError
-refusal_of bytes = slice_get (filter_map error_of (lines_of bytes)) 0
+refusal_of bytes = slice_get (filter_map error_of (input_lines bytes)) 0
 
 -- a session comes exactly where no line has a cause, and else the refusal, unless memory ran out
 abbrev pub IsRefused : List ℕ → Result Session SessionError → Type 0
@@ -73,6 +73,6 @@ records_of lines = filter_map (λ (l : Line). record_by l.reading) lines
 -- the session is that of the input
 pub record IsSessionOf (bytes : List ℕ) (session : Session) : Type 0 where
   pub faultless : refusal_of bytes ≡ None
-  pub clients : session.clients ≡ parts_of (lines_of bytes)
-  pub names : session.names ≡ names_of (lines_of bytes)
-  pub records : session.records ≡ records_of (lines_of bytes)
+  pub clients : session.clients ≡ parts_of (input_lines bytes)
+  pub names : session.names ≡ names_of (input_lines bytes)
+  pub records : session.records ≡ records_of (input_lines bytes)

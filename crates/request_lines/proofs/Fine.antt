@@ -1,6 +1,7 @@
 -- What is read has a name that an object may have, or a query that a listing takes.
 use Rattle.std.proofs.Common.{◌≤◌, ◌≡◌, ℕ, Bool, true, false, ◌&&◌, List, [], ◌∷◌, length, Option, Some, None, Result, Ok, Err, IfOk, subst, refl, arith, rules, min, sym}
 use Rattle.std.specs.Prelude.{if◌then◌else◌, ◌==◌, nat_lt, nat_le}
+use Rattle.std.specs.Option.{option_or}
 use Rattle.std.specs.Str.{IsUtf8, is_utf8}
 use Rattle.std.proofs.lemmas.Str.{IsUtf8-from_is_utf8, IsUtf8-nil}
 use Rattle.std.proofs.lemmas.Bool.Decides.{nat_tests}
@@ -15,7 +16,8 @@ use Rattle.request_lines.specs.declared.parameter.Name.TheVariants as names
 use Rattle.request_lines.specs.declared.verb.Verb.{Verb}
 use Rattle.request_lines.specs.declared.verb.Verb.TheVariants as verbs
 use Rattle.request_lines.specs.Lines.{fields_of}
-use Rattle.request_lines.specs.Reads.{Reads, ◌>>=◌}
+use Rattle.request_lines.specs.Reads.{◌>>=◌}
+use Rattle.request_lines.specs.ReadAnswers.{Reads}
 use Rattle.request_lines.specs.Texts.{unescaped, escapes_are_whole, name_of, key_read, numbers_read, etag_read}
 use Rattle.request_lines.specs.Causes.{earliest, place_of}
 use Rattle.request_lines.specs.declared.cause.Cause.TheVariants.{KeyTooLong}
@@ -23,10 +25,11 @@ use Rattle.request_lines.specs.Queries as q
 use Rattle.std.specs.Str.Parse.{digits_value}
 use Rattle.request_lines.specs.Asking as k
 use Rattle.request_lines.proofs.AskedAll.{nothing_asked, query_by}
-use Rattle.request_lines.specs.Asking.{asking_with, with_parameter, parameter_cause, is_long_for}
+use Rattle.request_lines.specs.Asking.{asking_with, with_parameter, name_cause, parameter_cause, is_long_for}
 use Rattle.request_lines.specs.Queries.{parameter_read, parameters_read, query_read}
 use Rattle.request_lines.proofs.QueryLaws.{query_read_by}
-use Rattle.request_lines.specs.Grammar.{IsFineCommand, put_read, delete_read, head_read, list_read, read_fields, read_verb, verb_of, read_line, reading_of}
+use Rattle.request_lines.specs.Grammar.{put_read, delete_read, head_read, list_read, read_fields, read_verb, verb_of, read_line, reading_of}
+use Rattle.request_lines.specs.Fine.{IsFineQuery, IsFineCommand}
 
 -- what is read has this property
 abbrev Gives : {A : Type 0} → (A → Type 0) → Result A Cause → Type 0
@@ -80,7 +83,7 @@ head_fine key = then_gives IsFine IsFineCommand (key_read key) _ (key_fine key) 
 
 -- ---- queries
 
-plain_query_fine : q.IsFineQuery q.plain_query
+plain_query_fine : IsFineQuery q.plain_query
 plain_query_fine = record {
   short_prefix = omega arith;
   short_delimiter = omega arith;
@@ -94,7 +97,7 @@ plain_query_fine = record {
 
 -- where no cause has come the query so far is fine
 abbrev IsFineAsking : k.Asking → Type 0
-IsFineAsking a = a.cause ≡ None → q.IsFineQuery a.query
+IsFineAsking a = a.cause ≡ None → IsFineQuery a.query
 
 no_earlier : (cause other : Option Cause) → earliest cause other ≡ None → (cause ≡ None) × (other ≡ None)
 unfolding earliest
@@ -110,19 +113,19 @@ no_earlier (Some cause) (Some other) none = absurd (one (nat_le (place_of cause)
     one false is = cc
 
 not_long : (seen : List Name) (name : Name) (value : List ℕ) → parameter_cause seen (Some name) value ≡ None → k.is_long_for name value ≡ false
-unfolding parameter_cause
-not_long seen name value none = by_test (k.is_long_for name value) _ none
+unfolding parameter_cause name_cause
+not_long seen name value none = by_test (k.is_long_for name value) _ _ none
   where
-    by_test : (b : Bool) (other : Option Cause) → (if b then Some KeyTooLong else other) ≡ None → b ≡ false
-    by_test true other is = cc
-    by_test false other is = refl
+    by_test : (b : Bool) (other of_value : Option Cause) → option_or (if b then Some KeyTooLong else other) of_value ≡ None → b ≡ false
+    by_test true other of_value is = cc
+    by_test false other of_value is = refl
 
 most_small : (b : Bool) (n : ℕ) → (if b then min n 1000 else 1000) ≤ 1000
 most_small true n = omega arith
 most_small false n = omega arith
 
 fine_with : (query : ListQuery) (seen : List Name) (name : Option Name) (value : List ℕ) → IsUtf8 value → parameter_cause seen name value ≡ None
-    → q.IsFineQuery query → q.IsFineQuery (with_parameter query name value)
+    → IsFineQuery query → IsFineQuery (with_parameter query name value)
 unfolding with_parameter is_long_for
 fine_with query seen None value utf8 none fine = fine
 fine_with query seen (Some names.ListType) value utf8 none fine = fine
@@ -215,21 +218,21 @@ parameters_texts (piece ∷ pieces) = if_gives AreTexts (length piece == 0) _ _ 
     (then_gives IsUtf8 (λ (p : q.Parameter). IsUtf8 p.value) (unescaped (q.value_of_piece piece)) _ (unescaped_text (q.value_of_piece piece)) (λ value utf8. utf8))
     (λ p utf8. then_gives AreTexts AreTexts (q.parameters_read pieces) _ (parameters_texts pieces) (λ ps texts. (utf8, texts))))
 
-query_or_fine : (cause : Option Cause) (query : ListQuery) → (cause ≡ None → q.IsFineQuery query) → Gives q.IsFineQuery (q.query_or cause query)
+query_or_fine : (cause : Option Cause) (query : ListQuery) → (cause ≡ None → IsFineQuery query) → Gives IsFineQuery (q.query_or cause query)
 query_or_fine None query fine = fine refl
 query_or_fine (Some cause) query fine = tt
 
-query_by_fine : (a : k.Asking) (ps : List q.Parameter) → AreTexts ps → IsFineAsking a → Gives q.IsFineQuery (query_by a ps)
+query_by_fine : (a : k.Asking) (ps : List q.Parameter) → AreTexts ps → IsFineAsking a → Gives IsFineQuery (query_by a ps)
 query_by_fine a [] texts fine = query_or_fine a.cause a.query fine
 query_by_fine a (p ∷ ps) texts fine = query_by_fine (asking_with a p) ps texts.1 (asking_fine a p texts.0 fine)
 
-query_fine : (text : List ℕ) → Gives q.IsFineQuery (q.query_read text)
-query_fine text = subst (Gives q.IsFineQuery) (sym (query_read_by text)) (then_gives AreTexts q.IsFineQuery (q.parameters_read (q.pieces_of text)) _ (parameters_texts (q.pieces_of text))
+query_fine : (text : List ℕ) → Gives IsFineQuery (q.query_read text)
+query_fine text = subst (Gives IsFineQuery) (sym (query_read_by text)) (then_gives AreTexts IsFineQuery (q.parameters_read (q.pieces_of text)) _ (parameters_texts (q.pieces_of text))
     (λ ps texts. query_by_fine nothing_asked ps texts (λ none. plain_query_fine)))
 
 list_fine : (text : List ℕ) → IsFineReading (list_read text)
 unfolding list_read
-list_fine text = then_gives q.IsFineQuery IsFineCommand (q.query_read text) _ (query_fine text) (λ query fine. fine)
+list_fine text = then_gives IsFineQuery IsFineCommand (q.query_read text) _ (query_fine text) (λ query fine. fine)
 
 -- ---- lines
 

@@ -22,7 +22,7 @@ use Rattle.request_lines.specs.Lines.{texts_of}
 use Rattle.request_lines.specs.Grammar.{reading_of}
 use Rattle.request_lines.specs.Counting.{counted_with, cause_by_counts}
 use Rattle.request_lines.specs.Input.{error_at, begins_client, name_by, record_by}
-use Rattle.request_lines.proofs.CountedLines.{Line, lines_from, lines_of, error_of, refusal_of, asked_of, part_of, parts_of, names_of, records_of, IsSessionOf, IsRefused}
+use Rattle.request_lines.proofs.CountedLines.{Line, lines_from, input_lines, error_of, refusal_of, asked_of, part_of, parts_of, names_of, records_of, IsSessionOf, IsRefused}
 use Rattle.request_lines.specs.Left.{texts_left}
 use Rattle.request_lines.specs.Reading.{Progress, Takes, no_progress, all_ended, ended_by, current_by, kept, taken, error_of_text}
 
@@ -45,9 +45,9 @@ left_lines p number texts = lines_from number p.counts texts
 -- what is kept of the lines so far and what is left make up the whole
 pub record IsHalfway (bytes : List ℕ) (p : Progress) (number : ℕ) (texts : List (List ℕ)) : Type 0 where
   pub refusal : slice_get (filter_map error_of (left_lines p number texts)) 0 ≡ refusal_of bytes
-  pub parts : with_lines p (left_lines p number texts) ≡ parts_of (lines_of bytes)
-  pub names : p.names ++ names_of (left_lines p number texts) ≡ names_of (lines_of bytes)
-  pub records : p.records ++ records_of (left_lines p number texts) ≡ records_of (lines_of bytes)
+  pub parts : with_lines p (left_lines p number texts) ≡ parts_of (input_lines bytes)
+  pub names : p.names ++ names_of (left_lines p number texts) ≡ names_of (input_lines bytes)
+  pub records : p.records ++ records_of (left_lines p number texts) ≡ records_of (input_lines bytes)
 
 -- there are always pieces
 split_pieces : (lines : List Line) → (piece : List Line) × (pieces : List (List Line)) × (slice_split begins lines ≡ piece ∷ pieces)
@@ -61,7 +61,7 @@ split_pieces (l ∷ lines) = by_test (begins l) (split_pieces lines)
 
 -- at the start nothing is kept
 pub halfway_start : (bytes : List ℕ) → IsHalfway bytes no_progress 1 (texts_of bytes)
-unfolding lines_of refusal_of parts_of
+unfolding input_lines refusal_of parts_of
 halfway_start bytes = record { refusal = refl; parts = refl; names = refl; records = refl }
 
 -- an empty line is skipped
@@ -139,9 +139,9 @@ keeps bytes p number text texts full right half =
     let l : Line = record { number = number; reading = reading; before = p.counts } in
     let rest : List Line = lines_from (number + 1) (counted_with p.counts reading) texts in
     let refusal : slice_get (filter_map error_of (l ∷ rest)) 0 ≡ refusal_of bytes = rw full at half.refusal in
-    let parts : with_lines p (l ∷ rest) ≡ parts_of (lines_of bytes) = rw full at half.parts in
-    let names : p.names ++ names_of (l ∷ rest) ≡ names_of (lines_of bytes) = rw full at half.names in
-    let records : p.records ++ records_of (l ∷ rest) ≡ records_of (lines_of bytes) = rw full at half.records in
+    let parts : with_lines p (l ∷ rest) ≡ parts_of (input_lines bytes) = rw full at half.parts in
+    let names : p.names ++ names_of (l ∷ rest) ≡ names_of (input_lines bytes) = rw full at half.names in
+    let records : p.records ++ records_of (l ∷ rest) ≡ records_of (input_lines bytes) = rw full at half.records in
     record {
       refusal = rw right at refusal;
       parts = ap (λ none. with_pieces none (ended_by (begins_client reading) p) (current_by (begins_client reading) p (asked_of l)) (slice_split begins rest)) (clients_counted p.counts reading)

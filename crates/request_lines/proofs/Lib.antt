@@ -5,5 +5,6 @@ pub mod Fine
 pub mod CountedLines
 pub mod LineCounts
 pub mod InputLaws
+pub mod Rising
 pub mod Sound
 pub mod PieceLaws

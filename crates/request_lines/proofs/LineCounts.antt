@@ -17,6 +17,7 @@ use Rattle.request_lines.specs.Counting as k
 use Rattle.request_lines.specs.Counting.{counted, counted_with}
 use Rattle.request_lines.specs.Input.{Line, said, error_at, begins_client, name_by, record_by}
 use Rattle.request_lines.specs.Input as i
+use Rattle.request_lines.specs.Refusal.{IsRefused}
 use Rattle.request_lines.proofs.CountedLines as l
 
 -- the most entries of the page of the client's last LIST line
@@ -171,8 +172,8 @@ lines_counted number before (text ∷ texts) =
     by_test true skipped kept = skipped
     by_test false skipped kept = ap (λ ls. with_counts (record { number = number; reading = reading_of text; before = before }) ∷ ls) kept
 
-all_counted : (bytes : List ℕ) → map with_counts (i.lines_of bytes) ≡ l.lines_of bytes
-unfolding i.lines_of l.lines_of
+all_counted : (bytes : List ℕ) → map with_counts (i.input_lines bytes) ≡ l.input_lines bytes
+unfolding i.input_lines l.input_lines
 all_counted bytes = lines_counted 1 [] (texts_of bytes)
 
 -- ---- what is taken from the lines
@@ -203,7 +204,7 @@ refusal_same : (bytes : List ℕ) → l.refusal_of bytes ≡ i.refusal_of bytes
 unfolding l.refusal_of i.refusal_of
 refusal_same bytes =
     ap (λ ls. slice_get (filter_map l.error_of ls) 0) (sym (all_counted bytes))
-    ∙ ap (λ es. slice_get es 0) (chosen_same i.error_of l.error_of (i.lines_of bytes) (λ line. ap (error_at line.number) (cause_same line.before line.reading)))
+    ∙ ap (λ es. slice_get es 0) (chosen_same i.error_of l.error_of (i.input_lines bytes) (λ line. ap (error_at line.number) (cause_same line.before line.reading)))
 
 part_same : (lines : List Line) → l.part_of (map with_counts lines) ≡ i.part_of lines
 part_same lines =
@@ -253,12 +254,12 @@ records_same lines = chosen_same (λ (line : Line). record_by line.reading) (λ 
 pub session_is : (bytes : List ℕ) (session : Session) → l.IsSessionOf bytes session → i.IsSessionOf bytes session
 session_is bytes session is = record {
   faultless = sym (refusal_same bytes) ∙ is.faultless;
-  clients = is.clients ∙ ap l.parts_of (sym (all_counted bytes)) ∙ parts_same (i.lines_of bytes);
-  names = is.names ∙ ap l.names_of (sym (all_counted bytes)) ∙ names_same (i.lines_of bytes);
-  records = is.records ∙ ap l.records_of (sym (all_counted bytes)) ∙ records_same (i.lines_of bytes);
+  clients = is.clients ∙ ap l.parts_of (sym (all_counted bytes)) ∙ parts_same (i.input_lines bytes);
+  names = is.names ∙ ap l.names_of (sym (all_counted bytes)) ∙ names_same (i.input_lines bytes);
+  records = is.records ∙ ap l.records_of (sym (all_counted bytes)) ∙ records_same (i.input_lines bytes);
 }
 
-pub refused_is : (bytes : List ℕ) (r : Result Session SessionError) → l.IsRefused bytes r → i.IsRefused bytes r
+pub refused_is : (bytes : List ℕ) (r : Result Session SessionError) → l.IsRefused bytes r → IsRefused bytes r
 refused_is bytes (Ok session) is = sym (refusal_same bytes) ∙ is
 refused_is bytes (Err (errors.Input e)) is = sym (refusal_same bytes) ∙ is
 refused_is bytes (Err errors.NoMemory) is = tt

@@ -11,7 +11,8 @@ use Rattle.request_lines.specs.Asking.{Asking, asking_with}
 use Rattle.request_lines.proofs.AskedAll.{nothing_asked, query_by, pieces_asked}
 use Rattle.request_lines.specs.Queries.{Parameter, parameter_read, parameters_read, query_read, query_or, pieces_of, without_mark}
 use Rattle.request_lines.proofs.QueryLaws.{query_read_by}
-use Rattle.request_lines.specs.Reads.{◌>>=◌, Fails}
+use Rattle.request_lines.specs.Reads.{◌>>=◌}
+use Rattle.request_lines.specs.ReadAnswers.{Fails}
 
 -- a first piece, and those behind it
 pieces_more : (so_far : Asking) (piece : List ℕ) (pieces : List (List ℕ)) → pieces_asked so_far (piece ∷ pieces) ≡ (piece_asked so_far piece >>= (λ after. pieces_asked after pieces))

@@ -2,17 +2,18 @@
 use Rattle.std.proofs.Common.{◌≡◌, ℕ, Bool, true, false, List, [], ◌∷◌, ◌++◌, Option, Some, None, Result, Ok, Err, refl, ap, sym, ◌∙◌, arith}
 use Rattle.std.proofs.lemmas.Bool.Decides.{nat_tests}
 use Rattle.std.specs.Prelude.{◌==◌, ◌&&◌, ◌||◌, ◌<◌, ◌≤◌, nat_le, not, if◌then◌else◌}
-use Rattle.std.specs.List.{list_any}
+use Rattle.std.specs.List.{list_any, find}
+use Rattle.std.specs.Option.{is_none, option_or, option_map_or}
 use Rattle.bucket_terms.specs.declared.list_query.ListQuery.{ListQuery}
 use Rattle.request_lines.specs.declared.cause.Cause.{Cause}
 use Rattle.request_lines.specs.declared.cause.Cause.TheVariants.{KeyTooLong, UnknownParameter, RepeatedParameter, BadListType, BadMaxKeys, BadEncoding, BadFetchOwner}
 use Rattle.request_lines.specs.declared.cause.Cause.TheVariants as causes
 use Rattle.request_lines.specs.declared.parameter.Name.{Name}
 use Rattle.request_lines.specs.declared.parameter.Name.TheVariants as names
-use Rattle.request_lines.specs.Asking.{Asking, asking_with, with_name, with_parameter, parameter_cause, stands_in, is_long_for, value_cause}
+use Rattle.request_lines.specs.Asking.{Asking, asking_with, with_name, with_parameter, name_cause, parameter_cause, stands_in, is_long_for, value_cause}
 use Rattle.request_lines.proofs.AskedAll.{nothing_asked, query_by, given, with_all}
 use Rattle.request_lines.specs.Causes.{place_of, earliest}
-use Rattle.request_lines.specs.Queries.{Parameter, place_of_name, is_name, is_same_name, is_unknown, is_too_long, is_list_type, is_max_keys, is_encoding, is_fetch_owner, repeats, have, parameter_causes, first_that, plain_query, parameters_read, pieces_of, query_or, query_of, query_read, query_asked, value_of, or_else, as_it_is, is_url, most_entries}
+use Rattle.request_lines.specs.Queries.{Parameter, place_of_name, is_name, is_same_name, is_too_long, is_list_type, is_max_keys, is_encoding, is_fetch_owner, repeats, have, parameter_causes, plain_query, parameters_read, pieces_of, query_or, query_of, query_read, query_asked, value_of, as_it_is, is_url, most_entries}
 use Rattle.request_lines.specs.Reads.{◌>>=◌}
 
 -- ---- tests of lists
@@ -103,7 +104,7 @@ holds_behind seen ps cause = have ps cause
 
 abbrev own : List Name → Parameter → Cause → Bool
 own seen p KeyTooLong = is_too_long p
-own seen p UnknownParameter = is_unknown p.name
+own seen p UnknownParameter = is_none p.name
 own seen p RepeatedParameter = behind seen p.name
 own seen p BadListType = is_name names.ListType p.name && not (is_list_type p.value)
 own seen p BadMaxKeys = is_name names.MaxKeys p.name && not (is_max_keys p.value)
@@ -173,19 +174,35 @@ turned false cause = refl
 abbrev behind_repeats : Bool → Option Cause → Option Cause
 behind_repeats b other = if b then Some RepeatedParameter else other
 
+-- the causes of one parameter, one after another
+abbrev chained_cause : List Name → Name → List ℕ → Option Cause
+chained_cause seen name value =
+    if is_long_for name value then Some KeyTooLong
+    else behind_repeats (stands_in seen name) (value_cause (Some name) value)
+
+chained : (seen : List Name) (name : Name) (value : List ℕ) → parameter_cause seen (Some name) value ≡ chained_cause seen name value
+unfolding parameter_cause name_cause
+chained seen name value = by_tests (is_long_for name value) (stands_in seen name) (value_cause (Some name) value)
+  where
+    by_tests : (long repeated : Bool) (of_value : Option Cause)
+        → option_or (if long then Some KeyTooLong else if repeated then Some RepeatedParameter else None) of_value ≡ (if long then Some KeyTooLong else behind_repeats repeated of_value)
+    by_tests true repeated of_value = refl
+    by_tests false true of_value = refl
+    by_tests false false of_value = refl
+
 -- the first cause of one parameter
 parameter_cause_is : (seen : List Name) (name : Option Name) (value : List ℕ)
-    → parameter_cause seen name value ≡ first_that (own seen (record { name = name; value = value })) parameter_causes
-unfolding parameter_cause is_long_for value_cause
+    → parameter_cause seen name value ≡ find (own seen (record { name = name; value = value })) parameter_causes
+unfolding parameter_cause name_cause is_long_for value_cause
 parameter_cause_is seen None value = refl
-parameter_cause_is seen (Some names.Prefix) value = refl
-parameter_cause_is seen (Some names.Delimiter) value = refl
-parameter_cause_is seen (Some names.StartAfter) value = refl
-parameter_cause_is seen (Some names.ContinuationToken) value = refl
-parameter_cause_is seen (Some names.ListType) value = ap (behind_repeats (stands_in seen names.ListType)) (turned (is_list_type value) BadListType)
-parameter_cause_is seen (Some names.MaxKeys) value = ap (behind_repeats (stands_in seen names.MaxKeys)) (turned (is_max_keys value) BadMaxKeys)
-parameter_cause_is seen (Some names.EncodingType) value = ap (behind_repeats (stands_in seen names.EncodingType)) (turned (is_encoding value) BadEncoding)
-parameter_cause_is seen (Some names.FetchOwner) value = ap (behind_repeats (stands_in seen names.FetchOwner)) (turned (is_fetch_owner value) BadFetchOwner)
+parameter_cause_is seen (Some names.Prefix) value = chained seen names.Prefix value
+parameter_cause_is seen (Some names.Delimiter) value = chained seen names.Delimiter value
+parameter_cause_is seen (Some names.StartAfter) value = chained seen names.StartAfter value
+parameter_cause_is seen (Some names.ContinuationToken) value = chained seen names.ContinuationToken value
+parameter_cause_is seen (Some names.ListType) value = chained seen names.ListType value ∙ ap (behind_repeats (stands_in seen names.ListType)) (turned (is_list_type value) BadListType)
+parameter_cause_is seen (Some names.MaxKeys) value = chained seen names.MaxKeys value ∙ ap (behind_repeats (stands_in seen names.MaxKeys)) (turned (is_max_keys value) BadMaxKeys)
+parameter_cause_is seen (Some names.EncodingType) value = chained seen names.EncodingType value ∙ ap (behind_repeats (stands_in seen names.EncodingType)) (turned (is_encoding value) BadEncoding)
+parameter_cause_is seen (Some names.FetchOwner) value = chained seen names.FetchOwner value ∙ ap (behind_repeats (stands_in seen names.FetchOwner)) (turned (is_fetch_owner value) BadFetchOwner)
 
 -- ---- the first of some causes
 
@@ -194,7 +211,7 @@ abbrev Above : ℕ → List Cause → Type 0
 Above place [] = Unit {0}
 Above place (c ∷ cs) = (place < place_of c) × Above (place_of c) cs
 
-kept_left : (c : Cause) (place : ℕ) (g : Cause → Bool) (cs : List Cause) → place_of c ≤ place → Above place cs → earliest (Some c) (first_that g cs) ≡ Some c
+kept_left : (c : Cause) (place : ℕ) (g : Cause → Bool) (cs : List Cause) → place_of c ≤ place → Above place cs → earliest (Some c) (find g cs) ≡ Some c
 unfolding earliest
 kept_left c place g [] le above = refl
 kept_left c place g (d ∷ cs) le above =
@@ -204,11 +221,11 @@ kept_left c place g (d ∷ cs) le above =
     first : nat_le (place_of c) (place_of d) ≡ true
     first = let lt : place < place_of d = above.0 in grind (arith, nat_tests)
 
-    by_test : earliest (Some c) (first_that g cs) ≡ Some c → (b : Bool) → earliest (Some c) (if b then Some d else first_that g cs) ≡ Some c
+    by_test : earliest (Some c) (find g cs) ≡ Some c → (b : Bool) → earliest (Some c) (if b then Some d else find g cs) ≡ Some c
     by_test behind true = ap (λ b. if b then Some c else Some d) first
     by_test behind false = behind
 
-kept_right : (c : Cause) (place : ℕ) (f : Cause → Bool) (cs : List Cause) → place_of c ≤ place → Above place cs → earliest (first_that f cs) (Some c) ≡ Some c
+kept_right : (c : Cause) (place : ℕ) (f : Cause → Bool) (cs : List Cause) → place_of c ≤ place → Above place cs → earliest (find f cs) (Some c) ≡ Some c
 unfolding earliest
 kept_right c place f [] le above = refl
 kept_right c place f (d ∷ cs) le above =
@@ -218,12 +235,12 @@ kept_right c place f (d ∷ cs) le above =
     later : nat_le (place_of d) (place_of c) ≡ false
     later = let lt : place < place_of d = above.0 in grind (arith, nat_tests)
 
-    by_test : earliest (first_that f cs) (Some c) ≡ Some c → (b : Bool) → earliest (if b then Some d else first_that f cs) (Some c) ≡ Some c
+    by_test : earliest (find f cs) (Some c) ≡ Some c → (b : Bool) → earliest (if b then Some d else find f cs) (Some c) ≡ Some c
     by_test behind true = ap (λ b. if b then Some d else Some c) later
     by_test behind false = behind
 
 -- the earlier of two first causes is the first that holds in one way or the other
-earliest_first : (place : ℕ) (f g : Cause → Bool) (cs : List Cause) → Above place cs → earliest (first_that f cs) (first_that g cs) ≡ first_that (λ c. f c || g c) cs
+earliest_first : (place : ℕ) (f g : Cause → Bool) (cs : List Cause) → Above place cs → earliest (find f cs) (find g cs) ≡ find (λ c. f c || g c) cs
 unfolding earliest
 earliest_first place f g [] above = refl
 earliest_first place f g (c ∷ cs) above = by_tests (earliest_first (place_of c) f g cs above.1) (f c) (g c)
@@ -232,15 +249,15 @@ earliest_first place f g (c ∷ cs) above = by_tests (earliest_first (place_of c
     either true = refl
     either false = refl
 
-    by_tests : earliest (first_that f cs) (first_that g cs) ≡ first_that (λ d. f d || g d) cs → (a b : Bool) → earliest (if a then Some c else first_that f cs) (if b then Some c else first_that g cs) ≡ (if a || b then Some c else first_that (λ d. f d || g d) cs)
+    by_tests : earliest (find f cs) (find g cs) ≡ find (λ d. f d || g d) cs → (a b : Bool) → earliest (if a then Some c else find f cs) (if b then Some c else find g cs) ≡ (if a || b then Some c else find (λ d. f d || g d) cs)
     by_tests behind true true = either (nat_le (place_of c) (place_of c))
     by_tests behind true false = kept_left c (place_of c) g cs (omega arith) above.1
     by_tests behind false true = kept_right c (place_of c) f cs (omega arith) above.1
     by_tests behind false false = behind
 
-first_same : (f g : Cause → Bool) (cs : List Cause) → ((c : Cause) → f c ≡ g c) → first_that f cs ≡ first_that g cs
+first_same : (f g : Cause → Bool) (cs : List Cause) → ((c : Cause) → f c ≡ g c) → find f cs ≡ find g cs
 first_same f g [] same = refl
-first_same f g (c ∷ cs) same = ap (λ b. if b then Some c else first_that f cs) (same c) ∙ ap (λ o. if g c then Some c else o) (first_same f g cs same)
+first_same f g (c ∷ cs) same = ap (λ b. if b then Some c else find f cs) (same c) ∙ ap (λ o. if g c then Some c else o) (first_same f g cs same)
 
 in_order : Above 0 parameter_causes
 unfolding place_of
@@ -265,8 +282,8 @@ or_thrice : (a b c : Bool) → ((a || b) || c) ≡ (a || (b || c))
 or_thrice true b c = refl
 or_thrice false b c = refl
 
-kept_query : (a : Asking) (held : Cause → Bool) (ps : List Parameter) → a.cause ≡ first_that held parameter_causes
-    → query_by a ps ≡ query_or (first_that (λ c. held c || holds_behind a.names ps c) parameter_causes) (with_all a.query ps)
+kept_query : (a : Asking) (held : Cause → Bool) (ps : List Parameter) → a.cause ≡ find held parameter_causes
+    → query_by a ps ≡ query_or (find (λ c. held c || holds_behind a.names ps c) parameter_causes) (with_all a.query ps)
 unfolding asking_with
 kept_query a held [] is =
     ap (λ o. query_or o a.query)
@@ -274,15 +291,15 @@ kept_query a held [] is =
     (λ c. sym (ap (λ b. held c || b) (holds_none a.names c) ∙ or_false (held c))))
 kept_query a held (p ∷ ps) is =
     let more : Cause → Bool = λ c. held c || own a.names p c in
-    let cause : earliest a.cause (parameter_cause a.names p.name p.value) ≡ first_that more parameter_causes =
+    let cause : earliest a.cause (parameter_cause a.names p.name p.value) ≡ find more parameter_causes =
     ap (λ o. earliest o (parameter_cause a.names p.name p.value)) is
-    ∙ ap (earliest (first_that held parameter_causes)) (parameter_cause_is a.names p.name p.value)
+    ∙ ap (earliest (find held parameter_causes)) (parameter_cause_is a.names p.name p.value)
     ∙ earliest_first 0 held (own a.names p) parameter_causes in_order in
     kept_query (asking_with a p) more ps cause
     ∙ ap (λ o. query_or o (with_all (with_parameter a.query p.name p.value) ps))
     (first_same (λ c. more c || holds_behind (with_name a.names p.name) ps c) (λ c. held c || holds_behind a.names (p ∷ ps) c) parameter_causes
     (λ c. or_thrice (held c) (own a.names p c) (holds_behind (with_name a.names p.name) ps c) ∙ ap (λ b. held c || b) (sym (holds_more a.names p ps c))))
-    ∙ ap (query_or (first_that (λ c. held c || holds_behind a.names (p ∷ ps) c) parameter_causes)) (asked_step a.query p.name p.value ps)
+    ∙ ap (query_or (find (λ c. held c || holds_behind a.names (p ∷ ps) c) parameter_causes)) (asked_step a.query p.name p.value ps)
 
 -- behind no name
 have_is : (ps : List Parameter) (c : Cause) → holds_behind [] ps c ≡ have ps c
@@ -332,15 +349,15 @@ others_none name (Some n) ps is none = any_same (λ (q : Parameter). is_name nam
     same_test None = refl
     same_test (Some other) = ap (λ k. place_of_name other == k) (sym places)
 
-first_given : {A : Type 0} (name : Name) (says : List ℕ → A) (other : A) (ps : List Parameter) → repeats ps ≡ false → given name says other ps ≡ or_else says other (value_of name ps)
+first_given : {A : Type 0} (name : Name) (says : List ℕ → A) (other : A) (ps : List Parameter) → repeats ps ≡ false → given name says other ps ≡ option_map_or says (value_of name ps) other
 first_given name says other [] none = refl
 first_given name says other (p ∷ ps) none =
     let each = neither (list_any (λ (q : Parameter). is_same_name p.name q.name) ps) (repeats ps) none in
     by_test (λ is. given_none name says (says p.value) ps (others_none name p.name ps is each.0)) (first_given name says other ps each.1) (is_name name p.name) refl
   where
-    by_test : (is_name name p.name ≡ true → given name says (says p.value) ps ≡ says p.value) → given name says other ps ≡ or_else says other (value_of name ps)
+    by_test : (is_name name p.name ≡ true → given name says (says p.value) ps ≡ says p.value) → given name says other ps ≡ option_map_or says (value_of name ps) other
         → (b : Bool) → is_name name p.name ≡ b
-        → given name says (if b then says p.value else other) ps ≡ or_else says other (if b then Some p.value else value_of name ps)
+        → given name says (if b then says p.value else other) ps ≡ option_map_or says (if b then Some p.value else value_of name ps) other
     by_test here behind true is = here is
     by_test here behind false is = behind
 
@@ -358,8 +375,8 @@ asked_is ps none =
     query_are (with_all plain_query ps) (query_asked ps) (first_given names.Prefix as_it_is [] ps none) (first_given names.Delimiter as_it_is [] ps none) (first_given names.StartAfter as_it_is [] ps none)
     (first_given names.ContinuationToken as_it_is [] ps none) (first_given names.MaxKeys most_entries 1000 ps none) (first_given names.EncodingType is_url false ps none)
 
-none_repeats : (ps : List Parameter) → first_that (have ps) parameter_causes ≡ None → repeats ps ≡ false
-none_repeats ps none = third (list_any is_too_long ps) (list_any (λ p. is_unknown p.name) ps) (repeats ps) _ none
+none_repeats : (ps : List Parameter) → find (have ps) parameter_causes ≡ None → repeats ps ≡ false
+none_repeats ps none = third (list_any is_too_long ps) (list_any (λ p. is_none p.name) ps) (repeats ps) _ none
   where
     third : (a b c : Bool) (rest : Option Cause) → (if a then Some KeyTooLong else if b then Some UnknownParameter else if c then Some RepeatedParameter else rest) ≡ None → c ≡ false
     third true b c rest none = cc
@@ -375,7 +392,7 @@ query_by_is : (ps : List Parameter) → query_by nothing_asked ps ≡ query_of p
 query_by_is ps =
     kept_query nothing_asked (λ c. false) ps refl
     ∙ ap (λ o. query_or o (with_all plain_query ps)) (first_same (holds_behind [] ps) (have ps) parameter_causes (have_is ps))
-    ∙ or_same (first_that (have ps) parameter_causes) (with_all plain_query ps) (query_asked ps) (λ none. asked_is ps (none_repeats ps none))
+    ∙ or_same (find (have ps) parameter_causes) (with_all plain_query ps) (query_asked ps) (λ none. asked_is ps (none_repeats ps none))
 
 -- reading a query gives what a reader keeps of its parameters
 pub query_read_by : (text : List ℕ) → query_read text ≡ (parameters_read (pieces_of text) >>= query_by nothing_asked)

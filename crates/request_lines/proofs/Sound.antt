@@ -22,11 +22,14 @@ use Rattle.request_lines.specs.declared.session.ClientPart.{ClientPart}
 use Rattle.request_lines.specs.declared.session.Session.{Session}
 use Rattle.request_lines.specs.declared.session_error.SessionError.{SessionError}
 use Rattle.request_lines.specs.declared.cause.Cause.TheVariants.{NoClient}
-use Rattle.request_lines.specs.Grammar.{IsFineCommand, is_client, reading_of}
+use Rattle.request_lines.specs.Grammar.{is_client, reading_of}
+use Rattle.request_lines.specs.Fine.{IsFineCommand}
 use Rattle.request_lines.specs.Counting.{IsWithin, counted, limit_by_counts, cause_by_counts}
 use Rattle.request_lines.specs.Input.{error_at}
 use Rattle.request_lines.specs.Reading.{Progress, no_progress, all_ended, kept, taken, error_of_text}
-use Rattle.request_lines.specs.Session.{request_line, request_lines, all_requests, requested_name, record_place, asked_name, asked_place, HasNames, HasRecords, IsFineRequest, IsServed, HasRequests, LinesRise, HasLines, IsSmall}
+use Rattle.request_lines.specs.Session.{request_line, request_lines}
+use Rattle.request_lines.specs.SessionLaws.{all_requests, requested_name, record_place, asked_name, asked_place, HasNames, HasRecords, IsFineRequest, IsServed, HasRequests, Rise, HasLineNumber, HasLines, IsSmall}
+use Rattle.request_lines.proofs.Rising.{LinesRise, rise_of, numbers_of}
 use Rattle.request_lines.proofs.Fine.{IsFineReading, reading_fine}
 
 -- what all clients have asked so far
@@ -342,12 +345,16 @@ sound_end : (p : Progress) (number : ℕ) (s : Session) → number ≤ 2 ^ 32 �
     → s.clients ≡ all_ended p → s.names ≡ p.names → s.records ≡ p.records → IsSoundSession s
 sound_end p number s below within sound clients names records =
     let all : all_requests s.clients ≡ asked_so_far p = ap all_requests clients ∙ all_ended_requests p number sound in
+    let rising : All IsPartRising (all_ended p) = all_ended_rising p number below sound in
     let count : length s.clients ≡ p.counts.clients = ap length clients ∙ all_ended_length p number sound in
     record {
       names = record { in_order = rw (all, names) sound.names; fine = rw names sound.fine };
       records = record { in_order = rw (all, records) sound.places };
       requests = record { served = rw (clients, names, records) (all_ended_served p number sound) };
-      lines = record { rising = rw clients (all_ended_rising p number below sound) };
+      lines = record {
+        rising = rw clients (All-weaker IsPartRising (λ (part : ClientPart). Rise (request_lines part)) (λ part rise. rise_of 0 (2 ^ 32) (request_lines part) rise) (all_ended p) rising);
+        numbers = rw clients (All-weaker IsPartRising (λ (part : ClientPart). All HasLineNumber (request_lines part)) (λ part rise. numbers_of 0 (request_lines part) rise) (all_ended p) rising);
+      };
       small = record { clients = omega (arith, within.clients); one_client = omega (arith, within.clients); requests = rw (all, sound.requests) (omega (arith, within.requests)) };
     }
 

@@ -1,6 +1,8 @@
+-- Helper: the headline does not rest on this file.
 -- How a reader of a query keeps the parameters so far.
-use Rattle.std.specs.Prelude.{ℕ, ◌==◌, nat_lt, Bool, false, List, [], ◌∷◌, ◌++◌, length, Option, Some, None, Result, if◌then◌else◌}
+use Rattle.std.specs.Prelude.{ℕ, ◌==◌, nat_lt, Bool, false, List, [], ◌∷◌, ◌++◌, length, Option, Some, None, if◌then◌else◌}
 use Rattle.std.specs.List.{list_any}
+use Rattle.std.specs.Option.{option_or}
 use Rattle.key_names.specs.Names.{most_name_bytes}
 use Rattle.bucket_terms.specs.declared.list_query.ListQuery.{ListQuery}
 use Rattle.request_lines.specs.declared.cause.Cause.{Cause}
@@ -21,20 +23,24 @@ is_long_for StartAfter value = nat_lt most_name_bytes (length value)
 is_long_for name value = false
 
 -- the cause of a value that its parameter does not take
-unfoldable pub value_cause : Name → List ℕ → Option Cause
-value_cause ListType value = if is_list_type value then None else Some BadListType
-value_cause MaxKeys value = if is_max_keys value then None else Some BadMaxKeys
-value_cause EncodingType value = if is_encoding value then None else Some BadEncoding
-value_cause FetchOwner value = if is_fetch_owner value then None else Some BadFetchOwner
+unfoldable pub value_cause : Option Name → List ℕ → Option Cause
+value_cause (Some ListType) value = if is_list_type value then None else Some BadListType
+value_cause (Some MaxKeys) value = if is_max_keys value then None else Some BadMaxKeys
+value_cause (Some EncodingType) value = if is_encoding value then None else Some BadEncoding
+value_cause (Some FetchOwner) value = if is_fetch_owner value then None else Some BadFetchOwner
 value_cause name value = None
 
--- the first cause of a parameter behind these names
-unfoldable pub parameter_cause : List Name → Option Name → List ℕ → Option Cause
-parameter_cause names None value = Some UnknownParameter
-parameter_cause names (Some name) value =
+-- the first cause of a parameter behind these names that is none of its value alone
+unfoldable pub name_cause : List Name → Option Name → List ℕ → Option Cause
+name_cause names None value = Some UnknownParameter
+name_cause names (Some name) value =
     if is_long_for name value then Some KeyTooLong
     else if stands_in names name then Some RepeatedParameter
-    else value_cause name value
+    else None
+
+-- the first cause of a parameter behind these names: causes of values come last
+unfoldable pub parameter_cause : List Name → Option Name → List ℕ → Option Cause
+parameter_cause names name value = option_or (name_cause names name value) (value_cause name value)
 
 -- the names, each once, with this one
 unfoldable pub with_name : List Name → Option Name → List Name

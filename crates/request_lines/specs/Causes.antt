@@ -1,3 +1,4 @@
+-- Helper: the headline does not rest on this file.
 -- The order of the causes.
 use Rattle.std.specs.Prelude.{ℕ, nat_le, Option, Some, None, if◌then◌else◌}
 use Rattle.request_lines.specs.declared.cause.Cause.{Cause}

@@ -1,3 +1,4 @@
+-- Helper: the headline does not rest on this file.
 -- What a reader counts of the lines so far.
 use Rattle.std.specs.Prelude.{◌+◌, ◌≤◌, ◌==◌, ◌&&◌, not, nat_lt, Option, Some, None, Result, Ok, Err, if◌then◌else◌}
 use Rattle.bucket_terms.specs.declared.request.Request.{Request}

@@ -1,7 +1,6 @@
 -- What a line says, by cases on its verb and its fields, and when it is refused.
 use Rattle.std.specs.Prelude.{ℕ, ◌+◌, ◌==◌, ◌&&◌, not, nat_lt, Bool, true, false, List, [], ◌∷◌, Option, Some, None, Result, Ok, Err, codes, count_by, if◌then◌else◌}
 use Rattle.std.specs.Str.{is_utf8, bytes_eq}
-use Rattle.key_names.specs.Names.{IsFine}
 use Rattle.request_lines.specs.declared.cause.Cause.{Cause}
 use Rattle.request_lines.specs.declared.cause.Cause.TheVariants.{NotUtf8, UnknownVerb, WrongFields, NoClient, TooManyClients, TooManyLines, TooManyEntries, NotBuilt}
 use Rattle.request_lines.specs.declared.command.Command.{Command}
@@ -10,7 +9,7 @@ use Rattle.request_lines.specs.declared.verb.Verb.{Verb}
 use Rattle.request_lines.specs.declared.verb.Verb.TheVariants as verbs
 use Rattle.request_lines.specs.Limits.{most_clients, most_requests, most_listed}
 use Rattle.request_lines.specs.Lines.{fields_of}
-use Rattle.request_lines.specs.Queries.{IsFineQuery, plain_query, query_read}
+use Rattle.request_lines.specs.Queries.{plain_query, query_read}
 use Rattle.request_lines.specs.Reads.{◌>>=◌}
 use Rattle.request_lines.specs.Texts.{key_read, numbers_read, etag_read}
 
@@ -71,15 +70,6 @@ read_line (verb ∷ fields) = read_verb (verb_of verb) fields
 -- what a line says, or the first cause that it has alone, whatever came before it
 unfoldable pub reading_of : List ℕ → Result Command Cause
 reading_of text = if is_utf8 text then read_line (fields_of text) else Err NotUtf8
-
--- what a line that is read says: its name is that of an object, its query one that a listing takes
-abbrev pub IsFineCommand : Command → Type 0
-IsFineCommand says.Client = Unit {0}
-IsFineCommand (says.Put name fields) = IsFine name
-IsFineCommand (says.Delete name) = IsFine name
-IsFineCommand (says.Head name) = IsFine name
-IsFineCommand (says.List query) = IsFineQuery query
-IsFineCommand says.Next = Unit {0}
 
 -- ---- limits
 

@@ -11,8 +11,6 @@ use Rattle.request_lines.specs.declared.session.Asked.{Asked}
 use Rattle.request_lines.specs.declared.session.ClientPart.{ClientPart}
 use Rattle.request_lines.specs.declared.session.Session.{Session}
 use Rattle.request_lines.specs.declared.session_error.InputError.{InputError}
-use Rattle.request_lines.specs.declared.session_error.SessionError.{SessionError}
-use Rattle.request_lines.specs.declared.session_error.SessionError.TheVariants as errors
 use Rattle.request_lines.specs.Lines.{texts_of}
 use Rattle.request_lines.specs.Grammar.{reading_of, is_client, puts_in, limit_cause}
 
@@ -35,8 +33,8 @@ lines_from number before (text ∷ texts) =
     else record { number = number; reading = reading_of text; before = before }
     ∷ lines_from (number + 1) (before ++ said (reading_of text)) texts
 
-unfoldable pub lines_of : List ℕ → List Line
-lines_of bytes = lines_from 1 [] (texts_of bytes)
+unfoldable pub input_lines : List ℕ → List Line
+input_lines bytes = lines_from 1 [] (texts_of bytes)
 
 -- ---- refusal
 
@@ -54,13 +52,7 @@ error_of line = error_at line.number (cause_after line.before line.reading)
 
 -- the refusal of an input: the first line that has a cause, with its first cause
 unfoldable pub refusal_of : List ℕ → Option InputError
-refusal_of bytes = slice_get (filter_map error_of (lines_of bytes)) 0
-
--- a session comes exactly where no line has a cause, and else the refusal, unless memory ran out
-abbrev pub IsRefused : List ℕ → Result Session SessionError → Type 0
-IsRefused bytes (Ok session) = refusal_of bytes ≡ None
-IsRefused bytes (Err (errors.Input e)) = refusal_of bytes ≡ Some e
-IsRefused bytes (Err errors.NoMemory) = Unit {0}
+refusal_of bytes = slice_get (filter_map error_of (input_lines bytes)) 0
 
 -- ---- the session
 
@@ -114,6 +106,6 @@ records_of lines = filter_map (λ (l : Line). record_by l.reading) lines
 -- the session is that of the input
 pub record IsSessionOf (bytes : List ℕ) (session : Session) : Type 0 where
   pub faultless : refusal_of bytes ≡ None
-  pub clients : session.clients ≡ parts_of (lines_of bytes)
-  pub names : session.names ≡ names_of (lines_of bytes)
-  pub records : session.records ≡ records_of (lines_of bytes)
+  pub clients : session.clients ≡ parts_of (input_lines bytes)
+  pub names : session.names ≡ names_of (input_lines bytes)
+  pub records : session.records ≡ records_of (input_lines bytes)

@@ -1,3 +1,4 @@
+-- Helper: the headline does not rest on this file.
 -- What is left of a text that is read from the front.
 use Rattle.std.specs.Prelude.{◌≡◌, ℕ, ◌+◌, ◌==◌, List, [], ◌∷◌, length, Option, Some, None}
 use Rattle.std.specs.Borrow.{Bor}

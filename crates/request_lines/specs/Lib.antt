@@ -12,3 +12,8 @@ pub mod Session
 pub mod Left
 pub mod Pieces
 pub mod Reading
+pub mod SessionLaws
+pub mod Fine
+pub mod Refusal
+pub mod ReadAnswers
+pub mod Sample

@@ -1,6 +1,6 @@
+-- Helper: the headline does not rest on this file.
 -- How a query is read, piece by piece.
 use Rattle.std.specs.Prelude.{◌≡◌, ℕ, ◌==◌, List, length, Result, Ok, Err, if◌then◌else◌}
-use Rattle.bucket_terms.specs.declared.list_query.ListQuery.{ListQuery}
 use Rattle.request_lines.specs.declared.cause.Cause.{Cause}
 use Rattle.request_lines.specs.declared.line_error.LineError.{LineError}
 use Rattle.request_lines.specs.declared.line_error.LineError.TheVariants as errors

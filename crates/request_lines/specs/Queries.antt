@@ -1,7 +1,8 @@
 -- The query of a LIST line (Amazon S3 API reference, ListObjectsV2: URI request parameters).
-use Rattle.std.specs.Prelude.{ℕ, ◌≤◌, ◌==◌, ◌&&◌, ◌||◌, not, nat_lt, nat_le, min, Bool, true, false, List, [], ◌∷◌, length, Option, Some, None, Result, Ok, Err, codes, if◌then◌else◌}
-use Rattle.std.specs.List.{slice_split, before_first, after_first, list_any}
-use Rattle.std.specs.Str.{IsUtf8, bytes_eq}
+use Rattle.std.specs.Prelude.{ℕ, ◌==◌, ◌&&◌, ◌||◌, not, nat_lt, nat_le, min, Bool, false, List, [], ◌∷◌, length, Option, Some, None, Result, Ok, Err, codes, if◌then◌else◌}
+use Rattle.std.specs.List.{slice_split, before_first, after_first, list_any, find}
+use Rattle.std.specs.Option.{is_none, option_map_or}
+use Rattle.std.specs.Str.{bytes_eq}
 use Rattle.std.specs.Str.Parse.{digits_value}
 use Rattle.key_names.specs.Names.{most_name_bytes}
 use Rattle.bucket_terms.specs.declared.list_query.ListQuery.{ListQuery}
@@ -12,17 +13,6 @@ use Rattle.request_lines.specs.declared.parameter.Name.TheVariants.{ListType, Pr
 use Rattle.request_lines.specs.Limits.{most_keys, most_written}
 use Rattle.request_lines.specs.Reads.{◌>>=◌}
 use Rattle.request_lines.specs.Texts.{unescaped, is_number}
-
--- a query that a listing takes: texts of UTF-8, three of them of at most 1,024 bytes, and at most 1,000 entries
-pub record IsFineQuery (query : ListQuery) : Type 0 where
-  pub short_prefix : length query.prefix ≤ most_name_bytes
-  pub short_delimiter : length query.delimiter ≤ most_name_bytes
-  pub short_start_after : length query.start_after ≤ most_name_bytes
-  pub prefix : IsUtf8 query.prefix
-  pub delimiter : IsUtf8 query.delimiter
-  pub start_after : IsUtf8 query.start_after
-  pub token : IsUtf8 query.token
-  pub entries : query.max_keys ≤ most_keys
 
 -- a listing of everything
 abbrev pub plain_query : ListQuery
@@ -97,10 +87,6 @@ abbrev pub is_same_name : Option Name → Option Name → Bool
 is_same_name None other = false
 is_same_name (Some name) other = is_name name other
 
-abbrev pub is_unknown : Option Name → Bool
-is_unknown None = true
-is_unknown (Some name) = false
-
 -- a text of more than 1,024 bytes, where it is one of the three that are compared with names
 abbrev pub is_too_long : Parameter → Bool
 is_too_long p = (is_name Prefix p.name || is_name Delimiter p.name || is_name StartAfter p.name) && nat_lt most_name_bytes (length p.value)
@@ -130,7 +116,7 @@ repeats (p ∷ ps) = list_any (λ q. is_same_name p.name q.name) ps || repeats p
 -- where parameters have a cause
 abbrev pub have : List Parameter → Cause → Bool
 have ps KeyTooLong = list_any is_too_long ps
-have ps UnknownParameter = list_any (λ p. is_unknown p.name) ps
+have ps UnknownParameter = list_any (λ p. is_none p.name) ps
 have ps RepeatedParameter = repeats ps
 have ps BadListType = has_other ListType is_list_type ps
 have ps BadMaxKeys = has_other MaxKeys is_max_keys ps
@@ -142,22 +128,12 @@ have ps cause = false
 abbrev pub parameter_causes : List Cause
 parameter_causes = KeyTooLong ∷ UnknownParameter ∷ RepeatedParameter ∷ BadListType ∷ BadMaxKeys ∷ BadEncoding ∷ BadFetchOwner ∷ []
 
--- the first of these causes that holds
-abbrev pub first_that : (Cause → Bool) → List Cause → Option Cause
-first_that holds [] = None
-first_that holds (cause ∷ causes) = if holds cause then Some cause else first_that holds causes
-
 -- ---- meaning
 
 -- the value of the parameter of this name, where there is one
 abbrev pub value_of : Name → List Parameter → Option (List ℕ)
 value_of name [] = None
 value_of name (p ∷ ps) = if is_name name p.name then Some p.value else value_of name ps
-
--- what a value says, or what no value says
-abbrev pub or_else : {A : Type 0} → (List ℕ → A) → A → Option (List ℕ) → A
-or_else says nothing None = nothing
-or_else says nothing (Some value) = says value
 
 -- the most entries of a page: the number, or 1,000 where that is less or there is no number
 abbrev pub most_entries : List ℕ → ℕ
@@ -172,12 +148,12 @@ as_it_is value = value
 -- what these parameters ask, of which no two have one name
 abbrev pub query_asked : List Parameter → ListQuery
 query_asked ps = record {
-  prefix = or_else as_it_is [] (value_of Prefix ps);
-  delimiter = or_else as_it_is [] (value_of Delimiter ps);
-  start_after = or_else as_it_is [] (value_of StartAfter ps);
-  token = or_else as_it_is [] (value_of ContinuationToken ps);
-  max_keys = or_else most_entries most_keys (value_of MaxKeys ps);
-  url = or_else is_url false (value_of EncodingType ps);
+  prefix = option_map_or as_it_is (value_of Prefix ps) [];
+  delimiter = option_map_or as_it_is (value_of Delimiter ps) [];
+  start_after = option_map_or as_it_is (value_of StartAfter ps) [];
+  token = option_map_or as_it_is (value_of ContinuationToken ps) [];
+  max_keys = option_map_or most_entries (value_of MaxKeys ps) most_keys;
+  url = option_map_or is_url (value_of EncodingType ps) false;
 }
 
 abbrev pub query_or : Option Cause → ListQuery → Result ListQuery Cause
@@ -186,7 +162,7 @@ query_or (Some cause) query = Err cause
 
 -- the query of these parameters, or the first cause that they have
 abbrev pub query_of : List Parameter → Result ListQuery Cause
-query_of ps = query_or (first_that (have ps) parameter_causes) (query_asked ps)
+query_of ps = query_or (find (have ps) parameter_causes) (query_asked ps)
 
 unfoldable pub query_read : List ℕ → Result ListQuery Cause
 query_read query = do

@@ -1,3 +1,4 @@
+-- Helper: the headline does not rest on this file.
 -- How far a reader has come: what it keeps of the lines so far.
 use Rattle.std.specs.Prelude.{◌≡◌, ℕ, ◌==◌, Bool, true, false, List, [], ◌∷◌, ◌++◌, length, Option, Some, None, Result, Ok, Err, if◌then◌else◌}
 use Rattle.std.specs.Option.{option_to_list}

@@ -1,10 +1,11 @@
 // One line: what it says, or its own first cause.
 ghost use Rattle.std.specs.Prelude.{◌≡◌, [], ◌∷◌, IfOk, MatchOption};
 ghost use Rattle.request_lines.specs.declared.verb.Verb.TheVariants as verbs;
-ghost use Rattle.request_lines.specs.Grammar.{IsFineCommand, read_fields, read_line, reading_of, list_read};
+ghost use Rattle.request_lines.specs.Grammar.{read_fields, read_line, reading_of, list_read};
+ghost use Rattle.request_lines.specs.Fine.{IsFineCommand};
 ghost use Rattle.request_lines.specs.Lines.{fields_of};
 ghost use Rattle.request_lines.specs.Left.{parts_left, IsNotOne};
-ghost use Rattle.request_lines.specs.Reads.{Reads};
+ghost use Rattle.request_lines.specs.ReadAnswers.{Reads};
 
 use crate::Cause;
 use crate::line_error::LineError;

@@ -1,7 +1,7 @@
 // What the lines so far have asked, against the limits of a session.
 ghost use Rattle.std.specs.Prelude.{◌≡◌, None, Some, IfOk, MatchResult};
 ghost use Rattle.request_lines.specs.Counting.{IsWithin, counted, limit_by_counts, none_counted};
-ghost use Rattle.request_lines.specs.Grammar.{IsFineCommand};
+ghost use Rattle.request_lines.specs.Fine.{IsFineCommand};
 
 use crate::Cause;
 use crate::command::Command;

@@ -9,13 +9,13 @@ mod command;
 mod counts;
 mod limits;
 mod line_error;
-mod lists;
 mod parameter;
 mod parts;
 mod put;
 mod query;
 mod read;
 mod reader;
+mod sample;
 mod session;
 mod session_error;
 mod texts;
@@ -23,8 +23,8 @@ mod verb;
 
 pub use cause::Cause;
 pub use limits::MAX_INPUT_BYTES;
-pub use lists::{AskedLines, ClientParts, Records};
 pub use read::read_session;
+pub use sample::sample_input;
 pub use session::{Asked, ClientPart, Session};
 pub use session_error::{InputError, SessionError};
 

@@ -4,7 +4,7 @@ ghost use Rattle.request_lines.specs.declared.cause.Cause.TheVariants.{WrongFiel
 ghost use Rattle.request_lines.specs.declared.verb.Verb.TheVariants as verbs;
 ghost use Rattle.request_lines.specs.Grammar as spec;
 ghost use Rattle.request_lines.specs.Left.{parts_left};
-ghost use Rattle.request_lines.specs.Reads.{Reads};
+ghost use Rattle.request_lines.specs.ReadAnswers.{Reads};
 
 use crate::command::Command;
 use crate::line_error::LineError;

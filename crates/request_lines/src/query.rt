@@ -1,12 +1,12 @@
 // The query of a LIST line.
-ghost use Rattle.std.specs.Prelude.{◌≡◌, [], true, false, min, OnOk, IsOkUnless, MatchOption};
+ghost use Rattle.std.specs.Prelude.{◌≡◌, [], true, false, min, OnOk, IsOkUnless, MatchOption, Some, None, if◌then◌else◌};
 ghost use Rattle.std.specs.Str.Parse.{digits_value};
 ghost use Rattle.request_lines.specs.declared.line_error.LineError.TheVariants.{NoMemory as OutOfMemory};
 ghost use Rattle.request_lines.specs.Asking as kept;
 ghost use Rattle.request_lines.specs.Limits.{most_keys};
 ghost use Rattle.request_lines.specs.Queries as spec;
 ghost use Rattle.request_lines.specs.Pieces.{asking, parameter as as_parameter, TakesPiece};
-ghost use Rattle.request_lines.specs.Reads.{Reads, ReadsAs};
+ghost use Rattle.request_lines.specs.ReadAnswers.{Reads, ReadsAs};
 
 use crate::Cause;
 use crate::cause::earliest;
@@ -86,16 +86,16 @@ impl Asking {
     }
 
     // Takes the next parameter.
-    #[tactic(auto, unfolding(crate::specs::Asking::asking_with))]
+    #[tactic(auto, unfolding(crate::specs::Asking::asking_with, crate::specs::Asking::parameter_cause))]
     fn take(&mut self, parameter: Parameter) -> Result<(), LineError>
         ensures asked { OnOk result (asking self.new ≡ kept.asking_with (asking self.old) (as_parameter parameter)) }
         ensures memory { IsOkUnless result OutOfMemory }
     {
         let Parameter { name, value } = parameter;
-        let cause = parameter_cause(self.names.as_slice(), name, value.as_str());
+        let of_name = name_cause(self.names.as_slice(), name, value.as_str());
         self.keep_name(name)?;
-        self.cause = earliest(self.cause, cause);
-        set(&mut self.query, name, value);
+        let of_value = set(&mut self.query, name, value);
+        self.cause = earliest(self.cause, of_name.or(of_value));
         Ok(())
     }
 
@@ -157,21 +157,17 @@ fn cut(piece: &str) -> (&str, &str)
     }
 }
 
-// The first cause of a parameter behind these names.
-#[tactic(auto, unfolding(crate::specs::Asking::parameter_cause))]
-fn parameter_cause(names: &[Name], name: Option<Name>, value: &str) -> Option<Cause>
-    ensures { result ≡ kept.parameter_cause names.now name value.now }
+// The first cause of a parameter behind these names that is none of its value alone.
+#[tactic(auto, unfolding(crate::specs::Asking::name_cause))]
+fn name_cause(names: &[Name], name: Option<Name>, value: &str) -> Option<Cause>
+    ensures { result ≡ kept.name_cause names.now name value.now }
 {
-    let Some(name) = name else {
-        return Some(Cause::UnknownParameter);
-    };
-    if is_too_long(name, value) {
-        return Some(Cause::KeyTooLong);
+    match name {
+        None => Some(Cause::UnknownParameter),
+        Some(name) if is_too_long(name, value) => Some(Cause::KeyTooLong),
+        Some(name) if stands_in(names, name) => Some(Cause::RepeatedParameter),
+        Some(_) => None,
     }
-    if stands_in(names, name) {
-        return Some(Cause::RepeatedParameter);
-    }
-    value_cause(name, value)
 }
 
 #[tactic(auto, unfolding(crate::specs::Asking::is_long_for))]
@@ -181,22 +177,6 @@ fn is_too_long(name: Name, value: &str) -> bool
     match name {
         Name::Prefix | Name::Delimiter | Name::StartAfter => value.len() > MAX_NAME_BYTES,
         _ => false,
-    }
-}
-
-// The cause of a value that its parameter does not take.
-#[tactic(auto, unfolding(crate::specs::Asking::value_cause))]
-fn value_cause(name: Name, value: &str) -> Option<Cause>
-    ensures { result ≡ kept.value_cause name value.now }
-{
-    match name {
-        Name::ListType if value != "2" => Some(Cause::BadListType),
-        Name::MaxKeys if max_keys(value).is_none() => Some(Cause::BadMaxKeys),
-        Name::EncodingType if !value.is_empty() && value != "url" => Some(Cause::BadEncoding),
-        Name::FetchOwner if !value.is_empty() && value != "true" && value != "false" => {
-            Some(Cause::BadFetchOwner)
-        }
-        _ => None,
     }
 }
 
@@ -215,18 +195,71 @@ fn max_keys(value: &str) -> Option<u32>
     }
 }
 
-// The query with this parameter.
-#[tactic(auto, unfolding(crate::specs::Asking::with_parameter))]
-fn set(query: &mut ListQuery, name: Option<Name>, value: Text)
-    ensures { query.new ≡ kept.with_parameter query.old name value }
+// The query with this parameter. Answers the cause of a value that the parameter does not take.
+#[tactic(auto, unfolding(crate::specs::Asking::with_parameter, crate::specs::Asking::value_cause))]
+fn set(query: &mut ListQuery, name: Option<Name>, value: Text) -> Option<Cause>
+    ensures query { query.new ≡ kept.with_parameter query.old name value }
+    ensures cause { result ≡ kept.value_cause name value }
 {
     match name {
         Some(Name::Prefix) => query.prefix = value,
         Some(Name::Delimiter) => query.delimiter = value,
         Some(Name::StartAfter) => query.start_after = value,
         Some(Name::ContinuationToken) => query.token = value,
-        Some(Name::MaxKeys) => query.max_keys = max_keys(value.as_str()).unwrap_or(MAX_KEYS),
-        Some(Name::EncodingType) => query.url = value.as_str() == "url",
-        Some(Name::ListType | Name::FetchOwner) | None => {}
+        Some(Name::MaxKeys) => return set_max_keys(query, value.as_str()),
+        Some(Name::EncodingType) => return set_encoding(query, value.as_str()),
+        Some(Name::ListType) => return list_type_cause(value.as_str()),
+        Some(Name::FetchOwner) => return fetch_owner_cause(value.as_str()),
+        None => {}
+    }
+    None
+}
+
+// Values for `max-keys`: the number, or 1,000 where that is less.
+fn set_max_keys(query: &mut ListQuery, value: &str) -> Option<Cause>
+    ensures query { query.new ≡ record query.old { max_keys = spec.most_entries value.now } }
+    ensures cause { result ≡ (if spec.is_max_keys value.now then None else Some Cause.BadMaxKeys) }
+{
+    match max_keys(value) {
+        Some(most) => {
+            query.max_keys = most;
+            None
+        }
+        None => {
+            query.max_keys = MAX_KEYS;
+            Some(Cause::BadMaxKeys)
+        }
+    }
+}
+
+// Values for `encoding-type`: none, or `url`.
+fn set_encoding(query: &mut ListQuery, value: &str) -> Option<Cause>
+    ensures query { query.new ≡ record query.old { url = spec.is_url value.now } }
+    ensures cause { result ≡ (if spec.is_encoding value.now then None else Some Cause.BadEncoding) }
+{
+    query.url = value == "url";
+    if query.url || value.is_empty() {
+        None
+    } else {
+        Some(Cause::BadEncoding)
+    }
+}
+
+fn list_type_cause(value: &str) -> Option<Cause>
+    ensures { result ≡ (if spec.is_list_type value.now then None else Some Cause.BadListType) }
+{
+    match value {
+        "2" => None,
+        _ => Some(Cause::BadListType),
+    }
+}
+
+fn fetch_owner_cause(value: &str) -> Option<Cause>
+    ensures { result ≡ (if spec.is_fetch_owner value.now then None else Some Cause.BadFetchOwner) }
+{
+    if value.is_empty() || value == "true" || value == "false" {
+        None
+    } else {
+        Some(Cause::BadFetchOwner)
     }
 }

@@ -2,8 +2,9 @@ ghost use Rattle.std.specs.Prelude.{◌≡◌, ◌<◌, ◌≤◌, ◌==◌, ◌
 ghost use Rattle.std.specs.List.{position};
 ghost use Rattle.request_lines.specs.Limits.{most_input_bytes};
 ghost use Rattle.request_lines.specs.Lines.{texts_of};
-ghost use Rattle.request_lines.specs.Input.{IsSessionOf, IsRefused};
-ghost use Rattle.request_lines.specs.Session.{HasNames, HasRecords, HasRequests, HasLines, IsSmall};
+ghost use Rattle.request_lines.specs.Input.{IsSessionOf};
+ghost use Rattle.request_lines.specs.Refusal.{IsRefused};
+ghost use Rattle.request_lines.specs.SessionLaws.{HasNames, HasRecords, HasRequests, HasLines, IsSmall};
 ghost use Rattle.request_lines.specs.Left.{texts_left, size_left};
 ghost use Rattle.std.specs.Str.Lines.{strip_carriage_return};
 

@@ -3,17 +3,16 @@ ghost use Rattle.std.specs.Prelude.{◌≡◌, ◌∷◌, [], ◌++◌, Ok, OnOk
 ghost use Rattle.request_lines.specs.declared.line_error.LineError.TheVariants.{NoMemory as OutOfMemory};
 ghost use Rattle.request_lines.specs.declared.session_error.SessionError.TheVariants.{NoMemory as NoSession};
 ghost use Rattle.request_lines.specs.Counting.{IsWithin, counted};
-ghost use Rattle.request_lines.specs.Grammar.{IsFineCommand};
+ghost use Rattle.request_lines.specs.Fine.{IsFineCommand};
 ghost use Rattle.request_lines.specs.Reading.{Progress, progress, no_progress, all_ended, kept, Takes, Keeps};
 
 use crate::command::{Command, command_of};
 use crate::counts::Counts;
 use crate::line_error::LineError;
-use crate::{
-    Asked, AskedLines, ClientPart, ClientParts, InputError, Records, Session, SessionError,
-};
+use crate::{Asked, ClientPart, InputError, Session, SessionError};
 use bucket_terms::{Record, Request};
-use key_names::{Names, Text};
+use key_map::Items;
+use key_names::Text;
 use std::alloc::Global;
 use std::mem;
 
@@ -132,7 +131,7 @@ impl Reader {
         ensures memory { IsOkUnless result OutOfMemory }
     {
         let alloc = *self.current.allocator();
-        let requests = AskedLines::new(mem::replace(&mut self.current, Vec::new(alloc)));
+        let requests = Items::from_vec(mem::replace(&mut self.current, Vec::new(alloc)));
         if 0 < self.counts.clients {
             self.ended.push(ClientPart { requests })?;
         }
@@ -171,13 +170,13 @@ impl Reader {
             records,
         } = self;
         if 0 < counts.clients {
-            let requests = AskedLines::new(current);
+            let requests = Items::from_vec(current);
             ended.push(ClientPart { requests })?;
         }
         Ok(Session {
-            clients: ClientParts::new(ended),
-            names: Names::new(names),
-            records: Records::new(records),
+            clients: Items::from_vec(ended),
+            names: Items::from_vec(names),
+            records: Items::from_vec(records),
         })
     }
 }

@@ -1,10 +1,10 @@
 // What a session's text asks.
-ghost use Rattle.std.specs.Prelude.{◌≡◌, ◌<◌, ◌^◌, length, count_by};
+ghost use Rattle.std.specs.Prelude.{◌≡◌, ◌<◌, ◌^◌, length};
 ghost use Rattle.bucket_terms.specs.LegalRun as spec;
 
-use crate::{AskedLines, ClientParts, Records};
-use bucket_terms::Request;
-use key_names::Names;
+use bucket_terms::{Record, Request};
+use key_map::Items;
+use key_names::Text;
 
 /// One request and the number of its line, counted from 1.
 #[derive(Debug, Drop)]
@@ -13,30 +13,31 @@ pub struct Asked {
     pub request: Request,
 }
 
-/// What one client asks.
+/// What one client asks, in the order of its lines.
 #[derive(Debug, Drop)]
 pub struct ClientPart {
-    pub requests: AskedLines,
+    pub requests: Items<Asked>,
 }
 
 /// What a text asks, client by client.
 #[derive(Debug, Drop)]
 pub struct Session {
-    pub clients: ClientParts,
+    /// The place of a part, from 0, is the number of its client.
+    pub clients: Items<ClientPart>,
     /// The names of all PUT, DELETE and HEAD lines, in the order of the lines.
-    pub names: Names,
-    /// The records of all PUT lines, in the order of the lines.
-    pub records: Records,
+    pub names: Items<Text>,
+    /// The records of all PUT lines, in the order of the lines. A `Put` names its record by the place, from 0.
+    pub records: Items<Record>,
 }
 
 impl ClientPart {
-    ghost use Rattle.bucket_terms.specs.LegalRun.{RequestLine, is_update};
+    ghost use Rattle.bucket_terms.specs.LegalRun.{updates_in};
     ghost use Rattle.request_lines.specs.Session.{request_lines};
 
     /// How many of the requests are updates: PUT and DELETE lines.
     pub fn writes(&self) -> u32
         requires { length self.now.requests < 2 ^ 32 }
-        ensures { result ≡ count_by (λ (l : RequestLine). is_update l.request) (request_lines self.now) }
+        ensures { result ≡ updates_in (request_lines self.now) }
     {
         let mut writes = 0;
         for asked in self.requests.as_slice() {

@@ -249,3 +249,19 @@ fn takes_one_client_alone(rt: HostRuntime) -> Result<(), Fail> {
     assert_eq!(rt; cause(rt.alloc(), "CLIENT")?, Some(Cause::NotBuilt));
     Ok(())
 }
+
+#[test]
+fn writes_the_generated_session(rt: HostRuntime) -> Result<(), Fail> {
+    let alloc = rt.alloc();
+    let mut expected = String::new(alloc);
+    for c in ["s0", "s1", "s2", "s3"] {
+        let puts = format!(in alloc; "CLIENT\nPUT {c}/0000 0 e 0\nPUT {c}/0389 1 e 1\n")?;
+        let others = format!(in alloc; "DELETE {c}/0778\nLIST prefix={c}/&max-keys=100\n")?;
+        let last = format!(in alloc; "PUT {c}/0555 4 e 4\n")?;
+        expected.push_str(&puts)?;
+        expected.push_str(&others)?;
+        expected.push_str(&last)?;
+    }
+    assert_eq!(rt; sample_input(alloc, 5)?.as_slice(), expected.as_bytes());
+    Ok(())
+}

@@ -3,7 +3,7 @@ ghost use Rattle.std.specs.Prelude.{◌≡◌, ◌==◌, true, false, MatchOptio
 ghost use Rattle.std.specs.Char.{is_ascii_digit};
 ghost use Rattle.std.specs.List.{list_all, list_any};
 ghost use Rattle.std.specs.Str.Parse.{digits_value};
-ghost use Rattle.request_lines.specs.Reads.{Reads};
+ghost use Rattle.request_lines.specs.ReadAnswers.{Reads};
 ghost use Rattle.request_lines.specs.Texts as spec;
 
 use crate::Cause;

@@ -1,6 +1,6 @@
 // Whether a reply is one of the directory and the records.
 ghost use Rattle.std.specs.Prelude.{IsTrue, All};
-ghost use Rattle.bucket_terms.specs.Page.{IsEntryInRange};
+ghost use Rattle.bucket_terms.specs.PageInRange.{IsEntryInRange};
 ghost use Rattle.answer_text.specs.InRange.{HasRecord, IsPageOf, IsReplyOf};
 
 use bucket_terms::{Page, PageEntry, Record, Reply};

@@ -1,6 +1,6 @@
 // Whether a page is in range: only such a page has a point.
 ghost use Rattle.std.specs.Prelude.{IsTrue, All};
-ghost use Rattle.bucket_terms.specs.Page.{IsInRange, IsEntryInRange};
+ghost use Rattle.bucket_terms.specs.PageInRange.{IsInRange, IsEntryInRange};
 
 use crate::{Page, PageEntry};
 use key_names::Directory;

@@ -1,17 +1,13 @@
 use Rattle.bucketidx.specs.declared.stop.Stop.TheVariants.{Fault, NoMemory}
-use Rattle.std.proofs.Common.{inr, List, [], ◌∷◌, All, ◌^◌, sym, subst}
+use Rattle.std.proofs.Common.{inr, List, [], ◌∷◌, All, sym, subst}
 use Rattle.std.proofs.lemmas.Result.{IfOk-weaker}
 use Rattle.outside_io.specs.Sink.{IsTaken, TakesStart}
 use Rattle.bucket_terms.specs.declared.reply.Placed.{Placed}
 use Rattle.answer_text.specs.InRange.{IsReplyOf}
 use Rattle.request_lines.specs.Session.{request_lines}
-use Rattle.bucketidx.specs.Served.{client_text}
-use Rattle.client_run.proofs.Sessions.{rise_of}
+use Rattle.bucketidx.specs.ClientText.{client_text}
 use Rattle.bucketidx.proofs.Runs.{legal, keys, recorded}
 use Rattle.bucketidx.proofs.running.run_part.Goals as goal
-
-pub run_client-requires-clause-rising : goal.run_client-requires-clause-rising
-run_client-requires-clause-rising g c = rise_of 0 (2 ^ 32) (request_lines c.args.part.now) c.requires.rising
 
 pub write_run-requires-clause-replies : goal.write_run-requires-clause-replies
 write_run-requires-clause-replies g c =

@@ -1,3 +1,4 @@
+use Rattle.request_lines.specs.SessionLaws.{HasRecordBelow}
 use Rattle.bucketidx.specs.declared.stop.Stop.TheVariants.{Fault, NoMemory}
 use Rattle.std.proofs.Common.{inr, ℕ, List, ◌∙◌, ap, subst, sym, length, All}
 use Rattle.std.specs.List.{slice_get}
@@ -7,7 +8,6 @@ use Rattle.bucket_terms.specs.declared.record.Record.{Record}
 use Rattle.bucket_terms.specs.LegalRun.{Run}
 use Rattle.request_lines.specs.declared.session.ClientPart.{ClientPart}
 use Rattle.request_lines.specs.Session.{request_lines}
-use Rattle.bucketidx.specs.Places.{HasRecordBelow}
 use Rattle.client_run.proofs.Sessions.{askable, served_first}
 use Rattle.bucketidx.proofs.Runs.{recorded_below}
 use Rattle.bucketidx.proofs.Sessions.{none_holds}

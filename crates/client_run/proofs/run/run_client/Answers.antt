@@ -7,7 +7,8 @@ use Rattle.bucket_terms.specs.declared.reply.Placed.{Placed}
 use Rattle.bucket_terms.specs.LegalRun.{RequestLine, is_listing, last_listing, answered_lines, updates_in}
 use Rattle.request_lines.specs.declared.session.Asked.{Asked}
 use Rattle.request_lines.specs.Session.{request_line, request_lines}
-use Rattle.client_run.specs.ClientRun.{Answers, IsAskable, IsLaterLine}
+use Rattle.client_run.specs.ClientRun.{Answers, IsLaterLine}
+use Rattle.request_lines.specs.SessionLaws.{IsAskable}
 use Rattle.std.proofs.lemmas.List.Elements.{All-push}
 use Rattle.client_run.specs.Listing.{HasPageInRange}
 use Rattle.client_run.proofs.Growing.{start}

@@ -6,7 +6,7 @@ use Rattle.client_run.proofs.updates.put.Goals as goal
 pub returns-in-Ok-clause-answers : goal.returns-in-Ok-clause-answers
 returns-in-Ok-clause-answers g c = λ last.
     let view = g.P.KeyPass.view in
-    rw c.client-client.ensures.number (put_answers c.args.dir.now (view c.args.pass.now) (view c.put.new.self) last c.args.line c.rank_of-key.result c.args.val c.args.name.now c.in-Ok.done c.client-client.ensures.mine c.rank_of-key.ensures c.in-Ok.ensures.made)
+    rw (c.answer_at.ensures, c.client-client.ensures.number) (put_answers c.args.dir.now (view c.args.pass.now) (view c.put.new.self) last c.args.line c.rank_of-key.result c.args.val c.args.name.now c.in-Ok.done c.client-client.ensures.mine c.rank_of-key.ensures c.in-Ok.ensures.made)
 
 pub returns-in-Err-NoSlot-clause-answers : goal.returns-in-Err-NoSlot-clause-answers
 returns-in-Err-NoSlot-clause-answers g c = λ last.

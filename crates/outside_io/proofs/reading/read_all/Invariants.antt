@@ -1,4 +1,4 @@
-use Rattle.std.proofs.Common.{◌-◌, ◌<◌, ◌≤◌, ◌≡◌, vec_len}
+use Rattle.std.proofs.Common.{◌-◌, ◌≤◌, ◌≡◌, vec_len}
 use Rattle.outside_io.specs.Source.{IsRead}
 use Rattle.outside_io.proofs.reading.read_all.Given as goal
 

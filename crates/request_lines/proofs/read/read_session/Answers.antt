@@ -1,6 +1,6 @@
 use Rattle.std.proofs.Common.{Err, IfOk, ◌+◌, ap, arith}
 use Rattle.std.proofs.lemmas.Result.{err_from_is_err_and, IfOk-weaker}
-use Rattle.request_lines.specs.Session.{HasNames, HasRecords, HasRequests, HasLines, IsSmall}
+use Rattle.request_lines.specs.SessionLaws.{HasNames, HasRecords, HasRequests, HasLines, IsSmall}
 use Rattle.request_lines.specs.Reading.{progress}
 use Rattle.request_lines.specs.Left.{texts_left, size_left}
 use Rattle.request_lines.proofs.InputLaws.{halfway_start, halfway_more, halfway_next, refused_at, session_at, answer_at}

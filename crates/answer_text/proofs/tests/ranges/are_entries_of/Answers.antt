@@ -1,7 +1,7 @@
 use Rattle.std.proofs.Common.{All, refl, subst}
 use Rattle.std.proofs.lemmas.List.{take_all}
 use Rattle.std.proofs.lemmas.List.Elements.{All-more}
-use Rattle.bucket_terms.specs.Page.{IsEntryInRange}
+use Rattle.bucket_terms.specs.PageInRange.{IsEntryInRange}
 use Rattle.answer_text.specs.InRange.{HasRecord}
 use Rattle.answer_text.proofs.tests.ranges.are_entries_of.Goals as goal
 

@@ -1,5 +1,5 @@
 use Rattle.std.proofs.Common.{All, take}
-use Rattle.bucket_terms.specs.Page.{IsEntryInRange}
+use Rattle.bucket_terms.specs.PageInRange.{IsEntryInRange}
 use Rattle.answer_text.specs.InRange.{HasRecord}
 use Rattle.answer_text.proofs.tests.ranges.are_entries_of.Given as goal
 

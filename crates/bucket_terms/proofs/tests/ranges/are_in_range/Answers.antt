@@ -1,7 +1,7 @@
 use Rattle.std.proofs.Common.{All, refl, subst}
 use Rattle.std.proofs.lemmas.List.{take_all}
 use Rattle.std.proofs.lemmas.List.Elements.{All-more}
-use Rattle.bucket_terms.specs.Page.{IsEntryInRange}
+use Rattle.bucket_terms.specs.PageInRange.{IsEntryInRange}
 use Rattle.bucket_terms.proofs.tests.ranges.are_in_range.Goals as goal
 
 pub loop-entry-preserved : goal.loop-entry-preserved

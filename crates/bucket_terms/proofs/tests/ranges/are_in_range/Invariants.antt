@@ -1,5 +1,5 @@
 use Rattle.std.proofs.Common.{All, take}
-use Rattle.bucket_terms.specs.Page.{IsEntryInRange}
+use Rattle.bucket_terms.specs.PageInRange.{IsEntryInRange}
 use Rattle.bucket_terms.proofs.tests.ranges.are_in_range.Given as goal
 
 abbrev pub invariant-loop-entry : goal.invariant-loop-entry

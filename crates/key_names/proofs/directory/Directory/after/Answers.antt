@@ -1,6 +1,6 @@
 use Rattle.std.proofs.Common.{rules}
 use Rattle.std.proofs.lemmas.Fn.{always_returns_same}
-use Rattle.key_names.specs.Names.{is_upto}
+use Rattle.key_names.specs.Ranks.{is_upto}
 use Rattle.key_names.proofs.Places.{partitioned, count_from_point, stand_first, upto_downward}
 use Rattle.key_names.proofs.directory.Directory.after.Goals as goal
 

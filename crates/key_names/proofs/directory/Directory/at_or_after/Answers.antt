@@ -1,6 +1,6 @@
 use Rattle.std.proofs.Common.{rules}
 use Rattle.std.proofs.lemmas.Fn.{always_returns_same}
-use Rattle.key_names.specs.Names.{is_before}
+use Rattle.key_names.specs.Ranks.{is_before}
 use Rattle.key_names.proofs.Places.{partitioned, count_from_point, stand_first, before_downward}
 use Rattle.key_names.proofs.directory.Directory.at_or_after.Goals as goal
 

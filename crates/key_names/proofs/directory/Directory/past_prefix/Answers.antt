@@ -1,6 +1,6 @@
 use Rattle.std.proofs.Common.{rules}
 use Rattle.std.proofs.lemmas.Fn.{always_returns_same}
-use Rattle.key_names.specs.Names.{is_upto_prefix}
+use Rattle.key_names.specs.Ranks.{is_upto_prefix}
 use Rattle.key_names.proofs.Places.{partitioned, count_from_point, stand_first, prefix_downward, before_downward, stand_together}
 use Rattle.key_names.proofs.directory.Directory.past_prefix.Goals as goal
 
