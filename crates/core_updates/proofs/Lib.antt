@@ -7,3 +7,4 @@ pub mod HeldReady
 pub mod SearchEnds
 pub mod LinksTo
 pub mod PlansOf
+pub mod PlansRaise

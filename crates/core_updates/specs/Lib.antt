@@ -4,3 +4,4 @@ pub mod Held
 pub mod Plans
 pub mod PlanOf
 pub mod Search
+pub mod PlanReady

@@ -122,3 +122,11 @@ node_fills n =
 abbrev pub entry_fills : ℕ → ℕ → ℕ → List Filled
 entry_fills entry child behind =
     fill (Entry Child entry) child ∷ fill (Entry Number entry) 0 ∷ fill (Entry Next entry) behind ∷ []
+
+abbrev pub slot_of : Option NewNode → Option ℕ
+slot_of None = None
+slot_of (Some n) = Some n.slot
+
+abbrev pub entries_of : List Front → List ℕ
+entries_of [] = []
+entries_of (f ∷ fs) = f.entry ∷ entries_of fs
