@@ -4,3 +4,7 @@ pub mod NewChildren
 pub mod MayRaise
 pub mod Successor
 pub mod HeldReady
+pub mod SearchEnds
+pub mod LinksTo
+pub mod PlansOf
+pub mod PlansRaise

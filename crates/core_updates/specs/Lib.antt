@@ -1,3 +1,7 @@
 pub mod LinkSteps
 pub mod Ready
 pub mod Held
+pub mod Plans
+pub mod PlanOf
+pub mod Search
+pub mod PlanReady

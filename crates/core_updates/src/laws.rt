@@ -1,5 +1,6 @@
 ghost use Rattle.core_updates.specs.LinkSteps.{GrowByLinkLaw, ReplaceByLinkLaw, LiftByLinkLaw, JoinNearLaw, JoinDeepLaw, SuccessorGapLaw};
 ghost use Rattle.core_updates.specs.Held.{GrowFromViewLaw, ReplaceFromViewLaw, LiftFromViewLaw, JoinFromViewLaw};
+ghost use Rattle.core_updates.specs.PlanReady.{PlanMayRaiseLaw};
 ghost use Rattle.core_updates.specs.Ready.{MayGrowLaw, MayReplaceLaw, MayLiftLaw, MayJoinLaw};
 
 /// The tree step by links. Where a few links of a spelled tree are known, and after a change lead to what the
@@ -38,4 +39,10 @@ pub fn validated_updates_may_raise()
     ensures replace { ReplaceFromViewLaw }
     ensures lift { LiftFromViewLaw }
     ensures join { JoinFromViewLaw }
+{}
+
+/// A plan that is ready may be raised. A seat whose view is ready for a plan may raise its update in every table that
+/// meets the rule and has this view at the seat; the raise brings in and takes out what the plan says.
+pub fn ready_plans_may_raise()
+    ensures plan { PlanMayRaiseLaw }
 {}

@@ -1,0 +1,132 @@
+-- What a plan says, as lists in the order in which the update does it: which nodes are locked, what is looked at under the
+-- locks, which words are filled, which entries are put in front of bundles, and which nodes go out.
+use Rattle.std.specs.Prelude.{ℕ, List, [], ◌∷◌, ◌++◌, ◌==◌, Option, Some, None, if◌then◌else◌}
+use Rattle.std.specs.Option.{option_to_list}
+use Rattle.index_words.specs.declared.side.Side.{Side}
+use Rattle.index_words.specs.declared.side.Side.TheVariants.{Left, Right}
+use Rattle.key_map.specs.declared.pair.Pair.{Pair}
+use Rattle.key_map.specs.declared.update.Change.{Change}
+use Rattle.key_map.specs.declared.update.Change.TheVariants.{Put, Remove}
+use Rattle.index_words.specs.declared.view.reading.Filled.{Filled}
+use Rattle.index_words.specs.declared.word.Word.{Word}
+use Rattle.index_words.specs.declared.word.Word.TheVariants.{Node, Entry}
+use Rattle.index_words.specs.declared.word.Field.TheVariants.{Key as KeyField, Val as ValField, Mark, Head}
+use Rattle.index_words.specs.declared.word.Part.TheVariants.{Child, Stamp as Number, Next}
+use Rattle.core_trees.specs.declared.link.Link.{Link}
+use Rattle.core_updates.specs.declared.plan.Plan.{Plan}
+use Rattle.core_updates.specs.declared.plan.Plan.TheVariants.{Grow, Replace, Lift, Join}
+use Rattle.core_updates.specs.declared.plan.JoinPlan.{JoinPlan}
+use Rattle.core_updates.specs.declared.plan.PlanSlots.{PlanSlots}
+use Rattle.core_updates.specs.declared.plan.Look.{Look}
+use Rattle.core_updates.specs.declared.plan.Look.TheVariants.{Link as LinkLook, Key as KeyLook, Val as ValLook}
+use Rattle.core_updates.specs.declared.plan.Front.{Front}
+use Rattle.core_updates.specs.declared.plan.Fresh.{Fresh}
+use Rattle.core_updates.specs.declared.plan.NewNode.{NewNode}
+
+abbrev pub link_of : ℕ → Side → Link
+link_of node side = record { node = node; side = side }
+
+abbrev pub other_side : Side → Side
+other_side Left = Right
+other_side Right = Left
+
+-- the key and the change of the update
+abbrev pub key_of : Plan → ℕ
+key_of (Grow p) = p.pair.key
+key_of (Replace p) = p.pair.key
+key_of (Lift p) = p.key
+key_of (Join p) = p.key
+
+abbrev pub change_of : Plan → Change
+change_of (Grow p) = Put p.pair.val
+change_of (Replace p) = Put p.pair.val
+change_of (Lift p) = Remove
+change_of (Join p) = Remove
+
+-- the successor's parent, where it is not the removed node itself
+abbrev pub between : JoinPlan → List ℕ
+between p = if p.next.at.node == p.node then [] else p.next.at.node ∷ []
+
+-- the nodes that are locked
+abbrev pub locks_of : Plan → List ℕ
+locks_of (Grow p) = p.at.node ∷ []
+locks_of (Replace p) = p.at.node ∷ p.node ∷ []
+locks_of (Lift p) = p.at.node ∷ p.node ∷ []
+locks_of (Join p) = p.at.node ∷ p.node ∷ between p ++ p.next.node ∷ []
+
+-- what is looked at under the locks, and what must be found there
+abbrev pub looks_of : Plan → List Look
+looks_of (Grow p) = LinkLook p.at 0 ∷ []
+looks_of (Replace p) =
+    LinkLook p.at p.node ∷ LinkLook (link_of p.node Left) p.left ∷ LinkLook (link_of p.node Right) p.right
+    ∷ KeyLook p.node p.pair.key ∷ []
+looks_of (Lift p) =
+    LinkLook p.at p.node ∷ LinkLook (link_of p.node p.bare) 0 ∷ LinkLook (link_of p.node (other_side p.bare)) p.child
+    ∷ KeyLook p.node p.key ∷ []
+looks_of (Join p) =
+    LinkLook p.at p.node ∷ LinkLook (link_of p.node Left) p.left ∷ LinkLook (link_of p.node Right) p.right
+    ∷ KeyLook p.node p.key
+    ∷ LinkLook p.next.at p.next.node ∷ LinkLook (link_of p.next.node Left) 0 ∷ LinkLook (link_of p.next.node Right) p.next.right
+    ∷ KeyLook p.next.node p.next.pair.key ∷ ValLook p.next.node p.next.pair.val ∷ []
+
+-- the entry of a new node's link to the child, 0 for none
+abbrev pub fresh_to : ℕ → ℕ → Option Fresh
+fresh_to entry child = if child == 0 then None else Some (record { entry = entry; child = child })
+
+-- the node that is brought in
+abbrev pub new_node_of : Plan → PlanSlots → Option NewNode
+new_node_of (Grow p) s = Some (record { slot = s.node; pair = p.pair; left = None; right = None })
+new_node_of (Replace p) s =
+    Some (record { slot = s.node; pair = p.pair; left = fresh_to s.left p.left; right = fresh_to s.right p.right })
+new_node_of (Lift p) s = None
+new_node_of (Join p) s =
+    Some (record {
+      slot = s.node;
+      pair = p.next.pair;
+      left = fresh_to s.left p.left;
+      right = fresh_to s.right (if p.next.at.node == p.node then p.next.right else p.right);
+    })
+
+-- the entry in front of the link to the successor, where that is not a link of the removed node
+abbrev pub next_fronts : JoinPlan → PlanSlots → List Front
+next_fronts p s =
+    if p.next.at.node == p.node then [] else record { at = p.next.at; entry = s.next; child = p.next.right } ∷ []
+
+-- the entries that are put in front of bundles
+abbrev pub fronts_of : Plan → PlanSlots → List Front
+fronts_of (Grow p) s = record { at = p.at; entry = s.at; child = s.node } ∷ []
+fronts_of (Replace p) s = record { at = p.at; entry = s.at; child = s.node } ∷ []
+fronts_of (Lift p) s = record { at = p.at; entry = s.at; child = p.child } ∷ []
+fronts_of (Join p) s = record { at = p.at; entry = s.at; child = s.node } ∷ next_fronts p s
+
+-- the nodes that go out with the raise, and are marked behind it
+abbrev pub out_of : Plan → List ℕ
+out_of (Grow p) = []
+out_of (Replace p) = p.node ∷ []
+out_of (Lift p) = p.node ∷ []
+out_of (Join p) = p.node ∷ p.next.node ∷ []
+
+abbrev pub head_of : Option Fresh → ℕ
+head_of None = 0
+head_of (Some fresh) = fresh.entry
+
+abbrev pub fill : Word → ℕ → Filled
+fill w x = record { word = w; value = x }
+
+-- the words that are filled: of a new node, and of an entry that leads to a child with another one behind it
+abbrev pub node_fills : NewNode → List Filled
+node_fills n =
+    fill (Node Mark n.slot) 0 ∷ fill (Node KeyField n.slot) n.pair.key ∷ fill (Node ValField n.slot) n.pair.val
+    ∷ fill (Node (Head Left) n.slot) (head_of n.left) ∷ fill (Node (Head Right) n.slot) (head_of n.right) ∷ []
+
+abbrev pub entry_fills : ℕ → ℕ → ℕ → List Filled
+entry_fills entry child behind =
+    fill (Entry Child entry) child ∷ fill (Entry Number entry) 0 ∷ fill (Entry Next entry) behind ∷ []
+
+abbrev pub slot_of : Option NewNode → Option ℕ
+slot_of None = None
+slot_of (Some n) = Some n.slot
+
+abbrev pub entries_of : List Front → List ℕ
+entries_of [] = []
+entries_of (f ∷ fs) = f.entry ∷ entries_of fs

@@ -1,0 +1,158 @@
+// Steps along a link's bundle, to the entry that the section number selects, and down the tree.
+use crate::machine::{Machine, Stop};
+use crate::seat::{Outcome, Report, Seat, Step, WalkStep};
+use core_rule::Kind;
+use core_trees::Link;
+use index_words::{Field, LinkSource, Part, Place, Side, View, Word};
+use std::alloc::Global;
+
+/// A link as a view remembers it: the entry that selected it, and the child.
+#[derive(Clone, Copy, Debug, PartialEq, Eq)]
+pub(crate) struct Known {
+    pub(crate) entry: u64,
+    pub(crate) child: u64,
+}
+
+/// What the view remembers of a link that it found through its bundle.
+pub(crate) fn remembered_link(view: &View, at: Link) -> Option<Known> {
+    let mut found = None;
+    for link in view.reading.links.as_slice() {
+        if let LinkSource::Bundle { entry } = link.source
+            && link.node == at.node
+            && link.side == at.side
+        {
+            found = Some(Known {
+                entry,
+                child: link.child,
+            });
+        }
+    }
+    found
+}
+
+// The entry at which the view stands, 0 for none.
+fn entry_at(view: &View) -> u32 {
+    match view.reading.place {
+        Place::Entry { entry, .. } => u32::try_from(entry).unwrap_or(0),
+        _ => 0,
+    }
+}
+
+pub(crate) fn walk_step(
+    alloc: Global,
+    machine: &mut Machine,
+    seat: &mut Seat,
+    step: WalkStep,
+) -> Result<Option<Report>, Stop> {
+    let number = seat.number;
+    let entry = machine.view(number).map_or(0, entry_at);
+    match step {
+        WalkStep::Head(at) => {
+            let word = Word::Node(Field::Head(at.side), at.node);
+            machine.step(alloc, number, Kind::LoadHead, word, 0)?;
+            go_on(machine, seat)?;
+        }
+        WalkStep::Number => {
+            machine.step(
+                alloc,
+                number,
+                Kind::LoadTs,
+                Word::Entry(Part::Stamp, entry),
+                0,
+            )?;
+            compare(machine, seat, machine.word(Word::Entry(Part::Stamp, entry)))?;
+        }
+        WalkStep::Next => {
+            machine.step(
+                alloc,
+                number,
+                Kind::LoadNext,
+                Word::Entry(Part::Next, entry),
+                0,
+            )?;
+            go_on(machine, seat)?;
+        }
+        WalkStep::Child => {
+            machine.step(
+                alloc,
+                number,
+                Kind::LoadPtr,
+                Word::Entry(Part::Child, entry),
+                0,
+            )?;
+        }
+        WalkStep::Arrive { at, key } => return arrive(machine, seat, at, key),
+        WalkStep::Key { node, key } => {
+            let word = Word::Node(Field::Key, node);
+            machine.step(alloc, number, Kind::LoadKeyOrVal, word, 0)?;
+            descend(seat, node, key, machine.word(word))?;
+        }
+        WalkStep::Val { node, key } => {
+            let word = Word::Node(Field::Val, node);
+            machine.step(alloc, number, Kind::LoadKeyOrVal, word, 0)?;
+            return Ok(found(machine, seat, key, Some(machine.word(word))));
+        }
+    }
+    Ok(None)
+}
+
+// At an entry its number is loaded next; where there is none the link is null.
+fn go_on(machine: &Machine, seat: &mut Seat) -> Result<(), Stop> {
+    if machine.view(seat.number).map_or(0, entry_at) == 0 {
+        return Ok(());
+    }
+    seat.then(&[Step::Walk(WalkStep::Number)])
+}
+
+// A reader waits for a number that is not written yet, an update gives up.
+fn compare(machine: &Machine, seat: &mut Seat, stamp: u64) -> Result<(), Stop> {
+    let Some(view) = machine.view(seat.number) else {
+        return Ok(());
+    };
+    if stamp == 0 {
+        if view.reading.opened.is_some() {
+            return seat.then(&[Step::Walk(WalkStep::Number)]);
+        }
+        return seat.give_up(Outcome::Pending);
+    }
+    if stamp <= view.reading.section.unwrap_or(0) {
+        seat.then(&[Step::Walk(WalkStep::Child)])
+    } else {
+        seat.then(&[Step::Walk(WalkStep::Next)])
+    }
+}
+
+fn arrive(machine: &Machine, seat: &mut Seat, at: Link, key: u64) -> Result<Option<Report>, Stop> {
+    let child = machine
+        .view(seat.number)
+        .and_then(|view| remembered_link(view, at))
+        .map_or(0, |link| link.child);
+    let node = u32::try_from(child).unwrap_or(0);
+    if node == 0 {
+        return Ok(found(machine, seat, key, None));
+    }
+    seat.then(&[Step::Walk(WalkStep::Key { node, key })])?;
+    Ok(None)
+}
+
+fn descend(seat: &mut Seat, node: u32, key: u64, found: u64) -> Result<(), Stop> {
+    if found == key {
+        return seat.then(&[Step::Walk(WalkStep::Val { node, key })]);
+    }
+    let side = if key < found { Side::Left } else { Side::Right };
+    let at = Link { node, side };
+    seat.then(&[
+        Step::Walk(WalkStep::Head(at)),
+        Step::Walk(WalkStep::Arrive { at, key }),
+    ])
+}
+
+fn found(machine: &Machine, seat: &Seat, key: u64, val: Option<u64>) -> Option<Report> {
+    let view = machine.view(seat.number)?;
+    Some(Report::Found {
+        at: view.reading.section?,
+        key,
+        val,
+        counts: view.counts,
+    })
+}
