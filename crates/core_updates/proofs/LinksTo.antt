@@ -11,7 +11,7 @@ use Rattle.core_trees.specs.NamedTree.{NamedTree, Null, Branch}
 use Rattle.core_trees.specs.TreeStep.{subtree_at}
 use Rattle.core_trees.specs.Search.{end_node, end_side}
 use Rattle.core_trees.specs.Slots.{occurs, one_at}
-use Rattle.core_rule.specs.Versions.{top_slot, tree_nodes}
+use Rattle.core_events.specs.Versions.{top_slot, tree_nodes}
 use Rattle.core_links.proofs.Compare.{compared, less, more, same}
 use Rattle.core_trees.proofs.Slots.{one_at-same, subtree_tally}
 use Rattle.core_trees.proofs.Updates.{subtree_at-left, subtree_at-right, subtree_at-here, end_node-left, end_node-right, end_node-here, end_side-left, end_side-right, end_side-here}

@@ -15,7 +15,7 @@ use Rattle.core_trees.specs.Search.{end_node, end_side, EndsAt}
 use Rattle.core_trees.specs.Gaps.{IsNull, IsGapLink}
 use Rattle.core_trees.specs.Slots.{occurs, one_at, first_slots, NamesOnce}
 use Rattle.core_trees.specs.SpelledStep.{behind_first}
-use Rattle.core_rule.specs.Versions.{top_slot, tree_nodes}
+use Rattle.core_events.specs.Versions.{top_slot, tree_nodes}
 use Rattle.core_trees.proofs.Bounds.{first-within}
 use Rattle.core_trees.proofs.Gaps.{absent-gap, null-lacks}
 use Rattle.core_trees.proofs.Slots.{one_at-same, subtree_tally}

@@ -15,7 +15,7 @@ use Rattle.index_words.specs.declared.word.Word.TheVariants.{Node}
 use Rattle.key_map.specs.Lists.{count, Every}
 use Rattle.core_trees.specs.declared.link.Link.{Link}
 use Rattle.core_trees.specs.NamedTree.{NamedTree}
-use Rattle.core_rule.specs.Versions.{tree_nodes}
+use Rattle.core_events.specs.Versions.{tree_nodes}
 use Rattle.core_updates.specs.declared.plan.Plan.{Plan}
 use Rattle.core_updates.specs.declared.plan.Plan.TheVariants.{Grow, Replace, Lift, Join}
 use Rattle.core_updates.specs.declared.plan.JoinPlan.{JoinPlan}

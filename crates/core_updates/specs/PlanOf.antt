@@ -13,7 +13,7 @@ use Rattle.core_trees.specs.TreeStep.{subtree_at}
 use Rattle.core_trees.specs.Search.{EndsAt}
 use Rattle.core_trees.specs.Gaps.{IsNull, IsGapLink}
 use Rattle.core_trees.specs.Slots.{NamesOnce, first_slots}
-use Rattle.core_rule.specs.Versions.{top_slot, tree_nodes}
+use Rattle.core_events.specs.Versions.{top_slot, tree_nodes}
 use Rattle.core_updates.specs.declared.plan.Plan.{Plan}
 use Rattle.core_updates.specs.declared.plan.Plan.TheVariants.{Grow, Replace, Lift, Join}
 use Rattle.core_updates.specs.declared.plan.JoinPlan.{JoinPlan}

@@ -8,7 +8,7 @@ use Rattle.index_words.specs.declared.view.reading.Filled.{Filled}
 use Rattle.index_words.specs.declared.view.update.HeldNode.{HeldNode}
 use Rattle.key_map.specs.Lists.{count, Every}
 use Rattle.core_trees.specs.NamedTree.{NamedTree}
-use Rattle.core_rule.specs.Versions.{tree_nodes}
+use Rattle.core_events.specs.Versions.{tree_nodes}
 use Rattle.core_updates.specs.declared.plan.Plan.{Plan}
 use Rattle.core_updates.specs.declared.plan.PlanSlots.{PlanSlots}
 use Rattle.core_updates.specs.declared.plan.Look.{Look}
