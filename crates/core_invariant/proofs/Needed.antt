@@ -1,5 +1,5 @@
 -- What the needs of loads and of an update's events say.
-use Rattle.std.proofs.Common.{◌≡◌, ℕ, ◌+◌, ◌<◌, ◌≤◌, ◌⊎◌, cond, List, [], ◌∷◌, length, Bool, true, false, eqb, leb, ◌&&◌, ◌||◌, not, is_none, arith, refl, ap, ◌∙◌, sym, subst, inl, inr, Option, Some, None, find, ◌-◌}
+use Rattle.std.proofs.Common.{◌≡◌, ℕ, ◌+◌, ◌<◌, ◌≤◌, ◌⊎◌, cond, List, [], ◌∷◌, length, Bool, true, false, eqb, leb, ◌&&◌, ◌||◌, not, is_none, arith, refl, ap, ◌∙◌, sym, subst, inl, inr, Option, Some, None, find}
 use Rattle.std.specs.Prelude.{IfSome, nat_lt}
 use Rattle.std.proofs.lemmas.Bool.{eqb-true, eq-eqb, and_parts}
 use Rattle.std.proofs.lemmas.Bool.Decides.{nat_tests}
@@ -39,7 +39,6 @@ use Rattle.core_grace.specs.Slots.{own}
 use Rattle.core_invariant.specs.Rule.{Rule}
 use Rattle.core_invariant.proofs.OneView.{seat_at}
 use Rattle.core_grace.specs.Sections.{is_even}
-use Rattle.core_events.specs.Moves.{left}
 use Rattle.core_invariant.specs.SectionRule.{IsIdle}
 
 pub either_true : (a b : Bool) → (a || b) ≡ true → (a ≡ true) ⊎ (b ≡ true)

@@ -1,5 +1,5 @@
 -- What an allowed event gives: the rule over what the words and the views are then.
-use Rattle.std.proofs.Common.{◌≡◌, ℕ, List, length, set, refl, ◌∙◌, sym, subst, Some, length-set}
+use Rattle.std.proofs.Common.{◌≡◌, ℕ, List, set, refl, ◌∙◌, sym, subst, Some, length-set}
 use Rattle.index_words.specs.declared.layout.Layout.{Layout}
 use Rattle.index_words.specs.declared.view.View.{View}
 use Rattle.index_words.specs.declared.word.Word.{Word}

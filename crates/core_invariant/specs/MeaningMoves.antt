@@ -1,5 +1,5 @@
 -- What the words mean after a prepare and after a raise.
-use Rattle.std.specs.Prelude.{ℕ, ◌+◌, List, [], ◌∷◌, ◌++◌, cond, ◌==◌, ◌&&◌, Option}
+use Rattle.std.specs.Prelude.{ℕ, List, [], ◌∷◌, ◌++◌, cond, ◌==◌, ◌&&◌, Option}
 use Rattle.index_words.specs.declared.side.Side.{Side}
 use Rattle.key_map.specs.declared.update.Update.{Update}
 use Rattle.index_words.specs.Words.{same_side}

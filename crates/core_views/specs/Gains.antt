@@ -1,5 +1,5 @@
 -- What a view gains where another one is joined into it, and what a raise adds to it.
-use Rattle.std.specs.Prelude.{◌++◌, [], ℕ, ◌+◌, ◌∷◌}
+use Rattle.std.specs.Prelude.{◌++◌, [], ℕ, ◌∷◌}
 use Rattle.index_words.specs.declared.view.View.{View}
 use Rattle.core_grace.specs.Batches.{both}
 use Rattle.core_views.specs.declared.moves.Gained.{Gained}

@@ -1,5 +1,5 @@
 -- Loads of the words of an entry at which the seat stands keep the rule.
-use Rattle.std.proofs.Common.{◌≡◌, ℕ, ◌+◌, ◌<◌, ◌⊎◌, cond, List, [], ◌∷◌, ◌++◌, Bool, true, false, eqb, ◌&&◌, set, arith, refl, ap, ◌∙◌, sym, subst, inl, inr, Option, Some, None, append_assoc}
+use Rattle.std.proofs.Common.{◌≡◌, ℕ, ◌<◌, ◌⊎◌, cond, List, [], ◌∷◌, ◌++◌, Bool, true, false, eqb, ◌&&◌, set, arith, refl, ap, ◌∙◌, sym, subst, inl, inr, Option, Some, None, append_assoc}
 use Rattle.std.specs.Prelude.{IfSome}
 use Rattle.std.proofs.lemmas.Bool.{eqb-true, and_parts}
 use Rattle.index_words.specs.declared.layout.Layout.{Layout}
@@ -11,7 +11,7 @@ use Rattle.index_words.specs.declared.word.Field.TheVariants.{Head}
 use Rattle.index_words.specs.declared.word.Part.TheVariants.{Child, Stamp as Number, Next}
 use Rattle.index_words.specs.declared.word.Word.TheVariants.{Node, Entry}
 use Rattle.index_words.specs.Words.{Memory}
-use Rattle.key_map.specs.Lists.{count, Every, IsItem}
+use Rattle.key_map.specs.Lists.{Every, IsItem}
 use Rattle.core_grace.specs.Sections.{is_even}
 use Rattle.core_grace.proofs.RuleMoves.{every_push}
 use Rattle.core_links.specs.Bundle.{IsChain, select}
