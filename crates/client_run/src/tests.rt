@@ -1,5 +1,5 @@
 // Sessions of one client over a plain pass: what each request is answered, and what a gate is told.
-ghost use Rattle.std.specs.Prelude.{◌≤◌, ◌^◌, [], All, length, IfOk};
+ghost use Rattle.std.specs.Prelude.{◌≤◌, [], All, length, IfOk};
 ghost use Rattle.request_lines.specs.Limits.{most_requests};
 ghost use Rattle.request_lines.specs.Session.{request_lines};
 ghost use Rattle.request_lines.specs.SessionLaws.{Rise, IsAskable};

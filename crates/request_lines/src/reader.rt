@@ -3,8 +3,7 @@ ghost use Rattle.std.specs.Prelude.{◌≡◌, ◌∷◌, [], ◌++◌, Ok, OnOk
 ghost use Rattle.request_lines.specs.declared.line_error.LineError.TheVariants.{NoMemory as OutOfMemory};
 ghost use Rattle.request_lines.specs.declared.session_error.SessionError.TheVariants.{NoMemory as NoSession};
 ghost use Rattle.request_lines.specs.Counting.{IsWithin, counted};
-ghost use Rattle.request_lines.specs.Fine.{IsFineCommand};
-ghost use Rattle.request_lines.specs.Reading.{Progress, progress, no_progress, all_ended, kept, Takes, Keeps};
+ghost use Rattle.request_lines.specs.Reading.{progress, no_progress, all_ended, kept, Takes, Keeps};
 
 use crate::command::{Command, command_of};
 use crate::counts::Counts;
