@@ -9,3 +9,4 @@ pub mod LinksTo
 pub mod PlansOf
 pub mod PlansRaise
 pub mod PlanLocks
+pub mod PlanSteps

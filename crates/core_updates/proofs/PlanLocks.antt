@@ -11,6 +11,7 @@ use Rattle.index_words.specs.declared.view.View.{View}
 use Rattle.index_words.specs.declared.word.Field.TheVariants.{Lock, Head, Mark}
 use Rattle.index_words.specs.declared.word.Word.TheVariants.{Node}
 use Rattle.key_map.specs.Lists.{count, Every, IsItem}
+use Rattle.core_grace.specs.Holds.{tree_slots}
 use Rattle.core_trees.specs.declared.link.Link.{Link}
 use Rattle.core_trees.specs.NamedTree.{NamedTree, Branch}
 use Rattle.core_trees.specs.TreeStep.{subtree_at}
@@ -40,9 +41,6 @@ later : (k x : ℕ) (ks : List ℕ) → 0 < count k ks → 0 < count k (x ∷ ks
 later k x ks h = omega (arith, h)
 
 -- the locks of a removal with two children, by whether the successor is the right child
-join_locks : Bool → ℕ → ℕ → ℕ → ℕ → List ℕ
-join_locks near parent node mid next = parent ∷ node ∷ (cond near [] (mid ∷ []) ++ next ∷ [])
-
 last-locked : (near : Bool) (parent node mid next : ℕ) → 0 < count next (parent ∷ node ∷ (cond near [] (mid ∷ []) ++ next ∷ []))
 last-locked true parent node mid next = later next parent (node ∷ next ∷ []) (later next node (next ∷ []) (here next []))
 last-locked false parent node mid next = later next parent (node ∷ mid ∷ next ∷ []) (later next node (mid ∷ next ∷ []) (later next mid (next ∷ []) (here next [])))
@@ -56,10 +54,7 @@ is_same a b e = elim (eqb_tells a b) as (λ _. a ≡ b) [ inl is ↦ is.1 | inr 
 
 module _ (p : JoinPlan) (slots : PlanSlots) where
   first-lock : IsLockOf (Join p) p.at.node
-  first-lock = here p.at.node (locks_tail (p.next.at.node == p.node))
-    where
-      locks_tail : Bool → List ℕ
-      locks_tail near = p.node ∷ (cond near [] (p.next.at.node ∷ []) ++ p.next.node ∷ [])
+  first-lock = here p.at.node (p.node ∷ (cond (p.next.at.node == p.node) [] (p.next.at.node ∷ []) ++ p.next.node ∷ []))
 
   node-lock : IsLockOf (Join p) p.node
   node-lock = later p.node p.at.node (p.node ∷ (cond (p.next.at.node == p.node) [] (p.next.at.node ∷ []) ++ p.next.node ∷ []))
@@ -104,7 +99,7 @@ locks_law (Join p) slots =
 module _ (v : View) (tree : NamedTree) (read : v.reading.tree ≡ tree_nodes tree) where
   in-reach : (k : ℕ) → (k ≡ 0) ⊎ (0 < occurs k tree) → IsInReach v k
   in-reach k (inl root) = inl root
-  in-reach k (inr there) = inr (inl (subst (λ ns. 0 < count k (Rattle.core_grace.specs.Holds.tree_slots ns)) (sym read) (omega (arith, there, count_slots k tree))))
+  in-reach k (inr there) = inr (inl (subst (λ ns. 0 < count k (tree_slots ns)) (sym read) (omega (arith, there, count_slots k tree))))
 
   end-reach : (key node : ℕ) (side : Side) → EndsAt key node side 0 Right tree → IsInReach v node
   end-reach key node side ends =
