@@ -26,10 +26,11 @@ use Rattle.core_updates.specs.declared.plan.Plan.{Plan}
 use Rattle.core_updates.specs.declared.plan.Plan.TheVariants.{Grow, Replace, Lift, Join}
 use Rattle.core_updates.specs.declared.plan.JoinPlan.{JoinPlan}
 use Rattle.core_updates.specs.declared.plan.PlanSlots.{PlanSlots}
+use Rattle.core_updates.specs.declared.plan.Look.TheVariants.{Link as LinkLook}
 use Rattle.core_updates.specs.declared.plan.Front.{Front}
 use Rattle.core_updates.specs.Plans.{locks_of}
 use Rattle.core_updates.specs.PlanOf.{IsFoundAt, IsPlanIn}
-use Rattle.core_updates.specs.PlanEvents.{IsLockOf, LocksAll, LocksLaw, ReachLaw}
+use Rattle.core_updates.specs.PlanEvents.{IsLockOf, looked_node, LocksAll, LocksLaw, ReachLaw}
 
 here : (k : ℕ) (ks : List ℕ) → 0 < count k (k ∷ ks)
 here k ks = counted k (count k ks)
@@ -70,6 +71,10 @@ module _ (p : JoinPlan) (slots : PlanSlots) where
   next-front true = tt
   next-front false = (mid-lock, tt)
 
+  next-look : (near : Bool) → Every (λ l. IsLockOf (Join p) (looked_node l)) (cond near [] (LinkLook p.next.at p.next.node ∷ []))
+  next-look true = tt
+  next-look false = (mid-lock, tt)
+
 pub locks_law : LocksLaw
 locks_law (Grow p) slots = record { looks = (here p.at.node [], tt); fronts = (here p.at.node [], tt); out = tt }
 locks_law (Replace p) slots =
@@ -90,7 +95,7 @@ locks_law (Join p) slots =
     let own = node-lock p slots in
     let next = next-lock p slots in
     record {
-      looks = (first-lock p slots, (own, (own, (own, (mid-lock p slots, (next, (next, (next, (next, tt)))))))));
+      looks = (first-lock p slots, (own, (own, (own, (next, (next, (next, (next, next-look p slots (p.next.at.node == p.node)))))))));
       fronts = (first-lock p slots, next-front p slots (p.next.at.node == p.node));
       out = (own, (next, tt));
     }
