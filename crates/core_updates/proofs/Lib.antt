@@ -8,3 +8,5 @@ pub mod SearchEnds
 pub mod LinksTo
 pub mod PlansOf
 pub mod PlansRaise
+pub mod PlanLocks
+pub mod PlanSteps

@@ -20,7 +20,8 @@ use Rattle.core_trees.proofs.Bounds.{first-within}
 use Rattle.core_trees.proofs.Gaps.{absent-gap, null-lacks}
 use Rattle.core_trees.proofs.Slots.{one_at-same, subtree_tally}
 use Rattle.core_trees.proofs.SpelledTree.{end-cases}
-use Rattle.core_trees.proofs.Updates.{subtree_at-right, end_node-right, end_side-right}
+use Rattle.core_links.proofs.Compare.{compared, less, more, same}
+use Rattle.core_trees.proofs.Updates.{subtree_at-right, subtree_at-here, end_node-left, end_node-right, end_side-right}
 use Rattle.core_updates.specs.declared.plan.Plan.{Plan}
 use Rattle.core_updates.specs.declared.plan.Plan.TheVariants.{Lift, Join}
 use Rattle.core_updates.specs.declared.search.SearchEnd.{SearchEnd}
@@ -81,6 +82,29 @@ has_first s k v (Branch t c d a b) r rest =
 
 some_same : (a b : TreeNode) → Some a ≡ Some b → a ≡ b
 some_same a b e = cc
+
+-- a link of a node of a tree is none of a node that is not in it
+not-inside : (y s node k v : ℕ) (l r : NamedTree) → occurs node (Branch s k v l r) ≡ 0 → y ≡ node → (y ≡ s) ⊎ ((0 < occurs y l) ⊎ (0 < occurs y r)) → ⊥
+not-inside y s node k v l r free is (inl top) = omega (arith, free, subst (λ x. one_at x s ≡ 1) (sym top ∙ is) (one_at-same s))
+not-inside y s node k v l r free is (inr (inl low)) = omega (arith, free, subst (λ x. 0 < occurs x l) is low)
+not-inside y s node k v l r free is (inr (inr high)) = omega (arith, free, subst (λ x. 0 < occurs x r) is high)
+
+-- a search that ends at the link at which the tree hangs finds the top
+top-found : (x node slot c d : ℕ) (t u high : NamedTree) → subtree_at x high ≡ Branch slot c d t u → occurs node high ≡ 0 → end_node x node high ≡ node → top_slot high ≡ slot
+top-found x node slot c d t u Null sub free ends = absurd (no_branch slot c d t u sub)
+  where
+    no_branch : (s k v : ℕ) (l r : NamedTree) → Null ≡ Branch s k v l r → ⊥
+    no_branch s k v l r e = cc
+top-found x node slot c d t u (Branch s k v l r) sub free ends =
+    elim (compared x k) as (λ _. s ≡ slot) [
+      | less b ↦
+          let is : end_node x s l ≡ node = sym (end_node-left x s k v l r node b) ∙ ends in
+          absurd (not-inside (end_node x s l) s node k v l r free is (elim (end-cases x s Left l) [ inl top ↦ inl top.0 | inr below ↦ inr (inl below) ]))
+      | more b ↦
+          let is : end_node x s r ≡ node = sym (end_node-right x s k v l r node b) ∙ ends in
+          absurd (not-inside (end_node x s r) s node k v l r free is (elim (end-cases x s Right r) [ inl top ↦ inl top.0 | inr below ↦ inr (inr below) ]))
+      | same e ↦ ap top_slot (sym (subtree_at-here x s k v l r e) ∙ sub)
+    ]
 
 module _ (key : ℕ) (tree : NamedTree) (lawful : IsLawful tree) (once : NamesOnce 0 tree) where
   each_once : (x : ℕ) → occurs x tree ≤ 1
@@ -149,14 +173,14 @@ module _ (key : ℕ) (tree : NamedTree) (lawful : IsLawful tree) (once : NamesOn
       → IsSuccessor tree key node (Branch s k v l r) (record { at = link_to (tree_nodes tree) next.slot; node = next.slot; pair = record { key = next.key; val = next.val }; right = next.right })
   successor node val s k v low l r rest next sub is =
       let h : HasFirst s k v l r rest = has_first s k v l r rest in
-      let same : h.node ≡ next = some_same h.node next (sym h.first ∙ sym is) in
+      let is_next : h.node ≡ next = some_same h.node next (sym h.first ∙ sym is) in
       let bounds : Through 0 (2 ^ 64) key 0 Right tree = through 0 (2 ^ 64) key 0 Right tree lawful in
       let within = subst (λ t. IsWithin bounds.low' bounds.high' t) sub bounds.within in
       let first : IsFirst (key + 1) s k v l r = first_is (key + 1) bounds.high' s k v l r within.3 in
       let inside = first-within (key + 1) bounds.high' s k v l r within.3 in
-      let key_is : (first_pair k v l).key ≡ next.key = h.key ∙ ap (λ (n : TreeNode). n.key) same in
-      let val_is : (first_pair k v l).val ≡ next.val = h.val ∙ ap (λ (n : TreeNode). n.val) same in
-      let slots : first_slots (Branch s k v l r) ≡ next.slot ∷ [] = h.slots ∙ ap (λ (n : TreeNode). n.slot ∷ []) same in
+      let key_is : (first_pair k v l).key ≡ next.key = h.key ∙ ap (λ (n : TreeNode). n.key) is_next in
+      let val_is : (first_pair k v l).val ≡ next.val = h.val ∙ ap (λ (n : TreeNode). n.val) is_next in
+      let slots : first_slots (Branch s k v l r) ≡ next.slot ∷ [] = h.slots ∙ ap (λ (n : TreeNode). n.slot ∷ []) is_next in
       let above : key < next.key = omega (arith, inside.0, key_is) in
       let from : bounds.low' ≤ next.key = omega (arith, within.0, above) in
       let until : next.key < bounds.high' = omega (arith, inside.1, key_is) in
@@ -168,7 +192,7 @@ module _ (key : ℕ) (tree : NamedTree) (lawful : IsLawful tree) (once : NamesOn
       ∙ ap (λ x. Branch next.slot next.key x Null (behind_first (Branch s k v l r))) val_is in
       let here : subtree_at next.key tree ≡ Branch next.slot next.key next.val Null (behind_first (Branch s k v l r))
       = bounds.sub next.key from until ∙ ap (subtree_at next.key) sub ∙ subtree_at-right next.key node key val low (Branch s k v l r) above ∙ found in
-      let at = found-at next.key next.slot next.val 0 next.right Null (behind_first (Branch s k v l r)) here refl (sym (ap (λ (n : TreeNode). n.right) same) ∙ h.right) in
+      let at = found-at next.key next.slot next.val 0 next.right Null (behind_first (Branch s k v l r)) here refl (sym (ap (λ (n : TreeNode). n.right) is_next) ∙ h.right) in
       let end : end_node next.key 0 tree ≡ end_node next.key node (Branch s k v l r)
       = bounds.node next.key from until ∙ ap (end_node next.key (end_node key 0 tree)) sub
       ∙ end_node-right next.key node key val low (Branch s k v l r) (end_node key 0 tree) above in
@@ -191,6 +215,8 @@ module _ (key : ℕ) (tree : NamedTree) (lawful : IsLawful tree) (once : NamesOn
             ap (occurs node) sub,
           ))
         ];
+        child = λ near. top-found next.key node next.slot next.key next.val Null (behind_first (Branch s k v l r)) (Branch s k v l r) found
+            (omega (arith, each_once node, one_at-same node, subtree_tally (one_at node) key tree, ap (occurs node) sub)) (sym end ∙ at.ends.0 ∙ near);
       }
     where
       one_item : (a b : ℕ) → (a ∷ []) ≡ (b ∷ []) → a ≡ b

@@ -21,13 +21,14 @@ use Rattle.core_updates.specs.declared.plan.Plan.TheVariants.{Grow, Replace, Lif
 use Rattle.core_updates.specs.declared.plan.JoinPlan.{JoinPlan}
 use Rattle.core_updates.specs.declared.plan.LiftPlan.{LiftPlan}
 use Rattle.core_updates.specs.declared.plan.PlanSlots.{PlanSlots}
+use Rattle.core_updates.specs.declared.plan.Look.TheVariants.{Link as LinkLook}
 use Rattle.core_updates.specs.declared.plan.Front.{Front}
 use Rattle.core_updates.specs.declared.plan.Fresh.{Fresh}
 use Rattle.core_updates.specs.declared.plan.NewNode.{NewNode}
 use Rattle.core_updates.specs.Held.{HasFilled, HasLoaded, HoldsFresh, HoldsNew, HoldsNewLink, HoldsLink, HoldsKey, HoldsSuccessor, HoldsGrow, HoldsReplace, HoldsLift, HoldsJoin, CanRaise, MayRaise}
 use Rattle.core_updates.specs.Plans.{head_of, fresh_to, other_side, entries_of}
 use Rattle.core_updates.specs.PlanOf.{IsFoundAt, IsSuccessor, IsJoinIn}
-use Rattle.core_updates.specs.PlanReady.{HoldsFreshEntry, HoldsNewNode, HoldsFront, IsReadyFor, PlanMayRaiseLaw}
+use Rattle.core_updates.specs.PlanReady.{HoldsLook, HoldsFreshEntry, HoldsNewNode, HoldsFront, IsReadyFor, PlanMayRaiseLaw}
 use Rattle.core_updates.specs.Ready.{update_of}
 use Rattle.core_updates.proofs.HeldReady.{grow_from_view, replace_from_view, lift_from_view, join_from_view}
 
@@ -116,41 +117,49 @@ module _ (v : View) where
       abbrev found : HoldsKey v p.key
       found = holds-key p.key p.node p.left p.right p.at h.planned.found.some h.looks.0 h.looks.1.1.1.0 h.looks.1.0 h.looks.1.1.0
 
-      abbrev next : HoldsSuccessor v p.key
-      next =
+      abbrev next : HoldsLink v p.next.at.node p.next.at.side p.next.node → HoldsSuccessor v p.key
+      next at =
           let more = h.looks.1.1.1.1 in
           record {
             parent = p.next.at.node;
             side = p.next.at.side;
             node = p.next.node;
             some = h.planned.next.found.some;
-            at = more.0;
+            at = at;
             key_of = p.next.pair.key;
             val_of = p.next.pair.val;
-            key_is = more.1.1.1.0;
-            val_is = more.1.1.1.1.0;
+            key_is = more.1.1.0;
+            val_is = more.1.1.1.0;
             above = h.planned.next.above;
-            left_link = more.1.0;
+            left_link = more.0;
             right = p.next.right;
-            right_link = more.1.1.0;
+            right_link = more.1.0;
             tree = h.tree;
             read = h.read;
             gap = h.planned.next.gap;
           }
 
+      -- where the successor is the right child, its link was looked at with the removed node's
+      near-link : p.next.at.node ≡ p.node → HoldsLink v p.next.at.node p.next.at.side p.next.node
+      near-link near =
+          let right : p.right ≡ p.next.node = h.planned.found.right_is ∙ h.planned.next.child near in
+          subst (λ k. HoldsLink v k p.next.at.side p.next.node) (sym near)
+          (subst (λ w. HoldsLink v p.node w p.next.node) (sym (h.planned.next.side near)) (subst (HoldsLink v p.node Right) right h.looks.1.1.0))
+
       -- by whether the successor is the right child
       join-raises : (near : Bool) → (near ≡ true → p.next.at.node ≡ p.node) → (near ≡ false → ¬ (p.next.at.node ≡ p.node))
+          → Every (HoldsLook v) (cond near [] (LinkLook p.next.at p.next.node ∷ []))
           → HoldsNewNode v (record { slot = slots.node; pair = p.next.pair; left = fresh_to slots.left p.left; right = fresh_to slots.right (cond near p.next.right p.right) })
           → Every (HoldsFront v) (record { at = p.at; entry = slots.at; child = slots.node } ∷ cond near [] (record { at = p.next.at; entry = slots.next; child = p.next.right } ∷ []))
           → v.update.pending ≡ entries_of (record { at = p.at; entry = slots.at; child = slots.node } ∷ cond near [] (record { at = p.next.at; entry = slots.next; child = p.next.right } ∷ []))
           → MayRaise z v (update_of client line p.key Remove) (Some slots.node) (p.node ∷ p.next.node ∷ [])
-      join-raises true is apart new fronts pending =
+      join-raises true is apart at new fronts pending =
           join_from_view z v client line p.key can (record {
             found = found;
             small = h.small;
             left = h.planned.left;
             right = h.planned.right;
-            next = next;
+            next = next (near-link (is refl));
             slot = slots.node;
             new_right = p.next.right;
             new = new-node slots p.next.pair p.left p.next.right h.apart new;
@@ -158,13 +167,13 @@ module _ (v : View) where
             prepared = fronts.0;
             by = inl (record { parent_is = is refl; side_is = h.planned.next.side (is refl); pending = pending; child = refl });
           })
-      join-raises false is apart new fronts pending =
+      join-raises false is apart at new fronts pending =
           join_from_view z v client line p.key can (record {
             found = found;
             small = h.small;
             left = h.planned.left;
             right = h.planned.right;
-            next = next;
+            next = next at.0;
             slot = slots.node;
             new_right = p.right;
             new = new-node slots p.next.pair p.left p.right h.apart new;
@@ -208,4 +217,4 @@ plan_may_raise z v client line (Replace p) slots can h =
 plan_may_raise z v client line (Lift p) slots can h =
     lift-raises v z client line can p.key p.node p.child slots.at p.at p.bare h.small h.planned.1.some h.looks.0 h.looks.1.0 h.looks.1.1.0 h.looks.1.1.1.0 h.fronts.0 h.pending
 plan_may_raise z v client line (Join p) slots can h =
-    join-raises v z client line can p slots h (p.next.at.node == p.node) (is_same p.next.at.node p.node) (is_apart p.next.at.node p.node) h.new h.fronts h.pending
+    join-raises v z client line can p slots h (p.next.at.node == p.node) (is_same p.next.at.node p.node) (is_apart p.next.at.node p.node) h.looks.1.1.1.1.1.1.1.1 h.new h.fronts h.pending

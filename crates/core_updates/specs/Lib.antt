@@ -5,3 +5,4 @@ pub mod Plans
 pub mod PlanOf
 pub mod Search
 pub mod PlanReady
+pub mod PlanEvents

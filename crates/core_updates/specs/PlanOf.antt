@@ -37,13 +37,14 @@ pub record IsMissing (tree : NamedTree) (key : ℕ) (at : Link) : Type 0 where
   pub gap : IsGapLink key at.node at.side 0 Right tree
 
 -- the node behind the key's one, which has this right tree: the first of that tree, and each key between the two is in the
--- gap of its left link, which is null. It hangs at the right link of the key's node, or below another node
+-- gap of its left link, which is null. It is the right child of the key's node, or hangs below another node
 pub record IsSuccessor (tree : NamedTree) (key node : ℕ) (high : NamedTree) (next : NextNode) : Type 0 where
   pub found : IsFoundAt tree next.pair.key next.at next.node next.pair.val 0 next.right
   pub first : first_slots high ≡ next.node ∷ []
   pub above : key < next.pair.key
   pub gap : (x : ℕ) → key < x → x < next.pair.key → IsGapLink x next.node Left 0 Right tree
   pub side : next.at.node ≡ node → next.at.side ≡ Right
+  pub child : next.at.node ≡ node → top_slot high ≡ next.node
 
 -- the children of a node with at most one, by the side on which there is none
 abbrev pub left_child : Side → ℕ → ℕ

@@ -54,6 +54,10 @@ locks_of (Replace p) = p.at.node ∷ p.node ∷ []
 locks_of (Lift p) = p.at.node ∷ p.node ∷ []
 locks_of (Join p) = p.at.node ∷ p.node ∷ between p ++ p.next.node ∷ []
 
+-- the look at the link to the successor, where that is not a link of the removed node
+abbrev pub next_look : JoinPlan → List Look
+next_look p = if p.next.at.node == p.node then [] else LinkLook p.next.at p.next.node ∷ []
+
 -- what is looked at under the locks, and what must be found there
 abbrev pub looks_of : Plan → List Look
 looks_of (Grow p) = LinkLook p.at 0 ∷ []
@@ -66,8 +70,8 @@ looks_of (Lift p) =
 looks_of (Join p) =
     LinkLook p.at p.node ∷ LinkLook (link_of p.node Left) p.left ∷ LinkLook (link_of p.node Right) p.right
     ∷ KeyLook p.node p.key
-    ∷ LinkLook p.next.at p.next.node ∷ LinkLook (link_of p.next.node Left) 0 ∷ LinkLook (link_of p.next.node Right) p.next.right
-    ∷ KeyLook p.next.node p.next.pair.key ∷ ValLook p.next.node p.next.pair.val ∷ []
+    ∷ LinkLook (link_of p.next.node Left) 0 ∷ LinkLook (link_of p.next.node Right) p.next.right
+    ∷ KeyLook p.next.node p.next.pair.key ∷ ValLook p.next.node p.next.pair.val ∷ next_look p
 
 -- the entry of a new node's link to the child, 0 for none
 abbrev pub fresh_to : ℕ → ℕ → Option Fresh

@@ -1,5 +1,6 @@
 ghost use Rattle.core_updates.specs.LinkSteps.{GrowByLinkLaw, ReplaceByLinkLaw, LiftByLinkLaw, JoinNearLaw, JoinDeepLaw, SuccessorGapLaw};
 ghost use Rattle.core_updates.specs.Held.{GrowFromViewLaw, ReplaceFromViewLaw, LiftFromViewLaw, JoinFromViewLaw};
+ghost use Rattle.core_updates.specs.PlanEvents.{LocksLaw, ReachLaw, EventsLaw, FailuresLaw};
 ghost use Rattle.core_updates.specs.PlanReady.{PlanMayRaiseLaw};
 ghost use Rattle.core_updates.specs.Ready.{MayGrowLaw, MayReplaceLaw, MayLiftLaw, MayJoinLaw};
 
@@ -45,4 +46,15 @@ pub fn validated_updates_may_raise()
 /// meets the rule and has this view at the seat; the raise brings in and takes out what the plan says.
 pub fn ready_plans_may_raise()
     ensures plan { PlanMayRaiseLaw }
+{}
+
+/// A plan can be carried out. It has locked what it looks at, where it puts entries in front, and what it takes out; the
+/// nodes that it locks are in reach of the seat that reads its tree; and each of its events before and behind the raise
+/// is allowed in every table that meets the rule and has this view at the seat. Where a try fails, the count has risen
+/// that the answer needs: a lock that is held, a number that is missing, a mark, or another head than the remembered one.
+pub fn plans_are_carried_out()
+    ensures locks { LocksLaw }
+    ensures reach { ReachLaw }
+    ensures events { EventsLaw }
+    ensures failures { FailuresLaw }
 {}

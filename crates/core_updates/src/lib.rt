@@ -10,8 +10,8 @@ mod planned;
 mod search;
 
 pub use laws::{
-    links_spell_the_step, ready_plans_may_raise, ready_updates_may_raise, successors_have_gaps,
-    validated_updates_may_raise,
+    links_spell_the_step, plans_are_carried_out, ready_plans_may_raise, ready_updates_may_raise,
+    successors_have_gaps, validated_updates_may_raise,
 };
 pub use plan::{
     Fresh, Front, GrowPlan, JoinPlan, LiftPlan, Look, NewNode, NextNode, Plan, PlanSlots,

@@ -170,19 +170,28 @@ impl JoinPlan {
         ensures { result ≡ slice_get (looks_of (Plan.Join self.now)) place }
     {
         let next = self.next;
-        [
-            link_look(self.at, self.node),
-            side_look(self.node, Side::Left, self.left),
-            side_look(self.node, Side::Right, self.right),
-            key_look(self.node, self.key),
-            link_look(next.at, next.node),
-            side_look(next.node, Side::Left, 0),
-            side_look(next.node, Side::Right, next.right),
-            key_look(next.node, next.pair.key),
-            val_look(next.node, next.pair.val),
-        ]
-        .get(place)
-        .copied()
+        let at = link_look(self.at, self.node);
+        let left = side_look(self.node, Side::Left, self.left);
+        let right = side_look(self.node, Side::Right, self.right);
+        let key = key_look(self.node, self.key);
+        let next_left = side_look(next.node, Side::Left, 0);
+        let next_right = side_look(next.node, Side::Right, next.right);
+        let next_key = key_look(next.node, next.pair.key);
+        let next_val = val_look(next.node, next.pair.val);
+        if self.is_near() {
+            [
+                at, left, right, key, next_left, next_right, next_key, next_val,
+            ]
+            .get(place)
+            .copied()
+        } else {
+            let next_at = link_look(next.at, next.node);
+            [
+                at, left, right, key, next_left, next_right, next_key, next_val, next_at,
+            ]
+            .get(place)
+            .copied()
+        }
     }
 
     fn new_node(&self, slots: &PlanSlots) -> NewNode

@@ -1,0 +1,142 @@
+-- The events of a plan are allowed from the view, and a try that fails has made a count rise.
+use Rattle.std.proofs.Common.{◌≡◌, ℕ, ◌+◌, ◌<◌, ◌≤◌, inl, inr, List, [], ◌∷◌, Bool, true, false, cond, refl, ap, sym, subst, Option, Some, None}
+use Rattle.std.specs.Prelude.{◌==◌, IfSome}
+use Rattle.std.specs.List.{slice_get}
+use Rattle.index_words.specs.declared.layout.Layout.{Layout}
+use Rattle.index_words.specs.declared.side.Side.{Side}
+use Rattle.index_words.specs.declared.side.Side.TheVariants.{Left, Right}
+use Rattle.index_words.specs.declared.view.View.{View}
+use Rattle.index_words.specs.declared.word.Field.TheVariants.{Key, Val, Mark, Head}
+use Rattle.index_words.specs.declared.word.Part.TheVariants.{Child, Stamp as Number, Next}
+use Rattle.index_words.specs.declared.word.Word.{Word}
+use Rattle.index_words.specs.declared.word.Word.TheVariants.{Node, Entry}
+use Rattle.key_map.specs.Lists.{count, Every}
+use Rattle.core_rule.specs.declared.event.Event.{Event}
+use Rattle.core_rule.specs.ViewNeeds.{IsInReach, HasFilled as HasPut}
+use Rattle.core_rule.specs.Tables.{Table}
+use Rattle.core_rule.proofs.CountFacts.{other_head, taken_law}
+use Rattle.core_rule.proofs.Counts.{counts_law}
+use Rattle.core_rule.proofs.EachKind.{item_from_get}
+use Rattle.core_rule.proofs.ViewNeeds.{may_fill_law, may_read_head_law, may_prepare_law, may_finalise_law, may_lock_law, may_mark_law}
+use Rattle.core_updates.specs.declared.plan.Plan.{Plan}
+use Rattle.core_updates.specs.declared.plan.Plan.TheVariants.{Grow, Replace, Lift, Join}
+use Rattle.core_updates.specs.declared.plan.JoinPlan.{JoinPlan}
+use Rattle.core_updates.specs.declared.plan.PlanSlots.{PlanSlots}
+use Rattle.core_updates.specs.declared.plan.Front.{Front}
+use Rattle.core_updates.specs.declared.plan.NewNode.{NewNode}
+use Rattle.core_updates.specs.Held.{HasFilled}
+use Rattle.core_updates.specs.Plans.{locks_of, fronts_of, new_node_of, node_fills, entry_fills, head_of, fresh_to}
+use Rattle.core_updates.specs.PlanEvents.{HasSlots, IsDue, MayFillAll, AllowsPlan, ReadsPlan, EventsLaw, CountsFailures, ReadsOwn, FailuresLaw}
+use Rattle.core_updates.proofs.PlanLocks.{reach_law}
+
+every_to : {P Q : ℕ → Type 0} → ((k : ℕ) → P k → Q k) → (ks : List ℕ) → Every P ks → Every Q ks
+every_to f [] h = tt
+every_to f (k ∷ ks) h = (f k h.0, every_to f ks h.1)
+
+module _ (z : Layout) (v : View) (seat : ℕ) where
+  fills-node : (n : NewNode) → 0 < count n.slot v.free.nodes → Every (MayFillAll z v seat) (node_fills n)
+  fills-node n free = (
+    may_fill_law z v seat (Node Mark n.slot) 0 (refl, free),
+    (
+      may_fill_law z v seat (Node Key n.slot) n.pair.key (refl, free),
+      (
+        may_fill_law z v seat (Node Val n.slot) n.pair.val (refl, free),
+        (
+          may_fill_law z v seat (Node (Head Left) n.slot) (head_of n.left) (refl, free),
+          (may_fill_law z v seat (Node (Head Right) n.slot) (head_of n.right) (refl, free), tt),
+        ),
+      ),
+    ),
+  )
+
+  fills-entry : (e child behind : ℕ) → 0 < count e v.free.entries → Every (MayFillAll z v seat) (entry_fills e child behind)
+  fills-entry e child behind free = (
+    may_fill_law z v seat (Entry Child e) child free,
+    (
+      may_fill_law z v seat (Entry Number e) 0 free,
+      (may_fill_law z v seat (Entry Next e) behind free, tt),
+    ),
+  )
+
+  new-fills : (plan : Plan) (slots : PlanSlots) → HasSlots v slots → IfSome (new_node_of plan slots) (λ (m : NewNode). Every (MayFillAll z v seat) (node_fills m))
+  new-fills (Grow p) slots has = fills-node (record { slot = slots.node; pair = p.pair; left = None; right = None }) has.node
+  new-fills (Replace p) slots has = fills-node (record {
+    slot = slots.node;
+    pair = p.pair;
+    left = fresh_to slots.left p.left;
+    right = fresh_to slots.right p.right;
+  }) has.node
+  new-fills (Lift p) slots has = tt
+  new-fills (Join p) slots has = fills-node (record {
+    slot = slots.node;
+    pair = p.next.pair;
+    left = fresh_to slots.left p.left;
+    right = fresh_to slots.right (cond (p.next.at.node == p.node) p.next.right p.right);
+  }) has.node
+
+  next-fills : (near : Bool) (p : JoinPlan) (slots : PlanSlots) (behind : ℕ) → HasSlots v slots
+      → Every (λ (f : Front). Every (MayFillAll z v seat) (entry_fills f.entry f.child behind)) (cond near [] (record { at = p.next.at; entry = slots.next; child = p.next.right } ∷ []))
+  next-fills true p slots behind has = tt
+  next-fills false p slots behind has = (fills-entry slots.next p.next.right behind has.next, tt)
+
+  front-fills : (plan : Plan) (slots : PlanSlots) → HasSlots v slots → (behind : ℕ)
+      → Every (λ (f : Front). Every (MayFillAll z v seat) (entry_fills f.entry f.child behind)) (fronts_of plan slots)
+  front-fills (Grow p) slots has behind = (fills-entry slots.at slots.node behind has.at, tt)
+  front-fills (Replace p) slots has behind = (fills-entry slots.at slots.node behind has.at, tt)
+  front-fills (Lift p) slots has behind = (fills-entry slots.at p.child behind has.at, tt)
+  front-fills (Join p) slots has behind = (fills-entry slots.at slots.node behind has.at, next-fills (p.next.at.node == p.node) p slots behind has)
+
+  was-put : (w : Word) (x : ℕ) → HasFilled v w x → HasPut v w x
+  was-put w x h = record { place = h.place; is = h.item }
+
+pub events_law : EventsLaw
+events_law z v seat n plan slots r = record {
+  lock = every_to (λ k reach unlocked. may_lock_law z v seat n k (record { own = r.own; inside = r.inside; reach = reach; unlocked = unlocked }))
+      (locks_of plan) (reach_law v plan r.tree r.read r.planned);
+  head = every_to (λ k reach side. may_read_head_law z v seat k side (record { inside = r.inside; reach = reach }))
+      (locks_of plan) (reach_law v plan r.tree r.read r.planned);
+  node = new-fills z v seat plan slots;
+  left = λ has child. fills-entry z v seat slots.left child 0 has.left;
+  right = λ has child. fills-entry z v seat slots.right child 0 has.right;
+  front = front-fills z v seat plan slots;
+  prepare = λ f d. may_prepare_law z v seat f.at.node f.at.side f.entry (record {
+    unraised = d.unraised;
+    node = d.node;
+    locked = d.locked;
+    unmarked = d.unmarked;
+    head = d.head;
+    loaded = d.loaded;
+    old = d.old;
+    free = d.free;
+    small = d.small;
+    next = was-put z v seat (Entry Next f.entry) d.head.entry d.filled.1.1.0;
+    unnumbered = was-put z v seat (Entry Number f.entry) 0 d.filled.1.0;
+  });
+  finalise = λ e place pending raised. may_finalise_law z v seat e place (record { pending = pending; raised = raised });
+  mark = λ k taken out locked. may_mark_law z v seat k (record { locked = locked; taken = subst (λ ks. 0 < count k ks) (sym taken) out });
+}
+
+pub failures_law : FailuresLaw
+failures_law t e v w n plan right met before behind r own =
+    let counts = counts_law t e v w right met before behind in
+    let at = item_from_get t.views e.seat v before in
+    record {
+      busy = λ meets. counts.busy.rises meets;
+      waits = λ entry kind word none'. counts.waits.rises (record { kind = kind; entry = entry; word = word; none = none'; other = ap (count entry) own.idle });
+      head = λ k side kind word other. counts.moves.rises (inl (record {
+        kind = kind;
+        node = k;
+        side = side;
+        word = word;
+        other = other;
+        apart = other_head t e.seat own.number v k side right at own.section own.own own.idle other;
+      }));
+      mark = every_to (λ k reach kind word marked free. counts.moves.rises (inr (record {
+        kind = kind;
+        node = k;
+        word = word;
+        marked = marked;
+        reach = reach;
+        kept = (taken_law t e.seat v k right at free, free);
+      }))) (locks_of plan) (reach_law v plan r.tree r.read r.planned);
+    }
