@@ -19,9 +19,9 @@ use Rattle.core_trees.specs.Search.{end_node, EndsAt}
 use Rattle.core_trees.specs.Slots.{occurs, one_at}
 use Rattle.core_trees.proofs.Slots.{one_at-same, subtree_tally}
 use Rattle.core_trees.proofs.SpelledTree.{end-cases}
-use Rattle.core_rule.specs.Versions.{tree_nodes, slots_of}
-use Rattle.core_rule.specs.ViewNeeds.{IsInReach}
-use Rattle.core_rule.proofs.TreeNodes.{count_slots}
+use Rattle.core_events.specs.Versions.{tree_nodes, slots_of}
+use Rattle.core_laws.specs.ViewNeeds.{IsInReach}
+use Rattle.core_invariant.proofs.TreeNodes.{count_slots}
 use Rattle.core_updates.specs.declared.plan.Plan.{Plan}
 use Rattle.core_updates.specs.declared.plan.Plan.TheVariants.{Grow, Replace, Lift, Join}
 use Rattle.core_updates.specs.declared.plan.JoinPlan.{JoinPlan}

@@ -11,13 +11,13 @@ use Rattle.index_words.specs.declared.word.Part.TheVariants.{Child, Stamp as Num
 use Rattle.index_words.specs.declared.word.Word.{Word}
 use Rattle.index_words.specs.declared.word.Word.TheVariants.{Node, Entry}
 use Rattle.key_map.specs.Lists.{count, Every}
-use Rattle.core_rule.specs.declared.event.Event.{Event}
-use Rattle.core_rule.specs.ViewNeeds.{IsInReach, HasFilled as HasPut}
-use Rattle.core_rule.specs.Tables.{Table}
-use Rattle.core_rule.proofs.CountFacts.{other_head, taken_law}
-use Rattle.core_rule.proofs.Counts.{counts_law}
-use Rattle.core_rule.proofs.EachKind.{item_from_get}
-use Rattle.core_rule.proofs.ViewNeeds.{may_fill_law, may_read_head_law, may_prepare_law, may_finalise_law, may_lock_law, may_mark_law}
+use Rattle.core_events.specs.declared.event.Event.{Event}
+use Rattle.core_laws.specs.ViewNeeds.{IsInReach, HasFilled as HasPut}
+use Rattle.core_events.specs.Tables.{Table}
+use Rattle.core_laws.proofs.CountFacts.{other_head, taken_law}
+use Rattle.core_laws.proofs.Counts.{counts_law}
+use Rattle.core_invariant.proofs.OneView.{item_from_get}
+use Rattle.core_laws.proofs.ViewNeeds.{may_fill_law, may_read_head_law, may_prepare_law, may_finalise_law, may_lock_law, may_mark_law}
 use Rattle.core_updates.specs.declared.plan.Plan.{Plan}
 use Rattle.core_updates.specs.declared.plan.Plan.TheVariants.{Grow, Replace, Lift, Join}
 use Rattle.core_updates.specs.declared.plan.JoinPlan.{JoinPlan}

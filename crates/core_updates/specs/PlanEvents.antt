@@ -14,17 +14,17 @@ use Rattle.index_words.specs.declared.word.Word.TheVariants.{Node, Entry}
 use Rattle.index_words.specs.Words.{word_at}
 use Rattle.key_map.specs.Lists.{count, Every}
 use Rattle.core_trees.specs.NamedTree.{NamedTree}
-use Rattle.core_rule.specs.declared.event.Event.{Event}
-use Rattle.core_rule.specs.declared.event.Kind.TheVariants.{Fill, LoadHead, LoadTs, Prepare, Finalise, TryLock, LoadMark, Mark as MarkNode}
-use Rattle.core_rule.specs.Counts.{MeetsLock, RemembersOther}
-use Rattle.core_rule.specs.LoadMoves.{risen}
-use Rattle.core_rule.specs.Readers.{IsLocked}
-use Rattle.core_rule.specs.Rule.{IsRight}
-use Rattle.core_rule.specs.Steps.{allowed, after}
-use Rattle.core_rule.specs.Tables.{Table, held_by}
-use Rattle.core_rule.specs.UpdateNeeds.{held_at, is_written, side_of}
-use Rattle.core_rule.specs.Versions.{tree_nodes}
-use Rattle.core_rule.specs.ViewNeeds.{May, IsInside, IsInReach, event_at}
+use Rattle.core_events.specs.declared.event.Event.{Event}
+use Rattle.core_events.specs.declared.event.Kind.TheVariants.{Fill, LoadHead, LoadTs, Prepare, Finalise, TryLock, LoadMark, Mark as MarkNode}
+use Rattle.core_laws.specs.Counts.{MeetsLock, RemembersOther}
+use Rattle.core_events.specs.LoadMoves.{risen}
+use Rattle.core_invariant.specs.Readers.{IsLocked}
+use Rattle.core_invariant.specs.Rule.{IsRight}
+use Rattle.core_events.specs.Steps.{allowed, after}
+use Rattle.core_events.specs.Tables.{Table, held_by}
+use Rattle.core_events.specs.UpdateNeeds.{held_at, is_written, side_of}
+use Rattle.core_events.specs.Versions.{tree_nodes}
+use Rattle.core_laws.specs.ViewNeeds.{May, IsInside, IsInReach, event_at}
 use Rattle.core_updates.specs.declared.plan.Plan.{Plan}
 use Rattle.core_updates.specs.declared.plan.PlanSlots.{PlanSlots}
 use Rattle.core_updates.specs.declared.plan.Look.{Look}
