@@ -1,0 +1,59 @@
+-- What a pass keeps of its slots at run time, beside what its view says.
+use Rattle.std.specs.Prelude.{◌≡◌, ℕ, ◌<◌, List, Bool, Option, Some, take, drop}
+use Rattle.std.specs.List.{slice_get}
+use Rattle.index_words.specs.declared.view.View.{View}
+use Rattle.index_words.specs.declared.view.slots.Looks.{Looks}
+use Rattle.index_words.specs.declared.view.slots.Slots.{Slots}
+use Rattle.key_map.specs.Lists.{has}
+use Rattle.core_grace.specs.Batches.{first_found}
+
+-- the slots of one kind: free, in the batch, retired; and how many there is room for
+pub record SlotParts : Type 0 where
+  pub free : List ℕ
+  pub batch : List ℕ
+  pub retired : List ℕ
+  pub room : ℕ
+
+-- one list in three parts
+abbrev pub parts_of : List ℕ → ℕ → ℕ → ℕ → SlotParts
+parts_of slots free kept room = record { free = take free slots; batch = drop free (take kept slots); retired = drop kept slots; room = room }
+
+-- what looks have shown, by the number of the pass: the odd word that was found first, and whether it was passed
+pub record Shown : Type 0 where
+  pub first : List (Option ℕ)
+  pub passed : List Bool
+
+-- the slots and looks of a pass
+pub record KeptSlots : Type 0 where
+  pub free : Slots
+  pub batch : Slots
+  pub retired : Slots
+  pub shown : Shown
+  pub node_room : ℕ
+  pub entry_room : ℕ
+
+abbrev pub kept_of : SlotParts → SlotParts → Shown → KeptSlots
+kept_of nodes entries shown = record {
+  free = record { nodes = nodes.free; entries = entries.free };
+  batch = record { nodes = nodes.batch; entries = entries.batch };
+  retired = record { nodes = nodes.retired; entries = entries.retired };
+  shown = shown;
+  node_room = nodes.room;
+  entry_room = entries.room;
+}
+
+-- what is kept is what the looks of a view are
+abbrev pub KeepsLooks : Looks → Shown → Type 0
+KeepsLooks g s = (n : ℕ) → n < 32 → (slice_get s.first n ≡ Some (first_found n g.found)) × (slice_get s.passed n ≡ Some (has n g.passed))
+
+-- and so are the slots
+pub record KeepsSlots (v : View) (k : KeptSlots) : Type 0 where
+  pub free : v.free ≡ k.free
+  pub batch : v.batch ≡ k.batch
+  pub retired : v.retired ≡ k.retired
+  pub looks : KeepsLooks v.grace k.shown
+
+-- the room is as it was
+pub record HasRoomOf (old new : KeptSlots) : Type 0 where
+  pub nodes : new.node_room ≡ old.node_room
+  pub entries : new.entry_room ≡ old.entry_room

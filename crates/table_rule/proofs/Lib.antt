@@ -1,0 +1,4 @@
+pub mod Lists
+pub mod Happens
+pub mod SeatMoves
+pub mod AskedMoves

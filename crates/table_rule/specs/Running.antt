@@ -1,0 +1,61 @@
+-- Steps of the running table as events of the pure machine. Of what the other seats have done, only that is known which
+-- the rule and the seat's own view tell.
+use Rattle.std.specs.Prelude.{◌≡◌, ℕ, List, slice_index, true, Some, ⊤}
+use Rattle.std.specs.List.{slice_get}
+use Rattle.index_words.specs.declared.layout.Layout.{Layout}
+use Rattle.index_words.specs.declared.view.View.{View}
+use Rattle.core_rule.specs.declared.event.Event.{Event}
+use Rattle.core_rule.specs.declared.event.Kind.{Kind}
+use Rattle.core_rule.specs.declared.event.Kind.TheVariants.{Enter, Leave, LookSec, Fill, LoadStamp, LoadHead, LoadTs, LoadPtr, LoadNext, Prepare, Finalise, Unlock, LoadMark, Mark, LoadKeyOrVal}
+use Rattle.core_rule.specs.Rule.{InRule}
+use Rattle.core_rule.specs.Steps.{allowed, after}
+use Rattle.core_rule.specs.Tables.{Table}
+
+abbrev pub table : Layout → List ℕ → List View → Table
+table z words views = record { layout = z; words = words; views = views }
+
+-- some table that meets the rule has a seat with this view
+pub record Stands (z : Layout) (v : View) : Type 0 where
+  pub words : List ℕ
+  pub views : List View
+  pub rule : InRule z words views
+  pub seat : ℕ
+  pub at : slice_get views seat ≡ Some v
+
+-- the event has happened: in a table that met the rule the seat had the view `v`, the event was allowed, its word held
+-- `n`, and in the table after it the seat has the view `w`
+pub record Happened (z : Layout) (e : Event) (v : View) (n : ℕ) (w : View) : Type 0 where
+  pub words : List ℕ
+  pub views : List View
+  pub rule : InRule z words views
+  pub seat : slice_get views e.seat ≡ Some v
+  pub met : allowed (table z words views) e ≡ true
+  pub found : n ≡ slice_index words e.word
+  pub view : slice_get (after (table z words views) e).views e.seat ≡ Some w
+
+-- the same without the word found, which a store does not tell
+abbrev pub Stored : Layout → Event → View → View → Type 0
+Stored z e v w = (n : ℕ) × Happened z e v n w
+
+-- the kinds that load a word and leave it as it is
+abbrev pub IsLoad : Kind → Type 0
+IsLoad LookSec = ⊤
+IsLoad LoadStamp = ⊤
+IsLoad LoadHead = ⊤
+IsLoad LoadTs = ⊤
+IsLoad LoadPtr = ⊤
+IsLoad LoadNext = ⊤
+IsLoad LoadMark = ⊤
+IsLoad LoadKeyOrVal = ⊤
+IsLoad _ = ⊥
+
+-- the kinds that store their value
+abbrev pub IsStore : Kind → Type 0
+IsStore Enter = ⊤
+IsStore Leave = ⊤
+IsStore Fill = ⊤
+IsStore Prepare = ⊤
+IsStore Finalise = ⊤
+IsStore Unlock = ⊤
+IsStore Mark = ⊤
+IsStore _ = ⊥

@@ -1,0 +1,5 @@
+pub mod Views
+pub mod Own
+pub mod SectionSteps
+pub mod Heard
+pub mod Opened

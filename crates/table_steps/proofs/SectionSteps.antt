@@ -1,0 +1,297 @@
+-- Each step of a section: that it may be made, what it leaves in the view, and that what is kept at run time still is what
+-- the view says.
+use Rattle.std.proofs.Common.{◌≡◌, ◌≢◌, ℕ, ◌+◌, ◌<◌, ◌≤◌, ◌==◌, ◌++◌, length, drop, cond, Bool, true, false, ltb, ◌&&◌, arith, refl, ap, ◌∙◌, sym, subst, Some}
+use Rattle.std.proofs.lemmas.Bool.Decides.{nat_tests}
+use Rattle.std.proofs.lemmas.List.{take-append-drop}
+use Rattle.index_words.specs.declared.layout.Layout.{Layout}
+use Rattle.index_words.specs.declared.view.View.{View}
+use Rattle.index_words.specs.declared.view.history.SeenHistory.{SeenHistory}
+use Rattle.index_words.specs.declared.word.Word.{Word}
+use Rattle.index_words.specs.declared.word.Word.TheVariants.{Stamp, Section}
+use Rattle.index_words.specs.Words.{Memory, memory, is_there}
+use Rattle.core_grace.specs.Batches.{is_empty, looked}
+use Rattle.core_grace.specs.Sections.{is_even, left_word}
+use Rattle.core_rule.specs.declared.event.Event.{Event}
+use Rattle.core_rule.specs.declared.event.Kind.TheVariants.{Enter, Leave, LookSec, Fill, LoadStamp}
+use Rattle.core_rule.specs.FillMoves.{filled_view, filled_with, with_filled}
+use Rattle.core_rule.specs.Moves.{entered, left, in_section}
+use Rattle.core_rule.specs.ViewNeeds.{event_at, May, MayFill}
+use Rattle.core_rule.proofs.KeptViews.{SeatPart, part_of, entered_part}
+use Rattle.core_rule.proofs.ViewNeeds.{may_enter_law, may_leave_law, may_look_law, may_fill_law}
+use Rattle.pass_slots.specs.Owned.{KeptSlots, KeepsSlots, HasRoomOf}
+use Rattle.table_rule.specs.Homes.{Home, Sat, IsOf, Asks}
+use Rattle.table_rule.specs.Running.{Happened, Stored}
+use Rattle.table_rule.proofs.Happens.{happened_view, happened_word}
+use Rattle.table_steps.specs.Kept.{Keeps}
+use Rattle.table_steps.specs.Made.{KeepsOwn}
+use Rattle.table_steps.specs.Passes.{AtRest, Inside, Extends}
+use Rattle.table_steps.specs.declared.kept.Kept.{Kept}
+use Rattle.index_words.specs.declared.view.slots.Looks.{Looks}
+use Rattle.key_map.specs.History.{after}
+use Rattle.core_rule.specs.Found.{FindsStamp}
+use Rattle.core_rule.specs.LoadMoves.{longest, stamp_loaded}
+use Rattle.core_rule.specs.SpelledNow.{tree_now}
+use Rattle.core_rule.specs.Versions.{tree_nodes}
+use Rattle.core_rule.proofs.Found.{stamp_law}
+use Rattle.pass_slots.specs.Owned.{KeepsLooks}
+use Rattle.table_rule.specs.Running.{table}
+use Rattle.table_rule.proofs.Lists.{item_at}
+use Rattle.table_steps.specs.Gives.{HasLoadedStamp}
+use Rattle.table_steps.proofs.Own.{own_longer}
+use Rattle.table_steps.proofs.Views.{Work, entered_work, looked_work, looked_part, filled_part, odd_next, even_left}
+
+-- a view with the same parts, and its own section word and slots, is kept with these
+pub keeps_moved : (v w : View) (k : Kept) (word : ℕ) (slots : KeptSlots) → Keeps v k → part_of w ≡ record (part_of v) { word = word; section = w.reading.section; opened = w.reading.opened } → KeepsSlots w slots → HasRoomOf k.slots slots
+    → Keeps w (record { number = k.number; section_word = word; left = k.left; slots = slots; updates = k.updates })
+keeps_moved v w k word slots keeps same kept room = record {
+  number = ap (λ (p : SeatPart). p.owner.number) same ∙ keeps.number;
+  there = subst (λ (z : Layout). k.number < z.passes) (sym layout) keeps.there;
+  few = subst (λ (z : Layout). z.passes ≤ 32) (sym layout) keeps.few;
+  word = ap (λ (p : SeatPart). p.word) same;
+  left = ap (λ (p : SeatPart). p.history.left) same ∙ keeps.left;
+  announced = ap (λ (p : SeatPart). p.owner.announced) same ∙ keeps.announced;
+  slots = kept;
+  node_room = subst (λ (z : Layout). z.nodes ≤ slots.node_room) (sym layout) (subst (λ n. v.layout.nodes ≤ n) (sym room.nodes) keeps.node_room);
+  entry_room = subst (λ (z : Layout). z.entries ≤ slots.entry_room) (sym layout) (subst (λ n. v.layout.entries ≤ n) (sym room.entries) keeps.entry_room);
+  own = subst (λ (h : SeenHistory). KeepsOwn h k.updates) (sym (ap (λ (p : SeatPart). p.history) same)) keeps.own;
+}
+  where
+    layout : w.layout ≡ v.layout
+    layout = ap (λ (p : SeatPart). p.owner.layout) same
+
+-- a view whose own parts are as they were
+part_moved : (v w : View) (word : ℕ) → part_of w ≡ part_of v → v.section_word ≡ word → part_of w ≡ record (part_of v) { word = word; section = w.reading.section; opened = w.reading.opened }
+part_moved v w word same is =
+    same ∙ ap (λ x. record (part_of v) { word = x }) is
+    ∙ ap (λ x. record (part_of v) { word = word; section = x }) (sym (ap (λ (p : SeatPart). p.section) same))
+    ∙ ap (λ x. record (part_of v) { word = word; section = w.reading.section; opened = x }) (sym (ap (λ (p : SeatPart). p.opened) same))
+
+filled_slots : (v : View) (w : Word) (value : ℕ) (k : KeptSlots) → KeepsSlots v k → KeepsSlots (filled_view v w value) k
+filled_slots v w value k keeps = by_test (is_even v.section_word)
+  where
+    by_test : (b : Bool) → KeepsSlots (cond b v (with_filled v (filled_with v.reading.filled w value))) k
+    by_test true = keeps
+    by_test false = record { free = keeps.free; batch = keeps.batch; retired = keeps.retired; looks = keeps.looks }
+
+pub same_room : (k : KeptSlots) → HasRoomOf k k
+same_room k = record { nodes = refl; entries = refl }
+
+low_true : (a b : ℕ) → a < b → ltb a b ≡ true
+low_true a b low = grind (arith, nat_tests)
+
+module _ (home : Home) (s : Sat) (k : Kept) (keeps : Keeps s.view k) (of : IsOf home s) where
+  abbrev v : View
+  v = s.view
+
+  abbrev z : Layout
+  z = home.layout
+
+  low : k.number < z.passes
+  low = subst (λ (y : Layout). k.number < y.passes) of.layout keeps.there
+
+  own_there : is_there z (Section k.number) ≡ true
+  own_there = low_true k.number z.passes low
+
+  -- enter
+  abbrev pub enter_event : Event
+  enter_event = event_at z s.seat Enter (Section k.number) (k.section_word + 1)
+
+  pub enter_asks : AtRest v → Asks home s (Section k.number) enter_event
+  enter_asks rest = record {
+    of = of;
+    there = own_there;
+    seat = refl;
+    word = refl;
+    may = subst (λ n. May z v (event_at z s.seat Enter (Section k.number) (n + 1))) keeps.word
+        (may_enter_law z v s.seat k.number (record { own = keeps.number; outside = record { even = rest.even; unlocked = rest.unlocked } }));
+  }
+
+  pub enter_view : (w : View) → Stored z enter_event v w → w ≡ entered z.passes v (k.section_word + 1)
+  enter_view w h = happened_view z enter_event v w h.0 (Section k.number) own_there refl tt h.1
+
+  pub enter_inside : AtRest v → (w : View) → Stored z enter_event v w → Inside w
+  enter_inside rest w h =
+      let word : ℕ = k.section_word + 1 in
+      let is = enter_view w h in
+      let part = ap part_of is ∙ entered_part z.passes word v in
+      record {
+        odd = ap (λ (p : SeatPart). is_even p.word) part ∙ odd_next k.section_word (subst (λ n. is_even n ≡ true) keeps.word rest.even);
+        unlocked = ap (λ (u : View). u.held.nodes) is ∙ ap (λ (u : Work). u.held.nodes) (entered_work z.passes word v) ∙ rest.unlocked;
+        unannounced = ap (λ (p : SeatPart). p.owner.announced) part ∙ rest.unannounced;
+      }
+
+  pub enter_keeps : (w : View) (slots : KeptSlots) → Stored z enter_event v w → ((u : View) → KeepsSlots u k.slots → u.number ≡ Some k.number → KeepsSlots (Rattle.core_grace.specs.Batches.settled z.passes (Rattle.core_grace.specs.Batches.batch_taken u)) slots) → HasRoomOf k.slots slots
+      → Keeps w (record { number = k.number; section_word = k.section_word + 1; left = k.left; slots = slots; updates = k.updates })
+  enter_keeps w slots h kept room =
+      let word : ℕ = k.section_word + 1 in
+      let inside : KeepsSlots (in_section v word) k.slots = record { free = keeps.slots.free; batch = keeps.slots.batch; retired = keeps.slots.retired; looks = keeps.slots.looks } in
+      subst (λ (u : View). Keeps u (record { number = k.number; section_word = word; left = k.left; slots = slots; updates = k.updates })) (sym (enter_view w h))
+      (keeps_moved v (entered z.passes v word) k word slots keeps
+      (entered_part z.passes word v ∙ ap (λ (r : Work). record (part_of v) { word = word; section = r.reading.section; opened = r.reading.opened }) (sym (entered_work z.passes word v)))
+      (kept (in_section v word) inside keeps.number) room)
+
+  -- leave
+  abbrev pub leave_event : Event
+  leave_event = event_at z s.seat Leave (Section k.number) (left_word k.section_word)
+
+  pub leave_asks : Inside v → Asks home s (Section k.number) leave_event
+  leave_asks inside = record {
+    of = of;
+    there = own_there;
+    seat = refl;
+    word = refl;
+    may = subst (λ n. May z v (event_at z s.seat Leave (Section k.number) (left_word n))) keeps.word
+        (may_leave_law z v s.seat k.number (record { own = keeps.number; inside = inside.odd; unlocked = inside.unlocked }));
+  }
+
+  pub leave_view : (w : View) → Stored z leave_event v w → w ≡ left v (left_word k.section_word)
+  leave_view w h = happened_view z leave_event v w h.0 (Section k.number) own_there refl tt h.1
+
+  pub leave_rest : Inside v → (w : View) → Stored z leave_event v w → AtRest w
+  leave_rest inside w h =
+      let is = leave_view w h in
+      record {
+        even = ap (λ (u : View). is_even u.section_word) is ∙ even_left k.section_word (subst (λ n. is_even n ≡ false) keeps.word inside.odd);
+        unlocked = ap (λ (u : View). u.held.nodes) is ∙ inside.unlocked;
+        unannounced = ap (λ (u : View). u.announced) is ∙ inside.unannounced;
+      }
+
+  pub leave_keeps : (w : View) → Stored z leave_event v w → Keeps w (record { number = k.number; section_word = left_word k.section_word; left = k.left; slots = k.slots; updates = k.updates })
+  leave_keeps w h =
+      let word : ℕ = left_word k.section_word in
+      let kept : KeepsSlots (left v word) k.slots = record { free = keeps.slots.free; batch = keeps.slots.batch; retired = keeps.slots.retired; looks = keeps.slots.looks } in
+      subst (λ (u : View). Keeps u (record { number = k.number; section_word = word; left = k.left; slots = k.slots; updates = k.updates })) (sym (leave_view w h))
+      (keeps_moved v (left v word) k word k.slots keeps refl kept (same_room k.slots))
+
+  -- look
+  module _ (other : ℕ) (there : other < v.layout.passes) where
+    other_there : is_there z (Section other) ≡ true
+    other_there = low_true other z.passes (subst (λ (y : Layout). other < y.passes) of.layout there)
+
+    abbrev pub look_event : Event
+    look_event = event_at z s.seat LookSec (Section other) 0
+
+    pub look_asks : AtRest v → other ≢ k.number → (is_empty v.batch && is_empty v.retired) ≡ false → Asks home s (Section other) look_event
+    look_asks rest apart waiting = record {
+      of = of;
+      there = other_there;
+      seat = refl;
+      word = refl;
+      may = may_look_law z v s.seat other (record {
+        other = λ same. apart (sym (some_number k.number other (sym keeps.number ∙ same)));
+        there = there;
+        outside = record { even = rest.even; unlocked = rest.unlocked };
+        waiting = waiting;
+      });
+    }
+      where
+        some_number : (a b : ℕ) → Some a ≡ Some b → a ≡ b
+        some_number a b is = cc
+
+    pub look_view : (w : View) (n : ℕ) → Happened z look_event v n w → w ≡ looked z.passes v other n
+    look_view w n h =
+        happened_view z look_event v w n (Section other) other_there refl tt h
+        ∙ ap (looked z.passes v other) (happened_word z look_event v w n (Section other) other_there refl tt h)
+
+    pub look_rest : AtRest v → (w : View) (n : ℕ) → Happened z look_event v n w → AtRest w
+    look_rest rest w n h =
+        let is = look_view w n h in
+        let part = ap part_of is ∙ looked_part z other n v in
+        record {
+          even = ap (λ (p : SeatPart). is_even p.word) part ∙ rest.even;
+          unlocked = ap (λ (u : View). u.held.nodes) is ∙ ap (λ (u : Work). u.held.nodes) (looked_work z.passes other n v) ∙ rest.unlocked;
+          unannounced = ap (λ (p : SeatPart). p.owner.announced) part ∙ rest.unannounced;
+        }
+
+    pub look_keeps : (w : View) (n : ℕ) (slots : KeptSlots) → Happened z look_event v n w → ((u : View) → KeepsSlots u k.slots → u.number ≡ Some k.number → KeepsSlots (looked z.passes u other n) slots) → HasRoomOf k.slots slots
+        → Keeps w (record { number = k.number; section_word = k.section_word; left = k.left; slots = slots; updates = k.updates })
+    look_keeps w n slots h kept room =
+        let u : View = looked z.passes v other n in
+        subst (λ (x : View). Keeps x (record { number = k.number; section_word = k.section_word; left = k.left; slots = slots; updates = k.updates })) (sym (look_view w n h))
+        (keeps_moved v u k k.section_word slots keeps
+        (looked_part z other n v ∙ ap (λ x. record (part_of v) { word = x }) keeps.word
+        ∙ ap (λ (r : Work). record (part_of v) { word = k.section_word; section = r.reading.section; opened = r.reading.opened }) (sym (looked_work z.passes other n v)))
+        (kept v keeps.slots keeps.number) room)
+
+  -- fill
+  module _ (word : Word) (value : ℕ) (there : is_there v.layout word ≡ true) where
+    fill_there : is_there z word ≡ true
+    fill_there = subst (λ (y : Layout). is_there y word ≡ true) of.layout there
+
+    abbrev pub fill_event : Event
+    fill_event = event_at z s.seat Fill word value
+
+    pub fill_asks : MayFill v word → Asks home s word fill_event
+    fill_asks free = record { of = of; there = fill_there; seat = refl; word = refl; may = may_fill_law z v s.seat word value free }
+
+    pub fill_gives : (w : View) → Stored z fill_event v w → w ≡ filled_view v word value
+    fill_gives w h = happened_view z fill_event v w h.0 word fill_there refl tt h.1
+
+    pub fill_keeps : (w : View) → Stored z fill_event v w → Keeps w k
+    fill_keeps w h =
+        let u : View = filled_view v word value in
+        subst (λ (x : View). Keeps x k) (sym (fill_gives w h))
+        (keeps_moved v u k k.section_word k.slots keeps (part_moved v u k.section_word (filled_part z v word value) keeps.word) (filled_slots v word value k.slots keeps.slots) (same_room k.slots))
+
+  -- a load of the stamp
+  module _ (fixes : ℕ) (w : View) (n : ℕ) (h : Happened z (event_at z s.seat LoadStamp Stamp fixes) v n w) where
+    abbrev m : Memory
+    m = memory z h.words
+
+    found : FindsStamp (table z h.words h.views) v
+    found = stamp_law (table z h.words h.views) s.seat v h.rule (item_at h.views s.seat v h.seat)
+
+    stamp_is : m Stamp ≡ n
+    stamp_is = happened_word z (event_at z s.seat LoadStamp Stamp fixes) v w n Stamp refl refl tt h
+
+    w_is : w ≡ stamp_loaded (longest h.views) v n (fixes == 1) (tree_nodes (tree_now z m h.views))
+    w_is =
+        happened_view z (event_at z s.seat LoadStamp Stamp fixes) v w n Stamp refl refl tt h
+        ∙ ap (λ x. stamp_loaded (longest h.views) v x (fixes == 1) (tree_nodes (tree_now z m h.views))) stamp_is
+
+    seen_is : w.history.seen ≡ longest h.views
+    seen_is = ap (λ (u : View). u.history.seen) w_is
+
+    longer : Extends v.history.seen w.history.seen
+    longer = (
+      drop (length v.history.seen) (longest h.views),
+      seen_is ∙ sym (take-append-drop (length v.history.seen) (longest h.views)) ∙ ap (λ us. us ++ drop (length v.history.seen) (longest h.views)) (sym found.extends),
+    )
+
+    pub stamp_gives : HasLoadedStamp v fixes n w
+    stamp_gives = record {
+      extends = longer;
+      whole = ap length seen_is ∙ found.whole ∙ stamp_is;
+      tree = tree_now z m h.views;
+      lawful = found.lawful;
+      contents_are = found.contents_are ∙ ap (after (longest h.views)) stamp_is ∙ ap (λ us. after us n) (sym seen_is);
+      view = w_is ∙ ap (λ us. stamp_loaded us v n (fixes == 1) (tree_nodes (tree_now z m h.views))) (sym seen_is);
+    }
+
+    pub stamp_inside : Inside v → Inside w
+    stamp_inside inside = record {
+      odd = ap (λ (u : View). is_even u.section_word) w_is ∙ inside.odd;
+      unlocked = ap (λ (u : View). u.held.nodes) w_is ∙ inside.unlocked;
+      unannounced = ap (λ (u : View). u.announced) w_is ∙ inside.unannounced;
+    }
+
+    pub stamp_keeps : Keeps w k
+    stamp_keeps =
+        let layout : w.layout ≡ v.layout = ap (λ (u : View). u.layout) w_is in
+        record {
+          number = ap (λ (u : View). u.number) w_is ∙ keeps.number;
+          there = subst (λ (y : Layout). k.number < y.passes) (sym layout) keeps.there;
+          few = subst (λ (y : Layout). y.passes ≤ 32) (sym layout) keeps.few;
+          word = ap (λ (u : View). u.section_word) w_is ∙ keeps.word;
+          left = ap (λ (u : View). u.history.left) w_is ∙ keeps.left;
+          announced = ap (λ (u : View). u.announced) w_is ∙ keeps.announced;
+          slots = record {
+            free = ap (λ (u : View). u.free) w_is ∙ keeps.slots.free;
+            batch = ap (λ (u : View). u.batch) w_is ∙ keeps.slots.batch;
+            retired = ap (λ (u : View). u.retired) w_is ∙ keeps.slots.retired;
+            looks = subst (λ (g : Looks). KeepsLooks g k.slots.shown) (sym (ap (λ (u : View). u.grace) w_is)) keeps.slots.looks;
+          };
+          node_room = subst (λ (y : Layout). y.nodes ≤ k.slots.node_room) (sym layout) keeps.node_room;
+          entry_room = subst (λ (y : Layout). y.entries ≤ k.slots.entry_room) (sym layout) keeps.entry_room;
+          own = own_longer v.history w.history k.updates (ap (λ (u : View). u.history.mine) w_is) (ap (λ (u : View). u.history.left) w_is) longer keeps.own;
+        }

@@ -1,0 +1,101 @@
+-- What the moves of sections leave of a view, and what a live view is known to have.
+use Rattle.std.proofs.Common.{◌≡◌, ℕ, ◌+◌, ◌-◌, ◌%◌, ◌<◌, ◌^◌, cond, Bool, true, false, eqb, arith, refl, ap, ◌∙◌, sym, subst, length, take, List}
+use Rattle.std.proofs.lemmas.Bool.{eqb-true, eq-eqb}
+use Rattle.std.proofs.lemmas.Bool.Decides.{nat_tests}
+use Rattle.index_words.specs.declared.layout.Layout.{Layout}
+use Rattle.index_words.specs.declared.view.View.{View}
+use Rattle.index_words.specs.declared.view.update.Held.{Held}
+use Rattle.index_words.specs.declared.view.reading.Reading.{Reading}
+use Rattle.index_words.specs.declared.word.Word.{Word}
+use Rattle.index_words.specs.declared.word.Word.TheVariants.{Section}
+use Rattle.index_words.specs.Views.{no_reading, no_slots, no_looks}
+use Rattle.index_words.specs.Words.{memory}
+use Rattle.core_grace.specs.Batches.{is_empty, batch_taken, batch_freed, all_passed, settled, looked, looked_at}
+use Rattle.core_grace.specs.Sections.{is_even, left_word, last_word}
+use Rattle.core_rule.specs.declared.event.Kind.TheVariants.{LookSec, Fill}
+use Rattle.core_rule.specs.FillMoves.{filled_view}
+use Rattle.core_rule.specs.Moves.{entered, in_section, nowhere}
+use Rattle.core_rule.specs.Rule.{InRule}
+use Rattle.core_rule.specs.SeatRule.{SeatRight}
+use Rattle.core_rule.proofs.KeptViews.{part_of, still_kept}
+use Rattle.core_rule.proofs.OneView.{seat_at}
+use Rattle.table_rule.specs.Homes.{IsLiveView}
+use Rattle.table_rule.specs.Running.{Stands}
+use Rattle.table_rule.proofs.Lists.{item_at}
+
+-- what it has locked and what it has read
+pub record Work : Type 0 where
+  pub held : Held
+  pub reading : Reading
+
+abbrev pub work_of : View → Work
+work_of v = record { held = v.held; reading = v.reading }
+
+either_work : (b : Bool) (u : Work) (x y : View) → work_of x ≡ u → work_of y ≡ u → work_of (cond b x y) ≡ u
+either_work true u x y one two = one
+either_work false u x y one two = two
+
+settled_work : (passes : ℕ) (v : View) → work_of (settled passes v) ≡ work_of v
+settled_work passes v = either_work (all_passed passes v.number v.grace.passed) (work_of v) (batch_freed v) v refl refl
+
+taken_work : (v : View) → work_of (batch_taken v) ≡ work_of v
+taken_work v = either_work (is_empty v.batch) (work_of v) (record v { retired = no_slots; batch = v.retired; grace = no_looks }) v refl refl
+
+pub entered_work : (passes word : ℕ) (v : View) → work_of (entered passes v word) ≡ record { held = v.held; reading = nowhere v.reading }
+entered_work passes word v = settled_work passes (batch_taken (in_section v word)) ∙ taken_work (in_section v word)
+
+pub looked_work : (passes pass word : ℕ) (v : View) → work_of (looked passes v pass word) ≡ work_of v
+looked_work passes pass word v =
+    let taken : View = batch_taken v in
+    settled_work passes (record taken { grace = looked_at taken.grace pass word }) ∙ taken_work v
+
+pub looked_part : (z : Layout) (pass word : ℕ) (v : View) → part_of (looked z.passes v pass word) ≡ part_of v
+looked_part z pass word v = still_kept z (λ w. 0) Rattle.std.proofs.Common.[] v (Section pass) word 0 Rattle.std.proofs.Common.None LookSec refl
+
+pub filled_part : (z : Layout) (v : View) (w : Word) (value : ℕ) → part_of (filled_view v w value) ≡ part_of v
+filled_part z v w value = still_kept z (λ w. 0) Rattle.std.proofs.Common.[] v w 0 value Rattle.std.proofs.Common.None Fill refl
+
+-- the section word after an enter and after a leave
+pub odd_next : (x : ℕ) → is_even x ≡ true → is_even (x + 1) ≡ false
+odd_next x even = let zero' : x % 2 ≡ 0 = eqb-true (x % 2) 0 even in not_zero ((x + 1) % 2) (omega arith)
+  where
+    not_zero : (n : ℕ) → 0 < n → eqb n 0 ≡ false
+    not_zero n some = grind (arith, nat_tests)
+
+pub even_left : (x : ℕ) → is_even x ≡ false → is_even (left_word x) ≡ true
+even_left x odd = by_last (eqb x last_word)
+  where
+    above : (n : ℕ) → eqb n 0 ≡ false → 0 < n
+    above n e = grind (arith, nat_tests)
+
+    one : x % 2 ≡ 1
+    one = let some : 0 < x % 2 = above (x % 2) odd in omega arith
+
+    by_last : (b : Bool) → is_even (cond b (x - 1) (x + 1)) ≡ true
+    by_last true = eq-eqb ((x - 1) % 2) 0 (omega (arith, one))
+    by_last false = eq-eqb ((x + 1) % 2) 0 (omega (arith, one))
+
+-- an even word of 64 bits has a next one
+pub even_small : (x : ℕ) → x < 2 ^ 64 → is_even x ≡ true → x + 1 < 2 ^ 64
+even_small x small even = let zero' : x % 2 ≡ 0 = eqb-true (x % 2) 0 even in omega (arith, small)
+
+-- a live view's seat meets the rule on one seat
+pub record RightSeat (v : View) : Type 0 where
+  pub words : List ℕ
+  pub views : List View
+  pub rule : InRule v.layout words views
+  pub seat : SeatRight v.layout (memory v.layout words) rule.meaning v
+
+pub live_seat : (v : View) → IsLiveView v → RightSeat v
+live_seat v live =
+    let s : Stands v.layout v = live.stands in
+    record {
+      words = s.words;
+      views = s.views;
+      rule = s.rule;
+      seat = seat_at v.layout (memory v.layout s.words) s.views s.rule.meaning s.seat v (item_at s.views s.seat v s.at) s.rule.rule;
+    }
+
+-- outside a section nothing is read
+pub rest_reading : (v : View) → IsLiveView v → is_even v.section_word ≡ true → v.reading ≡ no_reading
+rest_reading v live even = (live_seat v live).seat.section.outside even

@@ -1,0 +1,6 @@
+use Rattle.core_rule.specs.declared.event.Kind.TheVariants.{LoadStamp}
+use Rattle.core_rule.specs.ViewNeeds.{event_at}
+use Rattle.table_steps.proofs.pass.TablePass.load_stamp.Given as goal
+
+abbrev pub ghosts-load : goal.ghosts-load
+ghosts-load a = record { event = event_at a.self.now.layout a.seat.now.seat LoadStamp a.word 0 }

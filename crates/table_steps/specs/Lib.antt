@@ -1,0 +1,6 @@
+pub mod Passes
+pub mod Made
+pub mod Kept
+pub mod Gives
+pub mod Notes
+pub mod Opens

@@ -1,0 +1,32 @@
+-- Notes, and what it is to hear one.
+use Rattle.std.specs.Prelude.{◌≡◌, List}
+use Rattle.index_words.specs.declared.layout.Layout.{Layout}
+use Rattle.index_words.specs.declared.view.View.{View}
+use Rattle.index_words.specs.Views.{empty_view}
+use Rattle.key_map.specs.declared.update.Update.{Update}
+use Rattle.table_rule.specs.Homes.{Sat}
+use Rattle.table_steps.specs.Passes.{Pass, Extends}
+
+-- the view of a note: without a number, it has seen so much, and owns nothing
+abbrev pub note_view : Layout → List Update → View
+note_view z seen = record (empty_view z) { history = record (empty_view z).history { seen = seen } }
+
+-- the note is of the pass's table
+pub record IsNoteOf (p : Pass) (s : Sat) : Type 0 where
+  pub id : s.id ≡ p.id
+  pub layout : s.view.layout ≡ p.view.layout
+
+-- the view has heard of these updates: what it has seen begins with what it had seen, and with them. Its own updates,
+-- its slots and what it may still do are as they were
+pub record HasHeard (v : View) (news : List Update) (w : View) : Type 0 where
+  pub old : Extends v.history.seen w.history.seen
+  pub told : Extends news w.history.seen
+  pub mine : w.history.mine ≡ v.history.mine
+  pub left : w.history.left ≡ v.history.left
+  pub looks : w.history.looks ≡ v.history.looks
+  pub found : w.history.found ≡ v.history.found
+  pub opened : w.reading.opened ≡ v.reading.opened
+  pub word : w.section_word ≡ v.section_word
+  pub free : w.free ≡ v.free
+  pub retired : w.retired ≡ v.retired
+  pub batch : w.batch ≡ v.batch

@@ -1,0 +1,39 @@
+-- A pass as plain data, and the states in which its calls may be made.
+use Rattle.std.specs.Prelude.{◌≡◌, ℕ, List, [], ◌++◌, true, false}
+use Rattle.index_words.specs.declared.view.View.{View}
+use Rattle.key_map.specs.declared.update.Update.{Update}
+use Rattle.core_grace.specs.Sections.{is_even}
+use Rattle.atomic_table.specs.Seated.{TableId}
+use Rattle.table_rule.specs.Homes.{Home}
+
+-- a pass, or its key: its table, its seat and its number, and what it knows
+pub record Pass : Type 0 where
+  pub id : TableId
+  pub seat : ℕ
+  pub number : ℕ
+  pub view : View
+
+-- the pass is one of this table
+pub record IsPassOf (home : Home) (p : Pass) : Type 0 where
+  pub id : p.id ≡ home.id
+  pub layout : p.view.layout ≡ home.layout
+
+-- the same pass, with another view
+abbrev pub with_view : Pass → View → Pass
+with_view p w = record { id = p.id; seat = p.seat; number = p.number; view = w }
+
+-- at rest: outside a section, with no lock held and nothing announced
+pub record AtRest (v : View) : Type 0 where
+  pub even : is_even v.section_word ≡ true
+  pub unlocked : v.held.nodes ≡ []
+  pub unannounced : v.announced ≡ 0
+
+-- inside a section, with no lock held
+pub record Inside (v : View) : Type 0 where
+  pub odd : is_even v.section_word ≡ false
+  pub unlocked : v.held.nodes ≡ []
+  pub unannounced : v.announced ≡ 0
+
+-- what was seen goes on
+abbrev pub Extends : List Update → List Update → Type 0
+Extends old new = (more : List Update) × (new ≡ old ++ more)

@@ -1,0 +1,15 @@
+use crate::own_updates::OwnUpdates;
+use pass_slots::PassSlots;
+
+/// What a pass keeps at run time.
+#[derive(Drop)]
+pub struct Kept {
+    /// The pass's number.
+    pub number: u32,
+    /// What its own section word holds.
+    pub section_word: u64,
+    /// How many updates it may still make.
+    pub left: u32,
+    pub slots: PassSlots,
+    pub updates: OwnUpdates,
+}

@@ -1,0 +1,17 @@
+//! The running table: a pass's seat, and its steps on the words that all passes share. Each step is one move, and is
+//! the event of its name of the pure machine. It stands on `table_rule` and `pass_slots`.
+#![tactic(auto)]
+
+mod kept;
+mod notes;
+mod open;
+mod own_updates;
+mod pass;
+mod sections;
+mod stamps;
+mod table;
+
+pub use notes::Note;
+pub use own_updates::OwnUpdate;
+pub use pass::{PassKey, TablePass};
+pub use table::SharedTable;

@@ -1,0 +1,99 @@
+//! The steps of read-side sections, of looks and of fills. Each is one move of one word.
+ghost use Rattle.std.specs.Prelude.{◌≡◌, ◌≢◌, ◌<◌, ◌+◌, ◌&&◌, true, false, Some};
+ghost use Rattle.index_words.specs.declared.word.Word.{Word as TableWord};
+ghost use Rattle.index_words.specs.Words.{is_there, word_at};
+ghost use Rattle.core_grace.specs.Batches.{is_empty, looked};
+ghost use Rattle.core_grace.specs.Sections.{left_word};
+ghost use Rattle.core_rule.specs.FillMoves.{filled_view};
+ghost use Rattle.core_rule.specs.Moves.{entered, left};
+ghost use Rattle.core_rule.specs.ViewNeeds.{MayFill};
+ghost use Rattle.table_rule.specs.Running.{Happened, Stored};
+ghost use Rattle.table_steps.specs.Gives.{entering, leaving, looking, filling};
+ghost use Rattle.table_steps.specs.Passes.{AtRest, Inside, with_view};
+
+use crate::pass::TablePass;
+use core_grace::left_word as word_after_leaving;
+use index_words::Word;
+use std::marker::Brand;
+
+impl<'t> TablePass<'t> {
+    /// Enters a section: the own section word becomes odd. Where no batch waits the retired slots become the batch.
+    pub fn enter(&mut self)
+        requires rest { AtRest self.old.view }
+        ensures same { self.new ≡ with_view self.old self.new.view }
+        ensures event { Stored self.old.view.layout (entering self.old) self.old.view self.new.view }
+        ensures view { self.new.view ≡ entered self.old.view.layout.passes self.old.view (self.old.view.section_word + 1) }
+        ensures inside { Inside self.new.view }
+    {
+        let table = self.table;
+        let word = self.kept.section_word + 1;
+        table
+            .ruled
+            .store::<Brand>(&mut self.seat, Word::Section(self.kept.number), word);
+        self.kept.section_word = word;
+        let passes = table.ruled.layout().passes;
+        self.kept.slots.enter(passes, self.kept.number);
+    }
+
+    /// Leaves a section: the own section word becomes even, and what was read is gone.
+    pub fn leave(&mut self)
+        requires inside { Inside self.old.view }
+        ensures same { self.new ≡ with_view self.old self.new.view }
+        ensures event { Stored self.old.view.layout (leaving self.old) self.old.view self.new.view }
+        ensures view { self.new.view ≡ left self.old.view (left_word self.old.view.section_word) }
+        ensures rest { AtRest self.new.view }
+    {
+        let table = self.table;
+        let word = word_after_leaving(self.kept.section_word);
+        table
+            .ruled
+            .store::<Brand>(&mut self.seat, Word::Section(self.kept.number), word);
+        self.kept.section_word = word;
+    }
+
+    /// Looks at the section word of another pass, for the sake of the slots that wait to become free.
+    pub fn look_sec(&mut self, other: u32) -> u64
+        requires rest { AtRest self.old.view }
+        requires other { other ≢ self.old.number }
+        requires there { other < self.old.view.layout.passes }
+        requires waiting { (is_empty self.old.view.batch && is_empty self.old.view.retired) ≡ false }
+        ensures same { self.new ≡ with_view self.old self.new.view }
+        ensures event { Happened self.old.view.layout (looking self.old other) self.old.view result self.new.view }
+        ensures view { self.new.view ≡ looked self.old.view.layout.passes self.old.view other result }
+        ensures rest { AtRest self.new.view }
+    {
+        let table = self.table;
+        let word = table
+            .ruled
+            .load::<Brand>(&mut self.seat, Word::Section(other));
+        let passes = table.ruled.layout().passes;
+        self.kept.slots.look(passes, self.kept.number, other, word);
+        word
+    }
+
+    /// Stores a value to the word with this number: any word but the lock of a free slot of its own.
+    pub fn fill(&mut self, word: u64, value: u64)
+        requires free { (w : TableWord) × (word_at self.old.view.layout word ≡ Some w) × MayFill self.old.view w }
+        ensures same { self.new ≡ with_view self.old self.new.view }
+        ensures event { (w : TableWord) × (word_at self.old.view.layout word ≡ Some w) × Stored self.old.view.layout (filling self.old w value) self.old.view self.new.view × (self.new.view ≡ filled_view self.old.view w value) }
+    {
+        let table = self.table;
+        let layout = table.ruled.layout();
+        let Some(word) = layout.word_at(word) else {
+            unreachable!()
+        };
+        self.fill_word(word, value);
+    }
+
+    /// Stores a value to a word of a free slot of its own.
+    fn fill_word(&mut self, word: Word, value: u64)
+        requires there { is_there self.old.view.layout word ≡ true }
+        requires free { MayFill self.old.view word }
+        ensures same { self.new ≡ with_view self.old self.new.view }
+        ensures event { Stored self.old.view.layout (filling self.old word value) self.old.view self.new.view }
+        ensures view { self.new.view ≡ filled_view self.old.view word value }
+    {
+        let table = self.table;
+        table.ruled.store::<Brand>(&mut self.seat, word, value);
+    }
+}

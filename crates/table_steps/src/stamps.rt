@@ -1,0 +1,74 @@
+//! The loads of the stamp, and the two private calls that open and close a section.
+ghost use Rattle.std.specs.Prelude.{◌≡◌, Some, None};
+ghost use Rattle.core_grace.specs.Sections.{left_word};
+ghost use Rattle.core_rule.specs.Moves.{left};
+ghost use Rattle.table_rule.specs.Running.{Happened, Stored};
+ghost use Rattle.table_steps.specs.Gives.{leaving, loading_stamp, HasLoadedStamp, HasOpened};
+ghost use Rattle.table_steps.specs.Passes.{AtRest, Inside, with_view};
+
+use crate::pass::TablePass;
+use index_words::Word;
+use std::marker::Brand;
+
+impl<'t> TablePass<'t> {
+    /// Loads the stamp: the number of updates, at which the pass reads from then on.
+    pub fn load_stamp(&mut self) -> u64
+        requires inside { Inside self.old.view }
+        requires closed { self.old.view.reading.opened ≡ None }
+        ensures same { self.new ≡ with_view self.old self.new.view }
+        ensures event { Happened self.old.view.layout (loading_stamp self.old 0) self.old.view result self.new.view }
+        ensures gives { HasLoadedStamp self.old.view 0 result self.new.view }
+        ensures inside { Inside self.new.view }
+    {
+        let table = self.table;
+        table.ruled.load::<Brand>(&mut self.seat, Word::Stamp)
+    }
+
+    /// Loads the stamp and fixes a place: a snapshot is open then, at the number that the load answers.
+    pub fn fix_stamp(&mut self) -> u64
+        requires inside { Inside self.old.view }
+        requires closed { self.old.view.reading.opened ≡ None }
+        ensures same { self.new ≡ with_view self.old self.new.view }
+        ensures event { Happened self.old.view.layout (loading_stamp self.old 1) self.old.view result self.new.view }
+        ensures gives { HasLoadedStamp self.old.view 1 result self.new.view }
+        ensures inside { Inside self.new.view }
+    {
+        let table = self.table;
+        table.ruled.load::<Brand>(&mut self.seat, Word::Stamp)
+    }
+
+    /// Opens a section in which the pass reads at the number that this answers. Announcing it belongs here, and
+    /// nowhere else.
+    pub(crate) fn open_section(&mut self) -> u64
+        requires rest { AtRest self.old.view }
+        ensures same { self.new ≡ with_view self.old self.new.view }
+        ensures gives { HasOpened self.old.view 0 result self.new.view }
+        ensures inside { Inside self.new.view }
+    {
+        self.seat.facts();
+        self.enter();
+        self.load_stamp()
+    }
+
+    /// The same, and a snapshot is open then at this number.
+    pub(crate) fn open_snapshot(&mut self) -> u64
+        requires rest { AtRest self.old.view }
+        ensures same { self.new ≡ with_view self.old self.new.view }
+        ensures gives { HasOpened self.old.view 1 result self.new.view }
+        ensures inside { Inside self.new.view }
+    {
+        self.seat.facts();
+        self.enter();
+        self.fix_stamp()
+    }
+
+    /// Closes the section. Taking an announcement back belongs here, and nowhere else.
+    pub(crate) fn close_section(&mut self)
+        requires inside { Inside self.old.view }
+        ensures same { self.new ≡ with_view self.old self.new.view }
+        ensures view { self.new.view ≡ left self.old.view (left_word self.old.view.section_word) }
+        ensures rest { AtRest self.new.view }
+    {
+        self.leave();
+    }
+}
