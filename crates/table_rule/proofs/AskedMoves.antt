@@ -10,10 +10,10 @@ use Rattle.index_words.specs.Words.{address, is_there, word_count, word_at}
 use Rattle.index_words.proofs.Store.{address-lt}
 use Rattle.atomic_table.specs.Seated.{TableId}
 use Rattle.atomic_table.specs.Table.{Me, Allows}
-use Rattle.core_rule.specs.declared.event.Event.{Event}
-use Rattle.core_rule.specs.declared.event.Kind.{Kind}
-use Rattle.core_rule.specs.declared.event.Kind.TheVariants.{Raise, TryLock}
-use Rattle.core_rule.specs.Steps.{allowed, allowed_at}
+use Rattle.core_events.specs.declared.event.Event.{Event}
+use Rattle.core_events.specs.declared.event.Kind.{Kind}
+use Rattle.core_events.specs.declared.event.Kind.TheVariants.{Raise, TryLock}
+use Rattle.core_events.specs.Steps.{allowed, allowed_at}
 use Rattle.core_rule.proofs.Stepped.{stored_small}
 use Rattle.table_rule.specs.Homes.{Home, Sat, IsOf, Asks, IsLiveView}
 use Rattle.table_rule.specs.Running.{table, Happened, Stored, IsLoad, IsStore}

@@ -10,16 +10,16 @@ use Rattle.index_words.specs.declared.word.Word.{Word}
 use Rattle.index_words.specs.Words.{Memory, memory, address, is_there, word_at}
 use Rattle.key_map.specs.declared.update.Update.{Update}
 use Rattle.atomic_table.specs.Table.{State, Me, Allows, keeps as nothing}
-use Rattle.core_rule.specs.declared.event.Event.{Event}
-use Rattle.core_rule.specs.declared.event.Kind.{Kind}
-use Rattle.core_rule.specs.declared.event.Kind.TheVariants.{MakeSeat, SplitSeat, JoinSeat, Enter, Leave, LookSec, Fill, LoadStamp, LoadHead, LoadTs, LoadPtr, LoadNext, Prepare, Raise, Finalise, TryLock, Unlock, LoadMark, Mark as MarkNode, LoadKeyOrVal}
-use Rattle.core_rule.specs.Rule.{InRule}
-use Rattle.core_rule.specs.Steps.{allowed, after, after_at, words_after, views_after, view_after}
-use Rattle.core_rule.specs.Tables.{Table}
-use Rattle.core_rule.specs.ViewNeeds.{May}
-use Rattle.core_rule.proofs.KeptViews.{joined_kept, layout_kept}
+use Rattle.core_events.specs.declared.event.Event.{Event}
+use Rattle.core_events.specs.declared.event.Kind.{Kind}
+use Rattle.core_events.specs.declared.event.Kind.TheVariants.{MakeSeat, SplitSeat, JoinSeat, Enter, Leave, LookSec, Fill, LoadStamp, LoadHead, LoadTs, LoadPtr, LoadNext, Prepare, Raise, Finalise, TryLock, Unlock, LoadMark, Mark as MarkNode, LoadKeyOrVal}
+use Rattle.core_invariant.specs.Rule.{InRule}
+use Rattle.core_events.specs.Steps.{allowed, after, after_at, words_after, views_after, view_after}
+use Rattle.core_events.specs.Tables.{Table}
+use Rattle.core_laws.specs.ViewNeeds.{May}
+use Rattle.core_invariant.proofs.KeptViews.{joined_kept, layout_kept}
 use Rattle.core_rule.proofs.StepLaw.{keeps}
-use Rattle.core_rule.proofs.ViewNeeds.{word_named}
+use Rattle.core_laws.proofs.ViewNeeds.{word_named}
 use Rattle.table_rule.specs.Homes.{IsLiveView}
 use Rattle.table_rule.specs.Running.{table, Stands, Happened, IsLoad, IsStore}
 use Rattle.table_rule.proofs.Lists.{get_from_found, get_set, some_same}

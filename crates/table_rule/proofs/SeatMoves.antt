@@ -12,17 +12,17 @@ use Rattle.index_words.specs.Words.{word_count}
 use Rattle.key_map.specs.declared.pass.PassSize.{PassSize}
 use Rattle.atomic_table.specs.Table.{Me, Splits, Joins, Allows, keeps as nothing}
 use Rattle.atomic_table.proofs.Lists.{set_again, set_else}
-use Rattle.core_rule.specs.declared.event.Event.{Event}
-use Rattle.core_rule.specs.declared.event.Kind.TheVariants.{SplitSeat, JoinSeat}
-use Rattle.core_rule.specs.Moves.{split_left, split_right, joined_with}
-use Rattle.core_rule.specs.Openings.{made_left, made_right, MayMake, first_view}
-use Rattle.core_rule.specs.Rule.{InRule}
-use Rattle.core_rule.specs.Steps.{after, join_found}
-use Rattle.core_rule.specs.Tables.{Table}
-use Rattle.core_rule.specs.ViewNeeds.{event_at, May, MayJoin}
-use Rattle.core_rule.proofs.SeatLaws.{make_law, first_law}
+use Rattle.core_events.specs.declared.event.Event.{Event}
+use Rattle.core_events.specs.declared.event.Kind.TheVariants.{SplitSeat, JoinSeat}
+use Rattle.core_events.specs.Moves.{split_left, split_right, joined_with}
+use Rattle.core_events.specs.Openings.{made_left, made_right, MayMake, first_view}
+use Rattle.core_invariant.specs.Rule.{InRule}
+use Rattle.core_events.specs.Steps.{after, join_found}
+use Rattle.core_events.specs.Tables.{Table}
+use Rattle.core_laws.specs.ViewNeeds.{event_at, May, MayJoin}
+use Rattle.kept_seats.proofs.SeatLaws.{make_law, first_law}
 use Rattle.core_rule.proofs.StepLaw.{keeps}
-use Rattle.core_rule.proofs.ViewNeeds.{may_split_law, may_join_law}
+use Rattle.core_laws.proofs.ViewNeeds.{may_split_law, may_join_law}
 use Rattle.table_rule.specs.Homes.{IsLiveView}
 use Rattle.table_rule.specs.Running.{table, Stands}
 use Rattle.table_rule.specs.Seats.{Split}

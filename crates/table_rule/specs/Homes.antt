@@ -4,8 +4,8 @@ use Rattle.index_words.specs.declared.layout.Layout.{Layout}
 use Rattle.index_words.specs.declared.view.View.{View}
 use Rattle.index_words.specs.declared.word.Word.{Word}
 use Rattle.index_words.specs.Words.{address, is_there}
-use Rattle.core_rule.specs.declared.event.Event.{Event}
-use Rattle.core_rule.specs.ViewNeeds.{May}
+use Rattle.core_events.specs.declared.event.Event.{Event}
+use Rattle.core_laws.specs.ViewNeeds.{May}
 use Rattle.atomic_table.specs.Seated.{TableId}
 use Rattle.table_rule.specs.Running.{Stands}
 

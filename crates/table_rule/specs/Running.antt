@@ -4,12 +4,12 @@ use Rattle.std.specs.Prelude.{◌≡◌, ℕ, List, slice_index, true, Some, ⊤
 use Rattle.std.specs.List.{slice_get}
 use Rattle.index_words.specs.declared.layout.Layout.{Layout}
 use Rattle.index_words.specs.declared.view.View.{View}
-use Rattle.core_rule.specs.declared.event.Event.{Event}
-use Rattle.core_rule.specs.declared.event.Kind.{Kind}
-use Rattle.core_rule.specs.declared.event.Kind.TheVariants.{Enter, Leave, LookSec, Fill, LoadStamp, LoadHead, LoadTs, LoadPtr, LoadNext, Prepare, Finalise, Unlock, LoadMark, Mark, LoadKeyOrVal}
-use Rattle.core_rule.specs.Rule.{InRule}
-use Rattle.core_rule.specs.Steps.{allowed, after}
-use Rattle.core_rule.specs.Tables.{Table}
+use Rattle.core_events.specs.declared.event.Event.{Event}
+use Rattle.core_events.specs.declared.event.Kind.{Kind}
+use Rattle.core_events.specs.declared.event.Kind.TheVariants.{Enter, Leave, LookSec, Fill, LoadStamp, LoadHead, LoadTs, LoadPtr, LoadNext, Prepare, Finalise, Unlock, LoadMark, Mark, LoadKeyOrVal}
+use Rattle.core_invariant.specs.Rule.{InRule}
+use Rattle.core_events.specs.Steps.{allowed, after}
+use Rattle.core_events.specs.Tables.{Table}
 
 abbrev pub table : Layout → List ℕ → List View → Table
 table z words views = record { layout = z; words = words; views = views }

@@ -4,10 +4,10 @@ use Rattle.std.specs.List.{slice_get}
 use Rattle.index_words.specs.declared.layout.Layout.{Layout}
 use Rattle.index_words.specs.declared.view.View.{View}
 use Rattle.index_words.specs.declared.word.Word.TheVariants.{Stamp}
-use Rattle.core_rule.specs.declared.event.Kind.TheVariants.{SplitSeat}
-use Rattle.core_rule.specs.Rule.{InRule}
-use Rattle.core_rule.specs.Steps.{allowed, after}
-use Rattle.core_rule.specs.ViewNeeds.{event_at}
+use Rattle.core_events.specs.declared.event.Kind.TheVariants.{SplitSeat}
+use Rattle.core_invariant.specs.Rule.{InRule}
+use Rattle.core_events.specs.Steps.{allowed, after}
+use Rattle.core_laws.specs.ViewNeeds.{event_at}
 use Rattle.table_rule.specs.Running.{table}
 
 -- a split has happened: in a table that met the rule a seat had the view `v`, the split was allowed, and in the table

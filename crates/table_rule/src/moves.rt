@@ -1,6 +1,6 @@
 //! One move of a word, which is one event of the pure machine.
 ghost use Rattle.std.specs.Prelude.{◌≡◌, ◌+◌};
-ghost use Rattle.core_rule.specs.declared.event.Kind.TheVariants.{Raise, TryLock};
+ghost use Rattle.core_events.specs.declared.event.Kind.TheVariants.{Raise, TryLock};
 ghost use Rattle.table_rule.specs.Homes.{Asks, IsOf, with_view};
 ghost use Rattle.table_rule.specs.Running.{Happened, Stored, IsLoad, IsStore};
 
@@ -11,14 +11,14 @@ use std::marker::{Brand, PhantomData};
 
 /// The event that a move is. Each call of a move picks it.
 pub trait Asked {
-    ghost use Rattle.core_rule.specs.declared.event.Event.{Event};
+    ghost use Rattle.core_events.specs.declared.event.Event.{Event};
 
     ghost event: { Event };
 }
 
 impl Asked for Brand {
     ghost use Rattle.std.specs.Prelude.{None};
-    ghost use Rattle.core_rule.specs.declared.event.Kind.TheVariants.{MakeSeat};
+    ghost use Rattle.core_events.specs.declared.event.Kind.TheVariants.{MakeSeat};
 
     ghost event = { record { seat = 0; kind = MakeSeat; word = 0; value = 0; update = None } };
 }

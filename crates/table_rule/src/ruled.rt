@@ -8,8 +8,8 @@ use std::marker::Model;
 pub struct CoreRule;
 
 impl TableRule<u8, View, Layout> for CoreRule {
-    ghost use Rattle.core_rule.specs.Rule.{InRule};
-    ghost use Rattle.core_rule.specs.Openings.{first_view};
+    ghost use Rattle.core_invariant.specs.Rule.{InRule};
+    ghost use Rattle.core_events.specs.Openings.{first_view};
 
     ghost holds = { λ z s. InRule z s.words s.views };
 

@@ -1,9 +1,9 @@
 //! How the table is opened, and its seats made, split and joined.
 ghost use Rattle.std.specs.Prelude.{◌≡◌, ◌<◌, ◌^◌, IfOk, replicate};
 ghost use Rattle.index_words.specs.declared.word.Word.TheVariants.{Stamp};
-ghost use Rattle.core_rule.specs.Moves.{split_right, joined_with};
-ghost use Rattle.core_rule.specs.Openings.{first_view, made_left, made_right, MayMake};
-ghost use Rattle.core_rule.specs.ViewNeeds.{MayJoin};
+ghost use Rattle.core_events.specs.Moves.{split_right, joined_with};
+ghost use Rattle.core_events.specs.Openings.{first_view, made_left, made_right, MayMake};
+ghost use Rattle.core_laws.specs.ViewNeeds.{MayJoin};
 ghost use Rattle.table_rule.specs.Homes.{IsOf, with_view, IsLiveView};
 ghost use Rattle.table_rule.specs.Seats.{Split as SplitHappened};
 
@@ -34,7 +34,7 @@ pub struct Makes<G: Given> {
 }
 
 impl<G: Given> Split<View> for Makes<G> {
-    ghost use Rattle.core_rule.specs.Openings.{made_left, made_right};
+    ghost use Rattle.core_events.specs.Openings.{made_left, made_right};
 
     ghost left = { λ v. made_left v G.size };
 
@@ -45,7 +45,7 @@ impl<G: Given> Split<View> for Makes<G> {
 pub struct Copies;
 
 impl Split<View> for Copies {
-    ghost use Rattle.core_rule.specs.Moves.{split_left, split_right};
+    ghost use Rattle.core_events.specs.Moves.{split_left, split_right};
 
     ghost left = { λ v. split_left v 0 };
 
@@ -56,7 +56,7 @@ impl Split<View> for Copies {
 pub struct TakesIn;
 
 impl Join<View> for TakesIn {
-    ghost use Rattle.core_rule.specs.Moves.{joined_with};
+    ghost use Rattle.core_events.specs.Moves.{joined_with};
     ghost use Rattle.index_words.specs.Views.{spent_view};
 
     ghost both = { λ v u. joined_with v u };

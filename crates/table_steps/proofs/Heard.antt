@@ -9,9 +9,9 @@ use Rattle.index_words.specs.declared.view.slots.Looks.{Looks}
 use Rattle.index_words.specs.Views.{no_slots}
 use Rattle.key_map.specs.declared.update.Update.{Update}
 use Rattle.core_grace.specs.Batches.{both}
-use Rattle.core_rule.specs.Histories.{SeenRight}
-use Rattle.core_rule.specs.Moves.{joined_with, split_right, longer}
-use Rattle.core_rule.specs.ViewNeeds.{MayJoin}
+use Rattle.core_invariant.specs.Histories.{SeenRight}
+use Rattle.core_events.specs.Moves.{joined_with, split_right, longer}
+use Rattle.core_laws.specs.ViewNeeds.{MayJoin}
 use Rattle.pass_slots.specs.Owned.{KeepsLooks}
 use Rattle.table_rule.specs.Homes.{IsLiveView}
 use Rattle.table_steps.specs.Kept.{Keeps}

@@ -8,9 +8,9 @@ use Rattle.index_words.specs.declared.view.View.{View}
 use Rattle.index_words.specs.Sizes.{all_nodes, all_entries, all_calls}
 use Rattle.index_words.specs.Views.{empty_view}
 use Rattle.key_map.specs.declared.pass.PassSize.{PassSize}
-use Rattle.core_rule.specs.Openings.{from_up, pass_view, made_left, made_right, MayMake}
+use Rattle.core_events.specs.Openings.{from_up, pass_view, made_left, made_right, MayMake}
 use Rattle.key_map.specs.Lists.{Every}
-use Rattle.core_rule.specs.Histories.{update_at}
+use Rattle.core_invariant.specs.Histories.{update_at}
 use Rattle.table_steps.specs.declared.own_updates.OwnUpdate.{OwnUpdate}
 use Rattle.table_steps.specs.Kept.{Keeps}
 use Rattle.table_steps.specs.Opens.{giving, IsFresh}

@@ -4,7 +4,7 @@ use Rattle.std.specs.List.{slice_get}
 use Rattle.index_words.specs.declared.view.history.SeenHistory.{SeenHistory}
 use Rattle.key_map.specs.declared.update.Update.{Update}
 use Rattle.core_grace.proofs.RuleMoves.{every_weaker}
-use Rattle.core_rule.specs.Histories.{update_at}
+use Rattle.core_invariant.specs.Histories.{update_at}
 use Rattle.table_rule.proofs.Lists.{get_left}
 use Rattle.table_steps.specs.Made.{Made, KeepsOwn}
 use Rattle.table_steps.specs.Passes.{Extends}

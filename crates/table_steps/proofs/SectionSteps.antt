@@ -11,13 +11,13 @@ use Rattle.index_words.specs.declared.word.Word.TheVariants.{Stamp, Section}
 use Rattle.index_words.specs.Words.{Memory, memory, is_there}
 use Rattle.core_grace.specs.Batches.{is_empty, looked}
 use Rattle.core_grace.specs.Sections.{is_even, left_word}
-use Rattle.core_rule.specs.declared.event.Event.{Event}
-use Rattle.core_rule.specs.declared.event.Kind.TheVariants.{Enter, Leave, LookSec, Fill, LoadStamp}
-use Rattle.core_rule.specs.FillMoves.{filled_view, filled_with, with_filled}
-use Rattle.core_rule.specs.Moves.{entered, left, in_section}
-use Rattle.core_rule.specs.ViewNeeds.{event_at, May, MayFill}
-use Rattle.core_rule.proofs.KeptViews.{SeatPart, part_of, entered_part}
-use Rattle.core_rule.proofs.ViewNeeds.{may_enter_law, may_leave_law, may_look_law, may_fill_law}
+use Rattle.core_events.specs.declared.event.Event.{Event}
+use Rattle.core_events.specs.declared.event.Kind.TheVariants.{Enter, Leave, LookSec, Fill, LoadStamp}
+use Rattle.core_events.specs.FillMoves.{filled_view, filled_with, with_filled}
+use Rattle.core_events.specs.Moves.{entered, left, in_section}
+use Rattle.core_laws.specs.ViewNeeds.{event_at, May, MayFill}
+use Rattle.core_invariant.proofs.KeptViews.{SeatPart, part_of, entered_part}
+use Rattle.core_laws.proofs.ViewNeeds.{may_enter_law, may_leave_law, may_look_law, may_fill_law}
 use Rattle.pass_slots.specs.Owned.{KeptSlots, KeepsSlots, HasRoomOf}
 use Rattle.table_rule.specs.Homes.{Home, Sat, IsOf, Asks}
 use Rattle.table_rule.specs.Running.{Happened, Stored}
@@ -28,11 +28,11 @@ use Rattle.table_steps.specs.Passes.{AtRest, Inside, Extends}
 use Rattle.table_steps.specs.declared.kept.Kept.{Kept}
 use Rattle.index_words.specs.declared.view.slots.Looks.{Looks}
 use Rattle.key_map.specs.History.{after}
-use Rattle.core_rule.specs.Found.{FindsStamp}
-use Rattle.core_rule.specs.LoadMoves.{longest, stamp_loaded}
-use Rattle.core_rule.specs.SpelledNow.{tree_now}
-use Rattle.core_rule.specs.Versions.{tree_nodes}
-use Rattle.core_rule.proofs.Found.{stamp_law}
+use Rattle.core_laws.specs.Found.{FindsStamp}
+use Rattle.core_events.specs.LoadMoves.{longest, stamp_loaded}
+use Rattle.core_events.specs.SpelledNow.{tree_now}
+use Rattle.core_events.specs.Versions.{tree_nodes}
+use Rattle.core_laws.proofs.Found.{stamp_law}
 use Rattle.pass_slots.specs.Owned.{KeepsLooks}
 use Rattle.table_rule.specs.Running.{table}
 use Rattle.table_rule.proofs.Lists.{item_at}

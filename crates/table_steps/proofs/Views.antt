@@ -12,13 +12,13 @@ use Rattle.index_words.specs.Views.{no_reading, no_slots, no_looks}
 use Rattle.index_words.specs.Words.{memory}
 use Rattle.core_grace.specs.Batches.{is_empty, batch_taken, batch_freed, all_passed, settled, looked, looked_at}
 use Rattle.core_grace.specs.Sections.{is_even, left_word, last_word}
-use Rattle.core_rule.specs.declared.event.Kind.TheVariants.{LookSec, Fill}
-use Rattle.core_rule.specs.FillMoves.{filled_view}
-use Rattle.core_rule.specs.Moves.{entered, in_section, nowhere}
-use Rattle.core_rule.specs.Rule.{InRule}
-use Rattle.core_rule.specs.SeatRule.{SeatRight}
-use Rattle.core_rule.proofs.KeptViews.{part_of, still_kept}
-use Rattle.core_rule.proofs.OneView.{seat_at}
+use Rattle.core_events.specs.declared.event.Kind.TheVariants.{LookSec, Fill}
+use Rattle.core_events.specs.FillMoves.{filled_view}
+use Rattle.core_events.specs.Moves.{entered, in_section, nowhere}
+use Rattle.core_invariant.specs.Rule.{InRule}
+use Rattle.core_invariant.specs.SeatRule.{SeatRight}
+use Rattle.core_invariant.proofs.KeptViews.{part_of, still_kept}
+use Rattle.core_invariant.proofs.OneView.{seat_at}
 use Rattle.table_rule.specs.Homes.{IsLiveView}
 use Rattle.table_rule.specs.Running.{Stands}
 use Rattle.table_rule.proofs.Lists.{item_at}

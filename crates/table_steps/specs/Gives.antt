@@ -6,12 +6,12 @@ use Rattle.index_words.specs.declared.word.Word.TheVariants.{Stamp, Section}
 use Rattle.key_map.specs.History.{after}
 use Rattle.core_grace.specs.Sections.{left_word}
 use Rattle.core_trees.specs.NamedTree.{NamedTree, contents, IsLawful}
-use Rattle.core_rule.specs.declared.event.Event.{Event}
-use Rattle.core_rule.specs.declared.event.Kind.TheVariants.{Enter, Leave, LookSec, Fill, LoadStamp}
-use Rattle.core_rule.specs.LoadMoves.{stamp_loaded}
-use Rattle.core_rule.specs.Moves.{entered}
-use Rattle.core_rule.specs.Versions.{tree_nodes}
-use Rattle.core_rule.specs.ViewNeeds.{event_at}
+use Rattle.core_events.specs.declared.event.Event.{Event}
+use Rattle.core_events.specs.declared.event.Kind.TheVariants.{Enter, Leave, LookSec, Fill, LoadStamp}
+use Rattle.core_events.specs.LoadMoves.{stamp_loaded}
+use Rattle.core_events.specs.Moves.{entered}
+use Rattle.core_events.specs.Versions.{tree_nodes}
+use Rattle.core_laws.specs.ViewNeeds.{event_at}
 use Rattle.table_steps.specs.Passes.{Pass, Extends}
 
 abbrev pub entering : Pass → Event

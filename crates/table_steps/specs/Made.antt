@@ -2,7 +2,7 @@
 use Rattle.std.specs.Prelude.{◌≡◌, ℕ, ◌+◌, ◌≤◌, List, length, map, Some}
 use Rattle.index_words.specs.declared.view.history.SeenHistory.{SeenHistory}
 use Rattle.key_map.specs.Lists.{Every}
-use Rattle.core_rule.specs.Histories.{update_at}
+use Rattle.core_invariant.specs.Histories.{update_at}
 use Rattle.table_steps.specs.declared.own_updates.OwnUpdate.{OwnUpdate}
 
 -- the updates, and how many there is room for

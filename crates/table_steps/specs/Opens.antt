@@ -5,7 +5,7 @@ use Rattle.index_words.specs.declared.view.View.{View}
 use Rattle.index_words.specs.Sizes.{all_nodes, all_entries, all_calls}
 use Rattle.index_words.specs.Views.{empty_view, no_slots, no_looks}
 use Rattle.key_map.specs.declared.pass.PassSize.{PassSize}
-use Rattle.core_rule.specs.Openings.{from_up}
+use Rattle.core_events.specs.Openings.{from_up}
 use Rattle.pass_slots.specs.Owned.{KeepsLooks}
 use Rattle.table_steps.specs.Passes.{Pass}
 use Rattle.table_steps.specs.declared.kept.Kept.{Kept}

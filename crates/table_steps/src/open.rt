@@ -2,7 +2,7 @@
 ghost use Rattle.std.specs.Prelude.{◌≡◌, ◌+◌, ◌<◌, ◌≤◌, ◌^◌, ◌++◌, ◌∷◌, [], IfOk, OnOk, length, map};
 ghost use Rattle.index_words.specs.Sizes.{FitTable, layout_of, all_nodes, all_entries};
 ghost use Rattle.key_map.specs.Lists.{Every};
-ghost use Rattle.core_rule.specs.Openings.{from_up, pass_view, pass_views};
+ghost use Rattle.core_events.specs.Openings.{from_up, pass_view, pass_views};
 ghost use Rattle.table_rule.specs.Homes.{IsOf};
 ghost use Rattle.table_steps.specs.Opens.{view_of, giving, IsFresh, IsSmall};
 ghost use Rattle.table_steps.specs.Passes.{IsPassOf};

@@ -1,7 +1,7 @@
 //! The loads of the stamp, and the two private calls that open and close a section.
 ghost use Rattle.std.specs.Prelude.{◌≡◌, Some, None};
 ghost use Rattle.core_grace.specs.Sections.{left_word};
-ghost use Rattle.core_rule.specs.Moves.{left};
+ghost use Rattle.core_events.specs.Moves.{left};
 ghost use Rattle.table_rule.specs.Running.{Happened, Stored};
 ghost use Rattle.table_steps.specs.Gives.{leaving, loading_stamp, HasLoadedStamp, HasOpened};
 ghost use Rattle.table_steps.specs.Passes.{AtRest, Inside, with_view};

@@ -1,7 +1,7 @@
 //! The shared table.
 ghost use Rattle.std.specs.Prelude.{◌≡◌};
-ghost use Rattle.core_rule.specs.Moves.{joined_with, split_right};
-ghost use Rattle.core_rule.specs.ViewNeeds.{MayJoin};
+ghost use Rattle.core_events.specs.Moves.{joined_with, split_right};
+ghost use Rattle.core_laws.specs.ViewNeeds.{MayJoin};
 ghost use Rattle.table_rule.specs.Homes.{IsOf, with_view};
 ghost use Rattle.table_steps.specs.Passes.{Extends};
 

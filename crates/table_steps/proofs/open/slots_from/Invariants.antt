@@ -1,5 +1,5 @@
 use Rattle.std.proofs.Common.{◌≡◌, ◌≤◌, []}
-use Rattle.core_rule.specs.Openings.{from_up}
+use Rattle.core_events.specs.Openings.{from_up}
 use Rattle.table_steps.proofs.open.slots_from.Given as goal
 
 abbrev pub invariant-loop-i : goal.invariant-loop-i

@@ -2,9 +2,9 @@ use Rattle.std.proofs.Common.{◌≡◌, refl, ap, ◌∙◌, sym, subst}
 use Rattle.index_words.specs.declared.layout.Layout.{Layout}
 use Rattle.index_words.specs.declared.word.Word.TheVariants.{Stamp}
 use Rattle.atomic_table.specs.Table.{Joins, Allows}
-use Rattle.core_rule.specs.Moves.{joined_with}
+use Rattle.core_events.specs.Moves.{joined_with}
 use Rattle.index_words.specs.Views.{spent_view}
-use Rattle.core_rule.specs.ViewNeeds.{MayJoin}
+use Rattle.core_laws.specs.ViewNeeds.{MayJoin}
 use Rattle.table_rule.specs.Homes.{Sat, IsOf}
 use Rattle.table_rule.specs.Running.{Stands}
 use Rattle.table_rule.proofs.AskedMoves.{word_within}

@@ -2,7 +2,7 @@ use Rattle.std.proofs.Common.{refl, ap, ◌∙◌, sym, subst}
 use Rattle.index_words.specs.declared.layout.Layout.{Layout}
 use Rattle.index_words.specs.declared.word.Word.TheVariants.{Stamp}
 use Rattle.atomic_table.specs.Table.{Splits}
-use Rattle.core_rule.specs.Openings.{made_left, made_right, MayMake}
+use Rattle.core_events.specs.Openings.{made_left, made_right, MayMake}
 use Rattle.table_rule.specs.Homes.{Sat, IsOf, IsLiveView}
 use Rattle.table_rule.proofs.AskedMoves.{word_within}
 use Rattle.table_rule.proofs.Happens.{holds}

@@ -2,7 +2,7 @@ use Rattle.std.proofs.Common.{◌≡◌, refl, ap, sym, subst}
 use Rattle.index_words.specs.declared.layout.Layout.{Layout}
 use Rattle.index_words.specs.declared.word.Word.TheVariants.{Stamp}
 use Rattle.atomic_table.specs.Table.{Splits}
-use Rattle.core_rule.specs.Moves.{split_left, split_right}
+use Rattle.core_events.specs.Moves.{split_left, split_right}
 use Rattle.table_rule.specs.Homes.{Home, Sat, IsOf, IsLiveView}
 use Rattle.table_rule.specs.Running.{Stands}
 use Rattle.table_rule.specs.Seats.{Split}

@@ -2,7 +2,7 @@ use Rattle.std.proofs.Common.{◌≡◌, ◌+◌, ap, ◌∙◌, sym, subst, Som
 use Rattle.index_words.specs.declared.layout.Layout.{Layout}
 use Rattle.index_words.specs.declared.view.View.{View}
 use Rattle.core_grace.specs.Batches.{settled, batch_taken}
-use Rattle.core_rule.specs.Moves.{entered}
+use Rattle.core_events.specs.Moves.{entered}
 use Rattle.pass_slots.specs.Owned.{KeepsSlots}
 use Rattle.table_rule.specs.Homes.{Home, IsOf}
 use Rattle.table_steps.specs.Passes.{Pass, AtRest}

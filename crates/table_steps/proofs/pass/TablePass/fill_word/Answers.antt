@@ -1,6 +1,6 @@
 use Rattle.std.proofs.Common.{◌≡◌, true, ap, ◌∙◌, sym, subst}
-use Rattle.core_rule.specs.FillMoves.{filled_view}
-use Rattle.core_rule.specs.ViewNeeds.{MayFill}
+use Rattle.core_events.specs.FillMoves.{filled_view}
+use Rattle.core_laws.specs.ViewNeeds.{MayFill}
 use Rattle.table_rule.specs.Homes.{Home, IsOf}
 use Rattle.index_words.specs.Words.{is_there}
 use Rattle.table_steps.specs.Passes.{Pass}

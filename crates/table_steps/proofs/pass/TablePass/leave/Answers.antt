@@ -1,10 +1,10 @@
 use Rattle.std.proofs.Common.{ap, ◌∙◌, sym, subst}
 use Rattle.core_grace.specs.Sections.{left_word}
-use Rattle.core_rule.specs.Moves.{left}
+use Rattle.core_events.specs.Moves.{left}
 use Rattle.table_rule.specs.Homes.{Home, IsOf}
 use Rattle.index_words.specs.declared.word.Word.TheVariants.{Section}
-use Rattle.core_rule.specs.declared.event.Kind.TheVariants.{Leave}
-use Rattle.core_rule.specs.ViewNeeds.{event_at}
+use Rattle.core_events.specs.declared.event.Kind.TheVariants.{Leave}
+use Rattle.core_laws.specs.ViewNeeds.{event_at}
 use Rattle.table_rule.specs.Running.{Stored}
 use Rattle.table_steps.specs.Passes.{Pass, Inside}
 use Rattle.table_steps.proofs.SectionSteps.{leave_asks, leave_view, leave_rest, leave_keeps, leave_event}

@@ -1,5 +1,5 @@
-use Rattle.core_rule.specs.declared.event.Kind.TheVariants.{Leave}
-use Rattle.core_rule.specs.ViewNeeds.{event_at}
+use Rattle.core_events.specs.declared.event.Kind.TheVariants.{Leave}
+use Rattle.core_laws.specs.ViewNeeds.{event_at}
 use Rattle.table_steps.proofs.pass.TablePass.leave.Given as goal
 
 abbrev pub ghosts-store : goal.ghosts-store

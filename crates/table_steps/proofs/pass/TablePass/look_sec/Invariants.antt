@@ -1,5 +1,5 @@
-use Rattle.core_rule.specs.declared.event.Kind.TheVariants.{LookSec}
-use Rattle.core_rule.specs.ViewNeeds.{event_at}
+use Rattle.core_events.specs.declared.event.Kind.TheVariants.{LookSec}
+use Rattle.core_laws.specs.ViewNeeds.{event_at}
 use Rattle.table_steps.proofs.pass.TablePass.look_sec.Given as goal
 
 abbrev pub ghosts-load : goal.ghosts-load

@@ -1,6 +1,6 @@
 use Rattle.std.proofs.Common.{ap, ◌∙◌}
 use Rattle.index_words.specs.declared.view.View.{View}
-use Rattle.core_rule.specs.Moves.{joined_with}
+use Rattle.core_events.specs.Moves.{joined_with}
 use Rattle.table_rule.specs.Homes.{Sat}
 use Rattle.table_steps.proofs.Heard.{old_begins, other_begins}
 use Rattle.table_steps.proofs.table.SharedTable.absorb.Goals as goal

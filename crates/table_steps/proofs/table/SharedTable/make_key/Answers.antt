@@ -1,6 +1,6 @@
 use Rattle.std.proofs.Common.{ap, ◌∙◌, sym, subst}
 use Rattle.index_words.specs.declared.view.View.{View}
-use Rattle.core_rule.specs.Openings.{made_left, made_right, MayMake}
+use Rattle.core_events.specs.Openings.{made_left, made_right, MayMake}
 use Rattle.table_rule.specs.Homes.{Sat}
 use Rattle.table_steps.specs.Kept.{Keeps}
 use Rattle.table_steps.proofs.Opened.{left_gives, right_is, may_make, fresh_keeps}
