@@ -1,2 +1,4 @@
+-- What tests over truth values, numbers and words say.
+pub mod Tests
 -- The views after an event, by the kind of the event.
 pub mod Changes

@@ -1,8 +1,7 @@
 -- What the needs of loads and of an update's events say.
-use Rattle.std.proofs.Common.{◌≡◌, ℕ, ◌+◌, ◌<◌, ◌≤◌, ◌⊎◌, cond, List, [], ◌∷◌, length, Bool, true, false, eqb, leb, ◌&&◌, ◌||◌, not, is_none, arith, refl, ap, ◌∙◌, sym, subst, inl, inr, Option, Some, None, find}
-use Rattle.std.specs.Prelude.{IfSome, nat_lt}
-use Rattle.std.proofs.lemmas.Bool.{eqb-true, eq-eqb, and_parts}
-use Rattle.std.proofs.lemmas.Bool.Decides.{nat_tests}
+use Rattle.std.proofs.Common.{◌≡◌, ℕ, ◌+◌, ◌<◌, ◌≤◌, ◌⊎◌, cond, List, [], ◌∷◌, length, Bool, true, false, eqb, ◌&&◌, ◌||◌, not, is_none, arith, refl, ap, ◌∙◌, sym, subst, inl, inr, Option, Some, None, find}
+use Rattle.std.specs.Prelude.{IfSome}
+use Rattle.std.proofs.lemmas.Bool.{eqb-true, and_parts}
 use Rattle.index_words.specs.declared.layout.Layout.{Layout}
 use Rattle.index_words.specs.declared.side.Side.{Side}
 use Rattle.index_words.specs.declared.side.Side.TheVariants.{Left, Right}
@@ -13,16 +12,13 @@ use Rattle.index_words.specs.declared.view.reading.Place.TheVariants.{Nowhere, E
 use Rattle.index_words.specs.declared.view.reading.TreeNode.{TreeNode}
 use Rattle.index_words.specs.declared.view.update.HeldNode.{HeldNode}
 use Rattle.index_words.specs.declared.view.update.LoadedHead.{LoadedHead}
-use Rattle.index_words.specs.declared.word.Field.{Field}
 use Rattle.index_words.specs.declared.word.Field.TheVariants.{Mark, Head}
-use Rattle.index_words.specs.declared.word.Part.{Part}
 use Rattle.index_words.specs.declared.word.Part.TheVariants.{Stamp as Number, Next}
 use Rattle.index_words.specs.declared.word.Word.{Word}
 use Rattle.index_words.specs.declared.word.Word.TheVariants.{Node, Entry, Stamp, Section, Announced}
-use Rattle.index_words.specs.Words.{Memory, word_at}
+use Rattle.index_words.specs.Words.{Memory}
 use Rattle.key_map.specs.Lists.{count, has, Every, IsItem}
 use Rattle.key_map.proofs.Counting.{has-count, count-append}
-use Rattle.index_words.proofs.Store.{word_there}
 use Rattle.core_grace.specs.Batches.{is_number}
 use Rattle.core_grace.specs.Holds.{HoldsNode, held_slots, listed, tree_slots, work_nodes}
 use Rattle.core_invariant.specs.Locks.{HeadRight, SideRight, IsNodeAt, lock_count}
@@ -40,42 +36,7 @@ use Rattle.core_invariant.specs.Rule.{Rule}
 use Rattle.core_invariant.proofs.OneView.{seat_at}
 use Rattle.core_grace.specs.Sections.{is_even}
 use Rattle.core_invariant.specs.SectionRule.{IsIdle}
-
-pub either_true : (a b : Bool) → (a || b) ≡ true → (a ≡ true) ⊎ (b ≡ true)
-either_true true b e = inl refl
-either_true false b e = inr e
-
-pub not_true : (b : Bool) → not b ≡ true → b ≡ false
-not_true true e = cc
-not_true false e = refl
-
--- a test that fails does not hold
-pub never : false ≡ true → ⊥
-never e = cc
-
-pub not_equal : (a b : ℕ) → not (eqb a b) ≡ true → a ≡ b → ⊥
-not_equal a b e same = never (sym (not_true (eqb a b) e) ∙ eq-eqb a b same)
-
-pub none_of : {X : Type 0} (o : Option X) → is_none o ≡ true → o ≡ None
-none_of None e = refl
-none_of (Some n) e = cc
-
-pub number_of_is : (n : ℕ) (o : Option ℕ) → is_number n o ≡ true → o ≡ Some n
-number_of_is n None e = cc
-number_of_is n (Some k) e = ap Some (eqb-true k n e)
-
-positive : (x : ℕ) → eqb x 0 ≡ false → 0 < x
-positive x p = grind (arith, nat_tests)
-
--- a node whose word was found is one of the table
-pub node_there : (z : Layout) (n k : ℕ) (f : Field) → word_at z n ≡ Some (Node f k) → k ≤ z.nodes
-node_there z n k f found = let there : leb k z.nodes ≡ true = (word_there z n (Node f k) found).0 in grind (arith, nat_tests)
-
-pub entry_there : (z : Layout) (n e : ℕ) (p : Part) → word_at z n ≡ Some (Entry p e) → 0 < e
-entry_there z n e p found =
-    let there : (nat_lt 0 e && leb e z.entries) ≡ true = (word_there z n (Entry p e) found).0 in
-    let low : nat_lt 0 e ≡ true = (and_parts (nat_lt 0 e) (leb e z.entries) there).0 in
-    grind (arith, nat_tests)
+use Rattle.core_events.proofs.Tests.{either_true, not_true, none_of, number_of_is, positive}
 
 tree_step : (node x : ℕ) (b c : Bool) (n : ℕ) → eqb x node ≡ b → (b || c) ≡ true → (c ≡ true → 0 < n) → 0 < cond (eqb x node) 1 0 + n
 tree_step node x true c n is met rest = counted (eqb x node) is
@@ -127,14 +88,6 @@ going_on v e node side found here may =
       | inl locked ↦ inl (locks-count node v.held.nodes locked)
       | inr above ↦ inr above
     ]
-
--- a load of the stamp is one at the stamp
-pub stamp_named : (w : Word) → is_stamp w ≡ true → w ≡ Stamp
-stamp_named Stamp is = refl
-stamp_named (Section i) is = absurd (never is)
-stamp_named (Announced i) is = absurd (never is)
-stamp_named (Node f k) is = absurd (never is)
-stamp_named (Entry p e) is = absurd (never is)
 
 -- the own section word by name
 pub record OwnSection (number : Option ℕ) (w : Word) : Type 0 where

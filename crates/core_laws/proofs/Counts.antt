@@ -47,7 +47,8 @@ use Rattle.core_invariant.proofs.OneView.{item_from_get}
 use Rattle.core_invariant.proofs.Frames.{same_item}
 use Rattle.core_laws.proofs.HeldLocks.{counted_busy}
 use Rattle.core_invariant.proofs.HeldFacts.{locks-count, count-locks}
-use Rattle.core_invariant.proofs.Needed.{never, not_true, not_equal, either_true, tree-count}
+use Rattle.core_events.proofs.Tests.{never, not_true, not_equal, either_true}
+use Rattle.core_invariant.proofs.Needed.{tree-count}
 use Rattle.core_laws.proofs.Owners.{found_at}
 use Rattle.core_laws.proofs.ViewNeeds.{reaches}
 

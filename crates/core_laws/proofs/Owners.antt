@@ -38,7 +38,8 @@ use Rattle.core_laws.specs.Owners.{HasFreeNode, HasFreeEntry, IsInLockedBundle, 
 use Rattle.core_events.specs.Steps.{needs, carries, allowed_at, after_at, words_after}
 use Rattle.core_invariant.proofs.Frames.{every_at}
 use Rattle.core_invariant.proofs.OneView.{item_from_get, seat_at}
-use Rattle.core_invariant.proofs.Needed.{own_section, never, not_true, node_there, reach_is, ready_is}
+use Rattle.core_events.proofs.Tests.{never, not_true, node_there}
+use Rattle.core_invariant.proofs.Needed.{own_section, reach_is, ready_is}
 use Rattle.core_invariant.proofs.Idle.{number_apart}
 use Rattle.core_invariant.proofs.Owned.{once_node, once_entry, held_live, not_in_bundle, in_entries, free_not_live, reachable_live}
 use Rattle.core_invariant.proofs.HeldFacts.{work_holds, locks-count}

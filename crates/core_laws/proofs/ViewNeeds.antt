@@ -53,7 +53,7 @@ use Rattle.core_invariant.proofs.Frames.{every_at, every_map}
 use Rattle.core_invariant.proofs.HeldFacts.{work_holds, locks-count, count-locks}
 use Rattle.core_invariant.proofs.LiveHeads.{chain_head}
 use Rattle.core_invariant.proofs.Idle.{number_low}
-use Rattle.core_invariant.proofs.Needed.{never}
+use Rattle.core_events.proofs.Tests.{never}
 use Rattle.core_invariant.proofs.Owned.{entry_there, free_entry_some, held_live, in_entries, slot_high}
 
 both : (a b : Bool) → a ≡ true → b ≡ true → (a && b) ≡ true

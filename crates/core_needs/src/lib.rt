@@ -2,6 +2,7 @@
 //! raise. It is a part of the machine `core_rule`: no other crate but those of the core calls it.
 #![tactic(auto)]
 
-pub mod link_needs;
-pub mod lock_needs;
+mod load_needs;
+mod lock_needs;
 pub mod needs;
+mod update_needs;

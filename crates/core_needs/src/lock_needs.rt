@@ -36,7 +36,7 @@ fn names_pass(number: Option<u32>, word: u64) -> bool
 }
 
 /// Whether this lock may be tried.
-pub fn may_try_lock(view: &View, word: Word, value: u64) -> bool
+pub(crate) fn may_try_lock(view: &View, word: Word, value: u64) -> bool
     ensures { result ≡ try_lock_needs view.now word value }
 {
     match word {
@@ -52,7 +52,13 @@ pub fn may_try_lock(view: &View, word: Word, value: u64) -> bool
 }
 
 /// Whether this lock may be given back.
-pub fn may_unlock(layout: &Layout, words: &[u64], view: &View, word: Word, value: u64) -> bool
+pub(crate) fn may_unlock(
+    layout: &Layout,
+    words: &[u64],
+    view: &View,
+    word: Word,
+    value: u64,
+) -> bool
     ensures { result ≡ unlock_needs (memory layout.now words.now) view.now word value }
 {
     match word {
@@ -67,7 +73,7 @@ pub fn may_unlock(layout: &Layout, words: &[u64], view: &View, word: Word, value
 }
 
 /// Whether this mark may be loaded.
-pub fn may_load_mark(view: &View, word: Word, value: u64) -> bool
+pub(crate) fn may_load_mark(view: &View, word: Word, value: u64) -> bool
     ensures { result ≡ load_mark_needs view.now word value }
 {
     match word {
@@ -79,7 +85,7 @@ pub fn may_load_mark(view: &View, word: Word, value: u64) -> bool
 }
 
 /// Whether this node may be marked.
-pub fn may_mark(view: &View, word: Word, value: u64) -> bool
+pub(crate) fn may_mark(view: &View, word: Word, value: u64) -> bool
     ensures { result ≡ mark_needs view.now word value }
 {
     match word {
@@ -94,7 +100,7 @@ pub fn may_mark(view: &View, word: Word, value: u64) -> bool
 }
 
 /// Whether this key or value may be loaded.
-pub fn may_load_pair(view: &View, word: Word, value: u64) -> bool
+pub(crate) fn may_load_pair(view: &View, word: Word, value: u64) -> bool
     ensures { result ≡ load_pair_needs view.now word value }
 {
     match word {

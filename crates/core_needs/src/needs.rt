@@ -5,11 +5,9 @@ ghost use Rattle.index_words.specs.Words.{memory};
 ghost use Rattle.core_events.specs.Needs.{is_outside as outside_of, is_marked_node, nothing_pending, is_own_section, is_stamp, may_enter as enter_needs, may_leave as leave_needs, may_look as look_needs, is_lock, may_fill as fill_needs, may_split as split_needs, may_join as join_needs, may_join_view};
 ghost use Rattle.core_events.specs.Steps.{needs};
 
-use crate::link_needs::{
-    may_finalise, may_load_head, may_load_next, may_load_part, may_load_stamp, may_prepare,
-    may_raise,
-};
+use crate::load_needs::{may_load_head, may_load_next, may_load_part, may_load_stamp};
 use crate::lock_needs::{may_load_mark, may_load_pair, may_mark, may_try_lock, may_unlock};
+use crate::update_needs::{may_finalise, may_prepare, may_raise};
 use core_events::reads::{held, is_in};
 use core_events::{Event, Kind};
 use core_grace::{is_own, left_word};
@@ -34,7 +32,7 @@ fn are_marked(layout: &Layout, words: &[u64], nodes: &[u32]) -> bool
 }
 
 /// Whether nothing of the view is pending.
-pub fn is_pending_free(layout: &Layout, words: &[u64], view: &View) -> bool
+pub(crate) fn is_pending_free(layout: &Layout, words: &[u64], view: &View) -> bool
     ensures { result ≡ nothing_pending (memory layout.now words.now) view.now }
 {
     view.update.pending.is_empty() && are_marked(layout, words, view.update.taken.as_slice())
@@ -49,7 +47,7 @@ fn is_own_word(number: Option<u32>, word: Word) -> bool
     }
 }
 
-pub fn is_stamp_word(word: Word) -> bool
+pub(crate) fn is_stamp_word(word: Word) -> bool
     ensures { result ≡ is_stamp word }
 {
     match word {
@@ -58,7 +56,7 @@ pub fn is_stamp_word(word: Word) -> bool
     }
 }
 
-pub fn is_lock_word(field: Field) -> bool
+pub(crate) fn is_lock_word(field: Field) -> bool
     ensures { result ≡ is_lock field }
 {
     match field {

@@ -1,7 +1,5 @@
 -- An event that is allowed keeps the rule, and what each number up to the stamp selects.
 pub mod StepLaw
--- What an allowed event says of its seat.
-pub mod Allowed
 -- The table after an allowed event, as the code makes it.
 pub mod Stepped
 -- What an allowed event gives holds of what the code has made.
@@ -10,5 +8,3 @@ pub mod Finished
 pub mod StepOwners
 -- The event at which a run is refused.
 pub mod Refusals
--- The views after a split, as the code makes them: the new view is put behind the others first.
-pub mod SplitViews

@@ -20,7 +20,7 @@ use Rattle.core_invariant.specs.SpentViews.{IsSpent}
 use Rattle.core_invariant.specs.Numbers.{IsSpare}
 use Rattle.core_invariant.specs.OwnPlaces.{KnowsPlaces}
 use Rattle.core_invariant.proofs.OneView.{item_from_get}
-use Rattle.core_invariant.proofs.Needed.{never, not_true}
+use Rattle.core_events.proofs.Tests.{never, not_true}
 use Rattle.core_invariant.proofs.LinkLaw.{selections_kept}
 use Rattle.core_invariant.proofs.SpentViews.{spent_after}
 use Rattle.kept_views.proofs.SectionWords.{spare_after}

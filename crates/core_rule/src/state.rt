@@ -16,8 +16,8 @@ ghost use Rattle.core_laws.specs.Owners.{KeepsOwners};
 ghost use Rattle.core_events.specs.Openings.{opening};
 
 use crate::opening::{opening_views, zeros};
-use crate::step::{change, is_allowed, store};
 use core_events::Event;
+use core_steps::step::{change, is_allowed, store};
 use index_words::{Layout, NoMemory, PassSize, View};
 use std::alloc::Global;
 use std::marker::Model;

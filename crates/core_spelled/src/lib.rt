@@ -4,7 +4,7 @@
 #![tactic(auto)]
 
 pub mod spelled_now;
-pub mod spelling;
-pub mod subtrees;
+mod spelling;
+mod subtrees;
 pub mod tree_moves;
 pub mod tree_steps;

@@ -16,7 +16,7 @@ use std::alloc::Global;
 /// The words and views of a table, and entries that are to have a number beside those that have one: the pending
 /// ones of an update that is to raise, and the heads of a new node's bundles, where 0 is none.
 #[derive(Clone, Copy)]
-pub struct Sight<'a> {
+pub(crate) struct Sight<'a> {
     pub layout: &'a Layout,
     pub words: &'a [u64],
     pub views: &'a [View],
@@ -25,7 +25,7 @@ pub struct Sight<'a> {
     pub right: u64,
 }
 
-pub fn part_of(sight: &Sight<'_>, part: Part, entry: u64) -> u64
+pub(crate) fn part_of(sight: &Sight<'_>, part: Part, entry: u64) -> u64
     ensures { result ≡ memory_of sight.now (EntryWord part entry) }
 {
     if entry > u64::from(sight.layout.entries) {
@@ -34,7 +34,7 @@ pub fn part_of(sight: &Sight<'_>, part: Part, entry: u64) -> u64
     held(sight.layout, sight.words, Word::Entry(part, entry as u32))
 }
 
-pub fn field_of(sight: &Sight<'_>, field: Field, node: u64) -> u64
+pub(crate) fn field_of(sight: &Sight<'_>, field: Field, node: u64) -> u64
     ensures { result ≡ memory_of sight.now (NodeWord field node) }
 {
     if node > u64::from(sight.layout.nodes) {
@@ -43,7 +43,7 @@ pub fn field_of(sight: &Sight<'_>, field: Field, node: u64) -> u64
     held(sight.layout, sight.words, Word::Node(field, node as u32))
 }
 
-pub fn is_listed(list: &[u32], number: u64) -> bool
+pub(crate) fn is_listed(list: &[u32], number: u64) -> bool
     ensures { result ≡ has number list.now }
 {
     list.iter().any(|own| u64::from(*own) == number)
@@ -72,7 +72,7 @@ fn has_number(sight: &Sight<'_>, entry: u64) -> bool
 }
 
 /// The child of a link, where 0 is none.
-pub fn child_of(sight: &Sight<'_>, side: Side, node: u64) -> u64
+pub(crate) fn child_of(sight: &Sight<'_>, side: Side, node: u64) -> u64
     ensures { result ≡ child_now (memory_of sight.now) sight.now.views.now (more_of sight.now) side node }
 {
     let head = field_of(sight, Field::Head(side), node);
@@ -89,7 +89,7 @@ pub fn child_of(sight: &Sight<'_>, side: Side, node: u64) -> u64
 }
 
 /// The child of a link as the table has it.
-pub fn old_child(sight: &Sight<'_>, side: Side, node: u64) -> u64
+pub(crate) fn old_child(sight: &Sight<'_>, side: Side, node: u64) -> u64
     ensures { result ≡ child_now (memory_of sight.now) sight.now.views.now [] side node }
 {
     let table = Sight {
@@ -104,7 +104,7 @@ pub fn old_child(sight: &Sight<'_>, side: Side, node: u64) -> u64
 }
 
 /// The node slot with this number, where the table has one.
-pub fn slot_of(layout: &Layout, node: u64) -> Option<u32>
+pub(crate) fn slot_of(layout: &Layout, node: u64) -> Option<u32>
     ensures { result ≡ cond (nat_lt 0 node && nat_le node layout.now.nodes) (Some node) None }
 {
     if 0 < node && node <= u64::from(layout.nodes) {
@@ -115,7 +115,7 @@ pub fn slot_of(layout: &Layout, node: u64) -> Option<u32>
 }
 
 /// The slot of the top of the tree from a child on, where 0 is none.
-pub fn top_of(sight: &Sight<'_>, depth: u64, child: u64) -> u32
+pub(crate) fn top_of(sight: &Sight<'_>, depth: u64, child: u64) -> u32
     ensures { result ≡ top_slot (tree_seen sight.now depth child) }
 {
     if depth == 0 {
@@ -180,7 +180,7 @@ pub fn nodes_now(
 }
 
 /// Puts at most so many entries of a bundle behind the list, from its head on.
-pub fn push_entries(
+pub(crate) fn push_entries(
     sight: &Sight<'_>,
     most: u64,
     head: u64,

@@ -54,7 +54,13 @@ fn spells_node(
 
 /// Whether the tree is spelled with the pair put into it, at this slot.
 #[tactic(auto, using(crate::proofs::SeenTrees::put_low, crate::proofs::SeenTrees::put_high, crate::proofs::SeenTrees::put_same))]
-pub fn spells_put(sight: &Sight<'_>, tree: Subtree, child: u64, slot: u64, pair: Pair) -> bool
+pub(crate) fn spells_put(
+    sight: &Sight<'_>,
+    tree: Subtree,
+    child: u64,
+    slot: u64,
+    pair: Pair,
+) -> bool
     ensures { result ≡ spells (graph_seen sight.now) child (tree_put slot pair.key pair.val (seen sight.now tree)) }
 {
     let Some(node) = top(sight, tree) else {
@@ -125,7 +131,13 @@ fn spells_joined(sight: &Sight<'_>, left: Subtree, right: Subtree, child: u64, s
 
 /// Whether the tree is spelled without the key, with this slot where a new node is needed.
 #[tactic(auto, using(crate::proofs::SeenTrees::remove_low, crate::proofs::SeenTrees::remove_high, crate::proofs::SeenTrees::remove_same))]
-pub fn spells_removal(sight: &Sight<'_>, tree: Subtree, child: u64, slot: u64, key: u64) -> bool
+pub(crate) fn spells_removal(
+    sight: &Sight<'_>,
+    tree: Subtree,
+    child: u64,
+    slot: u64,
+    key: u64,
+) -> bool
     ensures { result ≡ spells (graph_seen sight.now) child (tree_remove slot key (seen sight.now tree)) }
 {
     let Some(node) = top(sight, tree) else {

@@ -8,14 +8,14 @@ use index_words::{Field, Side};
 
 /// The tree from a child on, followed so many links down.
 #[derive(Clone, Copy)]
-pub struct Subtree {
+pub(crate) struct Subtree {
     pub depth: u64,
     pub child: u64,
 }
 
 /// The node at the top of a tree, and the trees at its two links.
 #[derive(Clone, Copy)]
-pub struct SeenNode {
+pub(crate) struct SeenNode {
     pub slot: u32,
     pub key: u64,
     pub val: u64,
@@ -24,7 +24,7 @@ pub struct SeenNode {
 }
 
 /// The node at the top of a tree. None exactly where the tree is empty.
-pub fn top(sight: &Sight<'_>, tree: Subtree) -> Option<SeenNode>
+pub(crate) fn top(sight: &Sight<'_>, tree: Subtree) -> Option<SeenNode>
     ensures { MatchOption result (seen sight.now tree ≡ Null) (IsTop sight.now tree) }
 {
     if tree.depth == 0 {

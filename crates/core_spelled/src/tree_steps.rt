@@ -23,14 +23,14 @@ use index_words::{Change, Field, HeldNode, Layout, Pair, Part, Side, Update, Vie
 
 /// The nodes that an update takes out: the replaced one, and with two children the successor.
 #[derive(Clone, Copy)]
-pub struct Taken {
+pub(crate) struct Taken {
     pub replaced: Option<u32>,
     pub successor: Option<u32>,
 }
 
 /// The heads of a new node's bundles, where 0 is none.
 #[derive(Clone, Copy)]
-pub struct Heads {
+pub(crate) struct Heads {
     pub left: u64,
     pub right: u64,
 }
@@ -199,7 +199,7 @@ fn is_new(sight: &Sight<'_>, view: &View, added: Option<u64>) -> bool
 }
 
 /// The tree at the stamp.
-pub fn whole(sight: &Sight<'_>) -> Subtree
+pub(crate) fn whole(sight: &Sight<'_>) -> Subtree
     ensures { seen sight.now result ≡ tree_now sight.now.layout.now (memory_of sight.now) sight.now.views.now }
 {
     Subtree {
@@ -239,7 +239,7 @@ fn slot_after(sight: &Sight<'_>, tree: Subtree, key: u64) -> u64
 
 /// What a raise moves by name, before any list is made.
 #[derive(Clone, Copy)]
-pub struct Plan {
+pub(crate) struct Plan {
     /// The child of the link at which the search for the key ends.
     pub slot: u64,
     /// The node that is brought in.
@@ -249,7 +249,7 @@ pub struct Plan {
 }
 
 /// What the update moves in this tree.
-pub fn plan_of(sight: &Sight<'_>, tree: Subtree, update: Update) -> Plan
+pub(crate) fn plan_of(sight: &Sight<'_>, tree: Subtree, update: Update) -> Plan
     ensures slot { result.slot ≡ child_now (memory_of sight.now) sight.now.views.now (more_of sight.now) (end_side update.key Right (seen sight.now tree)) (end_node update.key 0 (seen sight.now tree)) }
     ensures added { result.added ≡ first_slot (brings update.change result.slot update.key (seen sight.now tree)) }
     ensures taken { listed result.taken.replaced ++ listed result.taken.successor ≡ takes update.change update.key (seen sight.now tree) }

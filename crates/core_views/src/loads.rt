@@ -14,7 +14,7 @@ use index_words::{
 use std::alloc::Global;
 
 /// One more, but at the last value as many.
-pub fn risen(count: u64) -> u64
+pub(crate) fn risen(count: u64) -> u64
     ensures { result ≡ risen_count count }
 {
     if count == u64::MAX { count } else { count + 1 }
@@ -45,7 +45,7 @@ pub fn load_stamp(
     view.reading.filled.clear();
 }
 
-pub fn same_side(one: Side, other: Side) -> bool
+pub(crate) fn same_side(one: Side, other: Side) -> bool
     ensures { result ≡ same_sides one other }
 {
     match (one, other) {
@@ -125,7 +125,7 @@ fn know_head(nodes: &mut [HeldNode], node: u32, side: Side, head: LoadedHead)
 }
 
 /// The locked nodes, with what is known of one head.
-pub fn hold_head(alloc: Global, held: &mut Held, node: u32, side: Side, head: LoadedHead)
+pub(crate) fn hold_head(alloc: Global, held: &mut Held, node: u32, side: Side, head: LoadedHead)
     ensures { held.new ≡ record held.old { nodes = map (known_at node side head) held.old.nodes } }
 {
     let mut nodes = std::mem::replace(&mut held.nodes, Items::new(alloc)).into_vec();

@@ -86,7 +86,7 @@ fn drop_added(alloc: Global, list: &mut Items<u32>, added: Option<u32>)
 
 /// The lists of a view that a raise makes longer.
 #[derive(Drop)]
-pub struct Longer {
+pub(crate) struct Longer {
     mine: Items<u64>,
     pending: Items<u32>,
     retired: Slots,

@@ -23,7 +23,8 @@ use Rattle.core_invariant.proofs.Longest.{longest_is}
 use Rattle.kept_loads.proofs.HeadLoads.{load_stamp_kept, load_head_kept}
 use Rattle.kept_loads.proofs.LoadEntries.{load_ts_kept, load_ptr_kept, load_next_kept}
 use Rattle.core_invariant.proofs.TreeNow.{tree_is}
-use Rattle.core_invariant.proofs.Needed.{never, not_true, node_there, entry_there, reach_is, standing, going_on}
+use Rattle.core_events.proofs.Tests.{never, not_true, node_there, entry_there}
+use Rattle.core_invariant.proofs.Needed.{reach_is, standing, going_on}
 use Rattle.core_invariant.specs.KeptRule.{After, KeepsRuleAt}
 use Rattle.core_invariant.proofs.StepGives.{load_right}
 

@@ -20,7 +20,8 @@ use Rattle.core_events.specs.LockMoves.{locked_view, names_other, met_lock, unlo
 use Rattle.core_invariant.specs.Rule.{Rule}
 use Rattle.core_invariant.specs.LinkLaw.{Kept}
 use Rattle.core_invariant.proofs.HeldFacts.{locks-count}
-use Rattle.core_invariant.proofs.Needed.{not_true, reach_is}
+use Rattle.core_events.proofs.Tests.{not_true}
+use Rattle.core_invariant.proofs.Needed.{reach_is}
 use Rattle.kept_locks.proofs.TryLocks.{lock_kept, met_kept}
 use Rattle.kept_locks.proofs.Unlocks.{unlock_kept}
 use Rattle.kept_locks.proofs.Marks.{load_mark_kept, mark_kept}

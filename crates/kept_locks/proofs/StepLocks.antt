@@ -16,7 +16,7 @@ use Rattle.core_invariant.specs.Rule.{InRule}
 use Rattle.core_events.specs.Steps.{views_after, words_after}
 use Rattle.kept_locks.proofs.LockSteps.{lock_by, met_by, unlock_by, load_mark_by, mark_by}
 use Rattle.kept_locks.proofs.Marks.{load_pair_kept}
-use Rattle.core_invariant.proofs.Needed.{never, not_true, node_there}
+use Rattle.core_events.proofs.Tests.{never, not_true, node_there}
 use Rattle.core_invariant.specs.KeptRule.{After, KeepsRuleAt}
 use Rattle.core_invariant.proofs.StepGives.{store_right, load_right}
 

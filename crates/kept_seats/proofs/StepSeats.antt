@@ -22,7 +22,8 @@ use Rattle.core_invariant.specs.LinkLaw.{Kept}
 use Rattle.core_events.specs.Steps.{views_after, join_found}
 use Rattle.core_invariant.specs.SectionRule.{IsIdle}
 use Rattle.core_invariant.proofs.OneView.{item_from_get, seat_at}
-use Rattle.core_invariant.proofs.Needed.{own_section, outside_idle, never, not_equal, either_true, not_true, none_of}
+use Rattle.core_events.proofs.Tests.{never, not_equal, either_true, not_true, none_of}
+use Rattle.core_invariant.proofs.Needed.{own_section, outside_idle}
 use Rattle.kept_seats.proofs.EachKind.{enter_kept, leave_kept, look_kept}
 use Rattle.core_invariant.proofs.Idle.{nameless_idle}
 use Rattle.kept_seats.proofs.Fills.{node_stored, entry_stored}

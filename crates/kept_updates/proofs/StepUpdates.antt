@@ -29,7 +29,8 @@ use Rattle.kept_updates.proofs.PrepareSeats.{prepare_kept}
 use Rattle.kept_updates.proofs.TreeNeeds.{moves_tree}
 use Rattle.kept_updates.proofs.Raise.{raise_kept}
 use Rattle.kept_updates.proofs.Finalise.{finalise_kept}
-use Rattle.core_invariant.proofs.Needed.{never, number_of_is, ready_is, can_raise}
+use Rattle.core_events.proofs.Tests.{never, number_of_is}
+use Rattle.core_invariant.proofs.Needed.{ready_is, can_raise}
 use Rattle.core_invariant.specs.KeptRule.{After, KeepsRuleAt}
 use Rattle.core_invariant.proofs.StepGives.{store_right}
 

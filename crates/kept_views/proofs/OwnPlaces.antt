@@ -47,7 +47,7 @@ use Rattle.core_events.specs.SpelledNow.{tree_now}
 use Rattle.core_events.specs.TreeMoves.{tree_move}
 use Rattle.core_events.specs.Steps.{needs, carries, view_after, views_after, join_found, raised_from}
 use Rattle.core_invariant.proofs.Longest.{longest_is}
-use Rattle.core_invariant.proofs.Needed.{stamp_named}
+use Rattle.core_events.proofs.Tests.{stamp_named}
 use Rattle.core_invariant.proofs.KeptViews.{SeatPart, part_of, entered_part, is_still, still_kept}
 
 sum_zero : (f : View → ℕ) (us : List View) → All (λ u. f u ≡ 0) us → sum_by f us ≡ 0

@@ -20,7 +20,8 @@ use Rattle.core_events.specs.Tables.{Table, held_by}
 use Rattle.core_invariant.specs.Rule.{IsRight}
 use Rattle.core_events.specs.Steps.{needs, carries, allowed, allowed_at, after, after_at, words_after}
 use Rattle.kept_views.specs.SectionMoves.{section_of, MovesSections}
-use Rattle.core_invariant.proofs.Needed.{OwnSection, never, not_true}
+use Rattle.core_events.proofs.Tests.{never, not_true}
+use Rattle.core_invariant.proofs.Needed.{OwnSection}
 use Rattle.core_invariant.proofs.OneView.{item_from_get, seat_at}
 use Rattle.core_invariant.proofs.Frames.{same_item}
 use Rattle.core_invariant.proofs.Idle.{section_of as own_word}

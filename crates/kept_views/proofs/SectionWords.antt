@@ -27,7 +27,8 @@ use Rattle.core_events.specs.UpdateNeeds.{may_prepare, may_raise, may_finalise}
 use Rattle.core_events.specs.LockNeeds.{may_try_lock, may_unlock, may_mark}
 use Rattle.core_events.specs.Steps.{needs, view_after, views_after, words_after, join_found}
 use Rattle.core_invariant.specs.Rule.{InRule}
-use Rattle.core_invariant.proofs.Needed.{OwnSection, own_section, never, stamp_named}
+use Rattle.core_events.proofs.Tests.{never, stamp_named}
+use Rattle.core_invariant.proofs.Needed.{OwnSection, own_section}
 use Rattle.core_invariant.proofs.OneView.{item_from_get, set_same}
 use Rattle.core_invariant.proofs.Frames.{same_item}
 use Rattle.core_invariant.proofs.Joins.{every_append}

@@ -27,7 +27,7 @@ use Rattle.core_invariant.proofs.OneView.{item_from_get, seat_at}
 use Rattle.core_invariant.proofs.Frames.{same_item}
 use Rattle.core_invariant.proofs.Joins.{Begins, begins-le, longer_long, longer_begins}
 use Rattle.core_invariant.proofs.Longest.{longest_is}
-use Rattle.core_invariant.proofs.Needed.{never, not_equal, stamp_named}
+use Rattle.core_events.proofs.Tests.{never, not_equal, stamp_named}
 use Rattle.kept_views.proofs.OwnPlaces.{stamp_needed}
 use Rattle.core_invariant.proofs.KeptViews.{SeatPart, entered_part, is_still, still_kept}
 

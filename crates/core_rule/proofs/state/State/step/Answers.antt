@@ -1,8 +1,8 @@
-use Rattle.std.proofs.Common.{ℕ, List, sym, subst}
+use Rattle.std.proofs.Common.{ℕ, ◌+◌, ◌<◌, ◌^◌, List, sym, subst}
+use Rattle.index_words.specs.Words.{memory}
 use Rattle.core_invariant.specs.LinkLaw.{KeepsSelections}
 use Rattle.kept_views.specs.KeepsSeen.{KeepsSeen}
 use Rattle.kept_views.specs.SectionMoves.{MovesSections}
-use Rattle.core_invariant.specs.Rule.{InRule}
 use Rattle.core_events.specs.Tables.{Table}
 use Rattle.core_rule.proofs.Finished.{finished_law}
 use Rattle.kept_views.proofs.SeenLaw.{keeps_seen}
@@ -10,11 +10,15 @@ use Rattle.kept_views.proofs.SectionLaw.{moves_sections}
 use Rattle.core_laws.proofs.Laws.{laws_of, laws_same, laws_refused}
 use Rattle.core_laws.specs.Owners.{KeepsOwners}
 use Rattle.core_rule.proofs.StepOwners.{owners_finished, owners_refused, owners_stay}
-use Rattle.core_rule.proofs.Stepped.{finished, same_selections, refused_selections, stored_small}
+use Rattle.core_rule.proofs.Stepped.{finished, met_now, raise_small, same_selections, refused_selections, stored_small}
 use Rattle.core_rule.proofs.state.State.step.Goals as goal
 
-pub change-requires-clause-right : goal.change-requires-clause-right
-change-requires-clause-right c = subst (λ (ws : List ℕ). InRule c.self.inside.layout ws c.self.inside.views.items) (sym c.as_slice-3.ensures.value) c.self.invariant
+pub change-requires-clause-small : goal.change-requires-clause-small
+change-requires-clause-small c is =
+    subst (λ (ws : List ℕ). memory c.self.inside.layout ws c.in-Some.word + 1 < 2 ^ 64) (sym c.as_slice-3.ensures.value)
+    (raise_small (record { layout = c.self.inside.layout; words = c.self.inside.words.items; views = c.self.inside.views.items }) c.args.event.now c.in-Some.word c.self.invariant
+    (met_now c.self.inside.layout c.self.inside.words.items c.as_slice.result.now c.self.inside.views.items c.as_slice-2.result.now c.args.event.now c.in-Some.word c.is_allowed.result
+    c.as_slice.ensures.value c.as_slice-2.ensures.value c.is_allowed.ensures c.if-not-is_allowed.false) is)
 
 pub store-requires-clause-small : goal.store-requires-clause-small
 store-requires-clause-small c =

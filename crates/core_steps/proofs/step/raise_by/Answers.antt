@@ -11,9 +11,9 @@ use Rattle.core_events.specs.Steps.{raised_from}
 use Rattle.core_events.specs.TreeMoves.{tree_move, is_tree_step}
 use Rattle.core_events.specs.Tables.{Table}
 use Rattle.core_events.specs.UpdateMoves.{raised_view}
-use Rattle.core_rule.proofs.Allowed.{needed, raises, raise_steps}
+use Rattle.core_steps.proofs.Allowed.{needed, raises, raise_steps}
 use Rattle.core_events.proofs.Changes.{on_ok}
-use Rattle.core_rule.proofs.step.raise_by.Goals as goal
+use Rattle.core_steps.proofs.step.raise_by.Goals as goal
 
 -- the item that was read is the seat's view
 read_is : (vs : List View) (i : ℕ) (v w : View) → w ≡ get_or vs i w → slice_get vs i ≡ Some v → w ≡ v
@@ -29,15 +29,15 @@ tree_move-requires-clause-met c =
 
 pub tree_move-requires-clause-small : goal.tree_move-requires-clause-small
 tree_move-requires-clause-small c =
-    (raises (record { layout = c.args.layout.now; words = c.args.words.now; views = c.args.views.now }) c.args.event.now Stamp c.requires.right c.requires.met c.requires.kind).small
+    c.requires.small
 
 pub raise_seat-requires-clause-seat : goal.raise_seat-requires-clause-seat
 raise_seat-requires-clause-seat c =
-    (raises (record { layout = c.args.layout.now; words = c.args.words.now; views = c.args.views.now }) c.args.event.now Stamp c.requires.right c.requires.met c.requires.kind).calls
+    (raises (record { layout = c.args.layout.now; words = c.args.words.now; views = c.args.views.now }) c.args.event.now Stamp c.requires.met c.requires.kind).calls
 
 pub raise_seat-requires-clause-small : goal.raise_seat-requires-clause-small
 raise_seat-requires-clause-small c =
-    rw c.held-stamp.ensures (raises (record { layout = c.args.layout.now; words = c.args.words.now; views = c.args.views.now }) c.args.event.now Stamp c.requires.right c.requires.met c.requires.kind).small
+    rw c.held-stamp.ensures c.requires.small
 
 pub returns-clause-ok : goal.returns-clause-ok
 returns-clause-ok c =

@@ -3,7 +3,6 @@ ghost use Rattle.std.specs.Prelude.{◌≡◌, ◌≢◌, ◌+◌, ◌<◌, ◌^
 ghost use Rattle.std.specs.List.{slice_get};
 ghost use Rattle.index_words.specs.Words.{memory};
 ghost use Rattle.core_events.specs.declared.event.Kind.TheVariants.{SplitSeat, Raise};
-ghost use Rattle.core_invariant.specs.Rule.{InRule};
 ghost use Rattle.index_words.specs.declared.view.View.{View as SeatView};
 ghost use Rattle.index_words.specs.declared.word.Word.TheVariants.{Stamp};
 ghost use Rattle.core_events.specs.Steps.{is_own_update as own_update, carries as kind_carries, allowed_at, words_after, raised_from, IsChange};
@@ -41,13 +40,7 @@ fn carries(kind: Kind, view: &View, update: Option<Update>) -> bool
 }
 
 /// Whether an event is allowed whose word has this name.
-pub(crate) fn is_allowed(
-    layout: &Layout,
-    words: &[u64],
-    views: &[View],
-    word: Word,
-    event: &Event,
-) -> bool
+pub fn is_allowed(layout: &Layout, words: &[u64], views: &[View], word: Word, event: &Event) -> bool
     ensures { result ≡ allowed_at (record { layout = layout.now; words = words.now; views = views.now }) event.now (slice_get views.now event.now.seat) (Some word) }
 {
     match views.get(event.seat as usize) {
@@ -62,7 +55,7 @@ pub(crate) fn is_allowed(
 
 /// Puts the value of an event of a kind that stores, at a try of a lock only where the word is 0, and adds one at
 /// a raise.
-pub(crate) fn store(words: &mut Vec<u64>, event: &Event)
+pub fn store(words: &mut Vec<u64>, event: &Event)
     requires there { event.now.word < vec_len words.old }
     requires small { event.now.kind ≡ Raise → slice_index words.old.items event.now.word + 1 < 2 ^ 64 }
     ensures { words.new.items ≡ words_after event.now.kind words.old.items event.now.word event.now.value }
@@ -97,7 +90,7 @@ fn raise_by(
 ) -> Result<(), NoMemory>
     requires kind { event.now.kind ≡ Raise }
     requires met { allowed_at (record { layout = layout.now; words = words.now; views = views.old }) event.now (slice_get views.old event.now.seat) (Some Stamp) ≡ true }
-    requires right { InRule layout.now words.now views.old }
+    requires small { memory layout.now words.now Stamp + 1 < 2 ^ 64 }
     ensures ok { OnOk result ((v : SeatView) → slice_get views.old event.now.seat ≡ Some v → views.new ≡ slice_set views.old event.now.seat (raised_from layout.now (memory layout.now words.now) views.old v (memory layout.now words.now Stamp) event.now.update)) }
     ensures err { OnErr result (views.new ≡ views.old) }
 {
@@ -123,7 +116,7 @@ fn change_in_place(
 ) -> Result<(), NoMemory>
     requires met { allowed_at (record { layout = layout.now; words = words.now; views = views.old }) event.now (slice_get views.old event.now.seat) (Some word) ≡ true }
     requires in_place { event.now.kind ≢ SplitSeat }
-    requires right { InRule layout.now words.now views.old }
+    requires small { event.now.kind ≡ Raise → memory layout.now words.now word + 1 < 2 ^ 64 }
     ensures ok { OnOk result (IsChange layout.now words.now views.old event.now word views.new) }
     ensures err { OnErr result (views.new ≡ views.old) }
 {
@@ -183,7 +176,7 @@ fn change_in_place(
 }
 
 /// The views after an allowed event. After a refusal they are unchanged.
-pub(crate) fn change(
+pub fn change(
     alloc: Global,
     layout: &Layout,
     words: &[u64],
@@ -192,7 +185,7 @@ pub(crate) fn change(
     event: &Event,
 ) -> Result<(), NoMemory>
     requires met { allowed_at (record { layout = layout.now; words = words.now; views = views.old.items }) event.now (slice_get views.old.items event.now.seat) (Some word) ≡ true }
-    requires right { InRule layout.now words.now views.old.items }
+    requires small { event.now.kind ≡ Raise → memory layout.now words.now word + 1 < 2 ^ 64 }
     ensures ok { OnOk result (IsChange layout.now words.now views.old.items event.now word views.new.items) }
     ensures err { OnErr result (views.new.items ≡ views.old.items) }
 {

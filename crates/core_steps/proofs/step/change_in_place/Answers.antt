@@ -1,4 +1,4 @@
-use Rattle.std.proofs.Common.{refl, ◌≡◌, ◌∙◌, ap, sym, subst, true, Some, ℕ, eqb, slice_set}
+use Rattle.std.proofs.Common.{refl, ◌≡◌, ◌∙◌, ap, sym, subst, true, Some, ℕ, eqb, slice_set, ◌+◌, ◌<◌, ◌^◌}
 use Rattle.core_events.specs.declared.event.Kind.TheVariants.{MakeSeat, Enter, Leave, LookSec, Fill, LoadStamp, LoadHead, LoadTs, LoadPtr, LoadNext, Prepare, Raise, Finalise, TryLock, Unlock, LoadMark, Mark, LoadKeyOrVal}
 use Rattle.index_words.specs.declared.view.View.{View}
 use Rattle.std.specs.List.{slice_get}
@@ -10,10 +10,10 @@ use Rattle.core_events.specs.Versions.{tree_nodes}
 use Rattle.core_events.specs.SpelledNow.{tree_now}
 use Rattle.index_words.specs.Words.{memory}
 use Rattle.core_events.specs.Steps.{allowed_at, look_from, head_from, ts_from, ptr_from, next_from, raised_from, tried_from, mark_from, pair_from}
-use Rattle.core_events.specs.Tables.{Table}
-use Rattle.core_rule.proofs.Allowed.{seat_within, join_other, prepare_small, raises, loads_stamp}
+use Rattle.core_events.specs.Tables.{Table, held_by}
+use Rattle.core_steps.proofs.Allowed.{seat_within, join_other, prepare_small, raises, loads_stamp}
 use Rattle.core_events.proofs.Changes.{on_ok, change_of, join_change, at_found}
-use Rattle.core_rule.proofs.step.change_in_place.Goals as goal
+use Rattle.core_steps.proofs.step.change_in_place.Goals as goal
 
 pub join_seats-requires-clause-seat : goal.join_seats-requires-clause-seat
 join_seats-requires-clause-seat c = seat_within (record { layout = c.args.layout.now; words = c.args.words.now; views = c.args.views.now }) c.args.event.now c.args.word c.requires.met
@@ -78,14 +78,16 @@ prepare_seat-requires-clause-small c = prepare_small (record { layout = c.args.l
 pub raise_by-requires-clause-kind : goal.raise_by-requires-clause-kind
 raise_by-requires-clause-kind c = c.in-Raise.is
 
-pub raise_by-requires-clause-right : goal.raise_by-requires-clause-right
-raise_by-requires-clause-right c = c.requires.right
+pub raise_by-requires-clause-small : goal.raise_by-requires-clause-small
+raise_by-requires-clause-small c =
+    let t : Table = record { layout = c.args.layout.now; words = c.args.words.now; views = c.args.views.now } in
+    subst (λ (w : Word). held_by t w + 1 < 2 ^ 64) (raises t c.args.event.now c.args.word c.requires.met c.in-Raise.is).stamp (c.requires.small c.in-Raise.is)
 
 pub raise_by-requires-clause-met : goal.raise_by-requires-clause-met
 raise_by-requires-clause-met c =
     let t : Table = record { layout = c.args.layout.now; words = c.args.words.now; views = c.args.views.now } in
     subst (λ (w : Word). allowed_at t c.args.event.now (slice_get c.args.views.now c.args.event.now.seat) (Some w) ≡ true)
-    (raises t c.args.event.now c.args.word c.requires.right c.requires.met c.in-Raise.is).stamp c.requires.met
+    (raises t c.args.event.now c.args.word c.requires.met c.in-Raise.is).stamp c.requires.met
 
 pub returns-in-MakeSeat-clause-ok : goal.returns-in-MakeSeat-clause-ok
 returns-in-MakeSeat-clause-ok c = change_of c.args.layout.now c.args.words.now c.args.views.now c.args.event.now c.args.word c.args.views.now MakeSeat c.in-MakeSeat.is (λ v found. refl)
@@ -186,7 +188,7 @@ returns-in-Raise-clause-ok c =
     let t : Table = record { layout = z; words = c.args.words.now; views = vs } in
     on_ok c.raise_by.result
     (λ step. change_of z c.args.words.now vs c.args.event.now c.args.word c.raise_by.new.views Raise c.in-Raise.is
-    (λ v found. step v found ∙ ap (λ (w : Word). slice_set vs c.args.event.now.seat (raised_from z m vs v (m w) c.args.event.now.update)) (sym (raises t c.args.event.now c.args.word c.requires.right c.requires.met c.in-Raise.is).stamp)))
+    (λ v found. step v found ∙ ap (λ (w : Word). slice_set vs c.args.event.now.seat (raised_from z m vs v (m w) c.args.event.now.update)) (sym (raises t c.args.event.now c.args.word c.requires.met c.in-Raise.is).stamp)))
     c.raise_by.ensures.ok
 
 pub returns-in-Raise-clause-err : goal.returns-in-Raise-clause-err

@@ -1,5 +1,5 @@
 -- What an allowed event says of its seat.
-use Rattle.std.proofs.Common.{◌≡◌, ◌≢◌, ℕ, ◌+◌, ◌^◌, ◌<◌, ◌≤◌, length, Bool, true, false, not, eqb, ◌&&◌, ◌||◌, arith, refl, sym, subst, Option, Some, None, is_none}
+use Rattle.std.proofs.Common.{◌≡◌, ◌≢◌, ℕ, ◌^◌, ◌<◌, ◌≤◌, length, Bool, true, false, not, eqb, ◌&&◌, ◌||◌, arith, refl, sym, subst, Option, Some, None, is_none}
 use Rattle.std.specs.List.{slice_get}
 use Rattle.std.proofs.lemmas.Bool.{and_parts, eqb-true}
 use Rattle.std.proofs.lemmas.Bool.Decides.{nat_tests}
@@ -15,17 +15,13 @@ use Rattle.core_events.specs.declared.event.Kind.{Kind}
 use Rattle.core_events.specs.declared.event.Kind.TheVariants.{SplitSeat, JoinSeat, LoadStamp, Prepare, Raise}
 use Rattle.core_events.specs.Needs.{may_join_found, is_stamp}
 use Rattle.core_events.specs.UpdateNeeds.{is_slot_number, may_prepare_entry, may_prepare_head, may_prepare, may_raise_number, is_raise_of}
-use Rattle.core_invariant.specs.Histories.{calls_left}
-use Rattle.core_invariant.specs.Rule.{IsRight}
 use Rattle.core_events.specs.Tables.{Table, held_by}
 use Rattle.core_events.specs.Seats.{HasFree, HasCalls}
 use Rattle.core_events.specs.Steps.{needs, carries, allowed_at}
 use Rattle.index_words.specs.Words.{Memory}
 use Rattle.core_events.specs.TreeMoves.{is_tree_step}
 use Rattle.core_grace.specs.Sections.{is_even}
-use Rattle.index_words.proofs.Seats.{one_term}
-use Rattle.core_invariant.proofs.OneView.{item_from_get}
-use Rattle.core_invariant.proofs.Needed.{never, not_equal, stamp_named}
+use Rattle.core_events.proofs.Tests.{never, not_equal, stamp_named}
 
 pub record Needed (t : Table) (e : Event) (w : Word) : Type 0 where
   pub v : View
@@ -120,14 +116,13 @@ prepare_small t e w met is =
     small_by m v (Announced i) x met = absurd (never met)
     small_by m v (Entry p e) x met = absurd (never met)
 
--- a raise has a call left, and the stamp after it is small
+-- a raise is one at the stamp, and has a call left
 pub record Raises (t : Table) (e : Event) (w : Word) : Type 0 where
   pub calls : HasCalls t.views e.seat
-  pub small : held_by t w + 1 < 2 ^ 64
   pub stamp : w ≡ Stamp
 
-raises_at : (t : Table) (e : Event) (u : Word) (v : View) → slice_get t.views e.seat ≡ Some v → IsRight t → may_raise_number v u e.value ≡ true → Raises t e u
-raises_at t e Stamp v is right met =
+raises_at : (t : Table) (e : Event) (u : Word) (v : View) → slice_get t.views e.seat ≡ Some v → may_raise_number v u e.value ≡ true → Raises t e u
+raises_at t e Stamp v is met =
     let c = not (eqb v.history.left 0) in
     let f = not (eqb (length v.update.pending) 0) in
     let one = and_parts (is_stamp Stamp && eqb e.value 0 && is_none v.update.raised && c) f met in
@@ -136,16 +131,15 @@ raises_at t e Stamp v is right met =
     let within = slice_get_within t.views e.seat v is in
     record {
       calls = record { within = within; left = λ d. subst (λ (x : View). 0 < x.history.left) (sym (get_or_from_slice_get t.views e.seat v d is)) left };
-      small = omega (arith, right.rule.history.calls, right.rule.history.few, left, one_term calls_left t.views e.seat v (item_from_get t.views e.seat v is));
       stamp = refl;
     }
   where
     some_left : (n : ℕ) → not (eqb n 0) ≡ true → 0 < n
     some_left n p = grind (arith, nat_tests)
-raises_at t e (Section i) v is right met = absurd (never met)
-raises_at t e (Announced i) v is right met = absurd (never met)
-raises_at t e (Node f k) v is right met = absurd (never met)
-raises_at t e (Entry p k) v is right met = absurd (never met)
+raises_at t e (Section i) v is met = absurd (never met)
+raises_at t e (Announced i) v is met = absurd (never met)
+raises_at t e (Node f k) v is met = absurd (never met)
+raises_at t e (Entry p k) v is met = absurd (never met)
 
 -- what the needs of a raise say of the seat's view, and of its update
 raise_met : (t : Table) (e : Event) (w : Word) (v : View) → needs e.kind t.layout (held_by t) t.views e.seat v w e.value e.update ≡ true → e.kind ≡ Raise
@@ -153,10 +147,10 @@ raise_met : (t : Table) (e : Event) (w : Word) (v : View) → needs e.kind t.lay
 raise_met t e w v met is =
     and_parts (may_raise_number v w e.value) (is_raise_of t.layout (held_by t) t.views v e.update) (split_met t e w Raise v is met)
 
-pub raises : (t : Table) (e : Event) (w : Word) → IsRight t → allowed_at t e (slice_get t.views e.seat) (Some w) ≡ true → e.kind ≡ Raise → Raises t e w
-raises t e w right met is =
+pub raises : (t : Table) (e : Event) (w : Word) → allowed_at t e (slice_get t.views e.seat) (Some w) ≡ true → e.kind ≡ Raise → Raises t e w
+raises t e w met is =
     let need = needed t e w met in
-    raises_at t e w need.v need.is right (raise_met t e w need.v need.met is).0
+    raises_at t e w need.v need.is (raise_met t e w need.v need.met is).0
 
 -- a raise makes the tree step of its update
 pub raise_steps : (t : Table) (e : Event) (w : Word) → allowed_at t e (slice_get t.views e.seat) (Some w) ≡ true → e.kind ≡ Raise

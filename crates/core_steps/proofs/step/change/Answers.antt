@@ -1,9 +1,9 @@
 use Rattle.std.proofs.Common.{length, take, drop, ◌++◌, ap, ◌∙◌, sym}
 use Rattle.std.proofs.Math.Seq.{take-append_seam}
 use Rattle.core_events.specs.declared.event.Kind.TheVariants.{SplitSeat}
-use Rattle.core_rule.proofs.Allowed.{split_few, split_there}
+use Rattle.core_steps.proofs.Allowed.{split_few, split_there}
 use Rattle.core_events.proofs.Changes.{on_ok, change_of, change_whole, err_whole}
-use Rattle.core_rule.proofs.step.change.Goals as goal
+use Rattle.core_steps.proofs.step.change.Goals as goal
 
 pub split_seat-requires-clause-few : goal.split_seat-requires-clause-few
 split_seat-requires-clause-few c = split_few (record { layout = c.args.layout.now; words = c.args.words.now; views = c.args.views.now.items }) c.args.event.now c.args.word c.requires.met c.in-SplitSeat.is

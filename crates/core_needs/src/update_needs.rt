@@ -1,98 +1,14 @@
-// The needs of loads and of an update's events, as tests.
+// The needs of an update's events, as tests.
 ghost use Rattle.std.specs.Prelude.{◌≡◌};
 ghost use Rattle.index_words.specs.Words.{memory};
-ghost use Rattle.core_events.specs.LoadNeeds.{may_load_stamp as stamp_needs, may_load_head as head_needs, stands_at as place_stands_at, is_part as part_is, may_load_part as part_needs, may_go_on as goes_on, may_load_next as next_needs};
 ghost use Rattle.core_events.specs.UpdateNeeds.{side_of as side_named, is_written as written, is_next_of as next_of, is_ready as ready, held_at as held_named, may_prepare_entry as entry_needs, may_prepare as prepare_needs, is_raise_of as raises_update, may_raise_number as number_needs, may_raise as raise_needs, may_finalise as finalise_needs};
 
+use crate::load_needs::is_part;
 use crate::needs::is_stamp_word;
 use core_events::Event;
-use core_events::reads::{held, is_above, is_in, is_locked, is_reachable};
+use core_events::reads::{held, is_in};
 use core_spelled::tree_steps::is_tree_step;
-use index_words::{
-    Field, HeldNode, HeldSide, Layout, LoadedHead, Part, Place, Side, Update, View, Word,
-};
-
-/// Whether the stamp may be loaded.
-pub fn may_load_stamp(view: &View, word: Word, value: u64) -> bool
-    ensures { result ≡ stamp_needs view.now word value }
-{
-    is_stamp_word(word)
-        && !(view.section_word % 2 == 0)
-        && view.reading.opened.is_none()
-        && (value == 0 || value == 1)
-}
-
-/// Whether this head may be loaded.
-pub fn may_load_head(view: &View, word: Word, value: u64) -> bool
-    ensures { result ≡ head_needs view.now word value }
-{
-    match word {
-        Word::Node(Field::Head(_), node) => {
-            !(view.section_word % 2 == 0) && is_reachable(view, node) && value == 0
-        }
-        _ => false,
-    }
-}
-
-fn stands_at(place: Place, entry: u32) -> bool
-    ensures { result ≡ place_stands_at place entry }
-{
-    match place {
-        Place::Entry { entry: at, .. } => at == u64::from(entry),
-        Place::Nowhere => false,
-        Place::Node { .. } => false,
-        Place::Gap { .. } => false,
-    }
-}
-
-fn is_part(part: Part, other: Part) -> bool
-    ensures { result ≡ part_is part other }
-{
-    match (part, other) {
-        (Part::Child, Part::Child) => true,
-        (Part::Stamp, Part::Stamp) => true,
-        (Part::Next, Part::Next) => true,
-        _ => false,
-    }
-}
-
-/// Whether this part of an entry may be loaded.
-pub fn may_load_part(part: Part, view: &View, word: Word, value: u64) -> bool
-    ensures { result ≡ part_needs part view.now word value }
-{
-    match word {
-        Word::Entry(own, entry) => {
-            is_part(part, own) && stands_at(view.reading.place, entry) && value == 0
-        }
-        _ => false,
-    }
-}
-
-fn may_go_on(view: &View, place: Place, entry: u32) -> bool
-    ensures { result ≡ goes_on view.now place entry }
-{
-    match place {
-        Place::Entry { node, stamp, .. } => {
-            is_locked(view.held.nodes.as_slice(), node) || is_above(view, entry, stamp)
-        }
-        Place::Nowhere => false,
-        Place::Node { .. } => false,
-        Place::Gap { .. } => false,
-    }
-}
-
-/// Whether the next of an entry may be loaded.
-pub fn may_load_next(view: &View, word: Word, value: u64) -> bool
-    ensures { result ≡ next_needs view.now word value }
-{
-    match word {
-        Word::Entry(_, entry) => {
-            may_load_part(Part::Next, view, word, value)
-                && may_go_on(view, view.reading.place, entry)
-        }
-        _ => false,
-    }
-}
+use index_words::{Field, HeldNode, HeldSide, Layout, LoadedHead, Part, Side, Update, View, Word};
 
 fn side_of(held: HeldNode, side: Side) -> HeldSide
     ensures { result ≡ side_named side held }
@@ -164,7 +80,13 @@ fn may_prepare_entry(
 }
 
 /// Whether this entry may be prepared at this head.
-pub fn may_prepare(layout: &Layout, words: &[u64], view: &View, word: Word, value: u64) -> bool
+pub(crate) fn may_prepare(
+    layout: &Layout,
+    words: &[u64],
+    view: &View,
+    word: Word,
+    value: u64,
+) -> bool
     ensures { result ≡ prepare_needs (memory layout.now words.now) view.now word value }
 {
     match word {
@@ -203,7 +125,7 @@ fn may_raise_number(view: &View, word: Word, value: u64) -> bool
 }
 
 /// Whether the stamp may be raised, for this update of the view's own pass.
-pub fn may_raise(
+pub(crate) fn may_raise(
     layout: &Layout,
     words: &[u64],
     views: &[View],
@@ -218,7 +140,7 @@ pub fn may_raise(
 }
 
 /// Whether this number may be written into this entry.
-pub fn may_finalise(view: &View, word: Word, value: u64) -> bool
+pub(crate) fn may_finalise(view: &View, word: Word, value: u64) -> bool
     ensures { result ≡ finalise_needs view.now word value }
 {
     match word {

@@ -1,5 +1,5 @@
-use Rattle.core_rule.proofs.SplitViews.{split_views}
-use Rattle.core_rule.proofs.seats.split_seat.Goals as goal
+use Rattle.core_steps.proofs.SplitViews.{split_views}
+use Rattle.core_steps.proofs.seats.split_seat.Goals as goal
 
 pub returns-clause-ok : goal.returns-clause-ok
 returns-clause-ok c v found =

@@ -1,0 +1,4 @@
+-- What an allowed event says of its seat.
+pub mod Allowed
+-- The views after a split, as the code makes them: the new view is put behind the others first.
+pub mod SplitViews
