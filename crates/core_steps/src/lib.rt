@@ -3,7 +3,7 @@
 //! those of the core calls it.
 #![tactic(auto)]
 
-mod seat_links;
-mod seat_locks;
+mod seat_views;
 mod seats;
+mod stamp_seats;
 pub mod step;

@@ -1,71 +1,14 @@
-// The views of a table after each kind of event.
+// The views of a table after a split and a join of seats.
 ghost use Rattle.std.specs.Prelude.{◌≡◌, ◌≢◌, ◌<◌, ◌≤◌, ◌++◌, ◌∷◌, [], OnOk, OnErr, Some, length, slice_set};
 ghost use Rattle.std.specs.List.{slice_get};
 ghost use Rattle.index_words.specs.Views.{spent_view};
 ghost use Rattle.index_words.specs.declared.view.View.{View as SeatView};
-ghost use Rattle.core_events.specs.Steps.{look_from};
-ghost use Rattle.core_events.specs.FillMoves.{filled_view};
 ghost use Rattle.core_events.specs.Seats.{HasFree};
-ghost use Rattle.core_events.specs.Moves.{entered, left, split_left, split_right, joined_with};
+ghost use Rattle.core_events.specs.Moves.{split_left, split_right, joined_with};
 
-use core_views::fill_words::fill;
-use core_views::moves::{enter, gain, keep_rest, leave, look, split_off, take_gain};
-use index_words::{Layout, NoMemory, View, Word};
+use core_views::moves::{gain, keep_rest, split_off, take_gain};
+use index_words::{NoMemory, View};
 use std::alloc::Global;
-
-pub(crate) fn enter_seat(
-    alloc: Global,
-    views: &mut [View],
-    seat: usize,
-    passes: u32,
-    word: u64,
-) -> Result<(), NoMemory>
-    requires { seat < length views.old }
-    ensures ok { OnOk result ((v : SeatView) → slice_get views.old seat ≡ Some v → views.new ≡ slice_set views.old seat (entered passes v word)) }
-    ensures err { OnErr result (views.new ≡ views.old) }
-{
-    let view = &mut views[seat];
-    enter(alloc, view, passes, word)
-}
-
-pub(crate) fn leave_seat(alloc: Global, views: &mut [View], seat: usize, word: u64)
-    requires { seat < length views.old }
-    ensures { (v : SeatView) → slice_get views.old seat ≡ Some v → views.new ≡ slice_set views.old seat (left v word) }
-{
-    let view = &mut views[seat];
-    leave(alloc, view, word);
-}
-
-pub(crate) fn look_seat(
-    alloc: Global,
-    views: &mut [View],
-    seat: usize,
-    layout: &Layout,
-    word: Word,
-    found: u64,
-) -> Result<(), NoMemory>
-    requires { seat < length views.old }
-    ensures ok { OnOk result ((v : SeatView) → slice_get views.old seat ≡ Some v → views.new ≡ slice_set views.old seat (look_from layout.now v word found)) }
-    ensures err { OnErr result (views.new ≡ views.old) }
-{
-    let view = &mut views[seat];
-    look(alloc, view, layout, word, found)
-}
-
-pub(crate) fn fill_seat(
-    alloc: Global,
-    views: &mut [View],
-    seat: usize,
-    word: Word,
-    value: u64,
-) -> Result<(), NoMemory>
-    requires { seat < length views.old }
-    ensures ok { OnOk result ((v : SeatView) → slice_get views.old seat ≡ Some v → views.new ≡ slice_set views.old seat (filled_view v word value)) }
-    ensures err { OnErr result (views.new ≡ views.old) }
-{
-    let view = &mut views[seat];
-    fill(alloc, view, word, value)
-}
 
 pub(crate) fn split_seat(
     alloc: Global,

@@ -7,12 +7,9 @@ ghost use Rattle.index_words.specs.declared.view.View.{View as SeatView};
 ghost use Rattle.index_words.specs.declared.word.Word.TheVariants.{Stamp};
 ghost use Rattle.core_events.specs.Steps.{is_own_update as own_update, carries as kind_carries, allowed_at, words_after, raised_from, IsChange};
 
-use crate::seat_links::{
-    finalise_seat, load_head_seat, load_next_seat, load_ptr_seat, load_stamp_seat, load_ts_seat,
-    prepare_seat, raise_seat,
-};
-use crate::seat_locks::{load_mark_seat, load_pair_seat, mark_seat, try_lock_seat, unlock_seat};
-use crate::seats::{enter_seat, fill_seat, join_seats, leave_seat, look_seat, split_seat};
+use crate::seat_views::change_seat;
+use crate::seats::{join_seats, split_seat};
+use crate::stamp_seats::{load_stamp_seat, raise_seat};
 use core_events::reads::{held, number_of};
 use core_events::{Event, Kind};
 use core_grace::is_own;
@@ -120,57 +117,21 @@ fn change_in_place(
     ensures ok { OnOk result (IsChange layout.now words.now views.old event.now word views.new) }
     ensures err { OnErr result (views.new ≡ views.old) }
 {
-    let seat = event.seat as usize;
-    let value = event.value;
-    let found = held(layout, words, word);
     match event.kind {
-        Kind::MakeSeat => Ok(()),
-        Kind::SplitSeat => unreachable!(),
-        Kind::Fill => fill_seat(alloc, views, seat, word, value),
-        Kind::JoinSeat => join_seats(alloc, views, seat, value as usize),
-        Kind::Enter => enter_seat(alloc, views, seat, layout.passes, value),
-        Kind::Leave => {
-            leave_seat(alloc, views, seat, value);
-            Ok(())
-        }
-        Kind::LookSec => look_seat(alloc, views, seat, layout, word, found),
-        Kind::LoadStamp => load_stamp_seat(alloc, layout, words, views, seat, value == 1),
-        Kind::LoadHead => load_head_seat(
+        Kind::JoinSeat => join_seats(alloc, views, event.seat as usize, event.value as usize),
+        Kind::LoadStamp => load_stamp_seat(
             alloc,
+            layout,
+            words,
             views,
-            seat,
-            word,
-            found,
-            number_of(layout, words, found),
+            event.seat as usize,
+            event.value == 1,
         ),
-        Kind::LoadTs => {
-            load_ts_seat(alloc, views, seat, word, found);
-            Ok(())
-        }
-        Kind::LoadPtr => load_ptr_seat(views, seat, word, found),
-        Kind::LoadNext => load_next_seat(views, seat, word, found),
-        Kind::Prepare => prepare_seat(alloc, views, seat, word, value),
         Kind::Raise => raise_by(alloc, layout, words, views, event),
-        Kind::Finalise => {
-            finalise_seat(alloc, views, seat, word);
-            Ok(())
-        }
-        Kind::TryLock => try_lock_seat(views, seat, word, value, found),
-        Kind::Unlock => {
-            unlock_seat(alloc, views, seat, word);
-            Ok(())
-        }
-        Kind::LoadMark => {
-            load_mark_seat(alloc, views, seat, word, found);
-            Ok(())
-        }
-        Kind::Mark => {
-            mark_seat(alloc, views, seat, word);
-            Ok(())
-        }
-        Kind::LoadKeyOrVal => {
-            load_pair_seat(alloc, views, seat, word, found);
-            Ok(())
+        _ => {
+            let found = held(layout, words, word);
+            let number = number_of(layout, words, found);
+            change_seat(alloc, layout, views, word, found, number, event)
         }
     }
 }
