@@ -119,7 +119,8 @@ def requests(rng, count, keys, reads):
 
 def random_run(rng, turns):
     passes = rng.randint(1, 4)
-    sizes = [(rng.randint(2, 24), rng.randint(8, 120), turns) for _ in range(passes)]
+    nodes, entries = rng.choice([((2, 8), (8, 24)), ((16, 40), (60, 200)), ((16, 40), (60, 200))])
+    sizes = [(rng.randint(*nodes), rng.randint(*entries), turns) for _ in range(passes)]
     keys = rng.choice([4, 8, 16, 32])
     asked = [requests(rng, turns // 8 + 4, keys, rng.choice([0.02, 0.1, 0.6])) for _ in range(passes)]
     weights = [rng.choice([1, 1, 4]) for _ in range(passes)]

@@ -1,9 +1,7 @@
 -- The events of a plan are allowed from the view, and a try that fails has made a count rise.
-use Rattle.std.proofs.Common.{◌≡◌, ℕ, ◌+◌, ◌<◌, ◌≤◌, inl, inr, List, [], ◌∷◌, Bool, true, false, cond, refl, ap, sym, subst, Option, Some, None}
+use Rattle.std.proofs.Common.{ℕ, ◌<◌, inl, inr, List, [], ◌∷◌, Bool, true, false, cond, refl, ap, sym, subst, None}
 use Rattle.std.specs.Prelude.{◌==◌, IfSome}
-use Rattle.std.specs.List.{slice_get}
 use Rattle.index_words.specs.declared.layout.Layout.{Layout}
-use Rattle.index_words.specs.declared.side.Side.{Side}
 use Rattle.index_words.specs.declared.side.Side.TheVariants.{Left, Right}
 use Rattle.index_words.specs.declared.view.View.{View}
 use Rattle.index_words.specs.declared.word.Field.TheVariants.{Key, Val, Mark, Head}
@@ -11,9 +9,7 @@ use Rattle.index_words.specs.declared.word.Part.TheVariants.{Child, Stamp as Num
 use Rattle.index_words.specs.declared.word.Word.{Word}
 use Rattle.index_words.specs.declared.word.Word.TheVariants.{Node, Entry}
 use Rattle.key_map.specs.Lists.{count, Every}
-use Rattle.core_rule.specs.declared.event.Event.{Event}
-use Rattle.core_rule.specs.ViewNeeds.{IsInReach, HasFilled as HasPut}
-use Rattle.core_rule.specs.Tables.{Table}
+use Rattle.core_rule.specs.ViewNeeds.{HasFilled as HasPut}
 use Rattle.core_rule.proofs.CountFacts.{other_head, taken_law}
 use Rattle.core_rule.proofs.Counts.{counts_law}
 use Rattle.core_rule.proofs.EachKind.{item_from_get}
@@ -26,7 +22,7 @@ use Rattle.core_updates.specs.declared.plan.Front.{Front}
 use Rattle.core_updates.specs.declared.plan.NewNode.{NewNode}
 use Rattle.core_updates.specs.Held.{HasFilled}
 use Rattle.core_updates.specs.Plans.{locks_of, fronts_of, new_node_of, node_fills, entry_fills, head_of, fresh_to}
-use Rattle.core_updates.specs.PlanEvents.{HasSlots, IsDue, MayFillAll, AllowsPlan, ReadsPlan, EventsLaw, CountsFailures, ReadsOwn, FailuresLaw}
+use Rattle.core_updates.specs.PlanEvents.{HasSlots, MayFillAll, EventsLaw, FailuresLaw}
 use Rattle.core_updates.proofs.PlanLocks.{reach_law}
 
 every_to : {P Q : ℕ → Type 0} → ((k : ℕ) → P k → Q k) → (ks : List ℕ) → Every P ks → Every Q ks

@@ -31,7 +31,6 @@ use Rattle.core_updates.specs.declared.plan.Look.{Look}
 use Rattle.core_updates.specs.declared.plan.Look.TheVariants.{Link as LinkLook, Key as KeyLook, Val as ValLook}
 use Rattle.core_updates.specs.declared.plan.Front.{Front}
 use Rattle.core_updates.specs.declared.plan.NewNode.{NewNode}
-use Rattle.core_updates.specs.declared.plan.Fresh.{Fresh}
 use Rattle.core_updates.specs.Plans.{locks_of, looks_of, fronts_of, out_of, new_node_of, node_fills, entry_fills}
 use Rattle.core_updates.specs.PlanOf.{IsPlanIn}
 use Rattle.core_updates.specs.PlanReady.{HoldsFill}
