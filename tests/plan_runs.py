@@ -21,7 +21,8 @@ KEY, VAL, LOCK, MARK, HEAD = 0, 1, 2, 3, 4
 PTR, TS, NEXT = 0, 1, 2
 COUNT_OF = {"Busy": "busy", "Moved": "moves", "Pending": "waits"}
 OUTCOMES = {"Done", "Absent", "Busy", "Moved", "Pending"}
-CASES = {"insert", "replace", "remove, 0 children", "remove, 1 children", "remove, 2 children, deep", "remove, 2 children, right child"}
+CASES = {"insert", "replace"}
+CASES |= {"remove, " + which for which in ("0 children", "1 children", "2 children, deep", "2 children, right child")}
 
 
 class Difference(Exception):
@@ -150,7 +151,8 @@ class Model:
 
     def take(self, line):
         words = line.split()
-        takers = {"raised": self.take_raised, "tried": self.take_tried, "found": self.take_found, "missing": self.take_missing}
+        takers = {"raised": self.take_raised, "tried": self.take_tried}
+        takers |= {"found": self.take_found, "missing": self.take_missing}
         ask(words[0] in takers, line)
         takers[words[0]](int(words[1]), line, words[2:])
 

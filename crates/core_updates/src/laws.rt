@@ -48,10 +48,11 @@ pub fn ready_plans_may_raise()
     ensures plan { PlanMayRaiseLaw }
 {}
 
-/// A plan can be carried out. It has locked what it looks at, where it puts entries in front, and what it takes out; the
-/// nodes that it locks are in reach of the seat that reads its tree; and each of its events before and behind the raise
-/// is allowed in every table that meets the rule and has this view at the seat. Where a try fails, the count has risen
-/// that the answer needs: a lock that is held, a number that is missing, a mark, or another head than the remembered one.
+/// A plan can be carried out. It has locked what it looks at, where it puts entries in front, and what it takes out;
+/// the nodes that it locks are in reach of the seat that reads its tree; and each of its events before and behind the
+/// raise is allowed in every table that meets the rule and has this view at the seat. Where a try fails, the count has
+/// risen that the answer needs: a lock that is held, a number that is missing, a mark, or another head than the
+/// remembered one.
 pub fn plans_are_carried_out()
     ensures locks { LocksLaw }
     ensures reach { ReachLaw }
