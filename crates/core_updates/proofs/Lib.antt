@@ -9,4 +9,5 @@ pub mod LinksTo
 pub mod PlansOf
 pub mod PlansRaise
 pub mod PlanLocks
+pub mod HeldOnce
 pub mod PlanSteps

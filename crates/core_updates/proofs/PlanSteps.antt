@@ -1,5 +1,5 @@
 -- The events of a plan are allowed from the view, and a try that fails has made a count rise.
-use Rattle.std.proofs.Common.{ℕ, ◌<◌, inl, inr, List, [], ◌∷◌, Bool, true, false, cond, refl, ap, sym, subst, None}
+use Rattle.std.proofs.Common.{◌≡◌, ℕ, ◌<◌, inl, inr, List, [], ◌∷◌, Bool, true, false, cond, refl, ap, sym, subst, Some, None, ◌⊎◌, ◌∙◌}
 use Rattle.std.specs.Prelude.{◌==◌, IfSome}
 use Rattle.index_words.specs.declared.layout.Layout.{Layout}
 use Rattle.index_words.specs.declared.side.Side.TheVariants.{Left, Right}
@@ -9,7 +9,9 @@ use Rattle.index_words.specs.declared.word.Part.TheVariants.{Child, Stamp as Num
 use Rattle.index_words.specs.declared.word.Word.{Word}
 use Rattle.index_words.specs.declared.word.Word.TheVariants.{Node, Entry}
 use Rattle.key_map.specs.Lists.{count, Every}
-use Rattle.core_rule.specs.ViewNeeds.{HasFilled as HasPut}
+use Rattle.core_rule.specs.declared.event.Kind.TheVariants.{Prepare}
+use Rattle.core_rule.specs.UpdateNeeds.{held_at, is_written}
+use Rattle.core_rule.specs.ViewNeeds.{May, event_at, HasFilled as HasPut}
 use Rattle.core_rule.proofs.CountFacts.{other_head, taken_law}
 use Rattle.core_rule.proofs.Counts.{counts_law}
 use Rattle.core_rule.proofs.EachKind.{item_from_get}
@@ -22,7 +24,8 @@ use Rattle.core_updates.specs.declared.plan.Front.{Front}
 use Rattle.core_updates.specs.declared.plan.NewNode.{NewNode}
 use Rattle.core_updates.specs.Held.{HasFilled}
 use Rattle.core_updates.specs.Plans.{locks_of, fronts_of, new_node_of, node_fills, entry_fills, head_of, fresh_to}
-use Rattle.core_updates.specs.PlanEvents.{HasSlots, MayFillAll, EventsLaw, FailuresLaw}
+use Rattle.core_updates.specs.PlanEvents.{HasSlots, IsDue, MayFillAll, EventsLaw, FailuresLaw}
+use Rattle.core_updates.proofs.HeldOnce.{held_once}
 use Rattle.core_updates.proofs.PlanLocks.{reach_law}
 
 every_to : {P Q : ℕ → Type 0} → ((k : ℕ) → P k → Q k) → (ks : List ℕ) → Every P ks → Every Q ks
@@ -85,6 +88,24 @@ module _ (z : Layout) (v : View) (seat : ℕ) where
   was-put : (w : Word) (x : ℕ) → HasFilled v w x → HasPut v w x
   was-put w x h = record { place = h.place; is = h.item }
 
+  -- whatever the table is, the look is the one that the need reads
+  prepares : (f : Front) (child : ℕ) → IsDue v f child → May z v (event_at z seat Prepare (Node (Head f.at.side) f.at.node) f.entry)
+  prepares f child d words vs right is =
+      let h = d.look.head in
+      may_prepare_law z v seat f.at.node f.at.side f.entry (record {
+        unraised = d.look.known.unraised;
+        node = h.held;
+        locked = subst (λ k. held_at k v.held.nodes ≡ Some h.held) h.node_is (held_once z words vs seat h.place v h.held right is h.at);
+        unmarked = d.look.unmarked;
+        head = h.loaded;
+        loaded = h.head;
+        old = elim d.numbered as (λ _. (h.loaded.entry ≡ 0) ⊎ (is_written h.loaded.stamp ≡ true)) [ inl none' ↦ inl (h.entry_is ∙ none') | inr written ↦ inr written ];
+        free = d.free;
+        small = d.small;
+        next = subst (HasPut v (Entry Next f.entry)) (sym h.entry_is) (was-put (Entry Next f.entry) d.look.now d.filled.1.1.0);
+        unnumbered = was-put (Entry Number f.entry) 0 d.filled.1.0;
+      }) words vs right is
+
 pub events_law : EventsLaw
 events_law z v seat n plan slots r = record {
   lock = every_to (λ k reach unlocked. may_lock_law z v seat n k (record { own = r.own; inside = r.inside; reach = reach; unlocked = unlocked }))
@@ -95,19 +116,7 @@ events_law z v seat n plan slots r = record {
   left = λ has child. fills-entry z v seat slots.left child 0 has.left;
   right = λ has child. fills-entry z v seat slots.right child 0 has.right;
   front = front-fills z v seat plan slots;
-  prepare = λ f d. may_prepare_law z v seat f.at.node f.at.side f.entry (record {
-    unraised = d.unraised;
-    node = d.node;
-    locked = d.locked;
-    unmarked = d.unmarked;
-    head = d.head;
-    loaded = d.loaded;
-    old = d.old;
-    free = d.free;
-    small = d.small;
-    next = was-put z v seat (Entry Next f.entry) d.head.entry d.filled.1.1.0;
-    unnumbered = was-put z v seat (Entry Number f.entry) 0 d.filled.1.0;
-  });
+  prepare = λ f child d. prepares z v seat f child d;
   finalise = λ e place pending raised. may_finalise_law z v seat e place (record { pending = pending; raised = raised });
   mark = λ k taken out locked. may_mark_law z v seat k (record { locked = locked; taken = subst (λ ks. 0 < count k ks) (sym taken) out });
 }

@@ -1,13 +1,11 @@
 -- The events of a plan before and behind its raise: what it changes is locked, what it locks is in reach, each of its events
 -- is allowed whatever others do, and where a look fails the count rises that the answer needs.
-use Rattle.std.specs.Prelude.{◌≡◌, ℕ, ◌+◌, ◌^◌, ◌<◌, ◌≤◌, ◌⊎◌, [], true, Some, None, IfSome}
+use Rattle.std.specs.Prelude.{◌≡◌, ℕ, ◌+◌, ◌^◌, ◌<◌, ◌≤◌, ◌⊎◌, [], true, Some, IfSome}
 use Rattle.std.specs.List.{slice_get}
 use Rattle.index_words.specs.declared.layout.Layout.{Layout}
 use Rattle.index_words.specs.declared.side.Side.{Side}
 use Rattle.index_words.specs.declared.view.View.{View}
 use Rattle.index_words.specs.declared.view.reading.Filled.{Filled}
-use Rattle.index_words.specs.declared.view.update.HeldNode.{HeldNode}
-use Rattle.index_words.specs.declared.view.update.LoadedHead.{LoadedHead}
 use Rattle.index_words.specs.declared.word.Field.TheVariants.{Lock, Mark, Head}
 use Rattle.index_words.specs.declared.word.Part.TheVariants.{Stamp as Number}
 use Rattle.index_words.specs.declared.word.Word.TheVariants.{Node, Entry}
@@ -22,7 +20,7 @@ use Rattle.core_rule.specs.Readers.{IsLocked}
 use Rattle.core_rule.specs.Rule.{IsRight}
 use Rattle.core_rule.specs.Steps.{allowed, after}
 use Rattle.core_rule.specs.Tables.{Table, held_by}
-use Rattle.core_rule.specs.UpdateNeeds.{held_at, is_written, side_of}
+use Rattle.core_rule.specs.UpdateNeeds.{is_written}
 use Rattle.core_rule.specs.Versions.{tree_nodes}
 use Rattle.core_rule.specs.ViewNeeds.{May, IsInside, IsInReach, event_at}
 use Rattle.core_updates.specs.declared.plan.Plan.{Plan}
@@ -31,6 +29,7 @@ use Rattle.core_updates.specs.declared.plan.Look.{Look}
 use Rattle.core_updates.specs.declared.plan.Look.TheVariants.{Link as LinkLook, Key as KeyLook, Val as ValLook}
 use Rattle.core_updates.specs.declared.plan.Front.{Front}
 use Rattle.core_updates.specs.declared.plan.NewNode.{NewNode}
+use Rattle.core_updates.specs.Held.{HoldsLink}
 use Rattle.core_updates.specs.Plans.{locks_of, looks_of, fronts_of, out_of, new_node_of, node_fills, entry_fills}
 use Rattle.core_updates.specs.PlanOf.{IsPlanIn}
 use Rattle.core_updates.specs.PlanReady.{HoldsFill}
@@ -75,19 +74,14 @@ pub record HasSlots (v : View) (slots : PlanSlots) : Type 0 where
   pub right : 0 < count slots.right v.free.entries
   pub next : 0 < count slots.next v.free.entries
 
--- an entry may be put in front: its node was found unmarked under the lock, with the head 0 or an entry with a number, and
--- the entry is filled with that head behind it
-pub record IsDue (v : View) (f : Front) : Type 0 where
-  pub unraised : v.update.raised ≡ None
-  pub node : HeldNode
-  pub locked : held_at f.at.node v.held.nodes ≡ Some node
-  pub unmarked : node.mark ≡ Some 0
-  pub head : LoadedHead
-  pub loaded : (side_of f.at.side node).head ≡ Some head
-  pub old : (head.entry ≡ 0) ⊎ (is_written head.stamp ≡ true)
+-- an entry may be put in front: its link was held by a look, with the head 0 or an entry whose number was loaded, and the entry
+-- is a free one that is filled with that head behind it
+pub record IsDue (v : View) (f : Front) (child : ℕ) : Type 0 where
+  pub look : HoldsLink v f.at.node f.at.side child
+  pub numbered : (look.now ≡ 0) ⊎ (is_written look.head.loaded.stamp ≡ true)
   pub free : 0 < count f.entry v.free.entries
   pub small : f.entry < 2 ^ 32
-  pub filled : Every (HoldsFill v) (entry_fills f.entry f.child head.entry)
+  pub filled : Every (HoldsFill v) (entry_fills f.entry f.child look.now)
 
 abbrev pub MayFillAll : Layout → View → ℕ → (Filled → Type 0)
 MayFillAll z v seat f = May z v (event_at z seat Fill f.word f.value)
@@ -101,7 +95,7 @@ pub record AllowsPlan (z : Layout) (v : View) (seat n : ℕ) (plan : Plan) (slot
   pub left : HasSlots v slots → (child : ℕ) → Every (MayFillAll z v seat) (entry_fills slots.left child 0)
   pub right : HasSlots v slots → (child : ℕ) → Every (MayFillAll z v seat) (entry_fills slots.right child 0)
   pub front : HasSlots v slots → (behind : ℕ) → Every (λ (f : Front). Every (MayFillAll z v seat) (entry_fills f.entry f.child behind)) (fronts_of plan slots)
-  pub prepare : (f : Front) → IsDue v f → May z v (event_at z seat Prepare (Node (Head f.at.side) f.at.node) f.entry)
+  pub prepare : (f : Front) (child : ℕ) → IsDue v f child → May z v (event_at z seat Prepare (Node (Head f.at.side) f.at.node) f.entry)
   pub finalise : (e place : ℕ) → 0 < count e v.update.pending → v.update.raised ≡ Some place → May z v (event_at z seat Finalise (Entry Number e) place)
   pub mark : (k : ℕ) → v.update.taken ≡ out_of plan → 0 < count k (out_of plan) → IsLocked v k → May z v (event_at z seat MarkNode (Node Mark k) 1)
 
