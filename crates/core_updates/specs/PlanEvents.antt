@@ -1,19 +1,21 @@
 -- The events of a plan before and behind its raise: what it changes is locked, what it locks is in reach, each of its events
 -- is allowed whatever others do, and where a look fails the count rises that the answer needs.
-use Rattle.std.specs.Prelude.{◌≡◌, ℕ, ◌+◌, ◌^◌, ◌<◌, ◌≤◌, ◌⊎◌, [], true, Some, IfSome}
+use Rattle.std.specs.Prelude.{◌≡◌, ℕ, ◌+◌, ◌^◌, ◌<◌, ◌≤◌, ◌⊎◌, [], true, false, Some, IfSome}
 use Rattle.std.specs.List.{slice_get}
 use Rattle.index_words.specs.declared.layout.Layout.{Layout}
 use Rattle.index_words.specs.declared.side.Side.{Side}
 use Rattle.index_words.specs.declared.view.View.{View}
 use Rattle.index_words.specs.declared.view.reading.Filled.{Filled}
-use Rattle.index_words.specs.declared.word.Field.TheVariants.{Lock, Mark, Head}
+use Rattle.index_words.specs.declared.view.update.HeldNode.{HeldNode}
+use Rattle.index_words.specs.declared.word.Field.TheVariants.{Key, Val, Lock, Mark, Head}
 use Rattle.index_words.specs.declared.word.Part.TheVariants.{Stamp as Number}
-use Rattle.index_words.specs.declared.word.Word.TheVariants.{Node, Entry}
+use Rattle.index_words.specs.declared.word.Word.TheVariants.{Section, Node, Entry}
 use Rattle.index_words.specs.Words.{word_at}
 use Rattle.key_map.specs.Lists.{count, Every}
+use Rattle.core_grace.specs.Sections.{left_word}
 use Rattle.core_trees.specs.NamedTree.{NamedTree}
 use Rattle.core_rule.specs.declared.event.Event.{Event}
-use Rattle.core_rule.specs.declared.event.Kind.TheVariants.{Fill, LoadHead, LoadTs, Prepare, Finalise, TryLock, LoadMark, Mark as MarkNode}
+use Rattle.core_rule.specs.declared.event.Kind.TheVariants.{Leave, Fill, LoadHead, LoadTs, Prepare, Finalise, TryLock, Unlock, LoadMark, Mark as MarkNode, LoadKeyOrVal}
 use Rattle.core_rule.specs.Counts.{MeetsLock, RemembersOther}
 use Rattle.core_rule.specs.LoadMoves.{risen}
 use Rattle.core_rule.specs.Readers.{IsLocked}
@@ -60,6 +62,7 @@ ReachLaw =
 
 -- the seat is a pass inside a section, and reads the tree of the plan
 pub record ReadsPlan (v : View) (n : ℕ) (plan : Plan) : Type 0 where
+  pub live : v.joined ≡ false
   pub own : v.number ≡ Some n
   pub inside : IsInside v
   pub tree : NamedTree
@@ -86,11 +89,18 @@ pub record IsDue (v : View) (f : Front) (child : ℕ) : Type 0 where
 abbrev pub MayFillAll : Layout → View → ℕ → (Filled → Type 0)
 MayFillAll z v seat f = May z v (event_at z seat Fill f.word f.value)
 
--- the events of the plan that the seat may make: its locks and looks at heads, its fills, what is due, and behind the raise
--- the numbers and the marks
+-- the locked nodes that go out by the plan are known to be marked
+abbrev pub KnowsMarked : View → Plan → Type 0
+KnowsMarked v plan = Every (λ (h : HeldNode). 0 < count h.node (out_of plan) → h.mark ≡ Some 1) v.held.nodes
+
+-- the events of the plan that the seat may make: its locks and looks, its fills, what is due, and behind the raise the numbers,
+-- the marks, and what gives back the locks and leaves the section
 pub record AllowsPlan (z : Layout) (v : View) (seat n : ℕ) (plan : Plan) (slots : PlanSlots) : Type 0 where
   pub lock : Every (λ k. ¬ IsLocked v k → May z v (event_at z seat TryLock (Node Lock k) (n + 1))) (locks_of plan)
   pub head : Every (λ k. (side : Side) → May z v (event_at z seat LoadHead (Node (Head side) k) 0)) (locks_of plan)
+  pub marked : Every (λ k. May z v (event_at z seat LoadMark (Node Mark k) 0)) (locks_of plan)
+  pub key : Every (λ k. May z v (event_at z seat LoadKeyOrVal (Node Key k) 0)) (locks_of plan)
+  pub val : Every (λ k. May z v (event_at z seat LoadKeyOrVal (Node Val k) 0)) (locks_of plan)
   pub node : HasSlots v slots → IfSome (new_node_of plan slots) (λ (m : NewNode). Every (MayFillAll z v seat) (node_fills m))
   pub left : HasSlots v slots → (child : ℕ) → Every (MayFillAll z v seat) (entry_fills slots.left child 0)
   pub right : HasSlots v slots → (child : ℕ) → Every (MayFillAll z v seat) (entry_fills slots.right child 0)
@@ -98,6 +108,8 @@ pub record AllowsPlan (z : Layout) (v : View) (seat n : ℕ) (plan : Plan) (slot
   pub prepare : (f : Front) (child : ℕ) → IsDue v f child → May z v (event_at z seat Prepare (Node (Head f.at.side) f.at.node) f.entry)
   pub finalise : (e place : ℕ) → 0 < count e v.update.pending → v.update.raised ≡ Some place → May z v (event_at z seat Finalise (Entry Number e) place)
   pub mark : (k : ℕ) → v.update.taken ≡ out_of plan → 0 < count k (out_of plan) → IsLocked v k → May z v (event_at z seat MarkNode (Node Mark k) 1)
+  pub unlock : (k : ℕ) → v.update.taken ≡ out_of plan → v.update.pending ≡ [] → KnowsMarked v plan → IsLocked v k → May z v (event_at z seat Unlock (Node Lock k) 0)
+  pub leave : v.held.nodes ≡ [] → May z v (event_at z seat Leave (Section n) (left_word v.section_word))
 
 abbrev pub EventsLaw : Type 0
 EventsLaw = (z : Layout) (v : View) (seat n : ℕ) (plan : Plan) (slots : PlanSlots) → ReadsPlan v n plan → AllowsPlan z v seat n plan slots
