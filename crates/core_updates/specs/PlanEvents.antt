@@ -1,6 +1,6 @@
 -- The events of a plan before and behind its raise: what it changes is locked, what it locks is in reach, each of its events
 -- is allowed whatever others do, and where a look fails the count rises that the answer needs.
-use Rattle.std.specs.Prelude.{◌≡◌, ℕ, ◌+◌, ◌^◌, ◌<◌, ◌≤◌, ◌⊎◌, [], true, false, Some, IfSome}
+use Rattle.std.specs.Prelude.{◌≡◌, ℕ, ◌+◌, ◌^◌, ◌<◌, ◌≤◌, ◌⊎◌, [], true, false, Some, IfSome, Option, MatchOption}
 use Rattle.std.specs.List.{slice_get}
 use Rattle.index_words.specs.declared.layout.Layout.{Layout}
 use Rattle.index_words.specs.declared.side.Side.{Side}
@@ -11,7 +11,8 @@ use Rattle.index_words.specs.declared.word.Field.TheVariants.{Key, Val, Lock, Ma
 use Rattle.index_words.specs.declared.word.Part.TheVariants.{Stamp as Number}
 use Rattle.index_words.specs.declared.word.Word.TheVariants.{Section, Node, Entry}
 use Rattle.index_words.specs.Words.{word_at}
-use Rattle.key_map.specs.Lists.{count, Every}
+use Rattle.key_map.specs.Lists.{count, Every, IsItem}
+use Rattle.key_map.specs.declared.update.Change.{Change}
 use Rattle.core_grace.specs.Sections.{left_word}
 use Rattle.core_trees.specs.NamedTree.{NamedTree}
 use Rattle.core_rule.specs.declared.event.Event.{Event}
@@ -33,7 +34,7 @@ use Rattle.core_updates.specs.declared.plan.Front.{Front}
 use Rattle.core_updates.specs.declared.plan.NewNode.{NewNode}
 use Rattle.core_updates.specs.Held.{HoldsLink}
 use Rattle.core_updates.specs.Plans.{locks_of, looks_of, fronts_of, out_of, new_node_of, node_fills, entry_fills}
-use Rattle.core_updates.specs.PlanOf.{IsPlanIn}
+use Rattle.core_updates.specs.PlanOf.{IsPlanIn, IsPlanOf, HasNoPlan, IsPlanned}
 use Rattle.core_updates.specs.PlanReady.{HoldsFill}
 
 -- the plan locks the node
@@ -136,3 +137,11 @@ abbrev pub FailuresLaw : Type 0
 FailuresLaw =
     (t : Table) (e : Event) (v w : View) (n : ℕ) (plan : Plan) → IsRight t → allowed t e ≡ true → slice_get t.views e.seat ≡ Some v
     → slice_get (after t e).views e.seat ≡ Some w → ReadsPlan v n plan → ReadsOwn v → CountsFailures t e v w plan
+
+-- what the search gives along the list of nodes that a seat has read is told of the seat's own tree: that tree names each of its
+-- nodes once
+abbrev pub ViewPlanLaw : Type 0
+ViewPlanLaw =
+    (t : Table) (i n key : ℕ) (v : View) (change : Change) (result : Option Plan) → IsRight t → IsItem t.views i v
+    → v.reading.section ≡ Some n → IsPlanned v.reading.tree key change result
+    → (tree : NamedTree) × (v.reading.tree ≡ tree_nodes tree) × MatchOption result (HasNoPlan tree key change) (IsPlanOf tree key change)
