@@ -21,7 +21,8 @@ KEY, VAL, LOCK, MARK, HEAD = 0, 1, 2, 3, 4
 PTR, TS, NEXT = 0, 1, 2
 COUNT_OF = {"Busy": "busy", "Moved": "moves", "Pending": "waits"}
 OUTCOMES = {"Done", "Absent", "Busy", "Moved", "Pending"}
-CASES = {"insert", "replace", "remove, 0 children", "remove, 1 children", "remove, 2 children, deep", "remove, 2 children, right child"}
+CASES = {"insert", "replace"}
+CASES |= {"remove, " + which for which in ("0 children", "1 children", "2 children, deep", "2 children, right child")}
 
 
 class Difference(Exception):
@@ -119,7 +120,8 @@ def requests(rng, count, keys, reads):
 
 def random_run(rng, turns):
     passes = rng.randint(1, 4)
-    sizes = [(rng.randint(2, 24), rng.randint(8, 120), turns) for _ in range(passes)]
+    nodes, entries = rng.choice([((2, 8), (8, 24)), ((16, 40), (60, 200)), ((16, 40), (60, 200))])
+    sizes = [(rng.randint(*nodes), rng.randint(*entries), turns) for _ in range(passes)]
     keys = rng.choice([4, 8, 16, 32])
     asked = [requests(rng, turns // 8 + 4, keys, rng.choice([0.02, 0.1, 0.6])) for _ in range(passes)]
     weights = [rng.choice([1, 1, 4]) for _ in range(passes)]
@@ -149,7 +151,8 @@ class Model:
 
     def take(self, line):
         words = line.split()
-        takers = {"raised": self.take_raised, "tried": self.take_tried, "found": self.take_found, "missing": self.take_missing}
+        takers = {"raised": self.take_raised, "tried": self.take_tried}
+        takers |= {"found": self.take_found, "missing": self.take_missing}
         ask(words[0] in takers, line)
         takers[words[0]](int(words[1]), line, words[2:])
 

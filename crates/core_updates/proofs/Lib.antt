@@ -9,4 +9,6 @@ pub mod LinksTo
 pub mod PlansOf
 pub mod PlansRaise
 pub mod PlanLocks
+pub mod ReadOnce
+pub mod HeldOnce
 pub mod PlanSteps

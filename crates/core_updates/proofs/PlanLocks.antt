@@ -1,36 +1,29 @@
 -- What a plan changes is locked, what it locks is in reach, its events are allowed, and its failures count.
-use Rattle.std.proofs.Common.{◌≡◌, ℕ, ◌+◌, ◌^◌, ◌<◌, ◌≤◌, ◌⊎◌, inl, inr, List, [], ◌∷◌, ◌++◌, Bool, true, false, cond, eqb, refl, ap, sym, ◌∙◌, subst, arith, Option, Some, None}
-use Rattle.std.specs.Prelude.{◌==◌, IfSome}
-use Rattle.std.specs.List.{slice_get}
-use Rattle.std.proofs.lemmas.Bool.{eq-eqb, ne_eqb, false≢true}
+use Rattle.std.proofs.Common.{◌≡◌, ℕ, ◌+◌, ◌<◌, ◌⊎◌, inl, inr, List, [], ◌∷◌, ◌++◌, Bool, true, false, cond, eqb, refl, ap, sym, ◌∙◌, subst, arith}
+use Rattle.std.specs.Prelude.{◌==◌}
+use Rattle.std.proofs.lemmas.Bool.{false≢true}
 use Rattle.std.proofs.lemmas.Bool.Decides.{eqb_tells, nat_tests}
-use Rattle.index_words.specs.declared.layout.Layout.{Layout}
 use Rattle.index_words.specs.declared.side.Side.{Side}
-use Rattle.index_words.specs.declared.side.Side.TheVariants.{Left, Right}
+use Rattle.index_words.specs.declared.side.Side.TheVariants.{Right}
 use Rattle.index_words.specs.declared.view.View.{View}
-use Rattle.index_words.specs.declared.word.Field.TheVariants.{Lock, Head, Mark}
-use Rattle.index_words.specs.declared.word.Word.TheVariants.{Node}
-use Rattle.key_map.specs.Lists.{count, Every, IsItem}
+use Rattle.key_map.specs.Lists.{count, Every}
 use Rattle.core_grace.specs.Holds.{tree_slots}
 use Rattle.core_trees.specs.declared.link.Link.{Link}
-use Rattle.core_trees.specs.NamedTree.{NamedTree, Branch}
-use Rattle.core_trees.specs.TreeStep.{subtree_at}
-use Rattle.core_trees.specs.Search.{end_node, EndsAt}
+use Rattle.core_trees.specs.NamedTree.{NamedTree}
+use Rattle.core_trees.specs.Search.{EndsAt}
 use Rattle.core_trees.specs.Slots.{occurs, one_at}
 use Rattle.core_trees.proofs.Slots.{one_at-same, subtree_tally}
 use Rattle.core_trees.proofs.SpelledTree.{end-cases}
-use Rattle.core_events.specs.Versions.{tree_nodes, slots_of}
+use Rattle.core_events.specs.Versions.{tree_nodes}
 use Rattle.core_laws.specs.ViewNeeds.{IsInReach}
 use Rattle.core_invariant.proofs.TreeNodes.{count_slots}
-use Rattle.core_updates.specs.declared.plan.Plan.{Plan}
 use Rattle.core_updates.specs.declared.plan.Plan.TheVariants.{Grow, Replace, Lift, Join}
 use Rattle.core_updates.specs.declared.plan.JoinPlan.{JoinPlan}
 use Rattle.core_updates.specs.declared.plan.PlanSlots.{PlanSlots}
 use Rattle.core_updates.specs.declared.plan.Look.TheVariants.{Link as LinkLook}
 use Rattle.core_updates.specs.declared.plan.Front.{Front}
-use Rattle.core_updates.specs.Plans.{locks_of}
-use Rattle.core_updates.specs.PlanOf.{IsFoundAt, IsPlanIn}
-use Rattle.core_updates.specs.PlanEvents.{IsLockOf, looked_node, LocksAll, LocksLaw, ReachLaw}
+use Rattle.core_updates.specs.PlanOf.{IsFoundAt}
+use Rattle.core_updates.specs.PlanEvents.{IsLockOf, looked_node, LocksLaw, ReachLaw}
 
 here : (k : ℕ) (ks : List ℕ) → 0 < count k (k ∷ ks)
 here k ks = counted k (count k ks)

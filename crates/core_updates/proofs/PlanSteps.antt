@@ -1,9 +1,7 @@
 -- The events of a plan are allowed from the view, and a try that fails has made a count rise.
-use Rattle.std.proofs.Common.{◌≡◌, ℕ, ◌+◌, ◌<◌, ◌≤◌, inl, inr, List, [], ◌∷◌, Bool, true, false, cond, refl, ap, sym, subst, Option, Some, None}
+use Rattle.std.proofs.Common.{◌≡◌, ℕ, ◌<◌, inl, inr, List, [], ◌∷◌, Bool, true, false, cond, refl, ap, sym, subst, Some, None, ◌⊎◌, ◌∙◌, ◌≤◌, arith}
 use Rattle.std.specs.Prelude.{◌==◌, IfSome}
-use Rattle.std.specs.List.{slice_get}
 use Rattle.index_words.specs.declared.layout.Layout.{Layout}
-use Rattle.index_words.specs.declared.side.Side.{Side}
 use Rattle.index_words.specs.declared.side.Side.TheVariants.{Left, Right}
 use Rattle.index_words.specs.declared.view.View.{View}
 use Rattle.index_words.specs.declared.word.Field.TheVariants.{Key, Val, Mark, Head}
@@ -11,13 +9,13 @@ use Rattle.index_words.specs.declared.word.Part.TheVariants.{Child, Stamp as Num
 use Rattle.index_words.specs.declared.word.Word.{Word}
 use Rattle.index_words.specs.declared.word.Word.TheVariants.{Node, Entry}
 use Rattle.key_map.specs.Lists.{count, Every}
-use Rattle.core_events.specs.declared.event.Event.{Event}
-use Rattle.core_laws.specs.ViewNeeds.{IsInReach, HasFilled as HasPut}
-use Rattle.core_events.specs.Tables.{Table}
+use Rattle.core_events.specs.declared.event.Kind.TheVariants.{Prepare}
+use Rattle.core_events.specs.UpdateNeeds.{held_at, is_written}
+use Rattle.core_laws.specs.ViewNeeds.{May, IsInReach, event_at, HasFilled as HasPut}
 use Rattle.core_laws.proofs.CountFacts.{other_head, taken_law}
 use Rattle.core_laws.proofs.Counts.{counts_law}
 use Rattle.core_invariant.proofs.OneView.{item_from_get}
-use Rattle.core_laws.proofs.ViewNeeds.{may_fill_law, may_read_head_law, may_prepare_law, may_finalise_law, may_lock_law, may_mark_law}
+use Rattle.core_laws.proofs.ViewNeeds.{may_leave_law, may_fill_law, may_read_head_law, may_prepare_law, may_finalise_law, may_lock_law, may_unlock_law, may_read_mark_law, may_mark_law, may_read_key_law, may_read_val_law}
 use Rattle.core_updates.specs.declared.plan.Plan.{Plan}
 use Rattle.core_updates.specs.declared.plan.Plan.TheVariants.{Grow, Replace, Lift, Join}
 use Rattle.core_updates.specs.declared.plan.JoinPlan.{JoinPlan}
@@ -26,7 +24,13 @@ use Rattle.core_updates.specs.declared.plan.Front.{Front}
 use Rattle.core_updates.specs.declared.plan.NewNode.{NewNode}
 use Rattle.core_updates.specs.Held.{HasFilled}
 use Rattle.core_updates.specs.Plans.{locks_of, fronts_of, new_node_of, node_fills, entry_fills, head_of, fresh_to}
-use Rattle.core_updates.specs.PlanEvents.{HasSlots, IsDue, MayFillAll, AllowsPlan, ReadsPlan, EventsLaw, CountsFailures, ReadsOwn, FailuresLaw}
+use Rattle.core_updates.specs.PlanEvents.{HasSlots, IsDue, MayFillAll, EventsLaw, FailuresLaw}
+use Rattle.core_invariant.specs.Rule.{InRule}
+use Rattle.index_words.specs.declared.view.update.HeldNode.{HeldNode}
+use Rattle.index_words.specs.Words.{memory}
+use Rattle.std.specs.List.{slice_get}
+use Rattle.core_invariant.proofs.OneView.{seat_at}
+use Rattle.core_updates.proofs.HeldOnce.{held_once}
 use Rattle.core_updates.proofs.PlanLocks.{reach_law}
 
 every_to : {P Q : ℕ → Type 0} → ((k : ℕ) → P k → Q k) → (ks : List ℕ) → Every P ks → Every Q ks
@@ -89,31 +93,58 @@ module _ (z : Layout) (v : View) (seat : ℕ) where
   was-put : (w : Word) (x : ℕ) → HasFilled v w x → HasPut v w x
   was-put w x h = record { place = h.place; is = h.item }
 
+  -- a node in reach is one of the table
+  there : (words : List ℕ) (vs : List View) → InRule z words vs → slice_get vs seat ≡ Some v → v.joined ≡ false → (k : ℕ) → IsInReach v k → k ≤ v.layout.nodes
+  there words vs right is live k reach =
+      let own = seat_at z (memory z words) vs right.meaning seat v (item_from_get vs seat v is) right.rule in
+      subst (λ (y : Layout). k ≤ y.nodes) (sym (own.layout live)) (elim reach as (λ _. k ≤ z.nodes) [
+        | inl root ↦ omega (arith, root)
+        | inr more ↦ elim more as (λ _. k ≤ z.nodes) [ inl tree ↦ own.version.there k tree | inr locked ↦ (own.locks k locked).0 ]
+      ])
+
+  -- whatever the table is, the look is the one that the need reads
+  prepares : (f : Front) (child : ℕ) → IsDue v f child → May z v (event_at z seat Prepare (Node (Head f.at.side) f.at.node) f.entry)
+  prepares f child d words vs right is =
+      let h = d.look.head in
+      may_prepare_law z v seat f.at.node f.at.side f.entry (record {
+        unraised = d.look.known.unraised;
+        node = h.held;
+        locked = subst (λ k. held_at k v.held.nodes ≡ Some h.held) h.node_is (held_once z words vs seat h.place v h.held right is h.at);
+        unmarked = d.look.unmarked;
+        head = h.loaded;
+        loaded = h.head;
+        old = elim d.numbered as (λ _. (h.loaded.entry ≡ 0) ⊎ (is_written h.loaded.stamp ≡ true)) [ inl none' ↦ inl (h.entry_is ∙ none') | inr written ↦ inr written ];
+        free = d.free;
+        small = d.small;
+        next = subst (HasPut v (Entry Next f.entry)) (sym h.entry_is) (was-put (Entry Next f.entry) d.look.now d.filled.1.1.0);
+        unnumbered = was-put (Entry Number f.entry) 0 d.filled.1.0;
+      }) words vs right is
+
 pub events_law : EventsLaw
 events_law z v seat n plan slots r = record {
   lock = every_to (λ k reach unlocked. may_lock_law z v seat n k (record { own = r.own; inside = r.inside; reach = reach; unlocked = unlocked }))
       (locks_of plan) (reach_law v plan r.tree r.read r.planned);
   head = every_to (λ k reach side. may_read_head_law z v seat k side (record { inside = r.inside; reach = reach }))
       (locks_of plan) (reach_law v plan r.tree r.read r.planned);
+  marked = every_to (λ k reach words vs right is. may_read_mark_law z v seat k (record { inside = r.inside; there = there z v seat words vs right is r.live k reach }) words vs right is)
+      (locks_of plan) (reach_law v plan r.tree r.read r.planned);
+  key = every_to (λ k reach words vs right is. may_read_key_law z v seat k (record { inside = r.inside; there = there z v seat words vs right is r.live k reach }) words vs right is)
+      (locks_of plan) (reach_law v plan r.tree r.read r.planned);
+  val = every_to (λ k reach words vs right is. may_read_val_law z v seat k (record { inside = r.inside; there = there z v seat words vs right is r.live k reach }) words vs right is)
+      (locks_of plan) (reach_law v plan r.tree r.read r.planned);
   node = new-fills z v seat plan slots;
   left = λ has child. fills-entry z v seat slots.left child 0 has.left;
   right = λ has child. fills-entry z v seat slots.right child 0 has.right;
   front = front-fills z v seat plan slots;
-  prepare = λ f d. may_prepare_law z v seat f.at.node f.at.side f.entry (record {
-    unraised = d.unraised;
-    node = d.node;
-    locked = d.locked;
-    unmarked = d.unmarked;
-    head = d.head;
-    loaded = d.loaded;
-    old = d.old;
-    free = d.free;
-    small = d.small;
-    next = was-put z v seat (Entry Next f.entry) d.head.entry d.filled.1.1.0;
-    unnumbered = was-put z v seat (Entry Number f.entry) 0 d.filled.1.0;
-  });
+  prepare = λ f child d. prepares z v seat f child d;
   finalise = λ e place pending raised. may_finalise_law z v seat e place (record { pending = pending; raised = raised });
   mark = λ k taken out locked. may_mark_law z v seat k (record { locked = locked; taken = subst (λ ks. 0 < count k ks) (sym taken) out });
+  unlock = λ k taken done marked locked. may_unlock_law z v seat k (record {
+    locked = locked;
+    done = done;
+    marked = subst (λ ks. Every (λ (h : HeldNode). 0 < count h.node ks → h.mark ≡ Some 1) v.held.nodes) (sym taken) marked;
+  });
+  leave = λ unlocked. may_leave_law z v seat n (record { own = r.own; inside = r.inside; unlocked = unlocked });
 }
 
 pub failures_law : FailuresLaw

@@ -1,9 +1,8 @@
 -- The plan at the end of a search is one of the key, in the tree that has the nodes.
-use Rattle.std.proofs.Common.{◌≡◌, ℕ, ◌+◌, ◌^◌, ◌<◌, ◌≤◌, ◌⊎◌, inl, inr, List, [], ◌∷◌, ◌++◌, append_assoc, append-nil, Bool, true, false, cond, refl, ap, sym, ◌∙◌, subst, arith, Option, Some, None}
+use Rattle.std.proofs.Common.{◌≡◌, ℕ, ◌+◌, ◌^◌, ◌<◌, ◌≤◌, ◌⊎◌, inl, inr, List, [], ◌∷◌, ◌++◌, append_assoc, append-nil, cond, refl, ap, sym, ◌∙◌, subst, arith, Option, Some, None}
 use Rattle.std.specs.Prelude.{◌==◌, MatchOption}
 use Rattle.std.proofs.lemmas.Bool.{eq-eqb, ne_eqb}
 use Rattle.std.proofs.lemmas.Bool.Decides.{eqb_tells}
-use Rattle.index_words.specs.declared.side.Side.{Side}
 use Rattle.index_words.specs.declared.side.Side.TheVariants.{Left, Right}
 use Rattle.index_words.specs.declared.view.reading.TreeNode.{TreeNode}
 use Rattle.key_map.specs.declared.update.Change.{Change}
@@ -11,7 +10,7 @@ use Rattle.key_map.specs.declared.update.Change.TheVariants.{Put, Remove}
 use Rattle.core_trees.specs.declared.link.Link.{Link}
 use Rattle.core_trees.specs.NamedTree.{NamedTree, Null, Branch, IsWithin, IsLawful}
 use Rattle.core_trees.specs.TreeStep.{subtree_at, first_pair}
-use Rattle.core_trees.specs.Search.{end_node, end_side, EndsAt}
+use Rattle.core_trees.specs.Search.{end_node, end_side}
 use Rattle.core_trees.specs.Gaps.{IsNull, IsGapLink}
 use Rattle.core_trees.specs.Slots.{occurs, one_at, first_slots, NamesOnce}
 use Rattle.core_trees.specs.SpelledStep.{behind_first}
@@ -22,7 +21,6 @@ use Rattle.core_trees.proofs.Slots.{one_at-same, subtree_tally}
 use Rattle.core_trees.proofs.SpelledTree.{end-cases}
 use Rattle.core_links.proofs.Compare.{compared, less, more, same}
 use Rattle.core_trees.proofs.Updates.{subtree_at-right, subtree_at-here, end_node-left, end_node-right, end_side-right}
-use Rattle.core_updates.specs.declared.plan.Plan.{Plan}
 use Rattle.core_updates.specs.declared.plan.Plan.TheVariants.{Lift, Join}
 use Rattle.core_updates.specs.declared.search.SearchEnd.{SearchEnd}
 use Rattle.core_updates.specs.declared.search.SearchEnd.TheVariants.{Null as NullEnd, Found}

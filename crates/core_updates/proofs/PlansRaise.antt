@@ -1,5 +1,5 @@
 -- A view that is ready for a plan has the record of its case.
-use Rattle.std.proofs.Common.{◌≡◌, ℕ, ◌<◌, ◌^◌, ◌⊎◌, inl, inr, List, [], ◌∷◌, Bool, true, false, cond, refl, ap, sym, ◌∙◌, subst, arith, Option, Some, None}
+use Rattle.std.proofs.Common.{◌≡◌, ℕ, ◌<◌, ◌^◌, ◌⊎◌, inl, inr, [], ◌∷◌, Bool, true, false, cond, refl, sym, ◌∙◌, subst, Some, None}
 use Rattle.std.specs.Prelude.{◌==◌, IfSome}
 use Rattle.std.proofs.lemmas.Bool.{false≢true}
 use Rattle.std.proofs.lemmas.Bool.Decides.{eqb_tells}
@@ -7,27 +7,19 @@ use Rattle.index_words.specs.declared.layout.Layout.{Layout}
 use Rattle.index_words.specs.declared.side.Side.{Side}
 use Rattle.index_words.specs.declared.side.Side.TheVariants.{Left, Right}
 use Rattle.key_map.specs.declared.pair.Pair.{Pair}
-use Rattle.key_map.specs.declared.update.Change.TheVariants.{Put, Remove}
+use Rattle.key_map.specs.declared.update.Change.TheVariants.{Remove}
 use Rattle.index_words.specs.declared.view.View.{View}
 use Rattle.index_words.specs.declared.view.update.HeldNode.{HeldNode}
 use Rattle.index_words.specs.declared.word.Field.TheVariants.{Head}
 use Rattle.index_words.specs.declared.word.Word.TheVariants.{Node}
-use Rattle.key_map.specs.Lists.{count, Every}
+use Rattle.key_map.specs.Lists.{Every}
 use Rattle.core_trees.specs.declared.link.Link.{Link}
-use Rattle.core_trees.specs.NamedTree.{NamedTree}
-use Rattle.core_events.specs.Versions.{tree_nodes}
-use Rattle.core_updates.specs.declared.plan.Plan.{Plan}
 use Rattle.core_updates.specs.declared.plan.Plan.TheVariants.{Grow, Replace, Lift, Join}
 use Rattle.core_updates.specs.declared.plan.JoinPlan.{JoinPlan}
-use Rattle.core_updates.specs.declared.plan.LiftPlan.{LiftPlan}
 use Rattle.core_updates.specs.declared.plan.PlanSlots.{PlanSlots}
 use Rattle.core_updates.specs.declared.plan.Look.TheVariants.{Link as LinkLook}
-use Rattle.core_updates.specs.declared.plan.Front.{Front}
-use Rattle.core_updates.specs.declared.plan.Fresh.{Fresh}
-use Rattle.core_updates.specs.declared.plan.NewNode.{NewNode}
-use Rattle.core_updates.specs.Held.{HasFilled, HasLoaded, HoldsFresh, HoldsNew, HoldsNewLink, HoldsLink, HoldsKey, HoldsSuccessor, HoldsGrow, HoldsReplace, HoldsLift, HoldsJoin, CanRaise, MayRaise}
+use Rattle.core_updates.specs.Held.{HasFilled, HasLoaded, HoldsFresh, HoldsNew, HoldsNewLink, HoldsLink, HoldsKey, HoldsSuccessor, CanRaise, MayRaise}
 use Rattle.core_updates.specs.Plans.{head_of, fresh_to, other_side, entries_of}
-use Rattle.core_updates.specs.PlanOf.{IsFoundAt, IsSuccessor, IsJoinIn}
 use Rattle.core_updates.specs.PlanReady.{HoldsLook, HoldsFreshEntry, HoldsNewNode, HoldsFront, IsReadyFor, PlanMayRaiseLaw}
 use Rattle.core_updates.specs.Ready.{update_of}
 use Rattle.core_updates.proofs.HeldReady.{grow_from_view, replace_from_view, lift_from_view, join_from_view}

@@ -1,11 +1,10 @@
 -- When a plan is one of a key, in a tree: its links are those at which the searches of the tree end, the key of a put that
 -- finds nothing is in the gap of its link, and the successor is the node with the next greater key.
-use Rattle.std.specs.Prelude.{◌≡◌, ℕ, ◌<◌, ◌⊎◌, List, [], ◌∷◌, Option, Some, None, MatchOption}
+use Rattle.std.specs.Prelude.{◌≡◌, ℕ, ◌<◌, List, [], ◌∷◌, Option, MatchOption}
 use Rattle.index_words.specs.declared.side.Side.{Side}
 use Rattle.index_words.specs.declared.side.Side.TheVariants.{Left, Right}
 use Rattle.key_map.specs.declared.update.Change.{Change}
-use Rattle.key_map.specs.declared.update.Change.TheVariants.{Put, Remove}
-use Rattle.key_map.specs.Map.{pair}
+use Rattle.key_map.specs.declared.update.Change.TheVariants.{Remove}
 use Rattle.index_words.specs.declared.view.reading.TreeNode.{TreeNode}
 use Rattle.core_trees.specs.declared.link.Link.{Link}
 use Rattle.core_trees.specs.NamedTree.{NamedTree, Branch, IsLawful}

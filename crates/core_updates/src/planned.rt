@@ -146,8 +146,8 @@ impl LiftPlan {
 }
 
 impl JoinPlan {
-    /// Whether the successor is the right child of the removed node.
-    pub fn is_near(&self) -> bool
+    // Whether the successor is the right child of the removed node.
+    fn is_near(&self) -> bool
         ensures { result ≡ (self.now.next.at.node == self.now.node) }
     {
         self.next.at.node == self.node

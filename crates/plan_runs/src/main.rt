@@ -1,6 +1,6 @@
-// Carries plans of updates out on the pure machine. Standard input has the sizes of the passes, what each is asked for,
-// and whose turn it is; each turn is one step of a pass, most often one event. It prints what each step has come to, and
-// at the end how many events there were, and the words.
+// Carries plans of updates out on the pure machine. Standard input has the sizes of the passes, what each is asked
+// for, and whose turn it is; each turn is one step of a pass, most often one event. It prints what each step has come
+// to, and at the end how many events there were, and the words.
 #![tactic(auto)]
 
 mod input;

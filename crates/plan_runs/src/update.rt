@@ -37,7 +37,7 @@ pub(crate) fn update_step(
         return Ok(None);
     };
     match step {
-        UpdateStep::Remember(place) => remember(machine, seat, &plan, place)?,
+        UpdateStep::Remember(place) => remember(seat, &plan, place)?,
         UpdateStep::Remembered { at, child } => {
             let link = machine
                 .view(seat.number)
@@ -74,19 +74,9 @@ pub(crate) fn update_step(
     Ok(None)
 }
 
-// A link that is remembered already is not walked along again: its head may be a newer one by now.
-fn remember(
-    machine: &Machine,
-    seat: &mut Seat,
-    plan: &Plan,
-    place: usize,
-) -> Result<(), Stop> {
+fn remember(seat: &mut Seat, plan: &Plan, place: usize) -> Result<(), Stop> {
     let more = Step::Update(UpdateStep::Remember(place.saturating_add(1)));
     match plan.look(place) {
-        Some(Look::Link { at, child }) if is_remembered(machine, seat, at) => seat.then(&[
-            Step::Update(UpdateStep::Remembered { at, child }),
-            more,
-        ]),
         Some(Look::Link { at, child }) => seat.then(&[
             Step::Walk(WalkStep::Head(at)),
             Step::Update(UpdateStep::Remembered { at, child }),
@@ -96,13 +86,6 @@ fn remember(
         Some(Look::Val { .. }) => seat.then(&[more]),
         None => seat.then(&[Step::Update(UpdateStep::Lock(0))]),
     }
-}
-
-fn is_remembered(machine: &Machine, seat: &Seat, at: Link) -> bool {
-    machine
-        .view(seat.number)
-        .and_then(|view| remembered_link(view, at))
-        .is_some()
 }
 
 fn lock(
