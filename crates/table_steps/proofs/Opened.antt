@@ -1,6 +1,5 @@
 -- How the first seat gives the numbers, slots and calls of the passes, one pass after another.
-use Rattle.std.proofs.Common.{◌≡◌, ℕ, zero, suc, ◌+◌, ◌-◌, ◌<◌, ◌≤◌, List, [], ◌∷◌, ◌++◌, length, map, get_or, take, drop, arith, refl, ap, ◌∙◌, sym, subst, Some, append-nil, append_assoc}
-use Rattle.std.specs.List.{All}
+use Rattle.std.proofs.Common.{◌≡◌, ℕ, zero, suc, ◌+◌, ◌-◌, ◌<◌, ◌≤◌, List, [], ◌∷◌, ◌++◌, length, map, take, drop, arith, refl, ap, ◌∙◌, sym, subst, Some, append-nil, append_assoc}
 use Rattle.std.proofs.lemmas.List.{length-append}
 use Rattle.std.proofs.lemmas.List.Sums.{sum_by-cons}
 use lib.Seq.{take-append_seam, drop-append_seam}
@@ -9,14 +8,13 @@ use Rattle.index_words.specs.declared.view.View.{View}
 use Rattle.index_words.specs.Sizes.{all_nodes, all_entries, all_calls}
 use Rattle.index_words.specs.Views.{empty_view}
 use Rattle.key_map.specs.declared.pass.PassSize.{PassSize}
-use Rattle.core_rule.specs.Openings.{from_up, pass_view, pass_views, made_left, made_right, MayMake}
+use Rattle.core_rule.specs.Openings.{from_up, pass_view, made_left, made_right, MayMake}
 use Rattle.key_map.specs.Lists.{Every}
 use Rattle.core_rule.specs.Histories.{update_at}
 use Rattle.table_steps.specs.declared.own_updates.OwnUpdate.{OwnUpdate}
 use Rattle.table_steps.specs.Kept.{Keeps}
-use Rattle.table_steps.specs.Opens.{giving, IsFresh, view_of}
-use Rattle.table_steps.specs.Passes.{Pass, AtRest, IsResting}
-use Rattle.core_grace.specs.Sections.{is_even}
+use Rattle.table_steps.specs.Opens.{giving, IsFresh}
+use Rattle.table_steps.specs.Passes.{AtRest}
 use Rattle.table_steps.specs.declared.kept.Kept.{Kept}
 
 -- the numbers from one on, in two parts
@@ -123,19 +121,6 @@ fresh_keeps z n node entry size k fresh there few = record {
   };
 }
 
--- what holds of each item of a list, as a loop over it and as its owner reads it
-pub all_of : {X : Type 0} (P : X → Type 0) (xs : List X) → Every P xs → All P xs
-all_of P [] every i d low = absurd (omega (arith, low))
-all_of P (x ∷ xs) every zero d low = every.0
-all_of P (x ∷ xs) every (suc i) d low = all_of P xs every.1 i d (omega (arith, low))
-
--- at the start each pass is at rest
-pub opened_rest : (z : Layout) (n a b : ℕ) (sizes : List PassSize) (ks : List Pass) → map view_of ks ≡ pass_views z n a b sizes → Every IsResting ks
-opened_rest z n a b sizes [] is = tt
-opened_rest z n a b [] (k ∷ ks) is = absurd (omega (arith, ap length is))
-opened_rest z n a b (size ∷ sizes) (k ∷ ks) is =
-    let first : k.view ≡ pass_view z n a b size = ap (λ vs. get_or vs 0 (pass_view z n a b size)) is in
-    (
-      record { even = ap (λ (v : View). is_even v.section_word) first; unlocked = ap (λ (v : View). v.held.nodes) first; unannounced = ap (λ (v : View). v.announced) first },
-      opened_rest z (n + 1) (a + size.nodes) (b + size.entries) sizes ks (ap (drop 1) is),
-    )
+-- and the pass is at rest
+pub fresh_rest : (z : Layout) (n node entry : ℕ) (size : PassSize) → AtRest (pass_view z n node entry size)
+fresh_rest z n node entry size = record { even = refl; unlocked = refl; unannounced = refl }

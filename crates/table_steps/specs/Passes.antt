@@ -31,9 +31,6 @@ pub record AtRest (v : View) : Type 0 where
   pub unlocked : v.held.nodes ≡ []
   pub unannounced : v.announced ≡ 0
 
-abbrev pub IsResting : Pass → Type 0
-IsResting p = AtRest p.view
-
 -- inside a section, with no lock held
 pub record Inside (v : View) : Type 0 where
   pub odd : is_even v.section_word ≡ false

@@ -5,7 +5,7 @@ ghost use Rattle.key_map.specs.Lists.{Every};
 ghost use Rattle.core_rule.specs.Openings.{from_up, pass_view, pass_views};
 ghost use Rattle.table_rule.specs.Homes.{IsOf};
 ghost use Rattle.table_steps.specs.Opens.{view_of, giving, IsFresh, IsSmall};
-ghost use Rattle.table_steps.specs.Passes.{IsPassOf, IsResting};
+ghost use Rattle.table_steps.specs.Passes.{IsPassOf};
 
 use crate::kept::Kept;
 use crate::own_updates::OwnUpdates;
@@ -138,7 +138,6 @@ impl SharedTable {
         requires sums { layout.now ≡ layout_of sizes.now }
         ensures layout { IfOk result (λ t. t.0.layout ≡ layout.now) }
         ensures of { IfOk result (λ t. All (IsPassOf t.0) t.1.items) }
-        ensures rest { IfOk result (λ t. All IsResting t.1.items) }
         ensures views { IfOk result (λ t. map view_of t.1.items ≡ pass_views layout.now 0 1 1 sizes.now) }
     {
         let (ruled, mut seat) = RuledTable::open(alloc, layout)?;

@@ -1,6 +1,6 @@
 ghost use Rattle.std.specs.Prelude.{◌≡◌, All, OnOk, IfOk};
 ghost use Rattle.table_steps.specs.Notes.{IsNoteOf};
-ghost use Rattle.table_steps.specs.Passes.{IsPassOf, IsResting};
+ghost use Rattle.table_steps.specs.Passes.{IsPassOf};
 
 use crate::{Note, PassKey, SharedTable};
 use index_words::{Layout, NoMemory, PassSize};
@@ -17,7 +17,6 @@ const SIZE: PassSize = PassSize {
 /// A table of four passes.
 fn opened(alloc: Global) -> Result<(SharedTable, Vec<PassKey>), NoMemory>
     ensures of { IfOk result (λ t. All (IsPassOf t.0) t.1.items) }
-    ensures rest { IfOk result (λ t. All IsResting t.1.items) }
 {
     let sizes = [SIZE; 4];
     match Layout::new(&sizes) {
@@ -29,9 +28,7 @@ fn opened(alloc: Global) -> Result<(SharedTable, Vec<PassKey>), NoMemory>
 /// Opens and closes a section so often, and answers how often the stamp was found 0.
 fn work(table: &SharedTable, key: PassKey, turns: u32) -> (PassKey, u32)
     requires of { IsPassOf table.now key }
-    requires rest { IsResting key }
     ensures of { IsPassOf table.now result.0 }
-    ensures rest { IsResting result.0 }
 {
     let mut pass = table.attach(key);
     let mut zeros = 0u32;
@@ -51,7 +48,7 @@ fn four_passes_enter_and_leave_at_once(rt: HostRuntime) -> Result<(), Fail> {
         &rt,
         keys,
         &|key: PassKey| -> u32
-            requires { IsPassOf table key × IsResting key }
+            requires { IsPassOf table key }
         { work(&table, key, 1000).1 },
     )?;
     for zeros in done.iter() {
@@ -63,9 +60,7 @@ fn four_passes_enter_and_leave_at_once(rt: HostRuntime) -> Result<(), Fail> {
 /// Works, and then tells a note.
 fn work_and_tell(table: &SharedTable, key: PassKey, turns: u32) -> (PassKey, Note)
     requires of { IsPassOf table.now key }
-    requires rest { IsResting key }
     ensures of { IsPassOf table.now result.0 }
-    ensures rest { IsResting result.0 }
     ensures note { IsNoteOf result.0 result.1 }
 {
     let (key, _) = work(table, key, turns);
@@ -77,7 +72,6 @@ fn work_and_tell(table: &SharedTable, key: PassKey, turns: u32) -> (PassKey, Not
 /// Hears a note, and then works.
 fn hear_and_work(table: &SharedTable, key: PassKey, note: Note, turns: u32) -> u32
     requires of { IsPassOf table.now key }
-    requires rest { IsResting key }
     requires note { IsNoteOf key note }
 {
     let mut pass = table.attach(key);
@@ -87,18 +81,18 @@ fn hear_and_work(table: &SharedTable, key: PassKey, note: Note, turns: u32) -> u
 
 /// Two passes work on threads, each hears on another thread what the other one has told, and both work on.
 fn exchange<R: Threads + Sync>(rt: &R, table: &SharedTable, first: PassKey, second: PassKey) -> u32
-    requires first { IsPassOf table.now first × IsResting first }
-    requires second { IsPassOf table.now second × IsResting second }
+    requires first { IsPassOf table.now first }
+    requires second { IsPassOf table.now second }
 {
     let (one, two) = join(
         rt,
         || -> (PassKey, Note)
-            requires { IsPassOf table.now first × IsResting first }
-            ensures { IsPassOf table.entry.now result.0 × IsResting result.0 × IsNoteOf result.0 result.1 }
+            requires { IsPassOf table.now first }
+            ensures { IsPassOf table.entry.now result.0 × IsNoteOf result.0 result.1 }
         { work_and_tell(table, first, 100) },
         || -> (PassKey, Note)
-            requires { IsPassOf table.now second × IsResting second }
-            ensures { IsPassOf table.entry.now result.0 × IsResting result.0 × IsNoteOf result.0 result.1 }
+            requires { IsPassOf table.now second }
+            ensures { IsPassOf table.entry.now result.0 × IsNoteOf result.0 result.1 }
         { work_and_tell(table, second, 100) },
     );
     let (first, from_first) = one;
