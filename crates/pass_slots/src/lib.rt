@@ -10,3 +10,6 @@ mod waits;
 pub use own_slots::OwnSlots;
 pub use pass_slots::PassSlots;
 pub use waits::Waits;
+
+#[cfg(test)]
+mod tests;

@@ -54,7 +54,7 @@ impl PassSlots {
         if self.nodes.is_batch_empty() && self.entries.is_batch_empty() {
             self.nodes.take_batch();
             self.entries.take_batch();
-            self.waits = Waits::none();
+            self.waits.clear();
         }
     }
 
@@ -67,7 +67,7 @@ impl PassSlots {
         if self.waits.is_done(passes, number) {
             self.nodes.free_batch();
             self.entries.free_batch();
-            self.waits = Waits::none();
+            self.waits.clear();
         }
     }
 

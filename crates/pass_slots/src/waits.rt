@@ -16,14 +16,20 @@ const PASSES: usize = 32;
 pub struct Waits {
     first: [Option<u64>; 32],
     passed: [bool; 32],
+    /// Where it is true there was no look.
+    fresh: bool,
 }
 
 impl Model for Waits {
-    ghost use Rattle.pass_slots.specs.Owned.{Shown};
+    ghost use Rattle.std.specs.Prelude.{◌≡◌, true};
+    ghost use Rattle.index_words.specs.Views.{no_looks};
+    ghost use Rattle.pass_slots.specs.Owned.{Shown, KeepsLooks};
 
     ghost Value = { Shown };
 
     ghost view = { λ w. record { first = w.first; passed = w.passed } };
+
+    ghost invariant = { λ w. w.fresh ≡ true → KeepsLooks no_looks (record { first = w.first; passed = w.passed }) };
 }
 
 fn may_pass(first: Option<u64>, word: u64) -> bool
@@ -43,6 +49,16 @@ impl Waits {
         Waits {
             first: [None; PASSES],
             passed: [false; PASSES],
+            fresh: true,
+        }
+    }
+
+    /// Forgets all looks.
+    pub fn clear(&mut self)
+        ensures { KeepsLooks no_looks self.new }
+    {
+        if !self.fresh {
+            *self = Waits::none();
         }
     }
 
@@ -67,6 +83,7 @@ impl Waits {
         ensures { (g : Looks) → KeepsLooks g self.old → KeepsLooks (looked_at g pass word) self.new }
     {
         let at = pass as usize;
+        self.fresh = false;
         if self.passed[at] {
             return;
         }

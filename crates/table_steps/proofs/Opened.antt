@@ -1,5 +1,5 @@
 -- How the first seat gives the numbers, slots and calls of the passes, one pass after another.
-use Rattle.std.proofs.Common.{◌≡◌, ℕ, zero, suc, ◌+◌, ◌-◌, ◌<◌, ◌≤◌, List, [], ◌∷◌, ◌++◌, length, take, drop, arith, refl, ap, ◌∙◌, sym, subst, Some, append-nil, append_assoc}
+use Rattle.std.proofs.Common.{◌≡◌, ℕ, zero, suc, ◌+◌, ◌-◌, ◌<◌, ◌≤◌, List, [], ◌∷◌, ◌++◌, length, map, take, drop, arith, refl, ap, ◌∙◌, sym, subst, Some, append-nil, append_assoc}
 use Rattle.std.proofs.lemmas.List.{length-append}
 use Rattle.std.proofs.lemmas.List.Sums.{sum_by-cons}
 use lib.Seq.{take-append_seam, drop-append_seam}
@@ -14,6 +14,7 @@ use Rattle.core_invariant.specs.Histories.{update_at}
 use Rattle.table_steps.specs.declared.own_updates.OwnUpdate.{OwnUpdate}
 use Rattle.table_steps.specs.Kept.{Keeps}
 use Rattle.table_steps.specs.Opens.{giving, IsFresh}
+use Rattle.table_steps.specs.Passes.{AtRest}
 use Rattle.table_steps.specs.declared.kept.Kept.{Kept}
 
 -- the numbers from one on, in two parts
@@ -119,3 +120,7 @@ fresh_keeps z n node entry size k fresh there few = record {
     room = subst (λ us. length us + size.calls ≤ k.updates.room) (sym fresh.updates) (omega (arith, fresh.room));
   };
 }
+
+-- and the pass is at rest
+pub fresh_rest : (z : Layout) (n node entry : ℕ) (size : PassSize) → AtRest (pass_view z n node entry size)
+fresh_rest z n node entry size = record { even = refl; unlocked = refl; unannounced = refl }

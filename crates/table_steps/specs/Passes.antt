@@ -18,9 +18,12 @@ pub record IsPassOf (home : Home) (p : Pass) : Type 0 where
   pub id : p.id ≡ home.id
   pub layout : p.view.layout ≡ home.layout
 
--- the same pass, with another view
-abbrev pub with_view : Pass → View → Pass
-with_view p w = record { id = p.id; seat = p.seat; number = p.number; view = w }
+-- the same pass, perhaps with another view
+pub record IsSamePass (p q : Pass) : Type 0 where
+  pub id : q.id ≡ p.id
+  pub seat : q.seat ≡ p.seat
+  pub number : q.number ≡ p.number
+  pub layout : q.view.layout ≡ p.view.layout
 
 -- at rest: outside a section, with no lock held and nothing announced
 pub record AtRest (v : View) : Type 0 where

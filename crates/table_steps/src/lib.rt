@@ -15,3 +15,6 @@ pub use notes::Note;
 pub use own_updates::OwnUpdate;
 pub use pass::{PassKey, TablePass};
 pub use table::SharedTable;
+
+#[cfg(test)]
+mod tests;

@@ -2,7 +2,7 @@
 ghost use Rattle.std.specs.Prelude.{◌≡◌};
 ghost use Rattle.table_rule.specs.Seats.{Split as SplitHappened};
 ghost use Rattle.table_steps.specs.Notes.{HasHeard, IsNoteOf};
-ghost use Rattle.table_steps.specs.Passes.{AtRest, with_view};
+ghost use Rattle.table_steps.specs.Passes.{AtRest, IsSamePass};
 
 use crate::pass::TablePass;
 use std::marker::Model;
@@ -44,7 +44,7 @@ impl<'t> TablePass<'t> {
     pub fn hear(&mut self, note: Note)
         requires rest { AtRest self.old.view }
         requires of { IsNoteOf self.old note }
-        ensures same { self.new ≡ with_view self.old self.new.view }
+        ensures same { IsSamePass self.old self.new }
         ensures heard { HasHeard self.old.view note.view.history.seen self.new.view }
         ensures rest { AtRest self.new.view }
     {

@@ -1,5 +1,5 @@
 //! How a table is opened.
-ghost use Rattle.std.specs.Prelude.{◌≡◌, ◌+◌, ◌<◌, ◌≤◌, ◌^◌, ◌++◌, ◌∷◌, [], IfOk, OnOk, length, map};
+ghost use Rattle.std.specs.Prelude.{◌≡◌, ◌+◌, ◌<◌, ◌≤◌, ◌^◌, ◌++◌, ◌∷◌, [], IfOk, OnOk, All, length, map};
 ghost use Rattle.index_words.specs.Sizes.{FitTable, layout_of, all_nodes, all_entries};
 ghost use Rattle.key_map.specs.Lists.{Every};
 ghost use Rattle.core_events.specs.Openings.{from_up, pass_view, pass_views};
@@ -137,7 +137,7 @@ impl SharedTable {
         requires fit { FitTable sizes.now }
         requires sums { layout.now ≡ layout_of sizes.now }
         ensures layout { IfOk result (λ t. t.0.layout ≡ layout.now) }
-        ensures of { IfOk result (λ t. Every (IsPassOf t.0) t.1.items) }
+        ensures of { IfOk result (λ t. All (IsPassOf t.0) t.1.items) }
         ensures views { IfOk result (λ t. map view_of t.1.items ≡ pass_views layout.now 0 1 1 sizes.now) }
     {
         let (ruled, mut seat) = RuledTable::open(alloc, layout)?;

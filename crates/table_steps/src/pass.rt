@@ -8,6 +8,7 @@ use std::marker::Model;
 use table_rule::TableSeat;
 
 /// The right to work as one pass of a table: its seat, its number, its slots, and its own updates with their places.
+/// The pass is at rest.
 #[derive(Drop)]
 pub struct PassKey {
     pub(crate) seat: TableSeat,
@@ -16,13 +17,13 @@ pub struct PassKey {
 
 impl Model for PassKey {
     ghost use Rattle.table_steps.specs.Kept.{Keeps};
-    ghost use Rattle.table_steps.specs.Passes.{Pass};
+    ghost use Rattle.table_steps.specs.Passes.{Pass, AtRest};
 
     ghost Value = { Pass };
 
     ghost view = { λ k. record { id = k.seat.id; seat = k.seat.seat; number = k.kept.number; view = k.seat.view } };
 
-    ghost invariant = { λ k. Keeps k.seat.view k.kept };
+    ghost invariant = { λ k. Keeps k.seat.view k.kept × AtRest k.seat.view };
 }
 
 /// A pass at work on the table.
@@ -50,6 +51,7 @@ impl SharedTable {
     pub fn attach(&self, key: PassKey) -> TablePass<'_>
         requires of { IsPassOf self.now key }
         ensures same { result ≡ key }
+        ensures rest { AtRest result.view }
     {
         let PassKey { seat, kept } = key;
         TablePass {

@@ -9,7 +9,7 @@ ghost use Rattle.core_events.specs.Moves.{entered, left};
 ghost use Rattle.core_laws.specs.ViewNeeds.{MayFill};
 ghost use Rattle.table_rule.specs.Running.{Happened, Stored};
 ghost use Rattle.table_steps.specs.Gives.{entering, leaving, looking, filling};
-ghost use Rattle.table_steps.specs.Passes.{AtRest, Inside, with_view};
+ghost use Rattle.table_steps.specs.Passes.{AtRest, Inside, IsSamePass};
 
 use crate::pass::TablePass;
 use core_grace::left_word as word_after_leaving;
@@ -20,7 +20,7 @@ impl<'t> TablePass<'t> {
     /// Enters a section: the own section word becomes odd. Where no batch waits the retired slots become the batch.
     pub fn enter(&mut self)
         requires rest { AtRest self.old.view }
-        ensures same { self.new ≡ with_view self.old self.new.view }
+        ensures same { IsSamePass self.old self.new }
         ensures event { Stored self.old.view.layout (entering self.old) self.old.view self.new.view }
         ensures view { self.new.view ≡ entered self.old.view.layout.passes self.old.view (self.old.view.section_word + 1) }
         ensures inside { Inside self.new.view }
@@ -38,7 +38,7 @@ impl<'t> TablePass<'t> {
     /// Leaves a section: the own section word becomes even, and what was read is gone.
     pub fn leave(&mut self)
         requires inside { Inside self.old.view }
-        ensures same { self.new ≡ with_view self.old self.new.view }
+        ensures same { IsSamePass self.old self.new }
         ensures event { Stored self.old.view.layout (leaving self.old) self.old.view self.new.view }
         ensures view { self.new.view ≡ left self.old.view (left_word self.old.view.section_word) }
         ensures rest { AtRest self.new.view }
@@ -57,7 +57,7 @@ impl<'t> TablePass<'t> {
         requires other { other ≢ self.old.number }
         requires there { other < self.old.view.layout.passes }
         requires waiting { (is_empty self.old.view.batch && is_empty self.old.view.retired) ≡ false }
-        ensures same { self.new ≡ with_view self.old self.new.view }
+        ensures same { IsSamePass self.old self.new }
         ensures event { Happened self.old.view.layout (looking self.old other) self.old.view result self.new.view }
         ensures view { self.new.view ≡ looked self.old.view.layout.passes self.old.view other result }
         ensures rest { AtRest self.new.view }
@@ -74,7 +74,7 @@ impl<'t> TablePass<'t> {
     /// Stores a value to the word with this number: any word but the lock of a free slot of its own.
     pub fn fill(&mut self, word: u64, value: u64)
         requires free { (w : TableWord) × (word_at self.old.view.layout word ≡ Some w) × MayFill self.old.view w }
-        ensures same { self.new ≡ with_view self.old self.new.view }
+        ensures same { IsSamePass self.old self.new }
         ensures event { (w : TableWord) × (word_at self.old.view.layout word ≡ Some w) × Stored self.old.view.layout (filling self.old w value) self.old.view self.new.view × (self.new.view ≡ filled_view self.old.view w value) }
     {
         let table = self.table;
@@ -89,7 +89,7 @@ impl<'t> TablePass<'t> {
     fn fill_word(&mut self, word: Word, value: u64)
         requires there { is_there self.old.view.layout word ≡ true }
         requires free { MayFill self.old.view word }
-        ensures same { self.new ≡ with_view self.old self.new.view }
+        ensures same { IsSamePass self.old self.new }
         ensures event { Stored self.old.view.layout (filling self.old word value) self.old.view self.new.view }
         ensures view { self.new.view ≡ filled_view self.old.view word value }
     {

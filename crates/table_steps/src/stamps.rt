@@ -4,7 +4,7 @@ ghost use Rattle.core_grace.specs.Sections.{left_word};
 ghost use Rattle.core_events.specs.Moves.{left};
 ghost use Rattle.table_rule.specs.Running.{Happened, Stored};
 ghost use Rattle.table_steps.specs.Gives.{leaving, loading_stamp, HasLoadedStamp, HasOpened};
-ghost use Rattle.table_steps.specs.Passes.{AtRest, Inside, with_view};
+ghost use Rattle.table_steps.specs.Passes.{AtRest, Inside, IsSamePass};
 
 use crate::pass::TablePass;
 use index_words::Word;
@@ -15,7 +15,7 @@ impl<'t> TablePass<'t> {
     pub fn load_stamp(&mut self) -> u64
         requires inside { Inside self.old.view }
         requires closed { self.old.view.reading.opened ≡ None }
-        ensures same { self.new ≡ with_view self.old self.new.view }
+        ensures same { IsSamePass self.old self.new }
         ensures event { Happened self.old.view.layout (loading_stamp self.old 0) self.old.view result self.new.view }
         ensures gives { HasLoadedStamp self.old.view 0 result self.new.view }
         ensures inside { Inside self.new.view }
@@ -28,7 +28,7 @@ impl<'t> TablePass<'t> {
     pub fn fix_stamp(&mut self) -> u64
         requires inside { Inside self.old.view }
         requires closed { self.old.view.reading.opened ≡ None }
-        ensures same { self.new ≡ with_view self.old self.new.view }
+        ensures same { IsSamePass self.old self.new }
         ensures event { Happened self.old.view.layout (loading_stamp self.old 1) self.old.view result self.new.view }
         ensures gives { HasLoadedStamp self.old.view 1 result self.new.view }
         ensures inside { Inside self.new.view }
@@ -41,7 +41,7 @@ impl<'t> TablePass<'t> {
     /// nowhere else.
     pub(crate) fn open_section(&mut self) -> u64
         requires rest { AtRest self.old.view }
-        ensures same { self.new ≡ with_view self.old self.new.view }
+        ensures same { IsSamePass self.old self.new }
         ensures gives { HasOpened self.old.view 0 result self.new.view }
         ensures inside { Inside self.new.view }
     {
@@ -53,7 +53,7 @@ impl<'t> TablePass<'t> {
     /// The same, and a snapshot is open then at this number.
     pub(crate) fn open_snapshot(&mut self) -> u64
         requires rest { AtRest self.old.view }
-        ensures same { self.new ≡ with_view self.old self.new.view }
+        ensures same { IsSamePass self.old self.new }
         ensures gives { HasOpened self.old.view 1 result self.new.view }
         ensures inside { Inside self.new.view }
     {
@@ -65,7 +65,7 @@ impl<'t> TablePass<'t> {
     /// Closes the section. Taking an announcement back belongs here, and nowhere else.
     pub(crate) fn close_section(&mut self)
         requires inside { Inside self.old.view }
-        ensures same { self.new ≡ with_view self.old self.new.view }
+        ensures same { IsSamePass self.old self.new }
         ensures view { self.new.view ≡ left self.old.view (left_word self.old.view.section_word) }
         ensures rest { AtRest self.new.view }
     {
