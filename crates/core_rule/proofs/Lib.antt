@@ -1,5 +1,3 @@
--- An event that is allowed keeps the rule, and what each number up to the stamp selects.
-pub mod StepLaw
 -- The table after an allowed event, as the code makes it.
 pub mod Stepped
 -- What an allowed event gives holds of what the code has made.

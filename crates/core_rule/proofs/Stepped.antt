@@ -22,7 +22,7 @@ use Rattle.core_steps.proofs.Allowed.{needed, raises}
 use Rattle.core_invariant.specs.Histories.{calls_left}
 use Rattle.core_invariant.proofs.OneView.{item_from_get}
 use Rattle.index_words.proofs.Seats.{one_term}
-use Rattle.core_rule.proofs.StepLaw.{AfterTable, stepped_right}
+use Rattle.kept_rule.proofs.StepLaw.{AfterTable, stepped_right}
 
 -- an event whose word has this name
 pub allowed_word : (t : Table) (e : Event) (w : Word) → word_at t.layout e.word ≡ Some w → allowed t e ≡ allowed_at t e (slice_get t.views e.seat) (Some w)

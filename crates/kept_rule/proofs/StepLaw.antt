@@ -15,7 +15,7 @@ use Rattle.core_events.specs.Tables.{Table, held_by}
 use Rattle.core_invariant.specs.Rule.{InRule, IsRight}
 use Rattle.core_invariant.specs.LinkLaw.{KeepsSelections}
 use Rattle.core_events.specs.Steps.{needs, carries, allowed, allowed_at, after, after_at, views_after, words_after}
-use Rattle.core_rule.specs.KeepsRule.{KeepsLaw}
+use Rattle.kept_rule.specs.KeepsRule.{KeepsLaw}
 use Rattle.core_invariant.specs.SpentViews.{IsSpent}
 use Rattle.core_invariant.specs.Numbers.{IsSpare}
 use Rattle.core_invariant.specs.OwnPlaces.{KnowsPlaces}
