@@ -31,7 +31,7 @@ longer_low xs ys = longer_by (ltb (length xs) (length ys)) xs ys refl
 not_less : (a b : ℕ) → b ≤ a → ltb a b ≡ false
 not_less a b le = grind (arith, nat_tests)
 
-longer_same : (xs ys : List Update) → length ys ≤ length xs → longer xs ys ≡ xs
+pub longer_same : (xs ys : List Update) → length ys ≤ length xs → longer xs ys ≡ xs
 longer_same xs ys le = ap (λ b. cond b ys xs) (not_less (length xs) (length ys) le)
 
 -- what was told is a beginning of what is seen

@@ -3,3 +3,4 @@ pub mod Own
 pub mod SectionSteps
 pub mod Heard
 pub mod Opened
+pub mod Closed

@@ -4,3 +4,4 @@ pub mod Kept
 pub mod Gives
 pub mod Notes
 pub mod Opens
+pub mod Closes

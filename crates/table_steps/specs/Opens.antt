@@ -1,5 +1,5 @@
 -- What a pass has when its table is opened.
-use Rattle.std.specs.Prelude.{◌≡◌, ℕ, ◌≤◌, List, [], length}
+use Rattle.std.specs.Prelude.{◌≡◌, ℕ, ◌+◌, ◌≤◌, List, [], ◌∷◌, length}
 use Rattle.index_words.specs.declared.layout.Layout.{Layout}
 use Rattle.index_words.specs.declared.view.View.{View}
 use Rattle.index_words.specs.Sizes.{all_nodes, all_entries, all_calls}
@@ -12,6 +12,11 @@ use Rattle.table_steps.specs.declared.kept.Kept.{Kept}
 
 abbrev pub view_of : Pass → View
 view_of p = p.view
+
+-- the numbers of passes of these sizes, from this one on
+abbrev pub numbers_from : ℕ → List PassSize → List ℕ
+numbers_from number [] = []
+numbers_from number (size ∷ sizes) = number ∷ numbers_from (number + 1) sizes
 
 -- the first seat's view, as long as it has the numbers, slots and calls of these passes to give
 abbrev pub giving : Layout → ℕ → ℕ → ℕ → List PassSize → View

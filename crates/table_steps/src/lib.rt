@@ -2,6 +2,7 @@
 //! the event of its name of the pure machine. It stands on `table_rule` and `pass_slots`.
 #![tactic(auto)]
 
+mod close;
 mod kept;
 mod notes;
 mod open;
@@ -11,6 +12,7 @@ mod sections;
 mod stamps;
 mod table;
 
+pub use close::CloseError;
 pub use notes::Note;
 pub use own_updates::OwnUpdate;
 pub use pass::{PassKey, TablePass};

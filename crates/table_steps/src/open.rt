@@ -4,7 +4,8 @@ ghost use Rattle.index_words.specs.Sizes.{FitTable, layout_of, all_nodes, all_en
 ghost use Rattle.key_map.specs.Lists.{Every};
 ghost use Rattle.core_events.specs.Openings.{from_up, pass_view, pass_views};
 ghost use Rattle.table_rule.specs.Homes.{IsOf};
-ghost use Rattle.table_steps.specs.Opens.{view_of, giving, IsFresh, IsSmall};
+ghost use Rattle.table_steps.specs.Closes.{AreAllKeys, number_of};
+ghost use Rattle.table_steps.specs.Opens.{view_of, giving, numbers_from, IsFresh, IsSmall};
 ghost use Rattle.table_steps.specs.Passes.{IsPassOf};
 
 use crate::kept::Kept;
@@ -85,6 +86,7 @@ impl SharedTable {
         ensures left_of { IsOf self.now seat.new }
         ensures view { result.view ≡ pass_view self.now.layout first.number first.node first.entry size.now }
         ensures of { IsPassOf self.now result }
+        ensures number { result.number ≡ first.number }
     {
         let made = self.ruled.make::<Brand>(seat, first.number, size);
         PassKey { seat: made, kept }
@@ -109,6 +111,7 @@ impl SharedTable {
         requires keys { Every (IsPassOf self.now) keys.old.items }
         ensures of { OnOk result (Every (IsPassOf self.now) keys.new.items) }
         ensures views { OnOk result (map view_of keys.new.items ≡ map view_of keys.old.items ++ pass_views self.now.layout first.number first.node first.entry sizes.now) }
+        ensures numbers { OnOk result (map number_of keys.new.items ≡ map number_of keys.old.items ++ numbers_from first.number sizes.now) }
     {
         match sizes {
             [] => Ok(()),
@@ -138,6 +141,7 @@ impl SharedTable {
         requires sums { layout.now ≡ layout_of sizes.now }
         ensures layout { IfOk result (λ t. t.0.layout ≡ layout.now) }
         ensures of { IfOk result (λ t. All (IsPassOf t.0) t.1.items) }
+        ensures all { IfOk result (λ t. AreAllKeys t.0 t.1.items) }
         ensures views { IfOk result (λ t. map view_of t.1.items ≡ pass_views layout.now 0 1 1 sizes.now) }
     {
         let (ruled, mut seat) = RuledTable::open(alloc, layout)?;

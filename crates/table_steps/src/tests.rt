@@ -114,3 +114,19 @@ fn passes_hear_each_other_on_threads(rt: HostRuntime) -> Result<(), Fail> {
     assert_eq!(rt; exchange(&rt, &table, first, second), 200);
     Ok(())
 }
+
+#[test]
+fn a_table_of_two_passes_without_updates_closes_to_the_empty_history(
+    rt: HostRuntime,
+) -> Result<(), Fail> {
+    let sizes = [SIZE; 2];
+    let Some(layout) = Layout::new(&sizes) else {
+        panic!(rt; "two passes are no table")
+    };
+    let (table, keys) = SharedTable::open(rt.alloc(), &layout, &sizes)?;
+    match table.close(rt.alloc(), keys) {
+        Ok(history) => assert_eq!(rt; history.len(), 0),
+        Err(_) => panic!(rt; "there was no memory for an empty history"),
+    }
+    Ok(())
+}
