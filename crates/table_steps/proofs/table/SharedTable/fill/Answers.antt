@@ -2,9 +2,8 @@ use Rattle.std.proofs.Common.{ap, ◌∙◌, sym, subst, ◌≡◌, length, [], 
 use Rattle.index_words.specs.declared.view.View.{View}
 use Rattle.key_map.specs.History.{own_places}
 use Rattle.key_map.specs.Lists.{Every}
-use Rattle.key_map.specs.declared.update.Update.{Update}
 use Rattle.table_rule.specs.Homes.{Sat}
-use Rattle.table_steps.specs.Closes.{AreMadeBy, BeginsWithSeen, StandAtOwnPlaces, EachPlace, IsRightAt, StaysRight}
+use Rattle.table_steps.specs.Closes.{AreMadeBy, BeginsWithSeen, StandAtOwnPlaces, IsRightAt}
 use Rattle.table_steps.specs.Passes.{Pass, Extends}
 use Rattle.table_steps.proofs.Closed.{each_last, key_of, filled_is, made_by_keys, none_kept}
 use Rattle.table_steps.proofs.table.SharedTable.fill.Goals as goal

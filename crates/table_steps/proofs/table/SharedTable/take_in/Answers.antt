@@ -1,4 +1,4 @@
-use Rattle.std.proofs.Common.{◌≡◌, ◌<◌, ◌≤◌, ap, ◌∙◌, sym, subst, length, Some, List}
+use Rattle.std.proofs.Common.{◌≡◌, ◌<◌, ◌≤◌, ap, ◌∙◌, sym, subst, length, Some}
 use Rattle.index_words.specs.declared.view.View.{View}
 use Rattle.key_map.specs.History.{own_places}
 use Rattle.key_map.specs.Lists.{Every}
