@@ -2,3 +2,5 @@
 pub mod Tests
 -- The views after an event, by the kind of the event.
 pub mod Changes
+-- What an allowed event says of its seat.
+pub mod Allowed

@@ -1,9 +1,10 @@
 -- The table at the start: all words are 0, each pass has its slots free and its calls left, and behind the
 -- passes stands the emptied first view.
-use Rattle.std.specs.Prelude.{◌≡◌, ℕ, zero, suc, ◌+◌, ◌-◌, ◌≤◌, List, [], ◌∷◌, ◌++◌, Some, false, replicate, take, drop}
+use Rattle.std.specs.Prelude.{◌≡◌, ℕ, zero, suc, ◌+◌, ◌-◌, ◌≤◌, List, [], ◌∷◌, ◌++◌, Some, false, replicate, take, drop, length}
 use Rattle.index_words.specs.declared.layout.Layout.{Layout}
 use Rattle.key_map.specs.declared.pass.PassSize.{PassSize}
 use Rattle.index_words.specs.declared.view.View.{View}
+use Rattle.index_words.specs.Sizes.{all_nodes, all_entries, all_calls}
 use Rattle.index_words.specs.Views.{empty_view}
 use Rattle.index_words.specs.Words.{word_count}
 use Rattle.core_events.specs.Tables.{Table}
@@ -54,6 +55,14 @@ made_right v number size = record (empty_view v.layout) {
   number = Some number;
   history = record (empty_view v.layout).history { left = size.calls };
   free = record { nodes = take size.nodes v.free.nodes; entries = take size.entries v.free.entries };
+}
+
+-- the first view, as long as it has the numbers, slots and calls of passes of these sizes to give
+abbrev pub giving : Layout → ℕ → ℕ → ℕ → List PassSize → View
+giving z number node entry sizes = record (empty_view z) {
+  to_give = from_up number (length sizes);
+  history = record (empty_view z).history { left = all_calls sizes };
+  free = record { nodes = from_up node (all_nodes sizes); entries = from_up entry (all_entries sizes) };
 }
 
 -- the view has this number to give next, and so many calls left

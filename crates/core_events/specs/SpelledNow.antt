@@ -46,12 +46,6 @@ tree_from (suc depth) last g c =
 abbrev pub tree_now : Layout → Memory → List View → NamedTree
 tree_now z m vs = tree_from (m Stamp) z.nodes (graph_now m vs []) (child_now m vs [] Right 0)
 
--- the graph spells the tree from the child on
-abbrev pub spells : Graph → ℕ → NamedTree → Bool
-spells g c Null = c == 0
-spells g c (Branch slot key val left right) =
-    c == slot && nat_lt 0 slot && g.key slot == key && g.val slot == val && spells g (g.child Left slot) left && spells g (g.child Right slot) right
-
 -- at most so many entries of a bundle, from its head on, of entries up to `last`
 abbrev pub entries_from : ℕ → ℕ → (ℕ → ℕ) → ℕ → List ℕ
 entries_from zero last next head = []

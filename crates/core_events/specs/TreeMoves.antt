@@ -20,7 +20,8 @@ use Rattle.core_trees.specs.TreeStep.{subtree_at, tree_put, tree_remove}
 use Rattle.core_events.specs.declared.tree_move.TreeMove.{TreeMove}
 use Rattle.core_events.specs.LoadMoves.{locks}
 use Rattle.core_events.specs.UpdateMoves.{listed_entry}
-use Rattle.core_events.specs.SpelledNow.{child_now, graph_now, tree_now, spells, entries_from}
+use Rattle.core_trees.specs.SpelledTree.{spells}
+use Rattle.core_events.specs.SpelledNow.{child_now, graph_now, tree_now, entries_from}
 
 -- the tree after the update, with the slot of a new node
 abbrev pub tree_after : Change → ℕ → ℕ → NamedTree → NamedTree

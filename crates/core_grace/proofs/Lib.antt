@@ -2,3 +2,4 @@ pub mod SlotMoves
 pub mod RuleMoves
 pub mod Progress
 pub mod TwoSeats
+pub mod Parity

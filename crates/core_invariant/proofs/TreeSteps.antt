@@ -1,11 +1,11 @@
 -- The tree after an update, for puts and removals alike, and what the tests of a tree step tell.
-use Rattle.std.proofs.Common.{◌≡◌, ℕ, ◌+◌, ◌^◌, ◌<◌, ◌≤◌, ◌⊎◌, cond, List, [], ◌∷◌, ◌++◌, Bool, true, false, not, eqb, leb, ltb, arith, refl, ◌∙◌, sym, subst, inl, inr, ◌&&◌, ◌||◌}
+use Rattle.std.proofs.Common.{◌≡◌, ℕ, ◌+◌, ◌^◌, ◌<◌, ◌≤◌, ◌⊎◌, cond, List, [], ◌∷◌, ◌++◌, Bool, true, false, not, eqb, leb, arith, refl, ◌∙◌, sym, subst, inl, inr, ◌||◌}
 use Rattle.std.specs.List.{list_all, sum_by}
-use Rattle.std.proofs.lemmas.Bool.{eqb-true, ltb-true, and_parts, or_cases, not-true, ne_eqb, le-leb, lt-leb}
+use Rattle.std.proofs.lemmas.Bool.{ltb-true, and_parts, or_cases, not-true, ne_eqb, le-leb, lt-leb}
 use Rattle.std.proofs.lemmas.Bool.Decides.{nat_tests, eqb_tells}
 use Rattle.std.proofs.lemmas.List.Sums.{sum_by-cons}
 use Rattle.index_words.specs.declared.side.Side.{Side}
-use Rattle.index_words.specs.declared.side.Side.TheVariants.{Left, Right}
+use Rattle.index_words.specs.declared.side.Side.TheVariants.{Right}
 use Rattle.key_map.specs.declared.update.Change.{Change}
 use Rattle.key_map.specs.declared.update.Change.TheVariants.{Put, Remove}
 use Rattle.key_map.specs.History.{changed}
@@ -23,22 +23,8 @@ use Rattle.core_trees.proofs.SpelledGaps.{still_null_law}
 use Rattle.core_events.specs.UpdateMoves.{listed_entry}
 use Rattle.core_invariant.specs.MeaningMoves.{raised_numbers}
 use Rattle.core_events.specs.TreeMoves.{tree_after, takes, brings, is_key, first_slot}
-use Rattle.core_events.specs.SpelledNow.{spells}
 use Rattle.core_invariant.proofs.Frames.{one_counted}
 use Rattle.core_invariant.proofs.TreeReads.{TailLow}
-
--- the test for a spelled tree
-pub spells_is : (g : Graph) (c : ℕ) (tree : NamedTree) → spells g c tree ≡ true → IsSpelled g c tree
-spells_is g c Null is = eqb-true c 0 is
-spells_is g c (Branch s k v l r) is =
-    let left = spells g (g.child Left s) l in
-    let right = spells g (g.child Right s) r in
-    let five = and_parts (eqb c s && ltb 0 s && eqb (g.key s) k && eqb (g.val s) v && left) right is in
-    let four = and_parts (eqb c s && ltb 0 s && eqb (g.key s) k && eqb (g.val s) v) left five.0 in
-    let three = and_parts (eqb c s && ltb 0 s && eqb (g.key s) k) (eqb (g.val s) v) four.0 in
-    let two = and_parts (eqb c s && ltb 0 s) (eqb (g.key s) k) three.0 in
-    let one = and_parts (eqb c s) (ltb 0 s) two.0 in
-    (eqb-true c s one.0, ltb-true 0 s one.1, eqb-true (g.key s) k two.1, eqb-true (g.val s) v three.1, spells_is g (g.child Left s) l four.1, spells_is g (g.child Right s) r five.1)
 
 -- a removal brings in one node at most
 one_added : (slot : ℕ) (tree : NamedTree) → listed (first_slot (added_slots slot tree)) ≡ added_slots slot tree

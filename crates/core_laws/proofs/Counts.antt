@@ -1,297 +1,43 @@
 -- Where the counts of a view rise.
-use Rattle.std.proofs.Common.{◌≡◌, ◌≢◌, ℕ, zero, suc, ◌+◌, ◌<◌, ◌⊎◌, cond, List, [], ◌∷◌, ◌++◌, Bool, true, false, not, eqb, ◌&&◌, ◌||◌, set, arith, refl, ap, ◌∙◌, sym, subst, inl, inr, slice_index, Option, Some, None}
-use Rattle.std.specs.List.{slice_get, list_any}
-use Rattle.std.proofs.lemmas.Bool.{and_parts, eqb-true, eq-eqb, ne_eqb}
+use Rattle.std.proofs.Common.{◌≡◌, ◌≢◌, ℕ, zero, suc, ◌+◌, ◌<◌, ◌⊎◌, cond, Bool, true, false, not, eqb, ◌&&◌, set, arith, refl, ap, ◌∙◌, sym, subst, inl, inr, slice_index, Option, Some, None}
+use Rattle.std.specs.List.{slice_get}
+use Rattle.std.proofs.lemmas.Bool.{and_parts, eqb-true, eq-eqb}
 use Rattle.std.proofs.lemmas.Bool.Decides.{nat_tests}
-use Rattle.std.proofs.lemmas.List.{get_or_append_left, length-append}
-use Rattle.index_words.specs.declared.layout.Layout.{Layout}
 use Rattle.index_words.specs.declared.side.Side.{Side}
-use Rattle.index_words.specs.declared.side.Side.TheVariants.{Left, Right}
-use Rattle.key_map.specs.declared.update.Update.{Update}
 use Rattle.index_words.specs.declared.view.View.{View}
 use Rattle.index_words.specs.declared.view.history.Counts.{Counts}
-use Rattle.index_words.specs.declared.view.reading.Link.{Link}
-use Rattle.index_words.specs.declared.view.reading.LinkSource.{LinkSource}
-use Rattle.index_words.specs.declared.view.reading.LinkSource.TheVariants.{Bundle, Plain}
-use Rattle.index_words.specs.declared.view.reading.Place.{Place}
-use Rattle.index_words.specs.declared.view.reading.Place.TheVariants.{Nowhere, Entry as AtEntry, Node as AtNode, Gap}
 use Rattle.index_words.specs.declared.word.Field.{Field}
 use Rattle.index_words.specs.declared.word.Field.TheVariants.{Key, Val, Lock, Mark, Head, Link as LinkField, Tag}
 use Rattle.index_words.specs.declared.word.Part.TheVariants.{Child, Stamp as Number, Next}
 use Rattle.index_words.specs.declared.word.Word.{Word}
 use Rattle.index_words.specs.declared.word.Word.TheVariants.{Stamp, Section, Announced, Node, Entry}
-use Rattle.index_words.specs.Views.{no_slots, no_looks, spent_view}
-use Rattle.index_words.specs.Words.{Memory, word_at, same_side}
-use Rattle.index_words.proofs.Seats.{item_set, beside_item}
+use Rattle.index_words.specs.Views.{spent_view}
+use Rattle.index_words.specs.Words.{Memory, word_at}
 use Rattle.key_map.specs.Lists.{count, has, IsItem}
-use Rattle.key_map.proofs.Counting.{has-count, count-has}
-use Rattle.core_grace.specs.Batches.{batch_taken, batch_freed, settled, looked, looked_at, all_passed, is_empty}
 use Rattle.core_grace.specs.Sections.{is_even}
 use Rattle.core_events.specs.declared.event.Event.{Event}
 use Rattle.core_events.specs.declared.event.Kind.{Kind}
 use Rattle.core_events.specs.declared.event.Kind.TheVariants.{MakeSeat, SplitSeat, JoinSeat, Enter, Leave, LookSec, Fill, LoadStamp, LoadHead, LoadTs, LoadPtr, LoadNext, Prepare, Raise, Finalise, TryLock, Unlock, LoadMark, Mark as MarkNode, LoadKeyOrVal}
-use Rattle.core_events.specs.FillMoves.{filled_view, filled_with, with_filled}
-use Rattle.core_laws.specs.Counts.{MeetsLock, FindsNoNumber, RemembersOther, FindsOtherHead, FindsMark, FixesPlace, RisesWhere, CountsRise, CountsLaw}
+use Rattle.core_laws.specs.Counts.{MeetsLock, FindsNoNumber, FindsOtherHead, FindsMark, FixesPlace, RisesWhere, CountsRise, CountsLaw}
 use Rattle.core_events.specs.Tables.{Table, held_by}
 use Rattle.core_invariant.specs.Locks.{lock_count}
-use Rattle.core_events.specs.LoadMoves.{locks, raised_if, has_moved, has_other_source, stored_by, head_loaded, ts_loaded, next_at}
-use Rattle.core_events.specs.LoadNeeds.{is_reachable, reads_tree, may_load_head, may_load_field, may_load_part}
+use Rattle.core_events.specs.LoadMoves.{locks, raised_if, has_moved, stored_by, head_loaded, ts_loaded}
+use Rattle.core_events.specs.LoadNeeds.{is_reachable, may_load_head, may_load_field, may_load_part}
 use Rattle.core_events.specs.LockMoves.{finds_mark, mark_loaded, tried, locked_view, met_lock, names_other}
 use Rattle.core_events.specs.LockNeeds.{names_pass, may_try_lock, may_load_mark}
-use Rattle.core_events.specs.Moves.{in_section, joined_with, split_left, split_right}
+use Rattle.core_events.specs.Moves.{joined_with, split_left, split_right}
 use Rattle.core_events.specs.Needs.{is_lock, is_stamp, may_join, may_join_found}
 use Rattle.core_invariant.specs.Rule.{IsRight}
-use Rattle.core_events.specs.Steps.{needs, carries, allowed_at, after_at, view_after, views_after, join_found, look_from, head_at, head_from, ts_from, ptr_from, next_from, prepared_at, prepared_from, raised_from, finalised_from, tried_from, unlocked_from, mark_from, marked_from, pair_from}
-use Rattle.core_laws.specs.ViewNeeds.{IsInReach}
+use Rattle.core_events.specs.Steps.{needs, carries, allowed_at, after_at, view_after, views_after, join_found, head_at, head_from, ts_from, tried_from, mark_from}
 use Rattle.core_invariant.proofs.OneView.{item_from_get}
-use Rattle.core_invariant.proofs.Frames.{same_item}
 use Rattle.core_laws.proofs.HeldLocks.{counted_busy}
-use Rattle.core_invariant.proofs.HeldFacts.{locks-count, count-locks}
-use Rattle.core_events.proofs.Tests.{never, not_true, not_equal, either_true}
-use Rattle.core_invariant.proofs.Needed.{tree-count}
+use Rattle.core_invariant.proofs.HeldFacts.{count-locks}
+use Rattle.core_events.proofs.Tests.{never, not_true, not_equal}
 use Rattle.core_laws.proofs.Owners.{found_at}
-use Rattle.core_laws.proofs.ViewNeeds.{reaches}
-
--- what of a view a count is
-record Tally (v w : View) : Type 0 where
-  counts : w.counts ≡ v.counts
-  looks : w.history.looks ≡ v.history.looks
-
-either_tally : (b : Bool) (v x y : View) → Tally v x → Tally v y → Tally v (cond b x y)
-either_tally true v x y one two = one
-either_tally false v x y one two = two
-
-on_tally : (u v w : View) → Tally u v → Tally v w → Tally u w
-on_tally u v w one two = record { counts = two.counts ∙ one.counts; looks = two.looks ∙ one.looks }
-
-same_tally : (v : View) → Tally v v
-same_tally v = record { counts = refl; looks = refl }
-
-taken_tally : (v : View) → Tally v (batch_taken v)
-taken_tally v = either_tally (is_empty v.batch) v (record v { retired = no_slots; batch = v.retired; grace = no_looks }) v (record { counts = refl; looks = refl }) (same_tally v)
-
-settled_tally : (passes : ℕ) (v : View) → Tally v (settled passes v)
-settled_tally passes v = either_tally (all_passed passes v.number v.grace.passed) v (batch_freed v) v (record { counts = refl; looks = refl }) (same_tally v)
-
-looked_tally : (passes : ℕ) (v : View) (pass word : ℕ) → Tally v (looked passes v pass word)
-looked_tally passes v pass word =
-    let taken : View = batch_taken v in
-    let noted : View = record taken { grace = looked_at taken.grace pass word } in
-    let one = taken_tally v in
-    on_tally v noted (settled passes noted) (record { counts = one.counts; looks = one.looks }) (settled_tally passes noted)
-
-look_tally : (z : Layout) (v : View) (w : Word) (x : ℕ) → Tally v (look_from z v w x)
-look_tally z v (Section pass) x = looked_tally z.passes v pass x
-look_tally z v Stamp x = same_tally v
-look_tally z v (Announced k) x = same_tally v
-look_tally z v (Node f k) x = same_tally v
-look_tally z v (Entry p e) x = same_tally v
-
-enter_tally : (passes : ℕ) (v : View) (word : ℕ) → Tally v (settled passes (batch_taken (in_section v word)))
-enter_tally passes v word =
-    let inside : View = in_section v word in
-    on_tally v (batch_taken inside) (settled passes (batch_taken inside)) (on_tally v inside (batch_taken inside) (record { counts = refl; looks = refl }) (taken_tally inside))
-    (settled_tally passes (batch_taken inside))
-
-ptr_tally : (v : View) (w : Word) (x : ℕ) → Tally v (ptr_from v w x)
-ptr_tally v (Entry p e) x = record { counts = refl; looks = refl }
-ptr_tally v Stamp x = same_tally v
-ptr_tally v (Section k) x = same_tally v
-ptr_tally v (Announced k) x = same_tally v
-ptr_tally v (Node f k) x = same_tally v
-
-next_at_tally : (v : View) (place : Place) (e x : ℕ) → Tally v (next_at v place e x)
-next_at_tally v (AtEntry node side entry found) e x = record { counts = refl; looks = refl }
-next_at_tally v Nowhere e x = same_tally v
-next_at_tally v (AtNode node key) e x = same_tally v
-next_at_tally v (Gap node side) e x = same_tally v
-
-next_tally : (v : View) (w : Word) (x : ℕ) → Tally v (next_from v w x)
-next_tally v (Entry p e) x = next_at_tally v v.reading.place e x
-next_tally v Stamp x = same_tally v
-next_tally v (Section k) x = same_tally v
-next_tally v (Announced k) x = same_tally v
-next_tally v (Node f k) x = same_tally v
-
-prepared_at_tally : (v : View) (f : Field) (k e : ℕ) → Tally v (prepared_at v f k e)
-prepared_at_tally v (Head side) k e = record { counts = refl; looks = refl }
-prepared_at_tally v Key k e = same_tally v
-prepared_at_tally v Val k e = same_tally v
-prepared_at_tally v Lock k e = same_tally v
-prepared_at_tally v Mark k e = same_tally v
-prepared_at_tally v (LinkField side) k e = same_tally v
-prepared_at_tally v (Tag side) k e = same_tally v
-
-prepared_tally : (v : View) (w : Word) (e : ℕ) → Tally v (prepared_from v w e)
-prepared_tally v (Node f k) e = prepared_at_tally v f k e
-prepared_tally v Stamp e = same_tally v
-prepared_tally v (Section k) e = same_tally v
-prepared_tally v (Announced k) e = same_tally v
-prepared_tally v (Entry p k) e = same_tally v
-
-filled_tally : (v : View) (w : Word) (x : ℕ) → Tally v (filled_view v w x)
-filled_tally v w x = either_tally (is_even v.section_word) v v (with_filled v (filled_with v.reading.filled w x)) (same_tally v) (record { counts = refl; looks = refl })
-
-pair_tally : (v : View) (w : Word) (x : ℕ) → Tally v (pair_from v w x)
-pair_tally v (Node f k) x = record { counts = refl; looks = refl }
-pair_tally v Stamp x = same_tally v
-pair_tally v (Section k) x = same_tally v
-pair_tally v (Announced k) x = same_tally v
-pair_tally v (Entry p e) x = same_tally v
-
-raised_tally : (z : Layout) (m : Memory) (vs : List View) (v : View) (x : ℕ) (o : Option Update) → Tally v (raised_from z m vs v x o)
-raised_tally z m vs v x None = same_tally v
-raised_tally z m vs v x (Some u) = record { counts = refl; looks = refl }
-
-finalised_tally : (v : View) (w : Word) → Tally v (finalised_from v w)
-finalised_tally v (Entry p e) = record { counts = refl; looks = refl }
-finalised_tally v Stamp = same_tally v
-finalised_tally v (Section k) = same_tally v
-finalised_tally v (Announced k) = same_tally v
-finalised_tally v (Node f k) = same_tally v
-
-unlocked_tally : (v : View) (w : Word) → Tally v (unlocked_from v w)
-unlocked_tally v (Node f k) = record { counts = refl; looks = refl }
-unlocked_tally v Stamp = same_tally v
-unlocked_tally v (Section k) = same_tally v
-unlocked_tally v (Announced k) = same_tally v
-unlocked_tally v (Entry p e) = same_tally v
-
-marked_tally : (v : View) (w : Word) → Tally v (marked_from v w)
-marked_tally v (Node f k) = record { counts = refl; looks = refl }
-marked_tally v Stamp = same_tally v
-marked_tally v (Section k) = same_tally v
-marked_tally v (Announced k) = same_tally v
-marked_tally v (Entry p e) = same_tally v
-
--- a test for where a count rises
-rises_by : (P : Type 0) (b : Bool) (old new : ℕ) → new ≡ raised_if b old → (P → b ≡ true) → (b ≡ true → P) → RisesWhere P old new
-rises_by P true old new is tests says = record { rises = λ p. is; stays = λ none. absurd (none (says refl)) }
-rises_by P false old new is tests says = record { rises = λ p. absurd (never (tests p)); stays = λ none. is }
-
-stays_by : (P : Type 0) (old new : ℕ) → new ≡ old → (P → ⊥) → RisesWhere P old new
-stays_by P old new is none = record { rises = λ p. absurd (none p); stays = λ _. is }
-
-any_step : {X : Type 0} (on : X → Bool) (x : X) (xs : List X) (b : Bool) → on x ≡ b → (b || list_any on xs) ≡ true
-    → (list_any on xs ≡ true → (i : ℕ) × (y : X) × IsItem xs i y × (on y ≡ true)) → (i : ℕ) × (y : X) × IsItem (x ∷ xs) i y × (on y ≡ true)
-any_step on x xs true is holds rest = (0, x, record { within = omega arith; is = λ d. refl }, is)
-any_step on x xs false is holds rest =
-    let found = rest holds in
-    (suc found.0, found.1, record { within = omega (arith, found.2.within); is = λ d. found.2.is d }, found.3)
-
--- the item at which a test holds
-any_item : {X : Type 0} (on : X → Bool) (xs : List X) → list_any on xs ≡ true → (i : ℕ) × (y : X) × IsItem xs i y × (on y ≡ true)
-any_item on [] holds = absurd (never holds)
-any_item on (x ∷ xs) holds = any_step on x xs (on x) refl holds (any_item on xs)
-
-any_later : (b c : Bool) → c ≡ true → (b || c) ≡ true
-any_later true c p = refl
-any_later false c p = p
-
-any_here : (b c : Bool) → b ≡ true → (b || c) ≡ true
-any_here true c p = refl
-any_here false c p = cc
-
-item_any : {X : Type 0} (on : X → Bool) (xs : List X) (i : ℕ) (x : X) → IsItem xs i x → on x ≡ true → list_any on xs ≡ true
-item_any on [] i x at holds = absurd (omega (arith, at.within))
-item_any on (y ∷ ys) zero x at holds = any_here (on y) (list_any on ys) (ap on (at.is x) ∙ holds)
-item_any on (y ∷ ys) (suc i) x at holds = any_later (on y) (list_any on ys) (item_any on ys i x (record { within = omega (arith, at.within); is = λ d. at.is d }) holds)
-
-both : (a b : Bool) → a ≡ true → b ≡ true → (a && b) ≡ true
-both true true p q = refl
-both true false p q = q
-both false b p q = p
-
-none_has : (x : ℕ) (xs : List ℕ) → count x xs ≡ 0 → has x xs ≡ false
-none_has x xs none = none_by (has x xs) refl
-  where
-    none_by : (b : Bool) → has x xs ≡ b → b ≡ false
-    none_by true is = absurd (omega (arith, none, has-count x xs is))
-    none_by false is = refl
-
-has_none : (x : ℕ) (xs : List ℕ) → has x xs ≡ false → count x xs ≡ 0
-has_none x xs none = counted_by (count x xs) refl
-  where
-    counted_by : (n : ℕ) → count x xs ≡ n → n ≡ 0
-    counted_by zero is = refl
-    counted_by (suc n) is = absurd (never (sym none ∙ count-has x xs (omega (arith, is))))
-
-not_false : (b : Bool) → b ≡ false → not b ≡ true
-not_false true p = cc
-not_false false p = refl
-
-neither : (a b : Bool) → (a || b) ≡ false → (a ≡ false) × (b ≡ false)
-neither true b p = cc
-neither false b p = (refl, p)
-
-not_either : (a b : Bool) → a ≡ false → b ≡ false → (a || b) ≡ false
-not_either a b p q = ap (λ c. c || b) p ∙ q
-
-sides_same : (s t : Side) → same_side s t ≡ true → s ≡ t
-sides_same Left Left p = refl
-sides_same Right Right p = refl
-sides_same Left Right p = absurd (never p)
-sides_same Right Left p = absurd (never p)
-
-same_sides : (s t : Side) → s ≡ t → same_side s t ≡ true
-same_sides Left t p = subst (λ u. same_side Left u ≡ true) p refl
-same_sides Right t p = subst (λ u. same_side Right u ≡ true) p refl
-
--- a link that is remembered with another entry
-source_other : (source : LinkSource) (head : ℕ) → has_other_source source head ≡ true → (entry : ℕ) × (source ≡ Bundle entry) × (entry ≢ head)
-source_other (Bundle entry) head is = (entry, refl, not_equal entry head is)
-source_other (Plain tag above below) head is = absurd (never is)
-
-other_source : (source : LinkSource) (head entry : ℕ) → source ≡ Bundle entry → entry ≢ head → has_other_source source head ≡ true
-other_source source head entry is apart = ap (λ s. has_other_source s head) is ∙ not_false (eqb entry head) (ne_eqb entry head apart)
-
-module _ (v : View) (node : ℕ) (side : Side) (head : ℕ) where
-  abbrev Tests : Link → Bool
-  Tests l = eqb l.node node && same_side l.side side && has_other_source l.source head
-
-  moved_says : has_moved v.reading.links node side head ≡ true → RemembersOther v node side head
-  moved_says is =
-      let found = any_item Tests v.reading.links is in
-      let l : Link = found.1 in
-      let one = and_parts (eqb l.node node && same_side l.side side) (has_other_source l.source head) found.3 in
-      let two = and_parts (eqb l.node node) (same_side l.side side) one.0 in
-      let other = source_other l.source head one.1 in
-      record {
-        place = found.0;
-        link = l;
-        is = found.2;
-        node_is = eqb-true l.node node two.0;
-        side_is = sides_same l.side side two.1;
-        entry = other.0;
-        source = other.1;
-        apart = other.2;
-      }
-
-  says_moved : RemembersOther v node side head → has_moved v.reading.links node side head ≡ true
-  says_moved other =
-      let l : Link = other.link in
-      item_any Tests v.reading.links other.place l other.is
-      (both (eqb l.node node && same_side l.side side) (has_other_source l.source head)
-      (both (eqb l.node node) (same_side l.side side) (eq-eqb l.node node other.node_is) (same_sides l.side side other.side_is)) (other_source l.source head other.entry other.source other.apart))
-
-reach_says : (v : View) (k : ℕ) → is_reachable v k ≡ true → IsInReach v k
-reach_says v k is =
-    elim (either_true (eqb k 0 || reads_tree k v.reading.tree) (locks k v.held.nodes) is) as (λ _. IsInReach v k) [
-      | inr held ↦ inr (inr (locks-count k v.held.nodes held))
-      | inl first ↦ elim (either_true (eqb k 0) (reads_tree k v.reading.tree) first) as (λ _. IsInReach v k) [
-        | inl root ↦ inl (eqb-true k 0 root)
-        | inr tree ↦ inr (inl (tree-count k v.reading.tree tree))
-      ]
-    ]
-
-same_node : (f h : Field) (k j : ℕ) → Some (Node f k) ≡ Some (Node h j) → (f ≡ h) × (k ≡ j)
-same_node f h k j is = (cc, cc)
-
-same_entry : (e d : ℕ) → Some (Entry Number e) ≡ Some (Entry Number d) → e ≡ d
-same_entry e d is = cc
-
-same_head : (s t : Side) → Head s ≡ Head t → s ≡ t
-same_head s t is = cc
+use Rattle.core_laws.proofs.ViewTests.{reaches}
+use Rattle.core_laws.proofs.Tallies.{Tally, same_tally, look_tally, enter_tally, ptr_tally, next_tally, prepared_tally, filled_tally, pair_tally, raised_tally, finalised_tally, unlocked_tally, marked_tally}
+use Rattle.core_laws.proofs.CountTests.{rises_by, stays_by, both, none_has, has_none, not_false, neither, not_either, moved_says, says_moved, reach_says, same_node, same_entry, same_head}
+use Rattle.core_laws.proofs.SetViews.{set_is, same_is, split_is, join_is}
 
 module _ (t : Table) (e : Event) (right : IsRight t) (v : View) (at : IsItem t.views e.seat v) (word : Word) (found : word_at t.layout e.word ≡ Some word) where
   abbrev m : Memory
@@ -599,30 +345,9 @@ module _ (t : Table) (e : Event) (right : IsRight t) (v : View) (at : IsItem t.v
   moved_counts LoadKeyOrVal is met = still LoadKeyOrVal (Moved LoadKeyOrVal) is (pair_tally v word (m word)) (λ p. cc) (λ p. cc) (λ p. cc) (λ p. cc) (λ p. cc)
 
   module _ (w : View) where
-    -- the seat's view in the list in which one view was set
-    set_is : (x : View) → slice_get (set t.views e.seat x) e.seat ≡ Some w → x ≡ w
-    set_is x is = same_item (set t.views e.seat x) e.seat e.seat x w (item_set t.views e.seat v x at) (item_from_get (set t.views e.seat x) e.seat w is) refl
-
-    same_is : slice_get t.views e.seat ≡ Some w → v ≡ w
-    same_is is = same_item t.views e.seat e.seat v w at (item_from_get t.views e.seat w is) refl
-
-    split_is : (x y : View) → slice_get (set t.views e.seat x ++ y ∷ []) e.seat ≡ Some w → x ≡ w
-    split_is x y is =
-        let us : List View = set t.views e.seat x in
-        let here = item_set t.views e.seat v x at in
-        same_item (us ++ y ∷ []) e.seat e.seat x w
-        (record { within = omega (arith, length-append us (y ∷ []), here.within); is = λ d. get_or_append_left us (y ∷ []) d e.seat here.within ∙ here.is d })
-        (item_from_get (us ++ y ∷ []) e.seat w is) refl
-
-    join_is : (value : ℕ) (x y : View) → value ≢ e.seat → slice_get (set (set t.views e.seat x) value y) e.seat ≡ Some w → x ≡ w
-    join_is value x y apart is =
-        same_item (set (set t.views e.seat x) value y) e.seat e.seat x w
-        (beside_item (set t.views e.seat x) value e.seat x y (item_set t.views e.seat v x at) (λ same. apart (sym same)))
-        (item_from_get (set (set t.views e.seat x) value y) e.seat w is) refl
-
     join_tally : (o : Option View) → slice_get t.views e.value ≡ o → e.value ≢ e.seat → slice_get (join_found t.views e.seat v e.value o) e.seat ≡ Some w → Tally v w
-    join_tally None is apart now = subst (Tally v) (same_is now) (same_tally v)
-    join_tally (Some u) is apart now = subst (Tally v) (join_is e.value (joined_with v u) spent_view apart now) (record { counts = refl; looks = refl })
+    join_tally None is apart now = subst (Tally v) (same_is t.views e.seat v at w now) (same_tally v)
+    join_tally (Some u) is apart now = subst (Tally v) (join_is t.views e.seat v at w e.value (joined_with v u) spent_view apart now) (record { counts = refl; looks = refl })
 
     join_apart : may_join t.views e.seat v word e.value ≡ true → e.value ≢ e.seat
     join_apart met =
@@ -631,7 +356,7 @@ module _ (t : Table) (e : Event) (right : IsRight t) (v : View) (at : IsItem t.v
         not_equal e.value e.seat (and_parts (is_stamp word) a one.0).1
 
     set_counts : (kind : Kind) → e.kind ≡ kind → needs kind t.layout m t.views e.seat v word e.value e.update ≡ true → slice_get (set t.views e.seat (Moved kind)) e.seat ≡ Some w → CountsRise t e v w
-    set_counts kind is met now = subst (CountsRise t e v) (set_is (Moved kind) now) (moved_counts kind is met)
+    set_counts kind is met now = subst (CountsRise t e v) (set_is t.views e.seat v at w (Moved kind) now) (moved_counts kind is met)
 
     pub kind_counts : (kind : Kind) → e.kind ≡ kind → needs kind t.layout m t.views e.seat v word e.value e.update ≡ true
         → slice_get (views_after kind t.layout m t.views e.seat v word e.value e.update) e.seat ≡ Some w → CountsRise t e v w
@@ -639,7 +364,7 @@ module _ (t : Table) (e : Event) (right : IsRight t) (v : View) (at : IsItem t.v
     kind_counts Fill is met now = set_counts Fill is met now
     kind_counts LoadKeyOrVal is met now = set_counts LoadKeyOrVal is met now
     kind_counts SplitSeat is met now =
-        subst (CountsRise t e v) (split_is (split_left v e.value) (split_right v e.value) now)
+        subst (CountsRise t e v) (split_is t.views e.seat v at w (split_left v e.value) (split_right v e.value) now)
         (still SplitSeat (split_left v e.value) is (record { counts = refl; looks = refl }) (λ p. cc) (λ p. cc) (λ p. cc) (λ p. cc) (λ p. cc))
     kind_counts JoinSeat is met now =
         still JoinSeat w is (join_tally (slice_get t.views e.value) refl (join_apart met) now) (λ p. cc) (λ p. cc) (λ p. cc) (λ p. cc) (λ p. cc)

@@ -51,7 +51,7 @@ use Rattle.core_invariant.proofs.Owned.{entry_there, in_entries, reachable_live}
 use Rattle.core_laws.proofs.Remembered.{every_item, none_stays}
 use Rattle.core_laws.proofs.TreeGaps.{every_joined}
 use Rattle.core_invariant.proofs.TreeNow.{tree_is}
-use Rattle.core_laws.proofs.ViewNeeds.{reaches}
+use Rattle.core_laws.proofs.ViewTests.{reaches}
 use Rattle.core_invariant.proofs.Without.{count-without_same, count-without-le}
 
 -- a node of a spelled tree is read as it stands there

@@ -8,10 +8,18 @@ pub mod Remembered
 pub mod Laws
 -- Who writes what: each kind of event stores to a word of the seat's own, or to the stamp.
 pub mod Owners
+-- What a view shows, as the tests of needs find it.
+pub mod ViewTests
 -- A seat whose view meets the need of an event may make it, in every table that meets the rule.
 pub mod ViewNeeds
 -- A lock word that is found held by a seat that has not locked the node names another pass.
 pub mod HeldLocks
+-- The kinds of events that change no count of a view.
+pub mod Tallies
+-- Where a count rises, and what the tests of a view for it say.
+pub mod CountTests
+-- The view of a seat in a list of views in which one was set.
+pub mod SetViews
 -- Where the counts of a view rise.
 pub mod Counts
 -- What a seat knows from its view where a count is to rise.
@@ -20,3 +28,5 @@ pub mod CountFacts
 pub mod OneTree
 -- What the words are of the tree that a seat reads.
 pub mod Found
+-- The stamp to which an allowed raise adds one is small.
+pub mod RaiseStamps

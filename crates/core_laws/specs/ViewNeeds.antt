@@ -82,13 +82,8 @@ MayFill v (Node field k) = (is_lock field ≡ false) × HasFreeNode v k
 MayFill v (Entry part e) = HasFreeEntry v e
 MayFill v _ = ⊥
 
--- load of the stamp: inside a section, with no snapshot open
+-- load of the stamp, also where it fixes a place: inside a section, with no snapshot open
 pub record MayLoadStamp (v : View) : Type 0 where
-  pub inside : IsInside v
-  pub closed : v.reading.opened ≡ None
-
--- and so where it fixes a place
-pub record MayFix (v : View) : Type 0 where
   pub inside : IsInside v
   pub closed : v.reading.opened ≡ None
 
@@ -191,7 +186,7 @@ abbrev pub LoadStampLaw : Type 0
 LoadStampLaw = (z : Layout) (v : View) (seat : ℕ) → MayLoadStamp v → May z v (event_at z seat LoadStamp Stamp 0)
 
 abbrev pub FixLaw : Type 0
-FixLaw = (z : Layout) (v : View) (seat : ℕ) → MayFix v → May z v (event_at z seat LoadStamp Stamp 1)
+FixLaw = (z : Layout) (v : View) (seat : ℕ) → MayLoadStamp v → May z v (event_at z seat LoadStamp Stamp 1)
 
 abbrev pub ReadHeadLaw : Type 0
 ReadHeadLaw = (z : Layout) (v : View) (seat k : ℕ) (side : Side) → MayReadHead v k → May z v (event_at z seat LoadHead (Node (Head side) k) 0)

@@ -1,31 +1,44 @@
-// The needs of loads, as tests.
-ghost use Rattle.std.specs.Prelude.{◌≡◌};
-ghost use Rattle.core_events.specs.LoadNeeds.{may_load_stamp as stamp_needs, may_load_head as head_needs, stands_at as place_stands_at, is_part as part_is, may_load_part as part_needs, may_go_on as goes_on, may_load_next as next_needs};
+// The needs of loads of a search: the step, where they are met.
+ghost use Rattle.std.specs.Prelude.{◌≡◌, IfSome, is_some};
+ghost use Rattle.core_events.specs.declared.event.Kind.TheVariants.{LoadStamp, LoadHead, LoadTs, LoadPtr, LoadNext};
+ghost use Rattle.core_events.specs.LoadNeeds.{may_load_stamp as stamp_needs, may_load_head as head_needs, stands_at as place_stands_at, may_load_part as part_needs, may_go_on as goes_on, may_load_next as next_needs};
+ghost use Rattle.index_words.specs.declared.word.Part.TheVariants.{Child, Stamp as Number};
+ghost use Rattle.core_needs.specs.StepParts.{IsStep};
 
-use crate::needs::is_stamp_word;
+use crate::step::{Load, Step};
 use core_events::reads::{is_above, is_locked, is_reachable};
 use index_words::{Field, Part, Place, View, Word};
 
-/// Whether the stamp may be loaded.
-pub(crate) fn may_load_stamp(view: &View, word: Word, value: u64) -> bool
-    ensures { result ≡ stamp_needs view.now word value }
+pub(crate) fn load_stamp(view: &View, word: Word, value: u64) -> Option<Step>
+    ensures met { is_some result ≡ stamp_needs view.now word value }
+    ensures step { IfSome result (IsStep LoadStamp word value) }
 {
-    is_stamp_word(word)
-        && !(view.section_word % 2 == 0)
-        && view.reading.opened.is_none()
-        && (value == 0 || value == 1)
+    let Word::Stamp = word else {
+        return None;
+    };
+    if view.section_word % 2 == 0 || view.reading.opened.is_some() {
+        return None;
+    }
+    if value == 0 {
+        return Some(Step::LoadStamp { fixes: false });
+    }
+    if value == 1 {
+        return Some(Step::LoadStamp { fixes: true });
+    }
+    None
 }
 
-/// Whether this head may be loaded.
-pub(crate) fn may_load_head(view: &View, word: Word, value: u64) -> bool
-    ensures { result ≡ head_needs view.now word value }
+pub(crate) fn load_head(view: &View, word: Word, value: u64) -> Option<Step>
+    ensures met { is_some result ≡ head_needs view.now word value }
+    ensures step { IfSome result (IsStep LoadHead word value) }
 {
-    match word {
-        Word::Node(Field::Head(_), node) => {
-            !(view.section_word % 2 == 0) && is_reachable(view, node) && value == 0
-        }
-        _ => false,
+    let Word::Node(Field::Head(side), node) = word else {
+        return None;
+    };
+    if !(view.section_word % 2 == 0) && is_reachable(view, node) && value == 0 {
+        return Some(Step::Load(Load::Head { node, side }));
     }
+    None
 }
 
 fn stands_at(place: Place, entry: u32) -> bool
@@ -39,27 +52,30 @@ fn stands_at(place: Place, entry: u32) -> bool
     }
 }
 
-pub(crate) fn is_part(part: Part, other: Part) -> bool
-    ensures { result ≡ part_is part other }
+pub(crate) fn load_number(view: &View, word: Word, value: u64) -> Option<Step>
+    ensures met { is_some result ≡ part_needs Number view.now word value }
+    ensures step { IfSome result (IsStep LoadTs word value) }
 {
-    match (part, other) {
-        (Part::Child, Part::Child) => true,
-        (Part::Stamp, Part::Stamp) => true,
-        (Part::Next, Part::Next) => true,
-        _ => false,
+    let Word::Entry(Part::Stamp, entry) = word else {
+        return None;
+    };
+    if stands_at(view.reading.place, entry) && value == 0 {
+        return Some(Step::Load(Load::Number { entry }));
     }
+    None
 }
 
-/// Whether this part of an entry may be loaded.
-pub(crate) fn may_load_part(part: Part, view: &View, word: Word, value: u64) -> bool
-    ensures { result ≡ part_needs part view.now word value }
+pub(crate) fn load_child(view: &View, word: Word, value: u64) -> Option<Step>
+    ensures met { is_some result ≡ part_needs Child view.now word value }
+    ensures step { IfSome result (IsStep LoadPtr word value) }
 {
-    match word {
-        Word::Entry(own, entry) => {
-            is_part(part, own) && stands_at(view.reading.place, entry) && value == 0
-        }
-        _ => false,
+    let Word::Entry(Part::Child, entry) = word else {
+        return None;
+    };
+    if stands_at(view.reading.place, entry) && value == 0 {
+        return Some(Step::Load(Load::Child { entry }));
     }
+    None
 }
 
 fn may_go_on(view: &View, place: Place, entry: u32) -> bool
@@ -75,15 +91,18 @@ fn may_go_on(view: &View, place: Place, entry: u32) -> bool
     }
 }
 
-/// Whether the next of an entry may be loaded.
-pub(crate) fn may_load_next(view: &View, word: Word, value: u64) -> bool
-    ensures { result ≡ next_needs view.now word value }
+pub(crate) fn load_next(view: &View, word: Word, value: u64) -> Option<Step>
+    ensures met { is_some result ≡ next_needs view.now word value }
+    ensures step { IfSome result (IsStep LoadNext word value) }
 {
-    match word {
-        Word::Entry(_, entry) => {
-            may_load_part(Part::Next, view, word, value)
-                && may_go_on(view, view.reading.place, entry)
-        }
-        _ => false,
+    let Word::Entry(Part::Next, entry) = word else {
+        return None;
+    };
+    if stands_at(view.reading.place, entry)
+        && value == 0
+        && may_go_on(view, view.reading.place, entry)
+    {
+        return Some(Step::Load(Load::Next { entry }));
     }
+    None
 }

@@ -1,11 +1,12 @@
-// The needs of an update's events, as tests.
-ghost use Rattle.std.specs.Prelude.{◌≡◌};
+// The needs of an update's events: the step, where they are met.
+ghost use Rattle.std.specs.Prelude.{◌≡◌, Some, IfSome, is_some};
 ghost use Rattle.index_words.specs.Words.{memory};
-ghost use Rattle.core_events.specs.UpdateNeeds.{side_of as side_named, is_written as written, is_next_of as next_of, is_ready as ready, held_at as held_named, may_prepare_entry as entry_needs, may_prepare as prepare_needs, is_raise_of as raises_update, may_raise_number as number_needs, may_raise as raise_needs, may_finalise as finalise_needs};
+ghost use Rattle.index_words.specs.declared.word.Word.TheVariants.{Stamp};
+ghost use Rattle.core_events.specs.declared.event.Kind.TheVariants.{Prepare, Raise, Finalise};
+ghost use Rattle.core_events.specs.UpdateNeeds.{side_of as side_named, is_written as written, is_next_of as next_of, is_ready as ready, held_at as held_named, may_prepare_entry as entry_needs, may_prepare as prepare_needs, may_raise_number as number_needs, may_raise as raise_needs, may_finalise as finalise_needs};
+ghost use Rattle.core_needs.specs.StepParts.{parts_of, IsStep};
 
-use crate::load_needs::is_part;
-use crate::needs::is_stamp_word;
-use core_events::Event;
+use crate::step::{Step, Store};
 use core_events::reads::{held, is_in};
 use core_spelled::tree_steps::is_tree_step;
 use index_words::{Field, HeldNode, HeldSide, Layout, LoadedHead, Part, Side, Update, View, Word};
@@ -79,76 +80,72 @@ fn may_prepare_entry(
         && held(layout, words, Word::Entry(Part::Stamp, entry)) == 0
 }
 
-/// Whether this entry may be prepared at this head.
-pub(crate) fn may_prepare(
+pub(crate) fn prepare(
     layout: &Layout,
     words: &[u64],
     view: &View,
     word: Word,
     value: u64,
-) -> bool
-    ensures { result ≡ prepare_needs (memory layout.now words.now) view.now word value }
+) -> Option<Step>
+    ensures met { is_some result ≡ prepare_needs (memory layout.now words.now) view.now word value }
+    ensures step { IfSome result (IsStep Prepare word value) }
 {
-    match word {
-        Word::Node(Field::Head(side), node) => {
-            value < 4_294_967_296
-                && may_prepare_entry(layout, words, view, side, node, value as u32)
-        }
-        _ => false,
+    let Word::Node(Field::Head(side), node) = word else {
+        return None;
+    };
+    let Ok(entry) = u32::try_from(value) else {
+        return None;
+    };
+    if may_prepare_entry(layout, words, view, side, node, entry) {
+        return Some(Step::Store(Store::Prepare { node, side, entry }));
     }
-}
-
-fn is_raise_of(
-    layout: &Layout,
-    words: &[u64],
-    views: &[View],
-    view: &View,
-    update: Option<Update>,
-) -> bool
-    ensures { result ≡ raises_update layout.now (memory layout.now words.now) views.now view.now update }
-{
-    match update {
-        None => false,
-        Some(update) => is_tree_step(layout, words, views, view, update),
-    }
+    None
 }
 
 /// Whether the stamp may be raised, but for the tree.
-fn may_raise_number(view: &View, word: Word, value: u64) -> bool
-    ensures { result ≡ number_needs view.now word value }
+fn may_raise_number(view: &View, value: u64) -> bool
+    ensures { result ≡ number_needs view.now Stamp value }
 {
-    is_stamp_word(word)
-        && value == 0
+    value == 0
         && view.update.raised.is_none()
         && !(view.history.left == 0)
         && !view.update.pending.is_empty()
 }
 
-/// Whether the stamp may be raised, for this update of the view's own pass.
-pub(crate) fn may_raise(
+/// The step of a raise of this update.
+pub(crate) fn raise(
     layout: &Layout,
     words: &[u64],
     views: &[View],
     view: &View,
     word: Word,
-    event: &Event,
-) -> bool
-    ensures { result ≡ raise_needs layout.now (memory layout.now words.now) views.now view.now word event.now.value event.now.update }
+    value: u64,
+    update: Update,
+) -> Option<Step>
+    ensures met { is_some result ≡ raise_needs layout.now (memory layout.now words.now) views.now view.now word value (Some update) }
+    ensures step { IfSome result (λ s. parts_of s ≡ record { kind = Raise; word = word; value = value; update = Some update }) }
 {
-    may_raise_number(view, word, event.value)
-        && is_raise_of(layout, words, views, view, event.update)
+    let Word::Stamp = word else {
+        return None;
+    };
+    if may_raise_number(view, value) && is_tree_step(layout, words, views, view, update) {
+        return Some(Step::Raise { update });
+    }
+    None
 }
 
-/// Whether this number may be written into this entry.
-pub(crate) fn may_finalise(view: &View, word: Word, value: u64) -> bool
-    ensures { result ≡ finalise_needs view.now word value }
+pub(crate) fn finalise(view: &View, word: Word, value: u64) -> Option<Step>
+    ensures met { is_some result ≡ finalise_needs view.now word value }
+    ensures step { IfSome result (IsStep Finalise word value) }
 {
-    match word {
-        Word::Entry(part, entry) => {
-            is_part(Part::Stamp, part)
-                && is_in(view.update.pending.as_slice(), entry)
-                && view.update.raised == Some(value)
-        }
-        _ => false,
+    let Word::Entry(Part::Stamp, entry) = word else {
+        return None;
+    };
+    if is_in(view.update.pending.as_slice(), entry) && view.update.raised == Some(value) {
+        return Some(Step::Store(Store::Finalise {
+            entry,
+            number: value,
+        }));
     }
+    None
 }

@@ -17,7 +17,8 @@ ghost use Rattle.core_events.specs.Openings.{opening};
 
 use crate::opening::{opening_views, zeros};
 use core_events::Event;
-use core_steps::step::{change, is_allowed, store};
+use core_needs::needs::allowed_step;
+use core_steps::step::{change, store};
 use index_words::{Layout, NoMemory, PassSize, View};
 use std::alloc::Global;
 use std::marker::Model;
@@ -114,28 +115,28 @@ impl State {
         let Some(word) = self.layout.word_at(event.word) else {
             return Err(StepError::NotAllowed);
         };
-        if !is_allowed(
+        let Some(step) = allowed_step(
             &self.layout,
             self.words.as_slice(),
             self.views.as_slice(),
             word,
             event,
-        ) {
+        ) else {
             return Err(StepError::NotAllowed);
-        }
+        };
         if change(
             alloc,
             &self.layout,
             self.words.as_slice(),
             &mut self.views,
-            word,
-            event,
+            event.seat,
+            step,
         )
         .is_err()
         {
             return Err(StepError::NoMemory);
         }
-        store(&mut self.words, event);
+        store(&mut self.words, event.word, step);
         Ok(())
     }
 }

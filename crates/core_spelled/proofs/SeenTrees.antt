@@ -1,11 +1,11 @@
 -- How the tree that is read from the words unfolds at its top.
 use Rattle.std.proofs.lemmas.Bool.{eq-eqb, lt-ltb, le-ltb}
-use Rattle.core_events.specs.SpelledNow.{spells, tree_from}
+use Rattle.core_events.specs.SpelledNow.{tree_from}
 use Rattle.std.proofs.Common.{eqb, ltb, ◌<◌, ◌≡◌, ℕ, zero, suc, ◌-◌, ◌++◌, ◌&&◌, List, [], ◌∷◌, Bool, true, false, cond, nat_lt, nat_le, arith, refl, ap, ◌∙◌, sym, Some, None}
 use Rattle.index_words.specs.declared.side.Side.TheVariants.{Left, Right}
 use Rattle.index_words.specs.declared.view.reading.TreeNode.{TreeNode}
 use Rattle.core_trees.specs.NamedTree.{NamedTree, Null, Branch}
-use Rattle.core_trees.specs.SpelledTree.{Graph}
+use Rattle.core_trees.specs.SpelledTree.{Graph, spells}
 use Rattle.core_trees.specs.TreeStep.{update, put_here, remove_here, joined, tree_put, tree_remove}
 use Rattle.core_events.specs.Versions.{top_slot, tree_nodes}
 

@@ -19,7 +19,8 @@ use Rattle.core_trees.specs.NamedTree.{NamedTree}
 use Rattle.core_trees.specs.Search.{end_node, end_side}
 use Rattle.core_events.specs.LoadMoves.{locks}
 use Rattle.core_events.specs.UpdateMoves.{listed_entry}
-use Rattle.core_events.specs.SpelledNow.{child_now, graph_now, tree_now, spells}
+use Rattle.core_trees.specs.SpelledTree.{spells}
+use Rattle.core_events.specs.SpelledNow.{child_now, graph_now, tree_now}
 use Rattle.core_events.specs.TreeMoves.{takes, brings, has_key, is_key, first_slot, new_entries, is_new, tree_after, is_fresh, new_slot, move_at, tree_move, spells_after, is_step, is_tree_step}
 
 pub step_is : (z : Layout) (m : Memory) (vs : List View) (v : View) (u : Update) (pending : List ℕ) (held : List HeldNode) (t : NamedTree) (slot left right : ℕ) (added : Option ℕ) (out next : Option ℕ)

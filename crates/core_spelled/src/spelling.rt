@@ -2,9 +2,9 @@
 ghost use Rattle.std.specs.Prelude.{◌≡◌, ◌==◌, ◌&&◌, nat_lt};
 ghost use Rattle.index_words.specs.declared.word.Field.TheVariants.{Key as KeyField, Val as ValField};
 ghost use Rattle.index_words.specs.declared.word.Word.TheVariants.{Node as NodeWord};
+ghost use Rattle.core_trees.specs.SpelledTree.{spells};
 ghost use Rattle.core_trees.specs.NamedTree.{Branch};
 ghost use Rattle.core_trees.specs.TreeStep.{tree_put, tree_remove, without_first, joined};
-ghost use Rattle.core_events.specs.SpelledNow.{spells};
 ghost use Rattle.core_spelled.specs.Sights.{memory_of, graph_seen, seen, first_pair_of};
 
 use crate::spelled_now::{Sight, child_of, field_of};

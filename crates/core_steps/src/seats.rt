@@ -30,15 +30,15 @@ pub(crate) fn split_seat(
 
 pub(crate) fn join_seats(
     alloc: Global,
-    views: &mut [View],
+    views: &mut Vec<View>,
     seat: usize,
     other: usize,
 ) -> Result<(), NoMemory>
-    requires seat { seat < length views.old }
-    requires other { other < length views.old }
+    requires seat { seat < length views.old.items }
+    requires other { other < length views.old.items }
     requires apart { other ≢ seat }
-    ensures ok { OnOk result ((v u : SeatView) → slice_get views.old seat ≡ Some v → slice_get views.old other ≡ Some u → views.new ≡ slice_set (slice_set views.old seat (joined_with v u)) other spent_view) }
-    ensures err { OnErr result (views.new ≡ views.old) }
+    ensures ok { OnOk result ((v u : SeatView) → slice_get views.old.items seat ≡ Some v → slice_get views.old.items other ≡ Some u → views.new.items ≡ slice_set (slice_set views.old.items seat (joined_with v u)) other spent_view) }
+    ensures err { OnErr result (views.new.items ≡ views.old.items) }
 {
     let gains = gain(alloc, &views[seat], &views[other])?;
     let view = &mut views[seat];

@@ -11,3 +11,5 @@ pub mod SpelledStep
 pub mod LawfulContents
 pub mod Versions
 pub mod SpelledGaps
+pub mod SpelledTests
+pub mod Links

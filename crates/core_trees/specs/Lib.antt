@@ -10,3 +10,4 @@ pub mod NodeLists
 pub mod Bounds
 pub mod SpelledAt
 pub mod SpelledGaps
+pub mod LinkSteps

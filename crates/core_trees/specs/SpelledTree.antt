@@ -1,5 +1,5 @@
 -- The tree that keys, values and child links spell.
-use Rattle.std.specs.Prelude.{◌≡◌, ℕ, ◌<◌, ◌⊎◌}
+use Rattle.std.specs.Prelude.{◌≡◌, ℕ, ◌<◌, ◌⊎◌, nat_lt, Bool, ◌==◌, ◌&&◌}
 use Rattle.index_words.specs.declared.side.Side.{Side}
 use Rattle.index_words.specs.declared.side.Side.TheVariants.{Left, Right}
 use Rattle.core_trees.specs.NamedTree.{NamedTree, Null, Branch}
@@ -20,6 +20,12 @@ IsSpelled g c Null = c ≡ 0
 IsSpelled g c (Branch slot key val left right) =
     (c ≡ slot) × (0 < slot) × (g.key slot ≡ key) × (g.val slot ≡ val)
     × IsSpelled g (g.child Left slot) left × IsSpelled g (g.child Right slot) right
+
+-- the same as a test
+abbrev pub spells : Graph → ℕ → NamedTree → Bool
+spells g c Null = c == 0
+spells g c (Branch slot key val left right) =
+    c == slot && nat_lt 0 slot && g.key slot == key && g.val slot == val && spells g (g.child Left slot) left && spells g (g.child Right slot) right
 
 -- two graphs agree at a node
 pub record SameAt (g g' : Graph) (node : ℕ) : Type 0 where

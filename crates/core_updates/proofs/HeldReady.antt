@@ -37,9 +37,10 @@ use Rattle.core_invariant.proofs.OneView.{item_from_get}
 use Rattle.core_invariant.proofs.HeldFacts.{count-locks}
 use Rattle.core_invariant.proofs.OneView.{seat_at}
 use Rattle.core_laws.proofs.Remembered.{every_item, remembered_right}
-use Rattle.core_updates.specs.LinkSteps.{IsLinkIn}
+use Rattle.core_trees.specs.LinkSteps.{IsLinkIn}
 use Rattle.core_updates.specs.Ready.{LeadsNow, IsPrepared, IsFreshTo, IsNewLink, IsNewNode, FindsKey, FindsSuccessor, IsReadyToGrow, IsReadyToReplace, IsReadyToLift, IsReadyToJoin, IsNear, IsDeep, update_of, MayStep}
-use Rattle.core_updates.specs.Held.{HasFilled, HoldsHead, HoldsLink, HoldsPrepared, HoldsFresh, HoldsNewLink, HoldsNew, HasLoaded, HoldsKey, HoldsSuccessor, HoldsGrow, HoldsReplace, HoldsLift, HoldsJoin, CanRaise, raise_of, MayRaise, GrowFromViewLaw, ReplaceFromViewLaw, LiftFromViewLaw, JoinFromViewLaw}
+use Rattle.core_laws.specs.ViewNeeds.{HasFilled}
+use Rattle.core_updates.specs.Held.{HoldsHead, HoldsLink, HoldsPrepared, HoldsFresh, HoldsNewLink, HoldsNew, HasLoaded, HoldsKey, HoldsSuccessor, HoldsGrow, HoldsReplace, HoldsLift, HoldsJoin, CanRaise, raise_of, MayRaise, GrowFromViewLaw, ReplaceFromViewLaw, LiftFromViewLaw, JoinFromViewLaw}
 use Rattle.core_updates.proofs.MayRaise.{may_grow, may_replace, may_lift, may_join}
 
 some_is : {X : Type 0} (P : X → Type 0) (o : Option X) (x : X) → o ≡ Some x → IfSome o P → P x
@@ -65,7 +66,7 @@ module _ (z : Layout) (words : List ℕ) (vs : List View) (right : InRule z word
   -- a filled word of an own slot holds what was put into it
   filled : (w : Word) (x : ℕ) → HasFilled v w x → IsOwnSlotWord v.free v.update w → m w ≡ x
   filled w x f own =
-      every_item (FilledRight m v.free v.update) v.reading.filled f.place (record { word = w; value = x }) f.item (seat_at z m vs right.meaning i v at right.rule).filled own
+      every_item (FilledRight m v.free v.update) v.reading.filled f.place (record { word = w; value = x }) f.is (seat_at z m vs right.meaning i v at right.rule).filled own
 
   -- the word of a head is as the view has it
   head_of_side : (side : Side) (held : HeldNode) → IsNodeAt m held → SideRight (m (Node (Head side) held.node)) (λ e. m (Entry Number e)) (side_of side held)

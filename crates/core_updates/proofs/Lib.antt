@@ -1,8 +1,6 @@
-pub mod TreeEnds
-pub mod LinkSteps
 pub mod NewChildren
+pub mod RaiseTests
 pub mod MayRaise
-pub mod Successor
 pub mod HeldReady
 pub mod SearchEnds
 pub mod LinksTo

@@ -2,7 +2,7 @@
 use Rattle.std.proofs.Common.{◌≡◌, ℕ, ◌+◌, ◌<◌, ◌^◌, ◌⊎◌, inl, inr, cond, List, [], ◌∷◌, ◌++◌, Bool, true, false, not, eqb, ltb, ◌||◌, ◌&&◌, refl, ap, sym, ◌∙◌, subst, arith, Option, Some, None}
 use Rattle.std.specs.List.{list_all}
 use Rattle.std.proofs.lemmas.Bool.{cases_lt, and_from, eq-eqb, ne_eqb, lt-ltb}
-use Rattle.std.proofs.lemmas.Bool.Decides.{nat_tests, eqb_tells}
+use Rattle.std.proofs.lemmas.Bool.Decides.{nat_tests}
 use Rattle.index_words.specs.declared.layout.Layout.{Layout}
 use Rattle.index_words.specs.declared.side.Side.{Side}
 use Rattle.index_words.specs.declared.side.Side.TheVariants.{Left, Right}
@@ -19,44 +19,29 @@ use Rattle.core_trees.specs.NamedTree.{NamedTree}
 use Rattle.core_trees.specs.Gaps.{IsGapLink}
 use Rattle.core_trees.specs.Search.{end_side}
 use Rattle.core_trees.specs.Slots.{occurs}
-use Rattle.core_trees.specs.SpelledTree.{Graph, IsSpelled}
+use Rattle.core_trees.specs.SpelledTree.{Graph, IsSpelled, spells}
 use Rattle.core_trees.specs.SpelledStep.{IsNodeOf}
 use Rattle.core_trees.proofs.SpelledTree.{spelled-frame}
 use Rattle.core_trees.specs.SpelledAt.{graph_at}
 use Rattle.core_events.specs.LoadMoves.{locks}
 use Rattle.core_invariant.specs.Meanings.{Meaning}
 use Rattle.core_events.specs.UpdateMoves.{listed_entry}
-use Rattle.core_events.specs.SpelledNow.{tree_now, child_now, graph_now, spells}
+use Rattle.core_events.specs.SpelledNow.{tree_now, child_now, graph_now}
 use Rattle.core_events.specs.TreeMoves.{tree_after, takes, brings, has_key, first_slot, new_entries, node_entries, new_slot, move_at, is_fresh, is_new, is_step}
 use Rattle.core_invariant.specs.Rule.{Rule}
 use Rattle.core_invariant.proofs.Owned.{free_entry_some, free_node_alone}
 use Rattle.core_invariant.proofs.TreeNow.{child_is, node_lives, root_lives, tree_is}
-use Rattle.core_invariant.proofs.TreeSteps.{in_listed, listed_is, count-listed}
-use Rattle.core_updates.specs.LinkSteps.{IsLinkIn, IsTreeAt, IsChildLink, KeepsLinks, IsLink, IsOtherChild, IsNext}
+use Rattle.core_invariant.proofs.TreeSteps.{in_listed, listed_is}
+use Rattle.core_trees.specs.LinkSteps.{IsLinkIn, IsTreeAt, IsChildLink, KeepsLinks, IsLink, IsOtherChild, IsNext}
 use Rattle.core_updates.specs.Ready.{LeadsNow, IsPrepared, IsNewLink, IsNewNode, FindsKey, FindsSuccessor, IsReadyToGrow, IsReadyToReplace, IsReadyToLift, IsReadyToJoin, IsNear, IsDeep, update_of, MayStep, MayGrowLaw, MayReplaceLaw, MayLiftLaw, MayJoinLaw}
-use Rattle.core_updates.proofs.LinkSteps.{IsEither, gap_ends, end_is, grow_by_link, replace_by_link, lift_by_link, join_near, join_deep, grow_takes, replace_takes, found_there, lift_moves, join_moves}
-use Rattle.core_updates.proofs.NewChildren.{InTree, spelled_tests, child_new, child_none, names_once, only_link, free_apart, keeps_links}
-
--- a listed entry is the one that is listed
-entry_is : (x e : ℕ) → 0 < count x (listed_entry e) → e ≡ x
-entry_is x e some = by x e (omega (arith, some, count-listed x e))
-  where
-    by : (x e : ℕ) → 0 < cond (eqb e 0) 0 (cond (eqb e x) 1 0) → e ≡ x
-    by x e some = grind (arith, nat_tests)
-
-no_entry : (x : ℕ) → 0 < count x (listed_entry 0) → ⊥
-no_entry x some = omega (arith, some)
-
--- one of two numbers
-of_two : (x a b : ℕ) → 0 < count x (a ∷ b ∷ []) → (a ≡ x) ⊎ (b ≡ x)
-of_two x a b some =
-    elim (eqb_tells a x) as (λ _. (a ≡ x) ⊎ (b ≡ x)) [
-      | inl is ↦ inl is.1
-      | inr other ↦ inr (by x a b other.0 some)
-    ]
-  where
-    by : (x a b : ℕ) → eqb a x ≡ false → 0 < count x (a ∷ b ∷ []) → b ≡ x
-    by x a b other some = grind (arith, nat_tests)
+use Rattle.core_trees.proofs.Links.Parts.{gap_ends, end_is}
+use Rattle.core_trees.proofs.Links.Steps.{grow_by_link, replace_by_link, lift_by_link}
+use Rattle.core_trees.proofs.Links.JoinNear.{join_near}
+use Rattle.core_trees.proofs.Links.JoinDeep.{IsEither, join_deep}
+use Rattle.core_trees.proofs.Links.Moves.{grow_takes, replace_takes, lift_moves, join_moves}
+use Rattle.core_trees.proofs.SpelledTests.{spelled_tests}
+use Rattle.core_updates.proofs.RaiseTests.{entry_is, no_entry, of_two, heads_apart, found_there}
+use Rattle.core_updates.proofs.NewChildren.{InTree, child_new, child_none, names_once, only_link, free_apart, keeps_links}
 
 module _ (z : Layout) (m : Memory) (vs : List View) (g : Meaning) (rule : Rule z m vs g) (i : ℕ) (v : View) (at : IsItem vs i v) where
   abbrev now : Graph
@@ -143,18 +128,6 @@ module _ (z : Layout) (m : Memory) (vs : List View) (g : Meaning) (rule : Rule z
         (and_from (has e v.free.entries && eqb (m (Entry Number e)) 0) (eqb (m (Entry Next e)) 0)
         (and_from (has e v.free.entries) (eqb (m (Entry Number e)) 0) (count-has e v.free.entries fresh.free) (eq-eqb (m (Entry Number e)) 0 fresh.unnumbered))
         (eq-eqb (m (Entry Next e)) 0 fresh.last)) rest
-
-    -- the heads of a new node's bundles are different, or none
-    heads_apart : (a b : ℕ) → (a ≡ b → a ≡ 0) → (eqb a 0 || not (eqb a b)) ≡ true
-    heads_apart a b apart =
-        elim (eqb_tells a b) as (λ _. (eqb a 0 || not (eqb a b)) ≡ true) [
-          | inl equal ↦ ap (λ c. c || not (eqb a b)) (eq-eqb a 0 (apart equal.1))
-          | inr other ↦ ap (λ c. eqb a 0 || not c) other.0 ∙ or_last (eqb a 0)
-        ]
-      where
-        or_last : (c : Bool) → (c || true) ≡ true
-        or_last true = refl
-        or_last false = refl
 
     tests_new : is_new m v (Some slot) ≡ true
     tests_new =

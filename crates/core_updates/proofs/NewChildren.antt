@@ -1,6 +1,6 @@
 -- The children of links once the pending entries and those of a new node have a number.
-use Rattle.std.proofs.Common.{◌≡◌, ℕ, ◌+◌, ◌<◌, ◌≤◌, ◌⊎◌, inl, inr, cond, List, [], ◌∷◌, Bool, true, false, not, eqb, ltb, ◌||◌, ◌&&◌, refl, ap, sym, ◌∙◌, subst, arith}
-use Rattle.std.proofs.lemmas.Bool.{and_from, eq-eqb, ne_eqb, lt-ltb}
+use Rattle.std.proofs.Common.{◌≡◌, ℕ, ◌+◌, ◌<◌, ◌≤◌, ◌⊎◌, inl, inr, cond, List, [], ◌∷◌, Bool, true, false, not, eqb, ◌||◌, refl, ap, sym, ◌∙◌, subst, arith}
+use Rattle.std.proofs.lemmas.Bool.{eq-eqb, ne_eqb}
 use Rattle.std.proofs.lemmas.Bool.Decides.{nat_tests, eqb_tells}
 use Rattle.index_words.specs.declared.layout.Layout.{Layout}
 use Rattle.index_words.specs.declared.side.Side.{Side}
@@ -15,31 +15,16 @@ use Rattle.key_map.proofs.Counting.{count-append, has-count}
 use Rattle.core_grace.specs.Holds.{Bundles, entries_of, linked_in}
 use Rattle.core_grace.specs.Slots.{is_slot}
 use Rattle.core_links.specs.Bundle.{IsChain, child_of_entry}
-use Rattle.core_trees.specs.NamedTree.{NamedTree, Null, Branch}
 use Rattle.core_trees.specs.Slots.{occurs, one_at, NamesOnce}
-use Rattle.core_trees.specs.SpelledTree.{Graph, IsSpelled}
 use Rattle.core_invariant.specs.Meanings.{Meaning}
-use Rattle.core_events.specs.SpelledNow.{was_raised, has_number, child_now, graph_now, spells}
+use Rattle.core_events.specs.SpelledNow.{was_raised, has_number, child_now, graph_now}
 use Rattle.core_events.specs.Versions.{slots_of}
 use Rattle.core_invariant.specs.Rule.{Rule}
 use Rattle.core_invariant.proofs.Frames.{one_counted}
 use Rattle.core_invariant.proofs.Owned.{once_entry, linked-at, in_entries, free_entry_some, not_in_bundle}
 use Rattle.core_invariant.proofs.TreeFrames.{linked_live}
 use Rattle.core_invariant.proofs.TreeNodes.{count_slots}
-use Rattle.core_updates.specs.LinkSteps.{KeepsLinks}
-
--- the test for a spelled tree says so
-pub spelled_tests : (g : Graph) (c : ℕ) (tree : NamedTree) → IsSpelled g c tree → spells g c tree ≡ true
-spelled_tests g c Null is = eq-eqb c 0 is
-spelled_tests g c (Branch s k v l r) is =
-    let left = spells g (g.child Left s) l in
-    let right = spells g (g.child Right s) r in
-    and_from (eqb c s && ltb 0 s && eqb (g.key s) k && eqb (g.val s) v && left) right
-    (and_from (eqb c s && ltb 0 s && eqb (g.key s) k && eqb (g.val s) v) left
-    (and_from (eqb c s && ltb 0 s && eqb (g.key s) k) (eqb (g.val s) v)
-    (and_from (eqb c s && ltb 0 s) (eqb (g.key s) k)
-    (and_from (eqb c s) (ltb 0 s) (eq-eqb c s is.0) (lt-ltb 0 s is.1)) (eq-eqb (g.key s) k is.2))
-    (eq-eqb (g.val s) v is.3)) (spelled_tests g (g.child Left s) l is.4)) (spelled_tests g (g.child Right s) r is.5)
+use Rattle.core_trees.specs.LinkSteps.{KeepsLinks}
 
 -- an entry in the bundles of two nodes is linked twice
 linked-two : (b : Bundles) (k j e : ℕ) (ks : List ℕ) → ¬ (k ≡ j) → 0 < count k ks → 0 < count j ks

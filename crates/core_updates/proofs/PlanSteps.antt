@@ -6,12 +6,11 @@ use Rattle.index_words.specs.declared.side.Side.TheVariants.{Left, Right}
 use Rattle.index_words.specs.declared.view.View.{View}
 use Rattle.index_words.specs.declared.word.Field.TheVariants.{Key, Val, Mark, Head}
 use Rattle.index_words.specs.declared.word.Part.TheVariants.{Child, Stamp as Number, Next}
-use Rattle.index_words.specs.declared.word.Word.{Word}
 use Rattle.index_words.specs.declared.word.Word.TheVariants.{Node, Entry}
 use Rattle.key_map.specs.Lists.{count, Every}
 use Rattle.core_events.specs.declared.event.Kind.TheVariants.{Prepare}
 use Rattle.core_events.specs.UpdateNeeds.{held_at, is_written}
-use Rattle.core_laws.specs.ViewNeeds.{May, IsInReach, event_at, HasFilled as HasPut}
+use Rattle.core_laws.specs.ViewNeeds.{May, IsInReach, event_at, HasFilled}
 use Rattle.core_laws.proofs.CountFacts.{other_head, taken_law}
 use Rattle.core_laws.proofs.Counts.{counts_law}
 use Rattle.core_invariant.proofs.OneView.{item_from_get}
@@ -22,7 +21,6 @@ use Rattle.core_updates.specs.declared.plan.JoinPlan.{JoinPlan}
 use Rattle.core_updates.specs.declared.plan.PlanSlots.{PlanSlots}
 use Rattle.core_updates.specs.declared.plan.Front.{Front}
 use Rattle.core_updates.specs.declared.plan.NewNode.{NewNode}
-use Rattle.core_updates.specs.Held.{HasFilled}
 use Rattle.core_updates.specs.Plans.{locks_of, fronts_of, new_node_of, node_fills, entry_fills, head_of, fresh_to}
 use Rattle.core_updates.specs.PlanEvents.{HasSlots, IsDue, MayFillAll, EventsLaw, FailuresLaw}
 use Rattle.core_invariant.specs.Rule.{InRule}
@@ -90,9 +88,6 @@ module _ (z : Layout) (v : View) (seat : ℕ) where
   front-fills (Lift p) slots has behind = (fills-entry slots.at p.child behind has.at, tt)
   front-fills (Join p) slots has behind = (fills-entry slots.at slots.node behind has.at, next-fills (p.next.at.node == p.node) p slots behind has)
 
-  was-put : (w : Word) (x : ℕ) → HasFilled v w x → HasPut v w x
-  was-put w x h = record { place = h.place; is = h.item }
-
   -- a node in reach is one of the table
   there : (words : List ℕ) (vs : List View) → InRule z words vs → slice_get vs seat ≡ Some v → v.joined ≡ false → (k : ℕ) → IsInReach v k → k ≤ v.layout.nodes
   there words vs right is live k reach =
@@ -116,8 +111,8 @@ module _ (z : Layout) (v : View) (seat : ℕ) where
         old = elim d.numbered as (λ _. (h.loaded.entry ≡ 0) ⊎ (is_written h.loaded.stamp ≡ true)) [ inl none' ↦ inl (h.entry_is ∙ none') | inr written ↦ inr written ];
         free = d.free;
         small = d.small;
-        next = subst (HasPut v (Entry Next f.entry)) (sym h.entry_is) (was-put (Entry Next f.entry) d.look.now d.filled.1.1.0);
-        unnumbered = was-put (Entry Number f.entry) 0 d.filled.1.0;
+        next = subst (HasFilled v (Entry Next f.entry)) (sym h.entry_is) d.filled.1.1.0;
+        unnumbered = d.filled.1.0;
       }) words vs right is
 
 pub events_law : EventsLaw

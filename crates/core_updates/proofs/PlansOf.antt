@@ -27,8 +27,8 @@ use Rattle.core_updates.specs.declared.search.SearchEnd.TheVariants.{Null as Nul
 use Rattle.core_updates.specs.Plans.{link_of}
 use Rattle.core_updates.specs.PlanOf.{IsFoundAt, IsMissing, IsSuccessor, IsJoinIn, IsPlanOf, HasNoPlan, IsPlanned}
 use Rattle.core_updates.specs.Search.{first_of, end_from, link_to, lift_in, join_in, removal_in, plan_at, plan_in}
-use Rattle.core_updates.proofs.TreeEnds.{Through, through, IsFirst, first_is}
-use Rattle.core_updates.proofs.Successor.{successor_gap}
+use Rattle.core_trees.proofs.Links.Ends.{Through, through, IsFirst, first_is}
+use Rattle.core_trees.proofs.Links.Successor.{successor_gap}
 use Rattle.core_updates.proofs.SearchEnds.{HasSlots, FindsNode, Tells, search_tells}
 use Rattle.core_updates.proofs.LinksTo.{links-to}
 

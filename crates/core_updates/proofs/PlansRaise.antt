@@ -18,7 +18,8 @@ use Rattle.core_updates.specs.declared.plan.Plan.TheVariants.{Grow, Replace, Lif
 use Rattle.core_updates.specs.declared.plan.JoinPlan.{JoinPlan}
 use Rattle.core_updates.specs.declared.plan.PlanSlots.{PlanSlots}
 use Rattle.core_updates.specs.declared.plan.Look.TheVariants.{Link as LinkLook}
-use Rattle.core_updates.specs.Held.{HasFilled, HasLoaded, HoldsFresh, HoldsNew, HoldsNewLink, HoldsLink, HoldsKey, HoldsSuccessor, CanRaise, MayRaise}
+use Rattle.core_laws.specs.ViewNeeds.{HasFilled}
+use Rattle.core_updates.specs.Held.{HasLoaded, HoldsFresh, HoldsNew, HoldsNewLink, HoldsLink, HoldsKey, HoldsSuccessor, CanRaise, MayRaise}
 use Rattle.core_updates.specs.Plans.{head_of, fresh_to, other_side, entries_of}
 use Rattle.core_updates.specs.PlanReady.{HoldsLook, HoldsFreshEntry, HoldsNewNode, HoldsFront, IsReadyFor, PlanMayRaiseLaw}
 use Rattle.core_updates.specs.Ready.{update_of}

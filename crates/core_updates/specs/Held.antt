@@ -13,7 +13,6 @@ use Rattle.index_words.specs.declared.view.update.HeldNode.{HeldNode}
 use Rattle.index_words.specs.declared.view.update.LoadedHead.{LoadedHead}
 use Rattle.index_words.specs.declared.word.Field.TheVariants.{Key, Val, Mark, Head}
 use Rattle.index_words.specs.declared.word.Part.TheVariants.{Child, Stamp as Number, Next}
-use Rattle.index_words.specs.declared.word.Word.{Word}
 use Rattle.index_words.specs.declared.word.Word.TheVariants.{Stamp, Node, Entry}
 use Rattle.index_words.specs.Words.{address, memory}
 use Rattle.key_map.specs.Lists.{count, IsItem}
@@ -22,16 +21,12 @@ use Rattle.core_trees.specs.Gaps.{IsGapLink}
 use Rattle.core_events.specs.declared.event.Event.{Event}
 use Rattle.core_events.specs.declared.event.Kind.TheVariants.{Raise}
 use Rattle.core_laws.specs.Remembered.{Remembers}
+use Rattle.core_laws.specs.ViewNeeds.{HasFilled}
 use Rattle.core_invariant.specs.Rule.{InRule}
 use Rattle.core_events.specs.Steps.{allowed}
 use Rattle.core_events.specs.UpdateNeeds.{side_of}
 use Rattle.core_events.specs.Versions.{tree_nodes}
 use Rattle.core_updates.specs.Ready.{update_of, MayStep}
-
--- the seat has put this value into the word
-pub record HasFilled (v : View) (w : Word) (x : ℕ) : Type 0 where
-  pub place : ℕ
-  pub item : IsItem v.reading.filled place (record { word = w; value = x })
 
 -- the seat has locked the node, and the head of the link was loaded, or stored, as this entry since
 pub record HoldsHead (v : View) (node : ℕ) (side : Side) (entry : ℕ) : Type 0 where

@@ -1,4 +1,3 @@
-pub mod LinkSteps
 pub mod Ready
 pub mod Held
 pub mod Plans

@@ -16,7 +16,8 @@ use Rattle.core_updates.specs.declared.plan.Look.TheVariants.{Link as LinkLook, 
 use Rattle.core_updates.specs.declared.plan.Front.{Front}
 use Rattle.core_updates.specs.declared.plan.Fresh.{Fresh}
 use Rattle.core_updates.specs.declared.plan.NewNode.{NewNode}
-use Rattle.core_updates.specs.Held.{HasFilled, HasLoaded, HoldsLink, HoldsPrepared, CanRaise, MayRaise}
+use Rattle.core_laws.specs.ViewNeeds.{HasFilled}
+use Rattle.core_updates.specs.Held.{HasLoaded, HoldsLink, HoldsPrepared, CanRaise, MayRaise}
 use Rattle.core_updates.specs.Plans.{key_of, change_of, looks_of, new_node_of, fronts_of, out_of, node_fills, entry_fills, slot_of, entries_of}
 use Rattle.core_updates.specs.PlanOf.{IsPlanIn}
 use Rattle.core_updates.specs.Ready.{update_of}

@@ -19,7 +19,7 @@ use Rattle.core_invariant.specs.Meanings.{Meaning}
 use Rattle.core_invariant.specs.Rule.{Rule}
 use Rattle.core_events.specs.SpelledNow.{tree_now, child_now}
 use Rattle.core_events.specs.TreeMoves.{new_entries, node_entries, is_tree_step, tree_move}
-use Rattle.core_updates.specs.LinkSteps.{IsLinkIn}
+use Rattle.core_trees.specs.LinkSteps.{IsLinkIn}
 
 -- the link is one of the tree at the stamp, and leads there to the child, where 0 is none
 pub record LeadsNow (z : Layout) (m : Memory) (vs : List View) (node : ℕ) (side : Side) (child : ℕ) : Type 0 where

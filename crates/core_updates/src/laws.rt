@@ -1,4 +1,4 @@
-ghost use Rattle.core_updates.specs.LinkSteps.{GrowByLinkLaw, ReplaceByLinkLaw, LiftByLinkLaw, JoinNearLaw, JoinDeepLaw, SuccessorGapLaw};
+ghost use Rattle.core_trees.specs.LinkSteps.{GrowByLinkLaw, ReplaceByLinkLaw, LiftByLinkLaw, JoinNearLaw, JoinDeepLaw, SuccessorGapLaw};
 ghost use Rattle.core_updates.specs.Held.{GrowFromViewLaw, ReplaceFromViewLaw, LiftFromViewLaw, JoinFromViewLaw};
 ghost use Rattle.core_updates.specs.PlanEvents.{ViewPlanLaw, LocksLaw, ReachLaw, EventsLaw, FailuresLaw};
 ghost use Rattle.core_updates.specs.PlanReady.{PlanMayRaiseLaw};

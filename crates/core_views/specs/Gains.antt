@@ -1,23 +1,11 @@
--- What a view gains where another one is joined into it, and what a raise adds to it.
+-- A view with what it has gained from another one, and the lists that a raise makes longer.
 use Rattle.std.specs.Prelude.{◌++◌, [], ℕ, ◌∷◌}
 use Rattle.index_words.specs.declared.view.View.{View}
-use Rattle.core_grace.specs.Batches.{both}
 use Rattle.core_views.specs.declared.moves.Gained.{Gained}
-use Rattle.core_events.specs.Moves.{longer, own_number, own_ended}
 use Rattle.core_events.specs.declared.tree_move.TreeMove.{TreeMove}
 use Rattle.core_views.specs.declared.updates.Longer.{Longer}
 
-abbrev pub gained : View → View → Gained
-gained v other = record {
-  seen = longer v.history.seen other.history.seen;
-  told = other.history.seen;
-  ended = v.history.ended ++ (other.history.ended ++ own_number other.number);
-  ended_places = v.history.ended_places ++ (other.history.ended_places ++ own_ended other.number other.history.mine);
-  to_give = v.to_give ++ other.to_give;
-  free = both v.free other.free;
-  retired = both v.retired (both other.retired other.batch);
-}
-
+-- what is gained from the other view is right where this is the view after the join
 abbrev pub with_gain : View → Gained → View
 with_gain v gain = record v {
   to_give = gain.to_give;

@@ -4,12 +4,11 @@ ghost use Rattle.index_words.specs.Words.{same_side as same_sides};
 ghost use Rattle.key_map.specs.Lists.{has};
 ghost use Rattle.core_events.specs.UpdateMoves.{known_at};
 ghost use Rattle.core_events.specs.LoadMoves.{risen as risen_count, stamp_loaded, has_other_source, has_moved as link_has_moved, remembered_if, bundle_link, stored_by as is_stored_by, found_again, side_found, found_at, head_loaded, stamp_known, side_known, node_known, place_known, ts_loaded, is_selected as selects, ptr_loaded, kept_if, next_loaded};
-ghost use Rattle.core_events.specs.Steps.{head_from, ts_from, ptr_from, next_from};
 
 use core_events::reads::{is_above, is_locked, is_pending};
 use index_words::{
-    Field, Held, HeldNext, HeldNode, HeldSide, Items, Link, LinkSource, LoadedHead, NoMemory,
-    Place, Side, TreeNode, Update, View, Word,
+    Held, HeldNext, HeldNode, HeldSide, Items, Link, LinkSource, LoadedHead, NoMemory, Place, Side,
+    TreeNode, Update, View,
 };
 use std::alloc::Global;
 
@@ -195,7 +194,8 @@ fn stored_by(view: &View, entry: u64, number: u64) -> bool
     is_pending(view, entry) || is_mine(view.history.mine.as_slice(), number)
 }
 
-fn stand_at_head(
+/// The view after a load that found `entry`, with this written number, as this head. After a refusal it is unchanged.
+pub fn load_head(
     alloc: Global,
     view: &mut View,
     node: u32,
@@ -224,25 +224,6 @@ fn stand_at_head(
     };
     hold_found(alloc, &mut view.held, node, side, entry);
     Ok(())
-}
-
-/// The view after a load that found `entry`, with this written number, as this head. After a refusal it is unchanged.
-pub fn load_head(
-    alloc: Global,
-    view: &mut View,
-    word: Word,
-    entry: u64,
-    number: u64,
-) -> Result<(), NoMemory>
-    ensures ok { OnOk result (view.new ≡ head_from view.old word entry number) }
-    ensures err { OnErr result (view.new ≡ view.old) }
-{
-    match word {
-        Word::Node(Field::Head(side), node) => stand_at_head(
-            alloc, view, node, side, entry, number,
-        ),
-        _ => Ok(()),
-    }
 }
 
 fn with_stamp(head: Option<LoadedHead>, entry: u32, stamp: u64) -> Option<LoadedHead>
@@ -315,7 +296,8 @@ fn place_with_stamp(place: Place, found: u64) -> Place
     }
 }
 
-fn know_stamp_of(alloc: Global, view: &mut View, entry: u32, stamp: u64)
+/// The view after a load that found `stamp` as the stamp of the entry at which it stands.
+pub fn load_number(alloc: Global, view: &mut View, entry: u32, stamp: u64)
     ensures { view.new ≡ ts_loaded view.old entry stamp }
 {
     if stamp == 0 && !is_pending(view, u64::from(entry)) {
@@ -327,15 +309,6 @@ fn know_stamp_of(alloc: Global, view: &mut View, entry: u32, stamp: u64)
     view.held.nodes = Items::from_vec(nodes);
 }
 
-/// The view after a load that found `stamp` as the stamp of the entry at which it stands.
-pub fn load_ts(alloc: Global, view: &mut View, word: Word, stamp: u64)
-    ensures { view.new ≡ ts_from view.old word stamp }
-{
-    if let Word::Entry(_, entry) = word {
-        know_stamp_of(alloc, view, entry, stamp);
-    }
-}
-
 fn is_selected(section: Option<u64>, found: Option<u64>, locked: bool) -> bool
     ensures { result ≡ selects section found locked }
 {
@@ -345,7 +318,9 @@ fn is_selected(section: Option<u64>, found: Option<u64>, locked: bool) -> bool
     }
 }
 
-fn remember_child(view: &mut View, child: u64) -> Result<(), NoMemory>
+/// The view after a load that found `child` as the child of the entry at which it stands. After a refusal it is
+/// unchanged.
+pub fn load_child(view: &mut View, child: u64) -> Result<(), NoMemory>
     ensures ok { OnOk result (view.new ≡ ptr_loaded view.old child) }
     ensures err { OnErr result (view.new ≡ view.old) }
 {
@@ -368,19 +343,9 @@ fn remember_child(view: &mut View, child: u64) -> Result<(), NoMemory>
     }
 }
 
-/// The view after a load that found `child` as the child of the entry at which it stands. After a refusal it is
+/// The view after a load that found `next` as the next of the entry at which it stands. After a refusal it is
 /// unchanged.
-pub fn load_ptr(view: &mut View, word: Word, child: u64) -> Result<(), NoMemory>
-    ensures ok { OnOk result (view.new ≡ ptr_from view.old word child) }
-    ensures err { OnErr result (view.new ≡ view.old) }
-{
-    match word {
-        Word::Entry(_, _) => remember_child(view, child),
-        _ => Ok(()),
-    }
-}
-
-fn stand_at_next(view: &mut View, entry: u32, next: u64) -> Result<(), NoMemory>
+pub fn load_next(view: &mut View, entry: u32, next: u64) -> Result<(), NoMemory>
     ensures ok { OnOk result (view.new ≡ next_loaded view.old entry next) }
     ensures err { OnErr result (view.new ≡ view.old) }
 {
@@ -413,18 +378,6 @@ fn stand_at_next(view: &mut View, entry: u32, next: u64) -> Result<(), NoMemory>
             };
             Ok(())
         }
-        _ => Ok(()),
-    }
-}
-
-/// The view after a load that found `next` as the next of the entry at which it stands. After a refusal it is
-/// unchanged.
-pub fn load_next(view: &mut View, word: Word, next: u64) -> Result<(), NoMemory>
-    ensures ok { OnOk result (view.new ≡ next_from view.old word next) }
-    ensures err { OnErr result (view.new ≡ view.old) }
-{
-    match word {
-        Word::Entry(_, entry) => stand_at_next(view, entry, next),
         _ => Ok(()),
     }
 }

@@ -1,13 +1,11 @@
 // The view of a seat after each kind of event that locks, unlocks or marks.
 ghost use Rattle.std.specs.Prelude.{◌≡◌, OnOk, OnErr, None as Nothing, map};
 ghost use Rattle.core_events.specs.LockMoves.{just_locked as new_lock, place_locked, locked_view, met_lock, tried, other_nodes, other_nexts, update_until, unlocked_view, mark_known, with_mark, finds_mark as mark_found, mark_loaded, pair_known, pair_loaded};
-ghost use Rattle.core_events.specs.Steps.{tried_from, unlocked_from, mark_from, marked_from, pair_from};
+ghost use Rattle.index_words.specs.declared.word.Field.TheVariants.{Key, Val};
 
 use crate::loads::risen;
 use core_events::reads::{is_in, is_reachable};
-use index_words::{
-    Field, Held, HeldNext, HeldNode, HeldSide, Items, NoMemory, Place, Updating, View, Word,
-};
+use index_words::{Held, HeldNext, HeldNode, HeldSide, Items, NoMemory, Place, Updating, View};
 use std::alloc::Global;
 
 fn just_locked(node: u32) -> HeldNode
@@ -88,7 +86,9 @@ fn meet_lock(view: &mut View, own: u64, found: u64)
     }
 }
 
-fn try_node(view: &mut View, node: u32, own: u64, found: u64) -> Result<(), NoMemory>
+/// The view after a try of this node's lock that found `found`, where `own` names the seat's pass. After a refusal it
+/// is unchanged.
+pub fn try_lock(view: &mut View, node: u32, own: u64, found: u64) -> Result<(), NoMemory>
     ensures ok { OnOk result (view.new ≡ tried view.old node own found) }
     ensures err { OnErr result (view.new ≡ view.old) }
 {
@@ -97,18 +97,6 @@ fn try_node(view: &mut View, node: u32, own: u64, found: u64) -> Result<(), NoMe
     } else {
         meet_lock(view, own, found);
         Ok(())
-    }
-}
-
-/// The view after a try of this lock that found `found`, where `own` names the seat's pass. After a refusal it
-/// is unchanged.
-pub fn try_lock(view: &mut View, word: Word, own: u64, found: u64) -> Result<(), NoMemory>
-    ensures ok { OnOk result (view.new ≡ tried_from view.old word own found) }
-    ensures err { OnErr result (view.new ≡ view.old) }
-{
-    match word {
-        Word::Node(_, node) => try_node(view, node, own, found),
-        _ => Ok(()),
     }
 }
 
@@ -143,7 +131,8 @@ fn end_update(alloc: Global, update: &mut Updating, locked: &Items<HeldNode>)
     }
 }
 
-fn give_back(alloc: Global, view: &mut View, node: u32)
+/// The view after this node's lock was given back.
+pub fn unlock(alloc: Global, view: &mut View, node: u32)
     ensures { view.new ≡ unlocked_view view.old node }
 {
     forget_node(alloc, &mut view.held, node);
@@ -153,15 +142,6 @@ fn give_back(alloc: Global, view: &mut View, node: u32)
     view.reading.left_turn = None;
     view.reading.right_turn = None;
     view.reading.filled.clear();
-}
-
-/// The view after this lock was given back.
-pub fn unlock(alloc: Global, view: &mut View, word: Word)
-    ensures { view.new ≡ unlocked_from view.old word }
-{
-    if let Word::Node(_, node) = word {
-        give_back(alloc, view, node);
-    }
 }
 
 fn node_with_mark(held: HeldNode, node: u32, mark: u64) -> HeldNode
@@ -199,7 +179,8 @@ fn finds_mark(view: &View, node: u32, mark: u64) -> bool
         && !is_in(view.retired.nodes.as_slice(), node)
 }
 
-fn find_mark(alloc: Global, view: &mut View, node: u32, mark: u64)
+/// The view after a load that found `mark` as this node's mark.
+pub fn load_mark(alloc: Global, view: &mut View, node: u32, mark: u64)
     ensures { view.new ≡ mark_loaded view.old node mark }
 {
     if finds_mark(view, node, mark) {
@@ -208,65 +189,63 @@ fn find_mark(alloc: Global, view: &mut View, node: u32, mark: u64)
     hold_mark(alloc, view, node, mark);
 }
 
-/// The view after a load that found `mark` as this mark.
-pub fn load_mark(alloc: Global, view: &mut View, word: Word, mark: u64)
-    ensures { view.new ≡ mark_from view.old word mark }
-{
-    if let Word::Node(_, node) = word {
-        find_mark(alloc, view, node, mark);
-    }
-}
-
 /// The view after this node was marked.
-pub fn mark(alloc: Global, view: &mut View, word: Word)
-    ensures { view.new ≡ marked_from view.old word }
+pub fn mark(alloc: Global, view: &mut View, node: u32)
+    ensures { view.new ≡ with_mark view.old node 1 }
 {
-    if let Word::Node(_, node) = word {
-        hold_mark(alloc, view, node, 1);
-    }
+    hold_mark(alloc, view, node, 1);
 }
 
-fn node_with_pair(held: HeldNode, field: Field, node: u32, found: u64) -> HeldNode
-    ensures { result ≡ pair_known field node found held }
+fn node_with_key(held: HeldNode, node: u32, key: u64) -> HeldNode
+    ensures { result ≡ pair_known Key node key held }
 {
     let mut known = held;
-    match field {
-        Field::Key => {
-            if held.node == node {
-                known.key = Some(found);
-            }
-        }
-        Field::Val => {
-            if held.node == node {
-                known.val = Some(found);
-            }
-        }
-        _ => {}
+    if held.node == node {
+        known.key = Some(key);
     }
     known
 }
 
-fn know_pair(nodes: &mut [HeldNode], field: Field, node: u32, found: u64)
-    ensures { nodes.new ≡ map (pair_known field node found) nodes.old }
+fn know_key(nodes: &mut [HeldNode], node: u32, key: u64)
+    ensures { nodes.new ≡ map (pair_known Key node key) nodes.old }
 {
     for held in nodes.iter_mut() {
-        *held = node_with_pair(*held, field, node, found);
+        *held = node_with_key(*held, node, key);
     }
 }
 
-fn hold_pair(alloc: Global, view: &mut View, field: Field, node: u32, found: u64)
-    ensures { view.new ≡ pair_loaded view.old field node found }
+/// The view after a load that found this number as the node's key.
+pub fn load_key(alloc: Global, view: &mut View, node: u32, key: u64)
+    ensures { view.new ≡ pair_loaded view.old Key node key }
 {
     let mut nodes = std::mem::replace(&mut view.held.nodes, Items::new(alloc)).into_vec();
-    know_pair(nodes.as_mut_slice(), field, node, found);
+    know_key(nodes.as_mut_slice(), node, key);
     view.held.nodes = Items::from_vec(nodes);
 }
 
-/// The view after a load that found this number as this key or value.
-pub fn load_pair(alloc: Global, view: &mut View, word: Word, found: u64)
-    ensures { view.new ≡ pair_from view.old word found }
+fn node_with_val(held: HeldNode, node: u32, val: u64) -> HeldNode
+    ensures { result ≡ pair_known Val node val held }
 {
-    if let Word::Node(field, node) = word {
-        hold_pair(alloc, view, field, node, found);
+    let mut known = held;
+    if held.node == node {
+        known.val = Some(val);
     }
+    known
+}
+
+fn know_val(nodes: &mut [HeldNode], node: u32, val: u64)
+    ensures { nodes.new ≡ map (pair_known Val node val) nodes.old }
+{
+    for held in nodes.iter_mut() {
+        *held = node_with_val(*held, node, val);
+    }
+}
+
+/// The view after a load that found this number as the node's value.
+pub fn load_val(alloc: Global, view: &mut View, node: u32, val: u64)
+    ensures { view.new ≡ pair_loaded view.old Val node val }
+{
+    let mut nodes = std::mem::replace(&mut view.held.nodes, Items::new(alloc)).into_vec();
+    know_val(nodes.as_mut_slice(), node, val);
+    view.held.nodes = Items::from_vec(nodes);
 }

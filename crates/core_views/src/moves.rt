@@ -1,14 +1,11 @@
 // The view of a seat after each kind of event.
 ghost use Rattle.std.specs.Prelude.{◌≡◌, ◌≤◌, ◌++◌, OnOk, OnErr, IfOk, length, take, Some};
-ghost use Rattle.core_grace.specs.Batches.{both};
-ghost use Rattle.core_events.specs.Steps.{look_from};
-ghost use Rattle.core_views.specs.Gains.{gained, with_gain};
-ghost use Rattle.core_events.specs.Moves.{entered, left, split_left, split_right, longer, own_number, own_ended};
+ghost use Rattle.core_grace.specs.Batches.{both, looked};
+ghost use Rattle.core_views.specs.Gains.{with_gain};
+ghost use Rattle.core_events.specs.Moves.{entered, left, split_left, split_right, longer, own_number, own_ended, joined_with};
 
 use core_grace::{current_looks, look_at, settle};
-use index_words::{
-    EndedPlace, Items, Layout, NoMemory, Place, Reading, SeenHistory, Slots, Update, View, Word,
-};
+use index_words::{EndedPlace, Items, NoMemory, Place, Reading, SeenHistory, Slots, Update, View};
 use std::alloc::{AllocError, Global};
 
 /// The view inside a section. Where no batch waits, the retired slots become the batch. After a refusal the
@@ -41,21 +38,16 @@ pub fn leave(alloc: Global, view: &mut View, word: u64)
 pub fn look(
     alloc: Global,
     view: &mut View,
-    layout: &Layout,
-    word: Word,
+    passes: u32,
+    pass: u32,
     found: u64,
 ) -> Result<(), NoMemory>
-    ensures ok { OnOk result (view.new ≡ look_from layout.now view.old word found) }
+    ensures ok { OnOk result (view.new ≡ looked passes view.old pass found) }
     ensures err { OnErr result (view.new ≡ view.old) }
 {
-    match word {
-        Word::Section(pass) => {
-            let mut looks = current_looks(alloc, view)?;
-            look_at(&mut looks, pass, found)?;
-            settle(alloc, view, looks, layout.passes)
-        }
-        _ => Ok(()),
-    }
+    let mut looks = current_looks(alloc, view)?;
+    look_at(&mut looks, pass, found)?;
+    settle(alloc, view, looks, passes)
 }
 
 fn first_nodes(alloc: Global, nodes: &[u32], count: u64) -> Result<Items<u32>, NoMemory>
@@ -184,9 +176,9 @@ fn all_retired(alloc: Global, own: &Slots, other: &View) -> Result<Slots, NoMemo
     Slots::concat(alloc, own, &more)
 }
 
-/// What a view gains from another one.
+/// What a view gains from another one that is joined into it.
 pub fn gain(alloc: Global, view: &View, other: &View) -> Result<Gained, NoMemory>
-    ensures { IfOk result (λ gains. gains ≡ gained view.now other.now) }
+    ensures { IfOk result (λ gains. with_gain view.now gains ≡ joined_with view.now other.now) }
 {
     let seen = longer_of(alloc, &view.history.seen, &other.history.seen)?;
     let told = other.history.seen.copy(alloc)?;

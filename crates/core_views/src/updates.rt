@@ -1,14 +1,13 @@
 // The view of a seat after each kind of event of an update.
 ghost use Rattle.std.specs.Prelude.{◌≡◌, ◌+◌, ◌<◌, ◌^◌, OnOk, OnErr, IfOk};
 ghost use Rattle.core_grace.specs.Holds.{listed};
-ghost use Rattle.core_events.specs.UpdateMoves.{without, without_all, prepared, raised_view};
+ghost use Rattle.core_events.specs.UpdateMoves.{without, without_all, prepared, raised_view, finalised};
 ghost use Rattle.core_views.specs.Gains.{lengthened};
-ghost use Rattle.core_events.specs.Steps.{prepared_from, finalised_from};
 
 use crate::loads::hold_head;
 use core_events::TreeMove;
 use core_events::reads::is_in;
-use index_words::{Field, Items, LoadedHead, NoMemory, Place, Side, Slots, Update, View, Word};
+use index_words::{Items, LoadedHead, NoMemory, Place, Side, Slots, Update, View};
 use std::alloc::Global;
 
 fn keep_others(numbers: &mut Vec<u32>, number: u32)
@@ -26,7 +25,8 @@ fn drop_number(alloc: Global, list: &mut Items<u32>, number: u32)
     *list = Items::from_vec(numbers);
 }
 
-fn put_in_front(
+/// The view after a prepare of an entry at this head. After a refusal it is unchanged.
+pub fn prepare(
     alloc: Global,
     view: &mut View,
     side: Side,
@@ -44,20 +44,6 @@ fn put_in_front(
     hold_head(alloc, &mut view.held, node, side, head);
     drop_number(alloc, &mut view.free.entries, entry);
     Ok(())
-}
-
-/// The view after a prepare of an entry at this head. After a refusal it is unchanged.
-pub fn prepare(alloc: Global, view: &mut View, word: Word, entry: u64) -> Result<(), NoMemory>
-    requires { entry < 2 ^ 32 }
-    ensures ok { OnOk result (view.new ≡ prepared_from view.old word entry) }
-    ensures err { OnErr result (view.new ≡ view.old) }
-{
-    match word {
-        Word::Node(Field::Head(side), node) => {
-            put_in_front(alloc, view, side, node, entry as u32)
-        }
-        _ => Ok(()),
-    }
 }
 
 fn keep_without(numbers: &mut Vec<u32>, out: &[u32])
@@ -160,11 +146,9 @@ pub fn raise(
     Ok(())
 }
 
-/// The view after the entry of this word was finalised.
-pub fn finalise(alloc: Global, view: &mut View, word: Word)
-    ensures { view.new ≡ finalised_from view.old word }
+/// The view after this entry was finalised.
+pub fn finalise(alloc: Global, view: &mut View, entry: u32)
+    ensures { view.new ≡ finalised view.old entry }
 {
-    if let Word::Entry(_, entry) = word {
-        drop_number(alloc, &mut view.update.pending, entry);
-    }
+    drop_number(alloc, &mut view.update.pending, entry);
 }

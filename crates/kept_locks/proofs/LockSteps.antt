@@ -20,7 +20,7 @@ use Rattle.core_events.specs.LockMoves.{locked_view, names_other, met_lock, unlo
 use Rattle.core_invariant.specs.Rule.{Rule}
 use Rattle.core_invariant.specs.LinkLaw.{Kept}
 use Rattle.core_invariant.proofs.HeldFacts.{locks-count}
-use Rattle.core_events.proofs.Tests.{not_true}
+use Rattle.core_events.proofs.Tests.{never, not_true}
 use Rattle.core_invariant.proofs.Needed.{reach_is}
 use Rattle.kept_locks.proofs.TryLocks.{lock_kept, met_kept}
 use Rattle.kept_locks.proofs.Unlocks.{unlock_kept}
@@ -33,7 +33,7 @@ record OwnLock (number : Option ℕ) (word : ℕ) : Type 0 where
   is : word ≡ n + 1
 
 own_lock : (number : Option ℕ) (word : ℕ) → names_pass number word ≡ true → OwnLock number word
-own_lock None word met = cc
+own_lock None word met = absurd (never met)
 own_lock (Some n) word met = record { n = n; named = refl; is = eqb-true word (n + 1) met }
 
 empty_of : {X : Type 0} (xs : List X) → eqb (length xs) 0 ≡ true → xs ≡ []
@@ -65,12 +65,12 @@ module _ (z : Layout) (m : Memory) (vs : List View) (g : Meaning) (rule : Rule z
       let own = own_lock v.number value one.1 in
       subst (λ x. Kept z (m Stamp) vs g (written m (Node Lock k) x) (set vs i (locked_view v k))) (sym own.is)
       (lock_kept z m vs g rule i k own.n v at (not_true (is_even v.section_word) (and_parts (is_lock Lock) b three.0).1) (reach_is z v k there three.1) own.named free)
-  lock_by Key k value there met free = cc
-  lock_by Val k value there met free = cc
-  lock_by Mark k value there met free = cc
-  lock_by (Head side) k value there met free = cc
-  lock_by (Link side) k value there met free = cc
-  lock_by (Tag side) k value there met free = cc
+  lock_by Key k value there met free = absurd (never met)
+  lock_by Val k value there met free = absurd (never met)
+  lock_by Mark k value there met free = absurd (never met)
+  lock_by (Head side) k value there met free = absurd (never met)
+  lock_by (Link side) k value there met free = absurd (never met)
+  lock_by (Tag side) k value there met free = absurd (never met)
 
   -- a lock that was found held
   pub met_by : (f : Field) (k value found : ℕ) → may_try_lock v (Node f k) value ≡ true → Rule z m (set vs i (met_lock v value found)) g
@@ -92,12 +92,12 @@ module _ (z : Layout) (m : Memory) (vs : List View) (g : Meaning) (rule : Rule z
       let none = and_parts (eqb (length v.update.pending) 0) (list_all (is_marked_node m) v.update.taken) two.1 in
       subst (λ x. Kept z (m Stamp) vs g (written m (Node Lock k) x) (set vs i (unlocked_view v k))) (sym (eqb-true value 0 one.1))
       (unlock_kept z m vs g rule i k v at (locks-count k v.held.nodes (and_parts (is_lock Lock) b two.0).1) (empty_of v.update.pending none.0) (all_marked m v.update.taken none.1))
-  unlock_by Key k value met = cc
-  unlock_by Val k value met = cc
-  unlock_by Mark k value met = cc
-  unlock_by (Head side) k value met = cc
-  unlock_by (Link side) k value met = cc
-  unlock_by (Tag side) k value met = cc
+  unlock_by Key k value met = absurd (never met)
+  unlock_by Val k value met = absurd (never met)
+  unlock_by Mark k value met = absurd (never met)
+  unlock_by (Head side) k value met = absurd (never met)
+  unlock_by (Link side) k value met = absurd (never met)
+  unlock_by (Tag side) k value met = absurd (never met)
 
   pub load_mark_by : (f : Field) (k value : ℕ) → may_load_mark v (Node f k) value ≡ true → Rule z m (set vs i (mark_loaded v k (m (Node f k)))) g
   load_mark_by Mark k value met =
@@ -105,12 +105,12 @@ module _ (z : Layout) (m : Memory) (vs : List View) (g : Meaning) (rule : Rule z
       let one = and_parts (is_mark Mark && b) (eqb value 0) met in
       let x = m (Node Mark k) in
       load_mark_kept z m vs g rule i k x v at (record v.counts { moves = raised_if (finds_mark v k x) v.counts.moves }) (not_true (is_even v.section_word) (and_parts (is_mark Mark) b one.0).1) refl
-  load_mark_by Key k value met = cc
-  load_mark_by Val k value met = cc
-  load_mark_by Lock k value met = cc
-  load_mark_by (Head side) k value met = cc
-  load_mark_by (Link side) k value met = cc
-  load_mark_by (Tag side) k value met = cc
+  load_mark_by Key k value met = absurd (never met)
+  load_mark_by Val k value met = absurd (never met)
+  load_mark_by Lock k value met = absurd (never met)
+  load_mark_by (Head side) k value met = absurd (never met)
+  load_mark_by (Link side) k value met = absurd (never met)
+  load_mark_by (Tag side) k value met = absurd (never met)
 
   pub mark_by : (f : Field) (k value : ℕ) → may_mark v (Node f k) value ≡ true → Kept z (m Stamp) vs g (written m (Node f k) value) (set vs i (with_mark v k 1))
   mark_by Mark k value met =
@@ -120,9 +120,9 @@ module _ (z : Layout) (m : Memory) (vs : List View) (g : Meaning) (rule : Rule z
       let two = and_parts (is_mark Mark && b) c one.0 in
       subst (λ x. Kept z (m Stamp) vs g (written m (Node Mark k) x) (set vs i (with_mark v k 1))) (sym (eqb-true value 1 one.1))
       (mark_kept z m vs g rule i k v at (locks-count k v.held.nodes (and_parts (is_mark Mark) b two.0).1) (has-count k v.update.taken two.1))
-  mark_by Key k value met = cc
-  mark_by Val k value met = cc
-  mark_by Lock k value met = cc
-  mark_by (Head side) k value met = cc
-  mark_by (Link side) k value met = cc
-  mark_by (Tag side) k value met = cc
+  mark_by Key k value met = absurd (never met)
+  mark_by Val k value met = absurd (never met)
+  mark_by Lock k value met = absurd (never met)
+  mark_by (Head side) k value met = absurd (never met)
+  mark_by (Link side) k value met = absurd (never met)
+  mark_by (Tag side) k value met = absurd (never met)

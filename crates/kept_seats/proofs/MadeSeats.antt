@@ -9,7 +9,7 @@ use Rattle.index_words.specs.declared.view.View.{View}
 use Rattle.index_words.specs.Sizes.{all_nodes, all_entries, all_calls, layout_of}
 use Rattle.index_words.specs.Views.{empty_view}
 use Rattle.key_map.specs.Lists.{IsItem}
-use Rattle.core_events.specs.Openings.{from_up, pass_view, pass_views, first_view, first_table, made_left, made_right, MayMake}
+use Rattle.core_events.specs.Openings.{from_up, pass_view, pass_views, first_view, first_table, made_left, made_right, giving, MayMake}
 use Rattle.core_invariant.specs.Rule.{InRule, IsRight}
 use Rattle.kept_seats.proofs.MadeViews.{made}
 
@@ -24,7 +24,7 @@ from_both first m (suc n) =
     ∙ append_assoc (from_up first m) (from_up (first + m) n) ((first + (m + n)) ∷ [])
     ∙ ap (λ (k : ℕ). from_up first m ++ (from_up (first + m) n ++ k ∷ [])) last
 
-from_length : (first n : ℕ) → length (from_up first n) ≡ n
+pub from_length : (first n : ℕ) → length (from_up first n) ≡ n
 from_length first zero = refl
 from_length first (suc n) = omega (arith, length-append (from_up first n) ((first + n) ∷ []), from_length first n)
 
@@ -37,14 +37,6 @@ dropped_up : (first m n : ℕ) → drop m (from_up first (m + n)) ≡ from_up (f
 dropped_up first m n =
     ap (drop m) (from_both first m n)
     ∙ subst (λ k. drop k (from_up first m ++ from_up (first + m) n) ≡ from_up (first + m) n) (from_length first m) (drop-append_seam (from_up first m) (from_up (first + m) n))
-
--- a view that has these numbers still to give, and the slots and calls of so many passes
-abbrev pub giving : Layout → ℕ → ℕ → ℕ → List PassSize → View
-giving z number node entry sizes = record (empty_view z) {
-  to_give = from_up number (length sizes);
-  history = record (empty_view z).history { left = all_calls sizes };
-  free = record { nodes = from_up node (all_nodes sizes); entries = from_up entry (all_entries sizes) };
-}
 
 -- a view by the numbers that it has still to give, its calls and its free slots
 abbrev with_free : Layout → List ℕ → ℕ → List ℕ → List ℕ → View
@@ -76,7 +68,7 @@ module _ (z : Layout) (k a b : ℕ) (size : PassSize) (sizes : List PassSize) wh
   )
 
   -- what is left gives the rest
-  left_gives : made_left v size ≡ giving z (k + 1) (a + size.nodes) (b + size.entries) sizes
+  pub left_gives : made_left v size ≡ giving z (k + 1) (a + size.nodes) (b + size.entries) sizes
   left_gives =
       with_same z (drop 1 v.to_give) (from_up (k + 1) (length sizes)) (v.history.left - size.calls) (all_calls sizes)
       (drop size.nodes v.free.nodes) (from_up (a + size.nodes) (all_nodes sizes)) (drop size.entries v.free.entries) (from_up (b + size.entries) (all_entries sizes))
@@ -86,12 +78,12 @@ module _ (z : Layout) (k a b : ℕ) (size : PassSize) (sizes : List PassSize) wh
       (ap (λ n. drop size.entries (from_up b n)) counts.1.1.0 ∙ dropped_up b size.entries (all_entries sizes))
 
   -- and the new view is the pass's
-  right_is : made_right v k size ≡ pass_view z k a b size
+  pub right_is : made_right v k size ≡ pass_view z k a b size
   right_is =
       ap (λ xs. pass_with z k size.calls xs (take size.entries v.free.entries)) (ap (λ n. take size.nodes (from_up a n)) counts.1.0 ∙ taken_up a size.nodes (all_nodes sizes))
       ∙ ap (λ xs. pass_with z k size.calls (from_up a size.nodes) xs) (ap (λ n. take size.entries (from_up b n)) counts.1.1.0 ∙ taken_up b size.entries (all_entries sizes))
 
-  may_make : MayMake v k size
+  pub may_make : MayMake v k size
   may_make =
       let same : k + 0 ≡ k = omega arith in
       record {

@@ -20,14 +20,14 @@ use Rattle.core_links.proofs.Chains.{select-here}
 use Rattle.core_trees.specs.NamedTree.{NamedTree}
 use Rattle.core_trees.specs.Slots.{occurs}
 use Rattle.core_trees.specs.SpelledAt.{IsSpelledAt, graph_at}
-use Rattle.core_trees.specs.SpelledTree.{Graph, IsSpelled}
+use Rattle.core_trees.specs.SpelledTree.{Graph, IsSpelled, spells}
 use Rattle.core_trees.proofs.SpelledTree.{spelled-frame}
 use Rattle.core_invariant.specs.Meanings.{Meaning}
 use Rattle.core_invariant.specs.Histories.{calls_left}
 use Rattle.core_invariant.specs.BundleRule.{IsLive, IsPending, shown}
 use Rattle.core_events.specs.UpdateMoves.{listed_entry}
 use Rattle.core_invariant.specs.MeaningMoves.{raised_numbers, with_added}
-use Rattle.core_events.specs.SpelledNow.{has_number, was_raised, newest, child_now, graph_now, spells, entries_from}
+use Rattle.core_events.specs.SpelledNow.{has_number, was_raised, newest, child_now, graph_now, entries_from}
 use Rattle.core_events.specs.TreeMoves.{new_entries, node_entries, is_fresh, is_new}
 use Rattle.core_events.specs.Versions.{IsNullAtBoth}
 use Rattle.core_invariant.specs.Rule.{Rule}
@@ -38,7 +38,8 @@ use Rattle.core_invariant.proofs.Owned.{free_node_alone, not_in_bundle, in_entri
 use Rattle.core_invariant.proofs.TreeNodes.{count_slots}
 use Rattle.core_invariant.proofs.TreeReads.{newest_is, newest_none, newest_some}
 use Rattle.core_invariant.proofs.TreeNow.{stamp_low, numbered_or_none, number_tells, tail_low, entries_are, root_lives, node_lives}
-use Rattle.core_invariant.proofs.TreeSteps.{spells_is, tested_at, once_listed, in_listed, listed_is, raised_tells, raised_tail}
+use Rattle.core_trees.proofs.SpelledTests.{spells_is}
+use Rattle.core_invariant.proofs.TreeSteps.{tested_at, once_listed, in_listed, listed_is, raised_tells, raised_tail}
 
 -- the tests of a new node
 module _ (m : Memory) (v : View) (a : ℕ) (new : is_new m v (Some a) ≡ true) where

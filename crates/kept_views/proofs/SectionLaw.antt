@@ -1,8 +1,7 @@
 -- What an event does to the section words of passes: an enter makes the own word odd, a leave even.
-use Rattle.std.proofs.Common.{◌≡◌, ℕ, ◌+◌, ◌-◌, ◌%◌, ◌<◌, List, cond, Bool, true, false, not, eqb, ◌&&◌, length, set, arith, refl, ap, ◌∙◌, sym, subst, inl, inr, Option, Some, None}
+use Rattle.std.proofs.Common.{◌≡◌, ℕ, ◌+◌, ◌-◌, List, cond, Bool, true, false, not, eqb, ◌&&◌, length, set, refl, ap, ◌∙◌, sym, subst, inl, inr, Option, Some, None}
 use Rattle.std.specs.List.{slice_get}
 use Rattle.std.proofs.lemmas.Bool.{and_parts, eqb-true, eq-eqb}
-use Rattle.std.proofs.lemmas.Bool.Decides.{nat_tests}
 use Rattle.std.proofs.lemmas.Option.{same_Some}
 use Rattle.index_words.specs.declared.view.View.{View}
 use Rattle.index_words.specs.declared.word.Word.{Word}
@@ -10,8 +9,9 @@ use Rattle.index_words.specs.declared.word.Word.TheVariants.{Section, Announced}
 use Rattle.index_words.specs.Words.{Memory, memory, written, word_at}
 use Rattle.key_map.specs.Lists.{IsItem}
 use Rattle.index_words.proofs.Store.{stored_at}
-use Rattle.core_grace.specs.Sections.{is_even, left_word, last_word}
+use Rattle.core_grace.specs.Sections.{is_even, left_word}
 use Rattle.core_grace.specs.Batches.{is_number}
+use Rattle.core_grace.proofs.Parity.{odd_next, even_left}
 use Rattle.core_events.specs.declared.event.Event.{Event}
 use Rattle.core_events.specs.declared.event.Kind.{Kind}
 use Rattle.core_events.specs.declared.event.Kind.TheVariants.{Enter, Leave}
@@ -26,26 +26,6 @@ use Rattle.core_invariant.proofs.OneView.{item_from_get, seat_at}
 use Rattle.core_invariant.proofs.Frames.{same_item}
 use Rattle.core_invariant.proofs.Idle.{section_of as own_word}
 use Rattle.kept_views.proofs.SectionWords.{same_words, own_enter, own_leave}
-
--- the word after an even one is odd, and the word after leaving an odd one is even
-odd_next : (x : ℕ) → is_even x ≡ true → is_even (x + 1) ≡ false
-odd_next x even = let zero' : x % 2 ≡ 0 = eqb-true (x % 2) 0 even in not_zero ((x + 1) % 2) (omega arith)
-  where
-    not_zero : (n : ℕ) → 0 < n → eqb n 0 ≡ false
-    not_zero n some = grind (arith, nat_tests)
-
-even_left : (x : ℕ) → is_even x ≡ false → is_even (left_word x) ≡ true
-even_left x odd = by_last (eqb x last_word)
-  where
-    above : (n : ℕ) → eqb n 0 ≡ false → 0 < n
-    above n e = grind (arith, nat_tests)
-
-    one : x % 2 ≡ 1
-    one = let some : 0 < x % 2 = above (x % 2) odd in omega arith
-
-    by_last : (b : Bool) → is_even (cond b (x - 1) (x + 1)) ≡ true
-    by_last true = eq-eqb ((x - 1) % 2) 0 (omega (arith, one))
-    by_last false = eq-eqb ((x + 1) % 2) 0 (omega (arith, one))
 
 module _ (t : Table) (e : Event) (right : IsRight t) (v : View) (at : IsItem t.views e.seat v) (w : Word) (found : word_at t.layout e.word ≡ Some w) where
   -- the own word holds what the view says, and what is stored to it is what is found after

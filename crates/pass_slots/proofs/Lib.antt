@@ -1,2 +1,2 @@
 pub mod Looks
-pub mod Parts
+pub mod Taken

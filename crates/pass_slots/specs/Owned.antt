@@ -1,11 +1,12 @@
 -- What a pass keeps of its slots at run time, beside what its view says.
-use Rattle.std.specs.Prelude.{◌≡◌, ℕ, ◌<◌, List, Bool, Option, Some, take, drop}
+use Rattle.std.specs.Prelude.{◌≡◌, ℕ, ◌+◌, ◌<◌, List, Bool, Option, Some, length}
 use Rattle.std.specs.List.{slice_get}
 use Rattle.index_words.specs.declared.view.View.{View}
 use Rattle.index_words.specs.declared.view.slots.Looks.{Looks}
 use Rattle.index_words.specs.declared.view.slots.Slots.{Slots}
 use Rattle.key_map.specs.Lists.{has}
 use Rattle.core_grace.specs.Batches.{first_found}
+use Rattle.core_events.specs.UpdateMoves.{without_all}
 
 -- the slots of one kind: free, in the batch, retired; and how many there is room for
 pub record SlotParts : Type 0 where
@@ -14,9 +15,9 @@ pub record SlotParts : Type 0 where
   pub retired : List ℕ
   pub room : ℕ
 
--- one list in three parts
-abbrev pub parts_of : List ℕ → ℕ → ℕ → ℕ → SlotParts
-parts_of slots free kept room = record { free = take free slots; batch = drop free (take kept slots); retired = drop kept slots; room = room }
+-- how many slots they are together
+abbrev pub slot_count : SlotParts → ℕ
+slot_count p = length p.free + length p.batch + length p.retired
 
 -- what looks have shown, by the number of the pass: the odd word that was found first, and whether it was passed
 pub record Shown : Type 0 where
@@ -31,6 +32,17 @@ pub record KeptSlots : Type 0 where
   pub shown : Shown
   pub node_room : ℕ
   pub entry_room : ℕ
+
+-- how many nodes and how many entries it owns
+abbrev pub node_count : KeptSlots → ℕ
+node_count k = length k.free.nodes + length k.batch.nodes + length k.retired.nodes
+
+abbrev pub entry_count : KeptSlots → ℕ
+entry_count k = length k.free.entries + length k.batch.entries + length k.retired.entries
+
+-- slots without these
+abbrev pub taken_from : List ℕ → List ℕ → Slots → Slots
+taken_from nodes entries s = record { nodes = without_all nodes s.nodes; entries = without_all entries s.entries }
 
 abbrev pub kept_of : SlotParts → SlotParts → Shown → KeptSlots
 kept_of nodes entries shown = record {

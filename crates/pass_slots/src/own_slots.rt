@@ -1,45 +1,67 @@
-ghost use Rattle.std.specs.Prelude.{◌≡◌, ◌≤◌, ◌<◌, ◌++◌, ◌∷◌, [], length, ◌==◌, IfOk};
+ghost use Rattle.std.specs.Prelude.{◌≡◌, ◌≤◌, ◌<◌, ◌++◌, ◌∷◌, [], length, ◌==◌, IfOk, Some};
+ghost use Rattle.std.specs.List.{slice_get};
+ghost use Rattle.key_map.specs.Lists.{count};
+ghost use Rattle.core_events.specs.UpdateMoves.{without};
+ghost use Rattle.pass_slots.specs.Owned.{slot_count};
 
 use index_words::NoMemory;
 use std::alloc::Global;
 use std::marker::Model;
+use std::mem;
 
-/// The slots of one kind that a pass owns, in one list: first the free ones, then those of the batch, and then the
-/// retired ones. So a batch is taken, and becomes free, by a change of two numbers.
+/// The slots of one kind that a pass owns: the free ones, those of the batch, and the retired ones. Each list has room
+/// for all of them, so none of the calls takes memory.
 #[derive(Drop)]
 pub struct OwnSlots {
-    slots: Vec<u32>,
-    /// How many are free.
-    free: usize,
-    /// How many are free or in the batch.
-    kept: usize,
+    free: Vec<u32>,
+    batch: Vec<u32>,
+    retired: Vec<u32>,
+    /// For how many slots there is room.
+    room: u32,
 }
 
 impl Model for OwnSlots {
-    ghost use Rattle.std.specs.Prelude.{◌≤◌, length};
+    ghost use Rattle.std.specs.Prelude.{◌≤◌, ◌+◌, length};
     ghost use Rattle.std.specs.Vec.{vec_capacity};
-    ghost use Rattle.pass_slots.specs.Owned.{SlotParts, parts_of};
+    ghost use Rattle.pass_slots.specs.Owned.{SlotParts};
 
     ghost Value = { SlotParts };
 
-    ghost view = { λ s. parts_of s.slots.items s.free s.kept (vec_capacity s.slots) };
+    ghost view = { λ s. record { free = s.free.items; batch = s.batch.items; retired = s.retired.items; room = s.room } };
 
-    ghost invariant = { λ s. (s.free ≤ s.kept) × (s.kept ≤ length s.slots.items) };
+    ghost invariant = { λ s. (s.room ≤ vec_capacity s.free) × (s.room ≤ vec_capacity s.batch) × (s.room ≤ vec_capacity s.retired) × (length s.free.items + length s.batch.items + length s.retired.items ≤ s.room) };
+}
+
+/// The place of a slot in a list. It is looked for from the end.
+fn last_place(slots: &[u32], slot: u32) -> usize
+    requires { 0 < count slot slots.now }
+    ensures { slice_get slots.now result ≡ Some slot }
+{
+    for i in 0..slots.len() {
+        let at = slots.len() - 1 - i;
+        if slots[at] == slot {
+            return at;
+        }
+    }
+    unreachable!()
 }
 
 impl OwnSlots {
-    /// No slots, and room for so many. It takes all memory that the list will use.
+    /// No slots, and room for so many. It takes all memory that the lists will use.
     pub fn with_room(alloc: Global, room: u32) -> Result<OwnSlots, NoMemory>
         ensures free { IfOk result (λ s. s.free ≡ []) }
         ensures batch { IfOk result (λ s. s.batch ≡ []) }
         ensures retired { IfOk result (λ s. s.retired ≡ []) }
         ensures room { IfOk result (λ s. room ≤ s.room) }
     {
-        let slots = Vec::with_capacity(alloc, room as usize)?;
+        let free = Vec::with_capacity(alloc, room as usize)?;
+        let batch = Vec::with_capacity(alloc, room as usize)?;
+        let retired = Vec::with_capacity(alloc, room as usize)?;
         Ok(OwnSlots {
-            slots,
-            free: 0,
-            kept: 0,
+            free,
+            batch,
+            retired,
+            room,
         })
     }
 
@@ -53,23 +75,59 @@ impl OwnSlots {
         ensures retired { self.new.retired ≡ [] }
         ensures room { self.new.room ≡ self.old.room }
     {
-        self.slots.push_reserved(slot);
-        self.free = self.slots.len();
-        self.kept = self.slots.len();
+        self.free.push_reserved(slot);
+    }
+
+    /// Takes a slot out of the free ones. It is looked for from the end of the list, so the slots that are taken
+    /// should be the last ones.
+    pub fn take(&mut self, slot: u32)
+        requires { count slot self.old.free ≡ 1 }
+        ensures free { self.new.free ≡ without slot self.old.free }
+        ensures batch { self.new.batch ≡ self.old.batch }
+        ensures retired { self.new.retired ≡ self.old.retired }
+        ensures room { self.new.room ≡ self.old.room }
+    {
+        let at = last_place(self.free.as_slice(), slot);
+        self.free.remove(at);
+    }
+
+    /// How many free slots there are.
+    pub fn free_count(&self) -> usize
+        ensures { result ≡ length self.now.free }
+    {
+        self.free.len()
+    }
+
+    /// The free slot at this place of the list. None behind the last one.
+    pub fn free_at(&self, place: usize) -> Option<u32>
+        ensures { result ≡ slice_get self.now.free place }
+    {
+        self.free.get(place).copied()
+    }
+
+    /// Adds a retired slot.
+    pub fn retire(&mut self, slot: u32)
+        requires { slot_count self.old < self.old.room }
+        ensures free { self.new.free ≡ self.old.free }
+        ensures batch { self.new.batch ≡ self.old.batch }
+        ensures retired { self.new.retired ≡ self.old.retired ++ slot ∷ [] }
+        ensures room { self.new.room ≡ self.old.room }
+    {
+        self.retired.push_reserved(slot);
     }
 
     /// Whether no slot is in the batch.
     pub fn is_batch_empty(&self) -> bool
         ensures { result ≡ (length self.now.batch == 0) }
     {
-        self.free == self.kept
+        self.batch.is_empty()
     }
 
     /// Whether no slot is retired.
     pub fn is_retired_empty(&self) -> bool
         ensures { result ≡ (length self.now.retired == 0) }
     {
-        self.kept == self.slots.len()
+        self.retired.is_empty()
     }
 
     /// The retired slots become the batch, where none waits.
@@ -80,7 +138,7 @@ impl OwnSlots {
         ensures retired { self.new.retired ≡ [] }
         ensures room { self.new.room ≡ self.old.room }
     {
-        self.kept = self.slots.len();
+        mem::swap(&mut self.batch, &mut self.retired);
     }
 
     /// The slots of the batch become free.
@@ -90,6 +148,8 @@ impl OwnSlots {
         ensures retired { self.new.retired ≡ self.old.retired }
         ensures room { self.new.room ≡ self.old.room }
     {
-        self.free = self.kept;
+        if self.free.append(&mut self.batch).is_err() {
+            unreachable!()
+        }
     }
 }

@@ -1,8 +1,11 @@
-ghost use Rattle.std.specs.Prelude.{◌≡◌, ◌≤◌, ◌<◌, Some, ◌&&◌};
+ghost use Rattle.std.specs.Prelude.{◌≡◌, ◌≤◌, ◌<◌, ◌++◌, ◌∷◌, ◌⊎◌, [], length, Some, ◌&&◌, not};
+ghost use Rattle.std.specs.List.{slice_get};
 ghost use Rattle.index_words.specs.declared.view.View.{View};
 ghost use Rattle.index_words.specs.Views.{no_looks};
+ghost use Rattle.key_map.specs.Lists.{count, has};
+ghost use Rattle.core_events.specs.UpdateMoves.{without, without_all, listed_entry};
 ghost use Rattle.core_grace.specs.Batches.{batch_taken, settled, looked, is_empty};
-ghost use Rattle.pass_slots.specs.Owned.{KeepsSlots, KeepsLooks, HasRoomOf, Shown, kept_of};
+ghost use Rattle.pass_slots.specs.Owned.{KeepsSlots, KeepsLooks, HasRoomOf, Shown, kept_of, node_count, entry_count, taken_from};
 
 use crate::own_slots::OwnSlots;
 use crate::waits::Waits;
@@ -46,6 +49,99 @@ impl PassSlots {
             && self.entries.is_retired_empty()
     }
 
+    /// How many free nodes there are.
+    pub fn free_nodes(&self) -> usize
+        ensures { result ≡ length self.now.free.nodes }
+    {
+        self.nodes.free_count()
+    }
+
+    /// How many free entries there are.
+    pub fn free_entries(&self) -> usize
+        ensures { result ≡ length self.now.free.entries }
+    {
+        self.entries.free_count()
+    }
+
+    /// The free node at this place of the list. None behind the last one.
+    pub fn free_node(&self, place: usize) -> Option<u32>
+        ensures { result ≡ slice_get self.now.free.nodes place }
+    {
+        self.nodes.free_at(place)
+    }
+
+    /// The free entry at this place of the list. None behind the last one.
+    pub fn free_entry(&self, place: usize) -> Option<u32>
+        ensures { result ≡ slice_get self.now.free.entries place }
+    {
+        self.entries.free_at(place)
+    }
+
+    /// Takes a node out of the free ones.
+    pub fn take_node(&mut self, node: u32)
+        requires { count node self.old.free.nodes ≡ 1 }
+        ensures { self.new ≡ record self.old { free = record self.old.free { nodes = without node self.old.free.nodes } } }
+    {
+        self.nodes.take(node);
+    }
+
+    /// Takes a node out of the free ones, where it is not 0.
+    fn take_given_node(&mut self, node: u32)
+        requires { (node ≡ 0) ⊎ (count node self.old.free.nodes ≡ 1) }
+        ensures { self.new ≡ record self.old { free = record self.old.free { nodes = without_all (listed_entry node) self.old.free.nodes } } }
+    {
+        if node != 0 {
+            self.take_node(node);
+        }
+    }
+
+    /// Takes an entry out of the free ones, where it is not 0.
+    fn take_given_entry(&mut self, entry: u32)
+        requires { (entry ≡ 0) ⊎ (count entry self.old.free.entries ≡ 1) }
+        ensures { self.new ≡ record self.old { free = record self.old.free { entries = without_all (listed_entry entry) self.old.free.entries } } }
+    {
+        if entry != 0 {
+            self.take_entry(entry);
+        }
+    }
+
+    /// Takes a node out of the free ones, and two entries, each where it is not 0.
+    pub fn take_new(&mut self, node: u32, left: u32, right: u32)
+        requires node { (node ≡ 0) ⊎ (count node self.old.free.nodes ≡ 1) }
+        requires left { (left ≡ 0) ⊎ (count left self.old.free.entries ≡ 1) }
+        requires right { (right ≡ 0) ⊎ (count right self.old.free.entries ≡ 1) }
+        requires apart { left ≡ right → left ≡ 0 }
+        ensures { self.new ≡ record self.old { free = taken_from (listed_entry node) (listed_entry left ++ listed_entry right) self.old.free } }
+    {
+        self.take_given_node(node);
+        self.take_given_entry(left);
+        self.take_given_entry(right);
+    }
+
+    /// Takes an entry out of the free ones.
+    pub fn take_entry(&mut self, entry: u32)
+        requires { count entry self.old.free.entries ≡ 1 }
+        ensures { self.new ≡ record self.old { free = record self.old.free { entries = without entry self.old.free.entries } } }
+    {
+        self.entries.take(entry);
+    }
+
+    /// Adds a retired node.
+    pub fn retire_node(&mut self, node: u32)
+        requires { node_count self.old < self.old.node_room }
+        ensures { self.new ≡ record self.old { retired = record self.old.retired { nodes = self.old.retired.nodes ++ node ∷ [] } } }
+    {
+        self.nodes.retire(node);
+    }
+
+    /// Adds a retired entry.
+    pub fn retire_entry(&mut self, entry: u32)
+        requires { entry_count self.old < self.old.entry_room }
+        ensures { self.new ≡ record self.old { retired = record self.old.retired { entries = self.old.retired.entries ++ entry ∷ [] } } }
+    {
+        self.entries.retire(entry);
+    }
+
     /// Where no batch waits, the retired slots become the batch, and no pass is passed.
     fn take_batch(&mut self)
         ensures keeps { (v : View) → KeepsSlots v self.old → KeepsSlots (batch_taken v) self.new }
@@ -69,6 +165,22 @@ impl PassSlots {
             self.entries.free_batch();
             self.waits.clear();
         }
+    }
+
+    /// Whether a batch waits.
+    pub fn has_batch(&self) -> bool
+        ensures { result ≡ not (is_empty self.now.batch) }
+    {
+        !(self.nodes.is_batch_empty() && self.entries.is_batch_empty())
+    }
+
+    /// Whether the batch that waits has passed this pass. Where none waits, the one that would be taken now has passed
+    /// none.
+    pub fn was_passed(&self, pass: u32) -> bool
+        requires { pass < 32 }
+        ensures { (v : View) → KeepsSlots v self.now → result ≡ has pass (batch_taken v).grace.passed }
+    {
+        self.has_batch() && self.waits.was_passed(pass)
     }
 
     /// What an enter does: the retired slots become the batch where none waits, and it becomes free where each other

@@ -38,3 +38,20 @@ fn has_no_batch_and_nothing_retired_at_first(rt: HostRuntime) -> Result<(), Fail
     assert!(rt; slots.is_settled());
     Ok(())
 }
+
+#[test]
+fn retires_slots_and_frees_them_with_the_batch(rt: HostRuntime) -> Result<(), Fail> {
+    let mut slots = OwnSlots::with_room(rt.alloc(), 3)?;
+    slots.add_free(1);
+    slots.add_free(2);
+    slots.take(1);
+    slots.retire(1);
+    assert!(rt; !slots.is_retired_empty());
+    slots.take_batch();
+    assert!(rt; slots.is_retired_empty());
+    assert!(rt; !slots.is_batch_empty());
+    slots.free_batch();
+    assert!(rt; slots.is_batch_empty());
+    slots.take(1);
+    Ok(())
+}

@@ -1,6 +1,7 @@
 ghost use Rattle.std.specs.Prelude.{◌≡◌, ◌<◌, ◌≤◌, Some};
 ghost use Rattle.index_words.specs.declared.view.slots.Looks.{Looks};
 ghost use Rattle.index_words.specs.Views.{no_looks};
+ghost use Rattle.key_map.specs.Lists.{has};
 ghost use Rattle.core_grace.specs.Batches.{all_passed, looked_at, lets_pass};
 ghost use Rattle.pass_slots.specs.Owned.{KeepsLooks};
 
@@ -75,6 +76,14 @@ impl Waits {
             return false;
         }
         self.is_done(pass, number)
+    }
+
+    /// Whether this pass was passed.
+    pub fn was_passed(&self, pass: u32) -> bool
+        requires { pass < 32 }
+        ensures { (g : Looks) → KeepsLooks g self.now → result ≡ has pass g.passed }
+    {
+        self.passed[pass as usize]
     }
 
     /// Adds a look that found `word` as the section word of `pass`.

@@ -14,7 +14,7 @@ use Rattle.core_events.specs.declared.event.Event.{Event}
 use Rattle.core_events.specs.declared.event.Kind.{Kind}
 use Rattle.core_events.specs.declared.event.Kind.TheVariants.{Raise, TryLock}
 use Rattle.core_events.specs.Steps.{allowed, allowed_at}
-use Rattle.core_rule.proofs.Stepped.{stored_small}
+use Rattle.core_laws.proofs.RaiseStamps.{stored_small}
 use Rattle.table_rule.specs.Homes.{Home, Sat, IsOf, Asks, IsLiveView}
 use Rattle.table_rule.specs.Running.{table, Happened, Stored, IsLoad, IsStore}
 use Rattle.table_rule.proofs.Happens.{IsMove, word_of, load_word, store_word, Puts, holds, move_allowed, happened_live, Left}

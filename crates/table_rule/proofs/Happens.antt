@@ -19,7 +19,7 @@ use Rattle.core_events.specs.Tables.{Table}
 use Rattle.core_laws.specs.ViewNeeds.{May}
 use Rattle.core_invariant.proofs.KeptViews.{joined_kept, layout_kept}
 use Rattle.kept_rule.proofs.StepLaw.{keeps}
-use Rattle.core_laws.proofs.ViewNeeds.{word_named}
+use Rattle.core_laws.proofs.ViewTests.{word_named}
 use Rattle.table_rule.specs.Homes.{IsLiveView}
 use Rattle.table_rule.specs.Running.{table, Stands, Happened, IsLoad, IsStore}
 use Rattle.table_rule.proofs.Lists.{get_from_found, get_set, some_same}

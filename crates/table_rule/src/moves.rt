@@ -1,12 +1,12 @@
 //! One move of a word, which is one event of the pure machine.
-ghost use Rattle.std.specs.Prelude.{◌≡◌, ◌+◌};
+ghost use Rattle.std.specs.Prelude.{◌≡◌, ◌+◌, Some};
 ghost use Rattle.core_events.specs.declared.event.Kind.TheVariants.{Raise, TryLock};
 ghost use Rattle.table_rule.specs.Homes.{Asks, IsOf, with_view};
 ghost use Rattle.table_rule.specs.Running.{Happened, Stored, IsLoad, IsStore};
 
 use crate::ruled::{RuledTable, TableSeat};
 use atomic_table::Play;
-use index_words::{View, Word};
+use index_words::{Update, View, Word};
 use std::marker::{Brand, PhantomData};
 
 /// The event that a move is. Each call of a move picks it.
@@ -75,14 +75,17 @@ impl RuledTable {
             .store::<Puts<E>>(&mut seat.seat, at, value);
     }
 
-    /// Adds one to the stamp, and answers what it was. Of a raise alone: it is below its last value then.
-    pub fn add<E: Asked>(&self, seat: &mut TableSeat) -> u64
+    /// Adds one to the stamp, and answers what it was. Of a raise alone: it is below its last value then. The update
+    /// that is raised is there for the event.
+    pub fn add<E: Asked>(&self, seat: &mut TableSeat, update: &Update) -> u64
         requires asks { Asks self.now seat.old Word.Stamp E.event }
         requires kind { E.event.kind ≡ Raise }
+        requires update { E.event.update ≡ Some update.now }
         ensures seat { seat.new ≡ with_view seat.old seat.new.view }
         ensures of { IsOf self.now seat.new }
         ensures event { Happened self.now.layout E.event seat.old.view result seat.new.view }
     {
+        let _ = update;
         self.table
             .shared
             .fetch_add::<Found<E>>(&mut seat.seat, 0, 1)

@@ -4,3 +4,14 @@ pub mod SectionSteps
 pub mod Heard
 pub mod Opened
 pub mod Closed
+pub mod There
+pub mod HeldSteps
+pub mod UpdateSteps
+pub mod RaiseFacts
+pub mod RaiseGives
+pub mod RaiseKeeps
+pub mod RetireSteps
+pub mod HeldLoads
+pub mod LoadBounds
+pub mod LoadSteps
+pub mod LockSteps

@@ -1,6 +1,6 @@
 -- Each step of a section: that it may be made, what it leaves in the view, and that what is kept at run time still is what
 -- the view says.
-use Rattle.std.proofs.Common.{◌≡◌, ◌≢◌, ℕ, ◌+◌, ◌<◌, ◌≤◌, ◌==◌, ◌++◌, length, drop, cond, Bool, true, false, ltb, ◌&&◌, arith, refl, ap, ◌∙◌, sym, subst, Some}
+use Rattle.std.proofs.Common.{◌≡◌, ◌≢◌, ℕ, ◌+◌, ◌<◌, ◌≤◌, ◌==◌, ◌++◌, length, drop, cond, Bool, true, false, ltb, ◌&&◌, arith, refl, ap, ◌∙◌, sym, subst, Option, Some, None}
 use Rattle.std.proofs.lemmas.Bool.Decides.{nat_tests}
 use Rattle.std.proofs.lemmas.List.{take-append-drop}
 use Rattle.index_words.specs.declared.layout.Layout.{Layout}
@@ -14,7 +14,7 @@ use Rattle.core_grace.specs.Sections.{is_even, left_word}
 use Rattle.core_events.specs.declared.event.Event.{Event}
 use Rattle.core_events.specs.declared.event.Kind.TheVariants.{Enter, Leave, LookSec, Fill, LoadStamp}
 use Rattle.core_events.specs.FillMoves.{filled_view, filled_with, with_filled}
-use Rattle.core_events.specs.Moves.{entered, left, in_section}
+use Rattle.core_events.specs.Moves.{entered, left, in_section, nowhere}
 use Rattle.core_laws.specs.ViewNeeds.{event_at, May, MayFill}
 use Rattle.core_invariant.proofs.KeptViews.{SeatPart, part_of, entered_part}
 use Rattle.core_laws.proofs.ViewNeeds.{may_enter_law, may_leave_law, may_look_law, may_fill_law}
@@ -22,6 +22,11 @@ use Rattle.pass_slots.specs.Owned.{KeptSlots, KeepsSlots, HasRoomOf}
 use Rattle.table_rule.specs.Homes.{Home, Sat, IsOf, Asks}
 use Rattle.table_rule.specs.Running.{Happened, Stored}
 use Rattle.table_rule.proofs.Happens.{happened_view, happened_word}
+use Rattle.std.specs.Prelude.{IfSome, []}
+use Rattle.index_words.specs.declared.view.update.Held.{Held as ViewHeld}
+use Rattle.index_words.specs.declared.view.update.Updating.{Updating}
+use Rattle.core_grace.proofs.RuleMoves.{every_weaker}
+use Rattle.table_steps.specs.HeldWords.{KeepsHeld, KeepsNode}
 use Rattle.table_steps.specs.Kept.{Keeps}
 use Rattle.table_steps.specs.Made.{KeepsOwn}
 use Rattle.table_steps.specs.Passes.{AtRest, Inside, Extends}
@@ -38,33 +43,72 @@ use Rattle.table_rule.specs.Running.{table}
 use Rattle.table_rule.proofs.Lists.{item_at}
 use Rattle.table_steps.specs.Gives.{HasLoadedStamp}
 use Rattle.table_steps.proofs.Own.{own_longer}
-use Rattle.table_steps.proofs.Views.{Work, entered_work, looked_work, looked_part, filled_part, odd_next, even_left}
+use Rattle.table_steps.proofs.Views.{Work, IsStill, work_still, entered_work, looked_work, looked_part, filled_part, filled_still}
+use Rattle.core_grace.proofs.Parity.{odd_next, even_left}
 
--- a view with the same parts, and its own section word and slots, is kept with these
-pub keeps_moved : (v w : View) (k : Kept) (word : ℕ) (slots : KeptSlots) → Keeps v k → part_of w ≡ record (part_of v) { word = word; section = w.reading.section; opened = w.reading.opened } → KeepsSlots w slots → HasRoomOf k.slots slots
-    → Keeps w (record { number = k.number; section_word = word; left = k.left; slots = slots; updates = k.updates })
-keeps_moved v w k word slots keeps same kept room = record {
+still_raised : (v w : View) (k : Kept) → IsStill v w → Keeps v k → IfSome w.update.raised (λ at. at ≡ k.raised)
+still_raised v w k still keeps = subst (λ (u : Updating). IfSome u.raised (λ at. at ≡ k.raised)) (sym still.update) keeps.raised
+
+still_held : (v w : View) (k : Kept) → w.layout ≡ v.layout → IsStill v w → Keeps v k → KeepsHeld w.layout w.held k.held
+still_held v w k layout still keeps = subst (λ (z : Layout). KeepsHeld z w.held k.held) (sym layout) (subst (λ (h : ViewHeld). KeepsHeld v.layout h k.held) (sym still.held) keeps.held)
+
+-- a view with the same parts, and its own section word, open snapshot and slots, is kept with these
+keeps_opened : (v w : View) (k : Kept) (word : ℕ) (opened : Option ℕ) (slots : KeptSlots) → Keeps v k → part_of w ≡ record (part_of v) { word = word; section = w.reading.section; opened = opened } → KeepsSlots w slots → HasRoomOf k.slots slots → IsStill v w
+    → Keeps w (record { number = k.number; section_word = word; left = k.left; opened = opened; slots = slots; updates = k.updates; raised = k.raised; held = k.held })
+keeps_opened v w k word opened slots keeps same kept room still = record {
   number = ap (λ (p : SeatPart). p.owner.number) same ∙ keeps.number;
   there = subst (λ (z : Layout). k.number < z.passes) (sym layout) keeps.there;
   few = subst (λ (z : Layout). z.passes ≤ 32) (sym layout) keeps.few;
   word = ap (λ (p : SeatPart). p.word) same;
   left = ap (λ (p : SeatPart). p.history.left) same ∙ keeps.left;
+  opened = ap (λ (p : SeatPart). p.opened) same;
   announced = ap (λ (p : SeatPart). p.owner.announced) same ∙ keeps.announced;
   slots = kept;
   node_room = subst (λ (z : Layout). z.nodes ≤ slots.node_room) (sym layout) (subst (λ n. v.layout.nodes ≤ n) (sym room.nodes) keeps.node_room);
   entry_room = subst (λ (z : Layout). z.entries ≤ slots.entry_room) (sym layout) (subst (λ n. v.layout.entries ≤ n) (sym room.entries) keeps.entry_room);
   own = subst (λ (h : SeenHistory). KeepsOwn h k.updates) (sym (ap (λ (p : SeatPart). p.history) same)) keeps.own;
+  raised = still_raised v w k still keeps;
+  held = still_held v w k layout still keeps;
 }
   where
     layout : w.layout ≡ v.layout
     layout = ap (λ (p : SeatPart). p.owner.layout) same
 
+-- a view with the same parts and the same open snapshot, and its own section word and slots
+pub keeps_moved : (v w : View) (k : Kept) (word : ℕ) (slots : KeptSlots) → Keeps v k → part_of w ≡ record (part_of v) { word = word; section = w.reading.section } → KeepsSlots w slots → HasRoomOf k.slots slots → IsStill v w
+    → Keeps w (record { number = k.number; section_word = word; left = k.left; opened = k.opened; slots = slots; updates = k.updates; raised = k.raised; held = k.held })
+keeps_moved v w k word slots keeps same kept room still =
+    keeps_opened v w k word k.opened slots keeps (same ∙ ap (λ o. record (part_of v) { word = word; section = w.reading.section; opened = o }) keeps.opened) kept room still
+
+-- where no lock is held nothing need be kept of the locked nodes
+cleared : (w : View) (k : Kept) → Keeps w k → w.held.nodes ≡ []
+    → Keeps w (record { number = k.number; section_word = k.section_word; left = k.left; opened = k.opened; slots = k.slots; updates = k.updates; raised = k.raised; held = record k.held { any = false } })
+cleared w k keeps none = record {
+  number = keeps.number;
+  there = keeps.there;
+  few = keeps.few;
+  word = keeps.word;
+  left = keeps.left;
+  opened = keeps.opened;
+  announced = keeps.announced;
+  slots = keeps.slots;
+  node_room = keeps.node_room;
+  entry_room = keeps.entry_room;
+  own = keeps.own;
+  raised = keeps.raised;
+  held = record {
+    places = record { left = keeps.held.places.left; right = keeps.held.places.right; next = keeps.held.places.next };
+    nodes = every_weaker (KeepsNode k.held) (KeepsNode (record k.held { any = false })) w.held.nodes (λ n kept. record { left = kept.left; right = kept.right }) keeps.held.nodes;
+    nexts = keeps.held.nexts;
+    none = λ _. none;
+  };
+}
+
 -- a view whose own parts are as they were
-part_moved : (v w : View) (word : ℕ) → part_of w ≡ part_of v → v.section_word ≡ word → part_of w ≡ record (part_of v) { word = word; section = w.reading.section; opened = w.reading.opened }
+part_moved : (v w : View) (word : ℕ) → part_of w ≡ part_of v → v.section_word ≡ word → part_of w ≡ record (part_of v) { word = word; section = w.reading.section }
 part_moved v w word same is =
     same ∙ ap (λ x. record (part_of v) { word = x }) is
     ∙ ap (λ x. record (part_of v) { word = word; section = x }) (sym (ap (λ (p : SeatPart). p.section) same))
-    ∙ ap (λ x. record (part_of v) { word = word; section = w.reading.section; opened = x }) (sym (ap (λ (p : SeatPart). p.opened) same))
 
 filled_slots : (v : View) (w : Word) (value : ℕ) (k : KeptSlots) → KeepsSlots v k → KeepsSlots (filled_view v w value) k
 filled_slots v w value k keeps = by_test (is_even v.section_word)
@@ -121,14 +165,14 @@ module _ (home : Home) (s : Sat) (k : Kept) (keeps : Keeps s.view k) (of : IsOf 
       }
 
   pub enter_keeps : (w : View) (slots : KeptSlots) → Stored z enter_event v w → ((u : View) → KeepsSlots u k.slots → u.number ≡ Some k.number → KeepsSlots (Rattle.core_grace.specs.Batches.settled z.passes (Rattle.core_grace.specs.Batches.batch_taken u)) slots) → HasRoomOf k.slots slots
-      → Keeps w (record { number = k.number; section_word = k.section_word + 1; left = k.left; slots = slots; updates = k.updates })
+      → Keeps w (record { number = k.number; section_word = k.section_word + 1; left = k.left; opened = k.opened; slots = slots; updates = k.updates; raised = k.raised; held = k.held })
   enter_keeps w slots h kept room =
       let word : ℕ = k.section_word + 1 in
       let inside : KeepsSlots (in_section v word) k.slots = record { free = keeps.slots.free; batch = keeps.slots.batch; retired = keeps.slots.retired; looks = keeps.slots.looks } in
-      subst (λ (u : View). Keeps u (record { number = k.number; section_word = word; left = k.left; slots = slots; updates = k.updates })) (sym (enter_view w h))
+      subst (λ (u : View). Keeps u (record { number = k.number; section_word = word; left = k.left; opened = k.opened; slots = slots; updates = k.updates; raised = k.raised; held = k.held })) (sym (enter_view w h))
       (keeps_moved v (entered z.passes v word) k word slots keeps
-      (entered_part z.passes word v ∙ ap (λ (r : Work). record (part_of v) { word = word; section = r.reading.section; opened = r.reading.opened }) (sym (entered_work z.passes word v)))
-      (kept (in_section v word) inside keeps.number) room)
+      (entered_part z.passes word v ∙ ap (λ (r : Work). record (part_of v) { word = word; section = r.reading.section }) (sym (entered_work z.passes word v)))
+      (kept (in_section v word) inside keeps.number) room (work_still v (entered z.passes v word) (nowhere v.reading) (entered_work z.passes word v)))
 
   -- leave
   abbrev pub leave_event : Event
@@ -156,12 +200,14 @@ module _ (home : Home) (s : Sat) (k : Kept) (keeps : Keeps s.view k) (of : IsOf 
         unannounced = ap (λ (u : View). u.announced) is ∙ inside.unannounced;
       }
 
-  pub leave_keeps : (w : View) → Stored z leave_event v w → Keeps w (record { number = k.number; section_word = left_word k.section_word; left = k.left; slots = k.slots; updates = k.updates })
-  leave_keeps w h =
+  pub leave_keeps : Inside v → (w : View) → Stored z leave_event v w
+      → Keeps w (record { number = k.number; section_word = left_word k.section_word; left = k.left; opened = None; slots = k.slots; updates = k.updates; raised = k.raised; held = record k.held { any = false } })
+  leave_keeps inside w h =
       let word : ℕ = left_word k.section_word in
       let kept : KeepsSlots (left v word) k.slots = record { free = keeps.slots.free; batch = keeps.slots.batch; retired = keeps.slots.retired; looks = keeps.slots.looks } in
-      subst (λ (u : View). Keeps u (record { number = k.number; section_word = word; left = k.left; slots = k.slots; updates = k.updates })) (sym (leave_view w h))
-      (keeps_moved v (left v word) k word k.slots keeps refl kept (same_room k.slots))
+      subst (λ (u : View). Keeps u (record { number = k.number; section_word = word; left = k.left; opened = None; slots = k.slots; updates = k.updates; raised = k.raised; held = record k.held { any = false } })) (sym (leave_view w h))
+      (cleared (left v word) (record { number = k.number; section_word = word; left = k.left; opened = None; slots = k.slots; updates = k.updates; raised = k.raised; held = k.held })
+      (keeps_opened v (left v word) k word None k.slots keeps refl kept (same_room k.slots) (record { held = refl; update = refl })) inside.unlocked)
 
   -- look
   module _ (other : ℕ) (there : other < v.layout.passes) where
@@ -204,14 +250,14 @@ module _ (home : Home) (s : Sat) (k : Kept) (keeps : Keeps s.view k) (of : IsOf 
         }
 
     pub look_keeps : (w : View) (n : ℕ) (slots : KeptSlots) → Happened z look_event v n w → ((u : View) → KeepsSlots u k.slots → u.number ≡ Some k.number → KeepsSlots (looked z.passes u other n) slots) → HasRoomOf k.slots slots
-        → Keeps w (record { number = k.number; section_word = k.section_word; left = k.left; slots = slots; updates = k.updates })
+        → Keeps w (record { number = k.number; section_word = k.section_word; left = k.left; opened = k.opened; slots = slots; updates = k.updates; raised = k.raised; held = k.held })
     look_keeps w n slots h kept room =
         let u : View = looked z.passes v other n in
-        subst (λ (x : View). Keeps x (record { number = k.number; section_word = k.section_word; left = k.left; slots = slots; updates = k.updates })) (sym (look_view w n h))
+        subst (λ (x : View). Keeps x (record { number = k.number; section_word = k.section_word; left = k.left; opened = k.opened; slots = slots; updates = k.updates; raised = k.raised; held = k.held })) (sym (look_view w n h))
         (keeps_moved v u k k.section_word slots keeps
         (looked_part z other n v ∙ ap (λ x. record (part_of v) { word = x }) keeps.word
-        ∙ ap (λ (r : Work). record (part_of v) { word = k.section_word; section = r.reading.section; opened = r.reading.opened }) (sym (looked_work z.passes other n v)))
-        (kept v keeps.slots keeps.number) room)
+        ∙ ap (λ (r : Work). record (part_of v) { word = k.section_word; section = r.reading.section }) (sym (looked_work z.passes other n v)))
+        (kept v keeps.slots keeps.number) room (work_still v u v.reading (looked_work z.passes other n v)))
 
   -- fill
   module _ (word : Word) (value : ℕ) (there : is_there v.layout word ≡ true) where
@@ -231,7 +277,7 @@ module _ (home : Home) (s : Sat) (k : Kept) (keeps : Keeps s.view k) (of : IsOf 
     fill_keeps w h =
         let u : View = filled_view v word value in
         subst (λ (x : View). Keeps x k) (sym (fill_gives w h))
-        (keeps_moved v u k k.section_word k.slots keeps (part_moved v u k.section_word (filled_part z v word value) keeps.word) (filled_slots v word value k.slots keeps.slots) (same_room k.slots))
+        (keeps_moved v u k k.section_word k.slots keeps (part_moved v u k.section_word (filled_part z v word value) keeps.word) (filled_slots v word value k.slots keeps.slots) (same_room k.slots) (filled_still v word value))
 
   -- a load of the stamp
   module _ (fixes : ℕ) (w : View) (n : ℕ) (h : Happened z (event_at z s.seat LoadStamp Stamp fixes) v n w) where
@@ -275,7 +321,7 @@ module _ (home : Home) (s : Sat) (k : Kept) (keeps : Keeps s.view k) (of : IsOf 
       unannounced = ap (λ (u : View). u.announced) w_is ∙ inside.unannounced;
     }
 
-    pub stamp_keeps : Keeps w k
+    pub stamp_keeps : Keeps w (record k { opened = cond (fixes == 1) (Some n) None })
     stamp_keeps =
         let layout : w.layout ≡ v.layout = ap (λ (u : View). u.layout) w_is in
         record {
@@ -284,6 +330,7 @@ module _ (home : Home) (s : Sat) (k : Kept) (keeps : Keeps s.view k) (of : IsOf 
           few = subst (λ (y : Layout). y.passes ≤ 32) (sym layout) keeps.few;
           word = ap (λ (u : View). u.section_word) w_is ∙ keeps.word;
           left = ap (λ (u : View). u.history.left) w_is ∙ keeps.left;
+          opened = ap (λ (u : View). u.reading.opened) w_is;
           announced = ap (λ (u : View). u.announced) w_is ∙ keeps.announced;
           slots = record {
             free = ap (λ (u : View). u.free) w_is ∙ keeps.slots.free;
@@ -294,4 +341,6 @@ module _ (home : Home) (s : Sat) (k : Kept) (keeps : Keeps s.view k) (of : IsOf 
           node_room = subst (λ (y : Layout). y.nodes ≤ k.slots.node_room) (sym layout) keeps.node_room;
           entry_room = subst (λ (y : Layout). y.entries ≤ k.slots.entry_room) (sym layout) keeps.entry_room;
           own = own_longer v.history w.history k.updates (ap (λ (u : View). u.history.mine) w_is) (ap (λ (u : View). u.history.left) w_is) longer keeps.own;
+          raised = still_raised v w k (record { held = ap (λ (u : View). u.held) w_is; update = ap (λ (u : View). u.update) w_is }) keeps;
+          held = still_held v w k layout (record { held = ap (λ (u : View). u.held) w_is; update = ap (λ (u : View). u.update) w_is }) keeps;
         }

@@ -1,19 +1,19 @@
 -- What the moves of sections leave of a view, and what a live view is known to have.
-use Rattle.std.proofs.Common.{◌≡◌, ℕ, ◌+◌, ◌-◌, ◌%◌, ◌<◌, ◌^◌, cond, Bool, true, false, eqb, arith, refl, ap, ◌∙◌, sym, subst, length, take, List}
-use Rattle.std.proofs.lemmas.Bool.{eqb-true, eq-eqb}
-use Rattle.std.proofs.lemmas.Bool.Decides.{nat_tests}
+use Rattle.std.proofs.Common.{◌≡◌, ℕ, ◌+◌, ◌-◌, ◌%◌, ◌<◌, ◌^◌, cond, Bool, true, false, arith, refl, ap, ◌∙◌, sym, List}
+use Rattle.std.proofs.lemmas.Bool.{eqb-true}
 use Rattle.index_words.specs.declared.layout.Layout.{Layout}
 use Rattle.index_words.specs.declared.view.View.{View}
 use Rattle.index_words.specs.declared.view.update.Held.{Held}
+use Rattle.index_words.specs.declared.view.update.Updating.{Updating}
 use Rattle.index_words.specs.declared.view.reading.Reading.{Reading}
 use Rattle.index_words.specs.declared.word.Word.{Word}
 use Rattle.index_words.specs.declared.word.Word.TheVariants.{Section}
 use Rattle.index_words.specs.Views.{no_reading, no_slots, no_looks}
 use Rattle.index_words.specs.Words.{memory}
 use Rattle.core_grace.specs.Batches.{is_empty, batch_taken, batch_freed, all_passed, settled, looked, looked_at}
-use Rattle.core_grace.specs.Sections.{is_even, left_word, last_word}
+use Rattle.core_grace.specs.Sections.{is_even}
 use Rattle.core_events.specs.declared.event.Kind.TheVariants.{LookSec, Fill}
-use Rattle.core_events.specs.FillMoves.{filled_view}
+use Rattle.core_events.specs.FillMoves.{filled_view, filled_with, with_filled}
 use Rattle.core_events.specs.Moves.{entered, in_section, nowhere}
 use Rattle.core_invariant.specs.Rule.{InRule}
 use Rattle.core_invariant.specs.SeatRule.{SeatRight}
@@ -23,13 +23,22 @@ use Rattle.table_rule.specs.Homes.{IsLiveView}
 use Rattle.table_rule.specs.Running.{Stands}
 use Rattle.table_rule.proofs.Lists.{item_at}
 
--- what it has locked and what it has read
+-- what it has locked, what it has read, and its update
 pub record Work : Type 0 where
   pub held : Held
   pub reading : Reading
+  pub update : Updating
 
 abbrev pub work_of : View → Work
-work_of v = record { held = v.held; reading = v.reading }
+work_of v = record { held = v.held; reading = v.reading; update = v.update }
+
+-- what was locked, and the update, are as they were
+pub record IsStill (v w : View) : Type 0 where
+  pub held : w.held ≡ v.held
+  pub update : w.update ≡ v.update
+
+pub work_still : (v w : View) (r : Reading) → work_of w ≡ record { held = v.held; reading = r; update = v.update } → IsStill v w
+work_still v w r is = record { held = ap (λ (u : Work). u.held) is; update = ap (λ (u : Work). u.update) is }
 
 either_work : (b : Bool) (u : Work) (x y : View) → work_of x ≡ u → work_of y ≡ u → work_of (cond b x y) ≡ u
 either_work true u x y one two = one
@@ -41,7 +50,7 @@ settled_work passes v = either_work (all_passed passes v.number v.grace.passed) 
 taken_work : (v : View) → work_of (batch_taken v) ≡ work_of v
 taken_work v = either_work (is_empty v.batch) (work_of v) (record v { retired = no_slots; batch = v.retired; grace = no_looks }) v refl refl
 
-pub entered_work : (passes word : ℕ) (v : View) → work_of (entered passes v word) ≡ record { held = v.held; reading = nowhere v.reading }
+pub entered_work : (passes word : ℕ) (v : View) → work_of (entered passes v word) ≡ record { held = v.held; reading = nowhere v.reading; update = v.update }
 entered_work passes word v = settled_work passes (batch_taken (in_section v word)) ∙ taken_work (in_section v word)
 
 pub looked_work : (passes pass word : ℕ) (v : View) → work_of (looked passes v pass word) ≡ work_of v
@@ -55,25 +64,13 @@ looked_part z pass word v = still_kept z (λ w. 0) Rattle.std.proofs.Common.[] v
 pub filled_part : (z : Layout) (v : View) (w : Word) (value : ℕ) → part_of (filled_view v w value) ≡ part_of v
 filled_part z v w value = still_kept z (λ w. 0) Rattle.std.proofs.Common.[] v w 0 value Rattle.std.proofs.Common.None Fill refl
 
--- the section word after an enter and after a leave
-pub odd_next : (x : ℕ) → is_even x ≡ true → is_even (x + 1) ≡ false
-odd_next x even = let zero' : x % 2 ≡ 0 = eqb-true (x % 2) 0 even in not_zero ((x + 1) % 2) (omega arith)
+-- what a fill leaves of what was locked and of the update
+pub filled_still : (v : View) (w : Word) (value : ℕ) → IsStill v (filled_view v w value)
+filled_still v w value = by_test (is_even v.section_word)
   where
-    not_zero : (n : ℕ) → 0 < n → eqb n 0 ≡ false
-    not_zero n some = grind (arith, nat_tests)
-
-pub even_left : (x : ℕ) → is_even x ≡ false → is_even (left_word x) ≡ true
-even_left x odd = by_last (eqb x last_word)
-  where
-    above : (n : ℕ) → eqb n 0 ≡ false → 0 < n
-    above n e = grind (arith, nat_tests)
-
-    one : x % 2 ≡ 1
-    one = let some : 0 < x % 2 = above (x % 2) odd in omega arith
-
-    by_last : (b : Bool) → is_even (cond b (x - 1) (x + 1)) ≡ true
-    by_last true = eq-eqb ((x - 1) % 2) 0 (omega (arith, one))
-    by_last false = eq-eqb ((x + 1) % 2) 0 (omega (arith, one))
+    by_test : (b : Bool) → IsStill v (cond b v (with_filled v (filled_with v.reading.filled w value)))
+    by_test true = record { held = refl; update = refl }
+    by_test false = record { held = refl; update = refl }
 
 -- an even word of 64 bits has a next one
 pub even_small : (x : ℕ) → x < 2 ^ 64 → is_even x ≡ true → x + 1 < 2 ^ 64

@@ -1,7 +1,12 @@
 pub mod Passes
 pub mod Made
+pub mod HeldWords
 pub mod Kept
 pub mod Gives
+pub mod Updates
+pub mod Raises
+pub mod Retires
 pub mod Notes
 pub mod Opens
 pub mod Closes
+pub mod Loads

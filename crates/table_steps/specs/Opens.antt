@@ -1,12 +1,12 @@
 -- What a pass has when its table is opened.
-use Rattle.std.specs.Prelude.{◌≡◌, ℕ, ◌+◌, ◌≤◌, List, [], ◌∷◌, length}
+use Rattle.std.specs.Prelude.{◌≡◌, ℕ, ◌+◌, ◌≤◌, List, [], ◌∷◌, None}
 use Rattle.index_words.specs.declared.layout.Layout.{Layout}
 use Rattle.index_words.specs.declared.view.View.{View}
-use Rattle.index_words.specs.Sizes.{all_nodes, all_entries, all_calls}
-use Rattle.index_words.specs.Views.{empty_view, no_slots, no_looks}
+use Rattle.index_words.specs.Views.{no_slots, no_looks}
 use Rattle.key_map.specs.declared.pass.PassSize.{PassSize}
 use Rattle.core_events.specs.Openings.{from_up}
 use Rattle.pass_slots.specs.Owned.{KeepsLooks}
+use Rattle.table_steps.specs.HeldWords.{HasNone}
 use Rattle.table_steps.specs.Passes.{Pass}
 use Rattle.table_steps.specs.declared.kept.Kept.{Kept}
 
@@ -18,19 +18,12 @@ abbrev pub numbers_from : ℕ → List PassSize → List ℕ
 numbers_from number [] = []
 numbers_from number (size ∷ sizes) = number ∷ numbers_from (number + 1) sizes
 
--- the first seat's view, as long as it has the numbers, slots and calls of these passes to give
-abbrev pub giving : Layout → ℕ → ℕ → ℕ → List PassSize → View
-giving z number node entry sizes = record (empty_view z) {
-  to_give = from_up number (length sizes);
-  history = record (empty_view z).history { left = all_calls sizes };
-  free = record { nodes = from_up node (all_nodes sizes); entries = from_up entry (all_entries sizes) };
-}
-
 -- what a pass keeps at the start
 pub record IsFresh (z : Layout) (n node entry : ℕ) (size : PassSize) (k : Kept) : Type 0 where
   pub number : k.number ≡ n
   pub word : k.section_word ≡ 0
   pub left : k.left ≡ size.calls
+  pub opened : k.opened ≡ None
   pub nodes : k.slots.free.nodes ≡ from_up node size.nodes
   pub entries : k.slots.free.entries ≡ from_up entry size.entries
   pub batch : k.slots.batch ≡ no_slots
@@ -40,6 +33,7 @@ pub record IsFresh (z : Layout) (n node entry : ℕ) (size : PassSize) (k : Kept
   pub entry_room : z.entries ≤ k.slots.entry_room
   pub updates : k.updates.updates ≡ []
   pub room : size.calls ≤ k.updates.room
+  pub held : HasNone z.nodes z.entries k.held
 
 -- the bounds of a table's sizes
 pub record IsSmall (z : Layout) : Type 0 where

@@ -1,3 +1,4 @@
+use crate::held_words::HeldWords;
 use crate::own_updates::OwnUpdates;
 use pass_slots::PassSlots;
 
@@ -10,6 +11,11 @@ pub struct Kept {
     pub section_word: u64,
     /// How many updates it may still make.
     pub left: u32,
+    /// The number of the open snapshot, where there is one.
+    pub opened: Option<u64>,
     pub slots: PassSlots,
     pub updates: OwnUpdates,
+    /// The place of the last update, while it is under way.
+    pub raised: u64,
+    pub held: HeldWords,
 }

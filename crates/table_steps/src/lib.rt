@@ -3,14 +3,22 @@
 #![tactic(auto)]
 
 mod close;
+mod free;
+mod held_words;
 mod kept;
+mod loads;
+mod locks;
 mod notes;
 mod open;
 mod own_updates;
 mod pass;
+mod raises;
+mod retires;
 mod sections;
+mod settled;
 mod stamps;
 mod table;
+mod updates;
 
 pub use close::CloseError;
 pub use notes::Note;
@@ -18,5 +26,7 @@ pub use own_updates::OwnUpdate;
 pub use pass::{PassKey, TablePass};
 pub use table::SharedTable;
 
+#[cfg(test)]
+mod load_tests;
 #[cfg(test)]
 mod tests;

@@ -5,9 +5,11 @@ ghost use Rattle.key_map.specs.Lists.{Every};
 ghost use Rattle.core_events.specs.Openings.{from_up, pass_view, pass_views};
 ghost use Rattle.table_rule.specs.Homes.{IsOf};
 ghost use Rattle.table_steps.specs.Closes.{AreAllKeys, number_of};
-ghost use Rattle.table_steps.specs.Opens.{view_of, giving, numbers_from, IsFresh, IsSmall};
+ghost use Rattle.core_events.specs.Openings.{giving};
+ghost use Rattle.table_steps.specs.Opens.{view_of, numbers_from, IsFresh, IsSmall};
 ghost use Rattle.table_steps.specs.Passes.{IsPassOf};
 
+use crate::held_words::HeldWords;
 use crate::kept::Kept;
 use crate::own_updates::OwnUpdates;
 use crate::pass::PassKey;
@@ -58,12 +60,16 @@ fn first_kept(
     let nodes = slots_from(alloc, first.node, size.nodes, layout.nodes)?;
     let entries = slots_from(alloc, first.entry, size.entries, layout.entries)?;
     let updates = OwnUpdates::with_room(alloc, size.calls)?;
+    let held = HeldWords::with_room(alloc, layout.nodes, layout.entries)?;
     Ok(Kept {
         number: first.number,
         section_word: 0,
         left: size.calls,
+        opened: None,
         slots: PassSlots::new(nodes, entries),
         updates,
+        raised: 0,
+        held,
     })
 }
 

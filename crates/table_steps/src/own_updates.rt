@@ -1,4 +1,4 @@
-ghost use Rattle.std.specs.Prelude.{◌≡◌, ◌≤◌, [], IfOk};
+ghost use Rattle.std.specs.Prelude.{◌≡◌, ◌<◌, ◌≤◌, ◌++◌, ◌∷◌, [], length, IfOk};
 
 use index_words::{NoMemory, Update};
 use std::alloc::Global;
@@ -34,6 +34,15 @@ impl OwnUpdates {
     {
         let updates = Vec::with_capacity(alloc, room as usize)?;
         Ok(OwnUpdates { updates })
+    }
+
+    /// Adds an update.
+    pub fn add(&mut self, update: OwnUpdate)
+        requires { length self.old.updates < self.old.room }
+        ensures updates { self.new.updates ≡ self.old.updates ++ update ∷ [] }
+        ensures room { self.new.room ≡ self.old.room }
+    {
+        self.updates.push_reserved(update);
     }
 
     pub fn as_slice(&self) -> &[OwnUpdate]

@@ -49,6 +49,8 @@ impl<'t> TablePass<'t> {
             .ruled
             .store::<Brand>(&mut self.seat, Word::Section(self.kept.number), word);
         self.kept.section_word = word;
+        self.kept.opened = None;
+        self.kept.held.clear();
     }
 
     /// Looks at the section word of another pass, for the sake of the slots that wait to become free.
@@ -86,7 +88,7 @@ impl<'t> TablePass<'t> {
     }
 
     /// Stores a value to a word of a free slot of its own.
-    fn fill_word(&mut self, word: Word, value: u64)
+    pub fn fill_word(&mut self, word: Word, value: u64)
         requires there { is_there self.old.view.layout word ≡ true }
         requires free { MayFill self.old.view word }
         ensures same { IsSamePass self.old self.new }

@@ -2,6 +2,7 @@
 ghost use Rattle.std.specs.Prelude.{◌≡◌, Some, None};
 ghost use Rattle.core_grace.specs.Sections.{left_word};
 ghost use Rattle.core_events.specs.Moves.{left};
+ghost use Rattle.table_rule.specs.Homes.{IsLiveView};
 ghost use Rattle.table_rule.specs.Running.{Happened, Stored};
 ghost use Rattle.table_steps.specs.Gives.{leaving, loading_stamp, HasLoadedStamp, HasOpened};
 ghost use Rattle.table_steps.specs.Passes.{AtRest, Inside, IsSamePass};
@@ -21,7 +22,9 @@ impl<'t> TablePass<'t> {
         ensures inside { Inside self.new.view }
     {
         let table = self.table;
-        table.ruled.load::<Brand>(&mut self.seat, Word::Stamp)
+        let number = table.ruled.load::<Brand>(&mut self.seat, Word::Stamp);
+        self.kept.opened = None;
+        number
     }
 
     /// Loads the stamp and fixes a place: a snapshot is open then, at the number that the load answers.
@@ -34,7 +37,24 @@ impl<'t> TablePass<'t> {
         ensures inside { Inside self.new.view }
     {
         let table = self.table;
-        table.ruled.load::<Brand>(&mut self.seat, Word::Stamp)
+        let number = table.ruled.load::<Brand>(&mut self.seat, Word::Stamp);
+        self.kept.opened = Some(number);
+        number
+    }
+
+    /// The number of the open snapshot, where there is one.
+    pub fn opened(&self) -> Option<u64>
+        ensures { result ≡ self.now.view.reading.opened }
+    {
+        self.kept.opened
+    }
+
+    /// What is known of each pass: its view was not joined into another one, and some table that meets the rule has a
+    /// seat with it. The call does nothing.
+    pub fn facts(&self)
+        ensures { IsLiveView self.now.view }
+    {
+        self.seat.facts();
     }
 
     /// Opens a section in which the pass reads at the number that this answers. Announcing it belongs here, and

@@ -2,8 +2,9 @@ ghost use Rattle.std.specs.Prelude.{◌≡◌, All, OnOk, IfOk};
 ghost use Rattle.table_steps.specs.Notes.{IsNoteOf};
 ghost use Rattle.table_steps.specs.Passes.{IsPassOf};
 
+use crate::held_words::HeldWords;
 use crate::{Note, PassKey, SharedTable};
-use index_words::{Layout, NoMemory, PassSize};
+use index_words::{Layout, NoMemory, PassSize, Side};
 use std::alloc::Global;
 use std::test::Fail;
 use std::thread::{Threads, join, map_vec};
@@ -128,5 +129,22 @@ fn a_table_of_two_passes_without_updates_closes_to_the_empty_history(
         Ok(history) => assert_eq!(rt; history.len(), 0),
         Err(_) => panic!(rt; "there was no memory for an empty history"),
     }
+    Ok(())
+}
+
+#[test]
+fn keeps_heads_and_nexts_of_locked_nodes(rt: HostRuntime) -> Result<(), Fail> {
+    let mut held = HeldWords::with_room(rt.alloc(), 2, 3)?;
+    assert!(rt; !held.has_any());
+    held.add_lock(true);
+    held.record_head(2, Side::Left, 3);
+    held.record_head(2, Side::Right, 1);
+    held.record_next(3, 2);
+    assert!(rt; held.has_any());
+    assert_eq!(rt; held.head(2, Side::Left), 3);
+    assert_eq!(rt; held.head(2, Side::Right), 1);
+    assert_eq!(rt; held.next(3), 2);
+    held.clear();
+    assert!(rt; !held.has_any());
     Ok(())
 }

@@ -1,4 +1,6 @@
-use Rattle.core_updates.proofs.LinkSteps.{grow_by_link, replace_by_link, lift_by_link, join_near, join_deep}
+use Rattle.core_trees.proofs.Links.Steps.{grow_by_link, replace_by_link, lift_by_link}
+use Rattle.core_trees.proofs.Links.JoinNear.{join_near}
+use Rattle.core_trees.proofs.Links.JoinDeep.{join_deep}
 use Rattle.core_updates.proofs.laws.links_spell_the_step.Goals as goal
 
 pub returns-clause-grow : goal.returns-clause-grow

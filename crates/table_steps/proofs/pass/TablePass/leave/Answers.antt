@@ -27,10 +27,11 @@ invariant_of-self c =
     let home : Home = c.table.inside.ruled in
     let keeps = c.self.invariant.0 in
     let of : IsOf home s = subst (λ (h : Home). IsOf h s) (sym c.table.view_is) c.self.invariant.1 in
+    let inside : Inside s.view = subst (λ (p : Pass). Inside p.view) (sym c.self.view_is) c.requires.inside in
     let is = c.left_word-word.ensures in
     let went : Stored home.layout (leave_event home s k keeps of) s.view c.store.new.seat.view
     = subst (λ n. Stored home.layout (event_at home.layout s.seat Leave (Section k.number) n) s.view c.store.new.seat.view) is c.store.ensures.event in (
-      rw is (leave_keeps home s k keeps of c.store.new.seat.view went),
+      rw (is, c.clear.ensures) (leave_keeps home s k keeps of inside c.store.new.seat.view went),
       subst (λ (h : Home). IsOf h c.store.new.seat) c.table.view_is c.store.ensures.of,
     )
 

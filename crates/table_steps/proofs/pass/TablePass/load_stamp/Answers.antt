@@ -12,8 +12,8 @@ invariant_of-self c =
     let home : Home = c.table.inside.ruled in
     let keeps = c.self.invariant.0 in
     let of : IsOf home s = subst (λ (h : Home). IsOf h s) (sym c.table.view_is) c.self.invariant.1 in (
-      stamp_keeps home s k keeps of 0 c.load.new.seat.view c.load.result c.load.ensures.event,
-      subst (λ (h : Home). IsOf h c.load.new.seat) c.table.view_is c.load.ensures.of,
+      stamp_keeps home s k keeps of 0 c.load-number.new.seat.view c.load-number.result c.load-number.ensures.event,
+      subst (λ (h : Home). IsOf h c.load-number.new.seat) c.table.view_is c.load-number.ensures.of,
     )
 
 pub returns-clause-gives : goal.returns-clause-gives
@@ -23,7 +23,7 @@ returns-clause-gives c =
     let home : Home = c.table.inside.ruled in
     let keeps = c.self.invariant.0 in
     let of : IsOf home s = subst (λ (h : Home). IsOf h s) (sym c.table.view_is) c.self.invariant.1 in
-    subst (λ (p : Pass). HasLoadedStamp p.view 0 c.load.result c.load.new.seat.view) c.self.view_is (stamp_gives home s k keeps of 0 c.load.new.seat.view c.load.result c.load.ensures.event)
+    subst (λ (p : Pass). HasLoadedStamp p.view 0 c.load-number.result c.load-number.new.seat.view) c.self.view_is (stamp_gives home s k keeps of 0 c.load-number.new.seat.view c.load-number.result c.load-number.ensures.event)
 
 pub returns-clause-inside : goal.returns-clause-inside
 returns-clause-inside c =
@@ -33,4 +33,4 @@ returns-clause-inside c =
     let keeps = c.self.invariant.0 in
     let of : IsOf home s = subst (λ (h : Home). IsOf h s) (sym c.table.view_is) c.self.invariant.1 in
     let inside : Inside s.view = subst (λ (p : Pass). Inside p.view) (sym c.self.view_is) c.requires.inside in
-    stamp_inside home s k keeps of 0 c.load.new.seat.view c.load.result c.load.ensures.event inside
+    stamp_inside home s k keeps of 0 c.load-number.new.seat.view c.load-number.result c.load-number.ensures.event inside

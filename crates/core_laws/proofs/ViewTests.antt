@@ -1,0 +1,159 @@
+-- What a view shows, as the tests of needs find it.
+use Rattle.std.proofs.Common.{◌≡◌, ◌≢◌, ℕ, ◌+◌, ◌-◌, ◌/◌, ◌%◌, ◌<◌, ◌≤◌, cond, List, [], ◌∷◌, length, Bool, true, false, not, eqb, ◌&&◌, ◌||◌, arith, refl, ap, ◌∙◌, sym, subst, inl, inr, Option, Some, None, is_none, find}
+use Rattle.std.specs.Prelude.{nat_lt, nat_le}
+use Rattle.std.specs.List.{list_all}
+use Rattle.std.proofs.lemmas.Bool.{eqb-true, eq-eqb, ne_eqb}
+use Rattle.std.proofs.lemmas.Bool.Decides.{nat_tests}
+use Rattle.index_words.specs.declared.layout.Layout.{Layout}
+use Rattle.index_words.specs.declared.view.View.{View}
+use Rattle.index_words.specs.declared.view.reading.TreeNode.{TreeNode}
+use Rattle.index_words.specs.declared.view.update.HeldNode.{HeldNode}
+use Rattle.index_words.specs.declared.word.Word.{Word}
+use Rattle.index_words.specs.declared.word.Word.TheVariants.{Stamp, Section, Announced, Node, Entry}
+use Rattle.index_words.specs.Views.{spent_view}
+use Rattle.index_words.specs.Words.{word_at, address, is_there, word_count, nodes_begin, entries_begin, field_at, part_at}
+use Rattle.index_words.proofs.Seats.{at_item}
+use Rattle.index_words.proofs.Store.{address-lt, address-apart, word_there}
+use Rattle.key_map.specs.Lists.{count, has, Every, IsItem}
+use Rattle.core_grace.specs.Batches.{is_number}
+use Rattle.core_grace.specs.Holds.{held_slots, tree_slots}
+use Rattle.core_grace.specs.Sections.{is_even}
+use Rattle.core_invariant.specs.Rule.{InRule}
+use Rattle.core_invariant.specs.SpentViews.{IsSpent}
+use Rattle.core_events.specs.LoadMoves.{locks}
+use Rattle.core_events.specs.LoadNeeds.{is_reachable, reads_tree}
+use Rattle.core_events.specs.Needs.{is_outside, is_own_section}
+use Rattle.core_events.specs.UpdateNeeds.{held_at}
+use Rattle.core_laws.specs.ViewNeeds.{IsOutside, IsInReach}
+use Rattle.core_invariant.proofs.HeldFacts.{count-locks}
+use Rattle.core_events.proofs.Tests.{never}
+
+pub both : (a b : Bool) → a ≡ true → b ≡ true → (a && b) ≡ true
+both true true p q = refl
+both true false p q = q
+both false b p q = p
+
+pub left_of : (a b : Bool) → a ≡ true → (a || b) ≡ true
+left_of true b p = refl
+left_of false b p = cc
+
+pub right_of : (a b : Bool) → b ≡ true → (a || b) ≡ true
+right_of true b p = refl
+right_of false b p = p
+
+pub not_of : (b : Bool) → b ≡ false → not b ≡ true
+not_of true p = cc
+not_of false p = refl
+
+pub never_of : (b : Bool) → (b ≡ true → ⊥) → b ≡ false
+never_of true p = absurd (p refl)
+never_of false p = refl
+
+pub at_most : (a b : ℕ) → a ≤ b → nat_le a b ≡ true
+at_most a b p = grind (arith, nat_tests)
+
+pub below : (a b : ℕ) → a < b → nat_lt a b ≡ true
+below a b p = grind (arith, nat_tests)
+
+not_below : (a b : ℕ) → a < b → nat_lt a b ≡ false → ⊥
+not_below a b p q = never (sym q ∙ below a b p)
+
+-- a word of the table stands at its number
+no_option : {X : Type 0} (b : Bool) (x : X) (o : Option X) → cond b (Some x) o ≡ None → (b ≡ false) × (o ≡ None)
+no_option true x o is = cc
+no_option false x o is = (refl, is)
+
+word_some : (z : Layout) (n : ℕ) → n < word_count z → word_at z n ≡ None → ⊥
+word_some z n small none =
+    let a = no_option (eqb n 0) Stamp _ none in
+    let b = no_option (nat_le n z.passes) (Section (n - 1)) _ a.1 in
+    let c = no_option (nat_lt n (nodes_begin z)) (Announced (n - 1 - z.passes)) _ b.1 in
+    let d = no_option (nat_lt n (entries_begin z)) (Node (field_at ((n - nodes_begin z) % 10)) ((n - nodes_begin z) / 10)) _ c.1 in
+    let e = no_option (nat_lt n (word_count z)) (Entry (part_at ((n - entries_begin z) % 3)) ((n - entries_begin z) / 3 + 1)) None d.1 in
+    not_below n (word_count z) small e.0
+
+pub word_named : (z : Layout) (w : Word) → is_there z w ≡ true → word_at z (address z w) ≡ Some w
+word_named z w there = named_by (word_at z (address z w)) refl
+  where
+    named_by : (o : Option Word) → word_at z (address z w) ≡ o → o ≡ Some w
+    named_by None is = absurd (word_some z (address z w) (address-lt z w there) is)
+    named_by (Some u) is =
+        let found = word_there z (address z w) u is in
+        ap Some (address-apart z u w found.0 there found.1)
+
+-- a view that has what no spent view has was not joined away
+pub live_of : (z : Layout) (words : List ℕ) (vs : List View) (i : ℕ) (v : View) (P : View → Type 0) → InRule z words vs → IsItem vs i v → P v → (P spent_view → ⊥) → v.joined ≡ false
+live_of z words vs i v P right at holds none = never_of v.joined (λ gone. none (subst P (at_item IsSpent vs i v at right.spent gone) holds))
+
+tree_counted : (node x : ℕ) (b c : Bool) (n : ℕ) → eqb x node ≡ b → 0 < cond b 1 0 + n → (0 < n → c ≡ true) → (b || c) ≡ true
+tree_counted node x true c n is some rest = refl
+tree_counted node x false c n is some rest = rest (omega (arith, some))
+
+count-tree : (node : ℕ) (ns : List TreeNode) → 0 < count node (tree_slots ns) → reads_tree node ns ≡ true
+count-tree node [] some = absurd (omega (arith, some))
+count-tree node (x ∷ ns) some = tree_counted node x.slot (eqb x.slot node) (reads_tree node ns) (count node (tree_slots ns)) refl some (count-tree node ns)
+
+found_step : (k : ℕ) (x h : HeldNode) (hs : List HeldNode) (b : Bool) → cond b (Some x) (find (λ (y : HeldNode). eqb y.node k) hs) ≡ Some h
+    → (find (λ (y : HeldNode). eqb y.node k) hs ≡ Some h → locks k hs ≡ true) → (b || locks k hs) ≡ true
+found_step k x h hs true found later = refl
+found_step k x h hs false found later = later found
+
+-- a node that was found among those that are locked
+pub found-locks : (k : ℕ) (hs : List HeldNode) (h : HeldNode) → held_at k hs ≡ Some h → locks k hs ≡ true
+found-locks k [] h found = cc
+found-locks k (x ∷ hs) h found = found_step k x h hs (eqb x.node k) found (found-locks k hs h)
+
+-- a node in reach is reachable
+pub reaches : (v : View) (k : ℕ) → IsInReach v k → is_reachable v k ≡ true
+reaches v k (inl root) = left_of (eqb k 0 || reads_tree k v.reading.tree) (locks k v.held.nodes) (left_of (eqb k 0) (reads_tree k v.reading.tree) (eq-eqb k 0 root))
+reaches v k (inr (inl tree)) = left_of (eqb k 0 || reads_tree k v.reading.tree) (locks k v.held.nodes) (right_of (eqb k 0) (reads_tree k v.reading.tree) (count-tree k v.reading.tree tree))
+reaches v k (inr (inr locked)) = right_of (eqb k 0 || reads_tree k v.reading.tree) (locks k v.held.nodes) (count-locks k v.held.nodes locked)
+
+pub none_is : {X : Type 0} (o : Option X) → o ≡ None → is_none o ≡ true
+none_is None is = refl
+none_is (Some x) is = cc
+
+pub number_is : (n : ℕ) (o : Option ℕ) → o ≡ Some n → is_number n o ≡ true
+number_is n o is = ap (is_number n) is ∙ eq-eqb n n refl
+
+pub other_number : (n : ℕ) (o : Option ℕ) → o ≢ Some n → is_number n o ≡ false
+other_number n None other = refl
+other_number n (Some k) other = ne_eqb k n (λ same. other (ap Some same))
+
+pub own_section_is : (n : ℕ) (o : Option ℕ) → o ≡ Some n → is_own_section o (Section n) ≡ true
+own_section_is n o is = ap (λ u. is_own_section u (Section n)) is ∙ eq-eqb n n refl
+
+pub empty_length : {X : Type 0} (xs : List X) → xs ≡ [] → eqb (length xs) 0 ≡ true
+empty_length {X = X} xs is = ap (λ (ys : List X). eqb (length ys) 0) is
+
+pub some_length : (n : ℕ) → 0 < n → eqb n 0 ≡ false
+some_length n some = grind (arith, nat_tests)
+
+pub outside_is : (v : View) → IsOutside v → is_outside v ≡ true
+outside_is v out = both (is_even v.section_word) (eqb (length v.held.nodes) 0) out.even (empty_length v.held.nodes out.unlocked)
+
+pub all_tested : (on : ℕ → Bool) (xs : List ℕ) → ((x : ℕ) → 0 < count x xs → on x ≡ true) → list_all on xs ≡ true
+all_tested on [] each = refl
+all_tested on (x ∷ xs) each = both (on x) (list_all on xs) (each x (counted (eqb x x) (eq-eqb x x refl))) (all_tested on xs (λ y some. each y (omega (arith, some))))
+  where
+    counted : (b : Bool) → b ≡ true → 0 < cond b 1 0 + count x xs
+    counted true is = omega arith
+    counted false is = cc
+
+-- the locked node of a number
+pub record HeldAt (P : HeldNode → Type 0) (k : ℕ) : Type 0 where
+  pub item : HeldNode
+  pub same : item.node ≡ k
+  pub has_it : P item
+
+held_by : (P : HeldNode → Type 0) (k : ℕ) (h : HeldNode) (n : ℕ) (b : Bool) → eqb h.node k ≡ b → P h → 0 < cond b 1 0 + n → (0 < n → HeldAt P k) → HeldAt P k
+held_by P k h n true is here more rest = record { item = h; same = eqb-true h.node k is; has_it = here }
+held_by P k h n false is here more rest = rest (omega (arith, more))
+
+pub held_item : (P : HeldNode → Type 0) (k : ℕ) (hs : List HeldNode) → Every P hs → 0 < count k (held_slots hs) → HeldAt P k
+held_item P k [] all some = absurd (omega (arith, some))
+held_item P k (h ∷ hs) all some = held_by P k h (count k (held_slots hs)) (eqb h.node k) refl all.0 some (held_item P k hs all.1)
+
+pub every_two : {X : Type 0} (P Q : X → Type 0) (xs : List X) → Every P xs → Every Q xs → Every (λ x. P x × Q x) xs
+every_two P Q [] p q = tt
+every_two P Q (x ∷ xs) p q = ((p.0, q.0), every_two P Q xs p.1 q.1)

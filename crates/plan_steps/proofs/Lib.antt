@@ -1,0 +1,40 @@
+-- Items of lists.
+pub mod Items
+-- What a view shows of its plan stays, in each step that does not touch it.
+pub mod Kept
+-- How each load under a lock, and a prepare, maps the locked nodes, and what it keeps.
+pub mod HeldMaps
+-- The looks of a plan are at different links and nodes.
+pub mod Apart
+-- A try locks the nodes of its plan.
+pub mod Tries
+-- The looks of a try.
+pub mod Looks
+-- The words that a plan fills are different ones.
+pub mod FillWords
+-- A try fills its slots.
+pub mod Fills
+-- The entries that a plan puts in front, and what is filled of each.
+pub mod PlanFronts
+-- A try puts its entries in front.
+pub mod Fronts
+-- A pass gives its locks back, and leaves its section.
+pub mod Releases
+-- The raise of a plan.
+pub mod Raises
+-- What follows the raise.
+pub mod Finals
+-- The tree that a seat reads names each of its nodes once.
+pub mod SeenTree
+-- The nodes of a plan are different ones.
+pub mod PlanNodes
+-- What a seat knows at the begin of a try.
+pub mod Searches
+-- What the answer of an update needs.
+pub mod Answered
+-- The search for a plan by loads.
+pub mod Walks
+-- What the steps leave as it was.
+pub mod Frames
+-- How a seat comes to remember a link.
+pub mod Remembering

@@ -1,0 +1,12 @@
+pub mod Frames
+pub mod Places
+pub mod Tries
+pub mod Searches
+pub mod Walks
+pub mod Remembering
+pub mod Looks
+pub mod Fills
+pub mod Fronts
+pub mod Releases
+pub mod Raises
+pub mod Answers

@@ -1,0 +1,141 @@
+-- The way of a search down the snapshot's tree: where it begins, one level down, and what it ends with.
+use Rattle.std.proofs.Common.{◌≡◌, ℕ, ◌+◌, ◌<◌, ◌≤◌, List, [], ◌∷◌, ◌++◌, length, arith, refl, ap, ◌∙◌, sym, subst, inl, inr, Option, Some, None, append-nil, append_assoc}
+use Rattle.std.specs.Option.{option_or}
+use Rattle.key_map.specs.declared.pair.Pair.{Pair}
+use Rattle.key_map.specs.History.{after}
+use Rattle.key_map.specs.Lists.{count, IsItem}
+use Rattle.key_map.specs.Map.{pair, first_from}
+use Rattle.index_words.specs.declared.side.Side.TheVariants.{Left, Right}
+use Rattle.index_words.specs.declared.view.View.{View}
+use Rattle.index_words.specs.declared.view.reading.TreeNode.{TreeNode}
+use Rattle.core_grace.specs.Holds.{tree_slots}
+use Rattle.core_events.specs.Versions.{slots_of, top_slot, tree_nodes}
+use Rattle.core_invariant.proofs.Frames.{count-middle}
+use Rattle.core_invariant.proofs.TreeNodes.{tree_slots-append}
+use Rattle.core_trees.specs.NamedTree.{NamedTree, Null, Branch, IsWithin}
+use Rattle.core_trees.specs.Search.{search_from}
+use Rattle.core_trees.proofs.StepLaws.{search_contents}
+use Rattle.core_trees.proofs.Updates.{search_from-left, search_from-right}
+use Rattle.snapshot_read.specs.Snapshots.{IsSnapshotTree, LeadsThere}
+use Rattle.snapshot_read.specs.Ways.{high_of, keys_left, OnWay, IsOnWay}
+use Rattle.snapshot_read.specs.declared.search.Search.{Search}
+
+or_none : (o : Option Pair) → option_or o None ≡ o
+or_none None = refl
+or_none (Some p) = refl
+
+or_some : (o : Option Pair) (p : Pair) (best : Option Pair) → option_or (option_or o (Some p)) best ≡ option_or o (Some p)
+or_some None p best = refl
+or_some (Some q) p best = refl
+
+-- the search begins at the root
+pub at_root : (v : View) (t key : ℕ) → IsOnWay v t key (record { node = 0; side = Right; low = 0; best = None })
+at_root v t key = λ tree is. record {
+  below = tree;
+  front = [];
+  back = [];
+  part = sym (append-nil (tree_nodes tree));
+  link = inl (refl, refl);
+  hangs = λ child leads. leads.top refl refl;
+  within = is.lawful;
+  rest = or_none (search_from key tree);
+}
+
+-- an item in the middle of a list
+pub item_middle : {X : Type 0} (xs ys : List X) (x : X) → IsItem (xs ++ x ∷ ys) (length xs) x
+item_middle [] ys x = record { within = omega arith; is = λ d. refl }
+item_middle (y ∷ xs) ys x =
+    let rest = item_middle xs ys x in
+    record { within = omega (arith, rest.within); is = λ d. rest.is d }
+
+-- at the node that hangs at the link
+module _ (tree : NamedTree) (key : ℕ) (s : Search) (way : OnWay tree key s) (slot k v : ℕ) (l r : NamedTree) (is : way.below ≡ Branch slot k v l r) where
+  abbrev pub node : TreeNode
+  node = record { slot = slot; key = k; val = v; left = top_slot l; right = top_slot r }
+
+  abbrev before : List TreeNode
+  before = way.front ++ tree_nodes l
+
+  abbrev behind : List TreeNode
+  behind = tree_nodes r ++ way.back
+
+  pub nodes_are : tree_nodes tree ≡ before ++ node ∷ behind
+  nodes_are =
+      way.part
+      ∙ ap (λ (b : NamedTree). way.front ++ (tree_nodes b ++ way.back)) is
+      ∙ ap (λ ns. way.front ++ ns) (append_assoc (tree_nodes l) (node ∷ tree_nodes r) way.back)
+      ∙ sym (append_assoc way.front (tree_nodes l) (node ∷ behind))
+
+  pub here : IsItem (tree_nodes tree) (length before) node
+  here = subst (λ ns. IsItem ns (length before) node) (sym nodes_are) (item_middle before behind node)
+
+  pub in_tree : 0 < count slot (slots_of tree)
+  in_tree =
+      subst (λ ns. 0 < count slot (tree_slots ns)) (sym nodes_are)
+      (subst (λ xs. 0 < count slot xs) (sym (tree_slots-append before (node ∷ behind))) (count-middle slot (tree_slots before) (tree_slots behind)))
+
+  bounds : (s.low ≤ k) × (k < high_of s.best) × IsWithin s.low k l × IsWithin (k + 1) (high_of s.best) r
+  bounds = subst (IsWithin s.low (high_of s.best)) is way.within
+
+  -- to the right, where the key is too small
+  pub right_way : k < key → OnWay tree key (record { node = slot; side = Right; low = k + 1; best = s.best })
+  right_way small = record {
+    below = r;
+    front = before ++ node ∷ [];
+    back = way.back;
+    part = nodes_are ∙ sym (append_assoc before (node ∷ []) behind);
+    link = inr in_tree;
+    hangs = λ child leads. leads.below (length before) node here refl;
+    within = bounds.3;
+    rest = ap (λ o. option_or o s.best) (sym (search_from-right key slot k v l r small) ∙ ap (search_from key) (sym is)) ∙ way.rest;
+  }
+
+  pub right_closer : keys_left (record { node = slot; side = Right; low = k + 1; best = s.best }) < keys_left s
+  right_closer = let low : s.low ≤ k = bounds.0 in let high : k < high_of s.best = bounds.1 in omega arith
+
+  -- and else to the left
+  pub left_way : key ≤ k → OnWay tree key (record { node = slot; side = Left; low = s.low; best = Some (pair k v) })
+  left_way large = record {
+    below = l;
+    front = way.front;
+    back = node ∷ behind;
+    part = nodes_are ∙ append_assoc way.front (tree_nodes l) (node ∷ behind);
+    link = inr in_tree;
+    hangs = λ child leads. leads.below (length before) node here refl;
+    within = bounds.2;
+    rest =
+        sym (or_some (search_from key l) (pair k v) s.best)
+        ∙ ap (λ o. option_or o s.best) (sym (search_from-left key slot k v l r large) ∙ ap (search_from key) (sym is))
+        ∙ way.rest;
+  }
+
+  pub left_closer : keys_left (record { node = slot; side = Left; low = s.low; best = Some (pair k v) }) < keys_left s
+  left_closer = let low : s.low ≤ k = bounds.0 in let high : k < high_of s.best = bounds.1 in omega arith
+
+-- a tree that hangs at a link with a child has that child's node at its top
+pub record HasTop (tree : NamedTree) (child : ℕ) : Type 0 where
+  pub key : ℕ
+  pub val : ℕ
+  pub left : NamedTree
+  pub right : NamedTree
+  pub is : tree ≡ Branch child key val left right
+
+top_of : (tree : NamedTree) (child : ℕ) → 0 < child → child ≡ top_slot tree → HasTop tree child
+top_of Null child some same = absurd (omega (arith, some, same))
+top_of (Branch slot k v l r) child some same = record { key = k; val = v; left = l; right = r; is = ap (λ x. Branch x k v l r) (sym same) }
+
+pub top_at : (v : View) (t key : ℕ) (s : Search) (child : ℕ) (tree : NamedTree) (is : IsSnapshotTree v t tree) (way : OnWay tree key s) → 0 < child → LeadsThere v t s.node s.side child → HasTop way.below child
+top_at v t key s child tree is way some leads = top_of way.below child some (way.hangs child (leads tree is))
+
+-- at a null link the search ends
+null_top : (tree : NamedTree) (key : ℕ) (s : Search) (way : OnWay tree key s) → count 0 (slots_of tree) ≡ 0 → (b : NamedTree) → way.below ≡ b → 0 ≡ top_slot b → b ≡ Null
+null_top tree key s way none Null is same = refl
+null_top tree key s way none (Branch slot k v l r) is same =
+    let some = in_tree tree key s way slot k v l r is in
+    absurd (omega (arith, none, subst (λ x. 0 < count x (slots_of tree)) (sym same) some))
+
+pub way_ends : (v : View) (t key : ℕ) (s : Search) (tree : NamedTree) → IsSnapshotTree v t tree → IsOnWay v t key s → LeadsThere v t s.node s.side 0 → s.best ≡ first_from key (after v.history.seen t)
+way_ends v t key s tree is on leads =
+    let way = on tree is in
+    let null : way.below ≡ Null = null_top tree key s way is.some way.below refl (way.hangs 0 (leads tree is)) in
+    ap (λ b. option_or (search_from key b) s.best) (sym null) ∙ way.rest ∙ search_contents key tree is.lawful ∙ ap (first_from key) is.contents_are

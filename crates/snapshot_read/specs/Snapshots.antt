@@ -1,0 +1,75 @@
+-- A pass with an open snapshot, the tree that it reads, and what reading leaves of the pass's view.
+use Rattle.std.specs.Prelude.{◌≡◌, ℕ, ◌+◌, ◌<◌, ◌≤◌, List, length, Some}
+use Rattle.key_map.specs.declared.pair.Pair.{Pair}
+use Rattle.key_map.specs.History.{after}
+use Rattle.key_map.specs.Lists.{count}
+use Rattle.index_words.specs.declared.side.Side.{Side}
+use Rattle.index_words.specs.declared.view.View.{View}
+use Rattle.index_words.specs.declared.view.reading.Link.{Link}
+use Rattle.index_words.specs.declared.view.reading.Place.{Place}
+use Rattle.index_words.specs.declared.view.reading.TreeNode.{TreeNode}
+use Rattle.core_trees.specs.NamedTree.{NamedTree, IsLawful, contents}
+use Rattle.core_events.specs.LoadMoves.{risen}
+use Rattle.core_events.specs.Versions.{slots_of, tree_nodes}
+use Rattle.core_laws.specs.Found.{LeadsTo}
+use Rattle.table_steps.specs.Passes.{Extends, Inside}
+
+-- a snapshot is open at this number: the pass is inside a section, with no lock held
+pub record ReadsAt (v : View) (t : ℕ) : Type 0 where
+  pub opened : v.reading.opened ≡ Some t
+  pub inside : Inside v
+
+-- a snapshot is open
+abbrev pub IsReading : View → Type 0
+IsReading v = (t : ℕ) × ReadsAt v t
+
+-- a search tree with these nodes and these pairs, each node at a slot of the table: from 1 to `slots`
+pub record IsTreeOf (slots : ℕ) (nodes : List TreeNode) (pairs : List Pair) (tree : NamedTree) : Type 0 where
+  pub nodes_are : nodes ≡ tree_nodes tree
+  pub lawful : IsLawful tree
+  pub contents_are : contents tree ≡ pairs
+  pub some : count 0 (slots_of tree) ≡ 0
+  pub there : (k : ℕ) → 0 < count k (slots_of tree) → k ≤ slots
+
+-- the snapshot's tree: the view has its nodes, and its pairs are the map after the first `t` updates
+abbrev pub IsSnapshotTree : View → ℕ → NamedTree → Type 0
+IsSnapshotTree v t tree = IsTreeOf v.layout.nodes v.reading.tree (after v.history.seen t) tree
+
+-- the snapshot's tree has this child at the link, 0 for none
+abbrev pub LeadsThere : View → ℕ → ℕ → Side → ℕ → Type 0
+LeadsThere v t node side child = (tree : NamedTree) → IsSnapshotTree v t tree → LeadsTo tree node side child
+
+-- the view with another place, other remembered links, and other counts of entries without a stamp and of changed heads
+abbrev pub read_on : View → Place → List Link → ℕ → ℕ → View
+read_on v place links waits moves = record v {
+  reading = record v.reading { place = place; links = links };
+  counts = record v.counts { waits = waits; moves = moves };
+}
+
+-- some loads of the snapshot were made: but for where the pass stands, the links that it remembers, and these two counts,
+-- the view is as before
+pub record HasRead (v w : View) : Type 0 where
+  pub place : Place
+  pub links : List Link
+  pub waits : ℕ
+  pub moves : ℕ
+  pub view : w ≡ read_on v place links waits moves
+
+-- how many node slots and entry slots a pass owns: free, retired, and in the batch
+abbrev pub owned_nodes : View → ℕ
+owned_nodes v = length v.free.nodes + length v.retired.nodes + length v.batch.nodes
+
+abbrev pub owned_entries : View → ℕ
+owned_entries v = length v.free.entries + length v.retired.entries + length v.batch.entries
+
+-- a snapshot was opened at this number: that of all updates that the pass has seen then, which go on from what it had
+-- seen. A look is counted; its own updates, how many it may still make, and how many slots it owns are as before
+pub record HasBegun (v w : View) (at : ℕ) : Type 0 where
+  pub seen : Extends v.history.seen w.history.seen
+  pub whole : length w.history.seen ≡ at
+  pub found : w.history.found ≡ at
+  pub looks : w.history.looks ≡ risen v.history.looks
+  pub mine : w.history.mine ≡ v.history.mine
+  pub left : w.history.left ≡ v.history.left
+  pub nodes : owned_nodes w ≡ owned_nodes v
+  pub entries : owned_entries w ≡ owned_entries v

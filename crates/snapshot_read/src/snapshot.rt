@@ -1,0 +1,61 @@
+//! Snapshots: how one is opened, read and closed.
+ghost use Rattle.std.specs.Prelude.{◌≡◌, ℕ, Some};
+ghost use Rattle.key_map.specs.History.{after};
+ghost use Rattle.key_map.specs.Map.{first_from};
+ghost use Rattle.core_events.specs.Moves.{left};
+ghost use Rattle.core_grace.specs.Sections.{left_word};
+ghost use Rattle.table_steps.specs.Gives.{HasOpened};
+ghost use Rattle.table_steps.specs.Passes.{AtRest, IsSamePass};
+ghost use Rattle.snapshot_read.specs.Snapshots.{ReadsAt, IsReading, HasBegun, HasRead};
+
+use crate::looks::Look;
+use crate::search::look_from;
+use index_words::Pair;
+use std::sync::Wait;
+use std::thread::yield_now;
+use table_steps::TablePass;
+
+/// Opens a snapshot, and answers its number: the number of updates that a load of the stamp in this call found.
+pub fn begin(pass: &mut TablePass<'_>) -> u64
+    requires rest { AtRest pass.old.view }
+    ensures same { IsSamePass pass.old pass.new }
+    ensures opened { HasOpened pass.old.view 1 result pass.new.view }
+    ensures begun { HasBegun pass.old.view pass.new.view result }
+    ensures reads { ReadsAt pass.new.view result }
+{
+    pass.facts();
+    pass.enter();
+    pass.fix_stamp()
+}
+
+/// Closes the snapshot.
+pub fn end(pass: &mut TablePass<'_>)
+    requires reads { IsReading pass.old.view }
+    ensures same { IsSamePass pass.old pass.new }
+    ensures view { pass.new.view ≡ left pass.old.view (left_word pass.old.view.section_word) }
+    ensures rest { AtRest pass.new.view }
+{
+    pass.leave();
+}
+
+/// The first pair of the open snapshot whose key is at least `key`. Where an entry has no stamp yet it tries again, until
+/// the pass that has it pending has written it. In between it lets other threads run.
+pub fn next_from<R: Wait>(pass: &mut TablePass<'_>, rt: &R, key: u64) -> Option<Pair>
+    requires reads { IsReading pass.old.view }
+    ensures same { IsSamePass pass.old pass.new }
+    ensures first { (at : ℕ) → pass.old.view.reading.opened ≡ Some at → result ≡ first_from key (after pass.old.view.history.seen at) }
+    ensures read { HasRead pass.old.view pass.new.view }
+    ensures reads { IsReading pass.new.view }
+{
+    let Some(at) = pass.opened() else {
+        unreachable!()
+    };
+    'tries: for _ in rt.forever() {
+        match look_from(pass, rt, at, key) {
+            Look::Found(pair) => return Some(pair),
+            Look::Nothing => return None,
+            Look::Pending => yield_now(),
+        }
+    }
+    unreachable!()
+}

@@ -1,0 +1,60 @@
+use Rattle.std.proofs.Common.{◌≤◌, arith, ap, sym, subst}
+use Rattle.index_words.specs.declared.layout.Layout.{Layout}
+use Rattle.table_steps.specs.Loads.{HasLoadedHead}
+use Rattle.core_laws.specs.ViewNeeds.{MayReadHead}
+use Rattle.table_rule.specs.Homes.{Home, IsOf}
+use Rattle.table_steps.specs.Passes.{Pass}
+use Rattle.table_steps.proofs.LoadSteps.{head_asks, head_gives, head_keeps, head_high, head_place}
+use Rattle.table_steps.proofs.pass.TablePass.load_head.Goals as goal
+
+pub load-word-requires-clause-asks : goal.load-word-requires-clause-asks
+load-word-requires-clause-asks c =
+    let s = c.self.inside.seat in
+    let home : Home = c.table.inside.ruled in
+    let of : IsOf home s = subst (λ (h : Home). IsOf h s) (sym c.table.view_is) c.self.invariant.1 in
+    let may : MayReadHead s.view c.args.node = subst (λ (p : Pass). MayReadHead p.view c.args.node) (sym c.self.view_is) c.requires.may in
+    head_asks home s of c.args.node c.args.side c.facts.ensures may
+
+pub invariant_of-self : goal.invariant_of-self
+invariant_of-self c =
+    let s = c.self.inside.seat in
+    let home : Home = c.table.inside.ruled in
+    let of : IsOf home s = subst (λ (h : Home). IsOf h s) (sym c.table.view_is) c.self.invariant.1 in
+    let may : MayReadHead s.view c.args.node = subst (λ (p : Pass). MayReadHead p.view c.args.node) (sym c.self.view_is) c.requires.may in
+    let keeps = c.self.invariant.0 in (
+      rw c.find_head.ensures (head_keeps home s of c.args.node c.args.side c.facts.ensures may c.load-word.new.seat.view c.load-word.result c.load-word.ensures.event c.self.inside.kept keeps),
+      subst (λ (h : Home). IsOf h c.load-word.new.seat) c.table.view_is c.load-word.ensures.of,
+    )
+
+pub returns-clause-view : goal.returns-clause-view
+returns-clause-view c =
+    let s = c.self.inside.seat in
+    let home : Home = c.table.inside.ruled in
+    let of : IsOf home s = subst (λ (h : Home). IsOf h s) (sym c.table.view_is) c.self.invariant.1 in
+    let may : MayReadHead s.view c.args.node = subst (λ (p : Pass). MayReadHead p.view c.args.node) (sym c.self.view_is) c.requires.may in
+    subst (λ (p : Pass). HasLoadedHead p.view c.args.node c.args.side c.load-word.result c.load-word.new.seat.view) c.self.view_is (head_gives home s of c.args.node c.args.side c.facts.ensures may c.load-word.new.seat.view c.load-word.result c.load-word.ensures.event)
+
+pub returns-clause-there : goal.returns-clause-there
+returns-clause-there c =
+    let s = c.self.inside.seat in
+    let home : Home = c.table.inside.ruled in
+    let of : IsOf home s = subst (λ (h : Home). IsOf h s) (sym c.table.view_is) c.self.invariant.1 in
+    let may : MayReadHead s.view c.args.node = subst (λ (p : Pass). MayReadHead p.view c.args.node) (sym c.self.view_is) c.requires.may in
+    subst (λ (p : Pass). c.load-word.result ≤ p.view.layout.entries) c.self.view_is (subst (λ (y : Layout). c.load-word.result ≤ y.entries) (sym of.layout) (head_high home s of c.args.node c.args.side c.facts.ensures may c.load-word.new.seat.view c.load-word.result c.load-word.ensures.event))
+
+pub prove-unreachable-requires : goal.prove-unreachable-requires
+prove-unreachable-requires c =
+    let s = c.self.inside.seat in
+    let home : Home = c.table.inside.ruled in
+    let of : IsOf home s = subst (λ (h : Home). IsOf h s) (sym c.table.view_is) c.self.invariant.1 in
+    let may : MayReadHead s.view c.args.node = subst (λ (p : Pass). MayReadHead p.view c.args.node) (sym c.self.view_is) c.requires.may in
+    let high : c.load-word.result ≤ home.layout.entries = head_high home s of c.args.node c.args.side c.facts.ensures may c.load-word.new.seat.view c.load-word.result c.load-word.ensures.event in
+    omega (arith, c.if-prove.true, high, ap (λ (y : Layout). y.entries) c.layout-entries.ensures)
+
+pub find_head-requires : goal.find_head-requires
+find_head-requires c =
+    let s = c.self.inside.seat in
+    let home : Home = c.table.inside.ruled in
+    let of : IsOf home s = subst (λ (h : Home). IsOf h s) (sym c.table.view_is) c.self.invariant.1 in
+    let may : MayReadHead s.view c.args.node = subst (λ (p : Pass). MayReadHead p.view c.args.node) (sym c.self.view_is) c.requires.may in
+    head_place home s of c.args.node c.args.side c.facts.ensures may c.load-word.new.seat.view c.load-word.result c.load-word.ensures.event c.self.inside.kept c.self.invariant.0

@@ -1,0 +1,35 @@
+//! The free slots of a pass, by their places in its lists.
+ghost use Rattle.std.specs.Prelude.{◌≡◌, length};
+ghost use Rattle.std.specs.List.{slice_get};
+
+use crate::pass::TablePass;
+
+impl<'t> TablePass<'t> {
+    /// How many free nodes the pass has.
+    pub fn free_nodes(&self) -> usize
+        ensures { result ≡ length self.now.view.free.nodes }
+    {
+        self.kept.slots.free_nodes()
+    }
+
+    /// How many free entries the pass has.
+    pub fn free_entries(&self) -> usize
+        ensures { result ≡ length self.now.view.free.entries }
+    {
+        self.kept.slots.free_entries()
+    }
+
+    /// The free node at this place. None behind the last one.
+    pub fn free_node(&self, place: usize) -> Option<u32>
+        ensures { result ≡ slice_get self.now.view.free.nodes place }
+    {
+        self.kept.slots.free_node(place)
+    }
+
+    /// The free entry at this place. None behind the last one.
+    pub fn free_entry(&self, place: usize) -> Option<u32>
+        ensures { result ≡ slice_get self.now.view.free.entries place }
+    {
+        self.kept.slots.free_entry(place)
+    }
+}

@@ -1,0 +1,177 @@
+-- What the loads of a search leave of the view of a pass that holds no lock, and of the links that it remembers.
+use Rattle.std.proofs.Common.{◌≡◌, ℕ, ◌<◌, ◌⊎◌, ◌==◌, ◌&&◌, List, [], Bool, true, false, not, refl, ap, ◌∙◌, sym, subst, Option, Some, None, map}
+use Rattle.key_map.specs.Lists.{count, has}
+use Rattle.index_words.specs.declared.side.Side.{Side}
+use Rattle.index_words.specs.declared.side.Side.TheVariants.{Right}
+use Rattle.index_words.specs.declared.view.View.{View}
+use Rattle.index_words.specs.declared.view.reading.Link.{Link as ViewLink}
+use Rattle.index_words.specs.declared.view.reading.Place.{Place}
+use Rattle.index_words.specs.declared.view.reading.Place.TheVariants.{Entry as AtEntry}
+use Rattle.index_words.specs.declared.view.reading.TreeNode.{TreeNode}
+use Rattle.index_words.specs.declared.view.update.HeldNext.{HeldNext}
+use Rattle.index_words.specs.declared.view.update.HeldNode.{HeldNode}
+use Rattle.index_words.specs.declared.word.Field.{Field}
+use Rattle.core_grace.specs.Holds.{tree_slots}
+use Rattle.core_grace.specs.Sections.{is_even}
+use Rattle.core_events.specs.LoadMoves.{bundle_link, child_links, found_at, has_moved, head_loaded, is_above, kept_if, locks, next_at, next_loaded, next_nexts, node_known, place_known, ptr_loaded, raised_if, remembered_if, stored_by, ts_loaded, with_held, with_place}
+use Rattle.core_events.specs.LockMoves.{pair_known, pair_loaded}
+use Rattle.core_trees.specs.declared.link.Link.{Link}
+use Rattle.core_trees.specs.NamedTree.{NamedTree}
+use Rattle.table_steps.specs.Passes.{Pass, IsSamePass}
+use Rattle.table_steps.specs.Loads.{IsTreeLink}
+use Rattle.tree_update.specs.declared.child.Seen.{Seen}
+use Rattle.tree_update.specs.Searching.{ReadsAt, IsReadTree, LeadsThere, read_on, HasRead, HasSearched}
+use Rattle.tree_update.specs.Children.{IsSeen}
+
+pub read_nothing : (v : View) → HasRead v v
+read_nothing v = record { place = v.reading.place; links = v.reading.links; waits = v.counts.waits; moves = v.counts.moves; view = refl }
+
+pub read_more : (v w x : View) → HasRead v w → HasRead w x → HasRead v x
+read_more v w x first second = record {
+  place = second.place;
+  links = second.links;
+  waits = second.waits;
+  moves = second.moves;
+  view = second.view ∙ ap (λ (u : View). read_on u second.place second.links second.waits second.moves) first.view;
+}
+
+pub reads_on : (v w : View) (t : ℕ) → HasRead v w → ReadsAt v t → ReadsAt w t
+reads_on v w t read reads = record {
+  section = ap (λ (u : View). u.reading.section) read.view ∙ reads.section;
+  inside = record {
+    odd = ap (λ (u : View). is_even u.section_word) read.view ∙ reads.inside.odd;
+    unlocked = ap (λ (u : View). u.held.nodes) read.view ∙ reads.inside.unlocked;
+    unannounced = ap (λ (u : View). u.announced) read.view ∙ reads.inside.unannounced;
+  };
+}
+
+-- the tree that is read, and the layout, stay
+pub tree_same : (v w : View) → HasRead v w → w.reading.tree ≡ v.reading.tree
+tree_same v w read = ap (λ (u : View). u.reading.tree) read.view
+
+pub layout_same : (v w : View) → HasRead v w → w.layout ≡ v.layout
+layout_same v w read = ap (λ (u : View). u.layout) read.view
+
+pub tree_after : (v w : View) (tree : NamedTree) → HasRead v w → IsReadTree v tree → IsReadTree w tree
+tree_after v w tree read is = record { nodes_are = tree_same v w read ∙ is.nodes_are; lawful = is.lawful; once = is.once }
+
+pub tree_before : (v w : View) (tree : NamedTree) → HasRead v w → IsReadTree w tree → IsReadTree v tree
+tree_before v w tree read is = record { nodes_are = sym (tree_same v w read) ∙ is.nodes_are; lawful = is.lawful; once = is.once }
+
+pub leads_before : (v w : View) (at : Link) (child : ℕ) → HasRead v w → LeadsThere w at child → LeadsThere v at child
+leads_before v w at child read leads = λ tree is. leads tree (tree_after v w tree read is)
+
+pub leads_after : (v w : View) (at : Link) (child : ℕ) → HasRead v w → LeadsThere v at child → LeadsThere w at child
+leads_after v w at child read leads = λ tree is. leads tree (tree_before v w tree read is)
+
+pub link_after : (v w : View) (node : ℕ) (side : Side) → HasRead v w → IsTreeLink v node side → IsTreeLink w node side
+link_after v w node side read link =
+    subst (λ (ns : List TreeNode). ((node ≡ 0) × (side ≡ Right)) ⊎ (0 < count node (tree_slots ns))) (sym (tree_same v w read)) link
+
+-- one search after another
+pub searched_nothing : (v : View) → HasSearched v v
+searched_nothing v = record { read = read_nothing v; links = λ at child entry known. known }
+
+pub searched_more : (v w x : View) → HasSearched v w → HasSearched w x → HasSearched v x
+searched_more v w x first second = record {
+  read = read_more v w x first.read second.read;
+  links = λ at child entry known. second.links at child entry (first.links at child entry known);
+}
+
+-- what was seen is seen still
+pub seen_later : (v w x : View) (at : Link) (seen : Seen) → HasSearched w x → IsSeen v w at seen → IsSeen v x at seen
+seen_later v w x at seen more is = record { leads = is.leads; known = more.links at seen.child seen.entry is.known }
+
+pub seen_before : (v w x : View) (at : Link) (seen : Seen) → HasRead v w → IsSeen w x at seen → IsSeen v x at seen
+seen_before v w x at seen read is = record { leads = leads_before v w at seen.child read is.leads; known = is.known }
+
+-- the same pass
+pub same_pass : (p : Pass) → IsSamePass p p
+same_pass p = record { id = refl; seat = refl; number = refl; layout = refl }
+
+pub same_more : (p q r : Pass) → IsSamePass p q → IsSamePass q r → IsSamePass p r
+same_more p q r first second = record {
+  id = second.id ∙ first.id;
+  seat = second.seat ∙ first.seat;
+  number = second.number ∙ first.number;
+  layout = second.layout ∙ first.layout;
+}
+
+map_none : (f : HeldNode → HeldNode) (hs : List HeldNode) → hs ≡ [] → map f hs ≡ hs
+map_none f hs none = ap (map f) none ∙ sym none
+
+module _ (v w : View) (unlocked : v.held.nodes ≡ []) where
+  pub head_read : (node : ℕ) (side : Side) (head number : ℕ) → w ≡ head_loaded v node side head number → HasRead v w
+  head_read node side head number is =
+      let links : List ViewLink = remembered_if (head == 0) v.reading.links (bundle_link node side 0 0) in
+      let moves : ℕ = raised_if (has_moved v.reading.links node side head && not (stored_by v head number)) v.counts.moves in
+      let place : Place = AtEntry node side head None in
+      record {
+        place = place;
+        links = links;
+        waits = v.counts.waits;
+        moves = moves;
+        view = is ∙ ap (λ (hs : List HeldNode). record (with_place (with_held v hs v.held.nexts) place links) { counts = record v.counts { moves = moves } })
+            (map_none (found_at node side head) v.held.nodes unlocked);
+      }
+
+  pub ts_read : (e x : ℕ) → w ≡ ts_loaded v e x → HasRead v w
+  ts_read e x is =
+      let waits : ℕ = raised_if (x == 0 && not (has e v.update.pending)) v.counts.waits in
+      let place : Place = place_known x v.reading.place in
+      record {
+        place = place;
+        links = v.reading.links;
+        waits = waits;
+        moves = v.counts.moves;
+        view = is ∙ ap (λ (hs : List HeldNode). record (with_place (with_held v hs v.held.nexts) place v.reading.links) { counts = record v.counts { waits = waits } })
+            (map_none (node_known e x) v.held.nodes unlocked);
+      }
+
+  pub ptr_read : (child : ℕ) → w ≡ ptr_loaded v child → HasRead v w
+  ptr_read child is = record { place = v.reading.place; links = child_links v v.reading.place child; waits = v.counts.waits; moves = v.counts.moves; view = is }
+
+  pub next_read : (node : ℕ) (side : Side) (found : Option ℕ) (e next : ℕ) → v.reading.place ≡ AtEntry node side e found → w ≡ next_loaded v e next → HasRead v w
+  next_read node side found e next here is =
+      let links : List ViewLink = remembered_if (next == 0 && is_above v e found) v.reading.links (bundle_link node side 0 0) in
+      let place : Place = AtEntry node side next None in
+      record {
+        place = place;
+        links = links;
+        waits = v.counts.waits;
+        moves = v.counts.moves;
+        view = is ∙ ap (λ (p : Place). next_at v p e next) here ∙ ap (λ (ns : List HeldNext). with_place (with_held v v.held.nodes ns) place links) no_nexts;
+      }
+    where
+      no_nexts : next_nexts v node e found next ≡ v.held.nexts
+      no_nexts = ap (λ (hs : List HeldNode). kept_if (locks node hs) v.held.nexts (record { node = node; entry = e; stamp = found; next = next })) unlocked
+
+  pub pair_read : (field : Field) (node x : ℕ) → w ≡ pair_loaded v field node x → w ≡ v
+  pair_read field node x is = is ∙ ap (λ (hs : List HeldNode). record v { held = record v.held { nodes = hs } }) (map_none (pair_known field node x) v.held.nodes unlocked)
+
+-- what a load of a head or of a next leaves
+pub head_place : (v w : View) (node : ℕ) (side : Side) (head number : ℕ) → w ≡ head_loaded v node side head number → w.reading.place ≡ AtEntry node side head None
+head_place v w node side head number is = ap (λ (u : View). u.reading.place) is
+
+pub head_waits : (v w : View) (node : ℕ) (side : Side) (head number : ℕ) → w ≡ head_loaded v node side head number → w.counts.waits ≡ v.counts.waits
+head_waits v w node side head number is = ap (λ (u : View). u.counts.waits) is
+
+pub next_place : (v w : View) (node : ℕ) (side : Side) (found : Option ℕ) (e next : ℕ) → v.reading.place ≡ AtEntry node side e found → w ≡ next_loaded v e next → w.reading.place ≡ AtEntry node side next None
+next_place v w node side found e next here is = ap (λ (u : View). u.reading.place) (is ∙ ap (λ (p : Place). next_at v p e next) here)
+
+pub next_waits : (v w : View) (node : ℕ) (side : Side) (found : Option ℕ) (e next : ℕ) → v.reading.place ≡ AtEntry node side e found → w ≡ next_loaded v e next → w.counts.waits ≡ v.counts.waits
+next_waits v w node side found e next here is = ap (λ (u : View). u.counts.waits) (is ∙ ap (λ (p : Place). next_at v p e next) here)
+
+-- and of a stamp
+pub ts_place : (v w : View) (node : ℕ) (side : Side) (found : Option ℕ) (e x : ℕ) → v.reading.place ≡ AtEntry node side e found → w ≡ ts_loaded v e x → w.reading.place ≡ AtEntry node side e (Some x)
+ts_place v w node side found e x here is = ap (λ (u : View). u.reading.place) is ∙ ap (place_known x) here
+
+pub ts_waits : (v w : View) (e x : ℕ) → v.update.pending ≡ [] → w ≡ ts_loaded v e x → w.counts.waits ≡ raised_if (x == 0) v.counts.waits
+ts_waits v w e x none is =
+    ap (λ (u : View). u.counts.waits) is
+    ∙ ap (λ (es : List ℕ). raised_if (x == 0 && not (has e es)) v.counts.waits) none
+    ∙ ap (λ (b : Bool). raised_if b v.counts.waits) (and_true (x == 0))
+  where
+    and_true : (b : Bool) → (b && true) ≡ b
+    and_true true = refl
+    and_true false = refl

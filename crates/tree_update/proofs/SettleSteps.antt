@@ -1,0 +1,337 @@
+-- What the looks of a try to settle leave of the view.
+use Rattle.std.proofs.Common.{◌≡◌, ◌≢◌, ℕ, ◌+◌, ◌<◌, List, [], ◌∷◌, ◌++◌, length, cond, Bool, true, false, not, eqb, ◌&&◌, ◌||◌, Option, Some, None, is_some, find, arith, refl, ap, ◌∙◌, sym, subst}
+use Rattle.std.specs.Option.{option_map}
+use Rattle.std.proofs.lemmas.Bool.{eq-eqb, eqb-true, and_parts}
+use Rattle.std.proofs.lemmas.List.{length-append}
+use Rattle.index_words.specs.declared.view.View.{View}
+use Rattle.index_words.specs.declared.view.reading.Reading.{Reading}
+use Rattle.index_words.specs.declared.view.slots.Looks.{Looks}
+use Rattle.index_words.specs.declared.view.slots.Slots.{Slots}
+use Rattle.index_words.specs.declared.view.slots.SectionFound.{SectionFound}
+use Rattle.index_words.specs.declared.layout.Layout.{Layout}
+use Rattle.index_words.specs.Views.{no_slots, no_looks, no_reading}
+use Rattle.key_map.specs.Lists.{has}
+use Rattle.core_grace.specs.Batches.{batch_taken, batch_freed, both, first_found, is_empty, lets_pass, looked_at, all_passed, settled}
+use Rattle.core_grace.specs.Progress.{PassedOthers}
+use Rattle.core_grace.proofs.Progress.{passed_all}
+use Rattle.core_grace.specs.Sections.{is_even}
+use Rattle.core_events.specs.Moves.{entered, in_section, left}
+use Rattle.table_rule.specs.Running.{Happened}
+use Rattle.table_steps.specs.Gives.{looking}
+use Rattle.table_steps.specs.Passes.{Pass, IsSamePass}
+use Rattle.tree_update.specs.declared.settle.Seen.{Seen}
+use Rattle.tree_update.specs.declared.settle.Seen.TheVariants.{Freed, Passed, Inside}
+use Rattle.tree_update.specs.Settles.{apart_from_slots, KeepsAllElse, KeepsSlotCounts, batch_of, retired_of, HasSettled, HasBatch, looks_on, HasLooked, IsSeen, IsTaking, HasPassed, IsHeld, IsSeenAgain}
+
+-- the view with the retired slots as its batch
+abbrev taken_of : View → View
+taken_of v = record v { retired = no_slots; batch = v.retired; grace = no_looks }
+
+-- whichever of two views it is, they agree in this
+either : {X : Type 0} (f : View → X) (b : Bool) (x y : View) (r : X) → f x ≡ r → f y ≡ r → f (cond b x y) ≡ r
+either f true x y r one two = one
+either f false x y r one two = two
+
+taken_apart : (v : View) → KeepsAllElse v (batch_taken v)
+taken_apart v = either apart_from_slots (is_empty v.batch) (taken_of v) v (apart_from_slots v) refl refl
+
+settled_apart : (passes : ℕ) (v : View) → KeepsAllElse v (settled passes v)
+settled_apart passes v = either apart_from_slots (all_passed passes v.number v.grace.passed) (batch_freed v) v (apart_from_slots v) refl refl
+
+taken_free : (v : View) → (batch_taken v).free ≡ v.free
+taken_free v = either (λ u. u.free) (is_empty v.batch) (taken_of v) v v.free refl refl
+
+-- a batch that waits is not taken again
+pub taken_waits : (w : View) → is_empty w.batch ≡ false → batch_taken w ≡ w
+taken_waits w waits = ap (λ b. cond b (taken_of w) w) waits
+
+-- where slots wait the batch has some
+pub batch_waits : (v : View) → (is_empty v.batch && is_empty v.retired) ≡ false → is_empty (batch_of v) ≡ false
+batch_waits v waits = by (is_empty v.batch) refl waits
+  where
+    by : (b : Bool) → is_empty v.batch ≡ b → (b && is_empty v.retired) ≡ false → is_empty (cond b (taken_of v) v).batch ≡ false
+    by true is some = some
+    by false is some = is
+
+pub waits_still : (v : View) → is_empty (batch_of v) ≡ false → (is_empty v.batch && is_empty v.retired) ≡ false
+waits_still v some = by (is_empty v.batch) some
+  where
+    by : (b : Bool) → is_empty (cond b (taken_of v) v).batch ≡ false → (b && is_empty v.retired) ≡ false
+    by true some = some
+    by false some = refl
+
+-- the slots with the batch free, and with the batch that waits
+pub freed_apart : (v w : View) → w ≡ batch_freed (batch_taken v) → KeepsAllElse v w
+freed_apart v w is = ap apart_from_slots is ∙ taken_apart v
+
+pub freed_settled : (v w : View) → w ≡ batch_freed (batch_taken v) → HasSettled v w
+freed_settled v w is = record {
+  free = ap (λ (u : View). u.free) is ∙ ap (λ (s : Slots). both s (batch_of v)) (taken_free v);
+  batch = ap (λ (u : View). u.batch) is;
+  retired = ap (λ (u : View). u.retired) is;
+}
+
+pub batch_apart : (v w : View) → HasBatch v w → KeepsAllElse v w
+batch_apart v w is = ap apart_from_slots is ∙ taken_apart v
+
+-- lists of those who were passed
+has_more : (n : ℕ) (xs ys : List ℕ) → has n xs ≡ true → has n (xs ++ ys) ≡ true
+has_more n [] ys is = cc
+has_more n (x ∷ xs) ys is = by (eqb x n) (has_more n xs ys) is
+  where
+    by : (b : Bool) → (has n xs ≡ true → has n (xs ++ ys) ≡ true) → (b || has n xs) ≡ true → (b || has n (xs ++ ys)) ≡ true
+    by true rest is = refl
+    by false rest is = rest is
+
+has_last : (n : ℕ) (xs : List ℕ) → has n (xs ++ n ∷ []) ≡ true
+has_last n [] = ap (λ b. b || false) (eq-eqb n n refl)
+has_last n (x ∷ xs) = by (eqb x n) (has_last n xs)
+  where
+    by : (b : Bool) → has n (xs ++ n ∷ []) ≡ true → (b || has n (xs ++ n ∷ [])) ≡ true
+    by true rest = refl
+    by false rest = rest
+
+-- a look at a pass, by what is known of it
+abbrev looked_by : Looks → ℕ → ℕ → Bool → Bool → Bool → Looks
+looked_by g pass word a b c =
+    cond a g (cond b (record g { passed = g.passed ++ pass ∷ [] }) (cond c g (record g { found = g.found ++ record { pass = pass; word = word } ∷ [] })))
+
+stays_passed : (g : Looks) (pass word n : ℕ) → has n g.passed ≡ true → has n (looked_at g pass word).passed ≡ true
+stays_passed g pass word n is = by (has pass g.passed) (lets_pass (first_found pass g.found) word) (is_some (first_found pass g.found))
+  where
+    by : (a b c : Bool) → has n (looked_by g pass word a b c).passed ≡ true
+    by true b c = is
+    by false true c = has_more n g.passed (pass ∷ []) is
+    by false false true = is
+    by false false false = is
+
+-- a word that was noted last is the first one that was found of a pass of which none was noted
+abbrev word_in : Option SectionFound → Option ℕ
+word_in o = option_map (λ (f : SectionFound). f.word) o
+
+found_last : (n word : ℕ) (fs : List SectionFound) → first_found n fs ≡ None → first_found n (fs ++ record { pass = n; word = word } ∷ []) ≡ Some word
+found_last n word [] none = ap (λ b. word_in (cond b (Some (record { pass = n; word = word })) None)) (eq-eqb n n refl)
+found_last n word (f ∷ fs) none = by (eqb f.pass n) (found_last n word fs) none
+  where
+    by : (b : Bool) → (first_found n fs ≡ None → first_found n (fs ++ record { pass = n; word = word } ∷ []) ≡ Some word)
+        → word_in (cond b (Some f) (find (λ (f : SectionFound). eqb f.pass n) fs)) ≡ None
+        → word_in (cond b (Some f) (find (λ (f : SectionFound). eqb f.pass n) (fs ++ record { pass = n; word = word } ∷ []))) ≡ Some word
+    by true rest none = cc
+    by false rest none = rest none
+
+or_left : (a b : Bool) → (a || b) ≡ false → a ≡ false
+or_left true b none = cc
+or_left false b none = refl
+
+or_right : (a b : Bool) → (a || b) ≡ false → b ≡ false
+or_right true b none = cc
+or_right false b none = none
+
+same_if : (n m : ℕ) (b : Bool) → eqb n m ≡ b → not b ≡ false → n ≡ m
+same_if n m true is other = eqb-true n m is
+same_if n m false is other = cc
+
+-- who is not passed by a look was found inside, by the same word as at first
+pub record FoundInside (g : Looks) (pass word : ℕ) : Type 0 where
+  pub odd : is_even word ≡ false
+  pub first : first_found pass (looked_at g pass word).found ≡ Some word
+
+apart : (b : Bool) → b ≡ true → b ≡ false → ⊥
+apart true held none = cc
+apart false held none = cc
+
+module _ (g : Looks) (pass word : ℕ) where
+  with_found : (a b c : Bool) → has pass g.passed ≡ a → lets_pass (first_found pass g.found) word ≡ b → is_some (first_found pass g.found) ≡ c → looked_at g pass word ≡ looked_by g pass word a b c
+  with_found a b c one two three = rw (one, two, three) refl
+
+  not_let : (a b c : Bool) → has pass g.passed ≡ a → has pass (looked_by g pass word a b c).passed ≡ false → (a ≡ false) × (b ≡ false)
+  not_let true b c is none = absurd (apart (has pass g.passed) is none)
+  not_let false true c is none = absurd (apart (has pass (g.passed ++ pass ∷ [])) (has_last pass g.passed) none)
+  not_let false false c is none = (refl, refl)
+
+  inside_by : (o : Option ℕ) → first_found pass g.found ≡ o → lets_pass o word ≡ false → has pass g.passed ≡ false → FoundInside g pass word
+  inside_by None is lets new =
+      let now : looked_at g pass word ≡ looked_by g pass word false false false = with_found false false false new (ap (λ o. lets_pass o word) is ∙ lets) (ap is_some is) in
+      record { odd = lets; first = ap (λ (x : Looks). first_found pass x.found) now ∙ found_last pass word g.found is }
+  inside_by (Some first) is lets new =
+      let now : looked_at g pass word ≡ looked_by g pass word false false true = with_found false false true new (ap (λ o. lets_pass o word) is ∙ lets) (ap is_some is) in
+      let same : word ≡ first = same_if word first (eqb word first) refl (or_right (is_even word) (not (eqb word first)) lets) in
+      record {
+        odd = or_left (is_even word) (not (eqb word first)) lets;
+        first = ap (λ (x : Looks). first_found pass x.found) now ∙ is ∙ ap Some (sym same);
+      }
+
+  pub found_inside : has pass (looked_at g pass word).passed ≡ false → FoundInside g pass word
+  found_inside none =
+      let known = not_let (has pass g.passed) (lets_pass (first_found pass g.found) word) (is_some (first_found pass g.found)) refl none in
+      inside_by (first_found pass g.found) refl known.1 known.0
+
+  -- and where a word was noted before, it is this one
+  pub found_same : (first : ℕ) → first_found pass g.found ≡ Some first → has pass (looked_at g pass word).passed ≡ false → word ≡ first
+  found_same first is none =
+      let known = not_let (has pass g.passed) (lets_pass (first_found pass g.found) word) (is_some (first_found pass g.found)) refl none in
+      let lets : lets_pass (Some first) word ≡ false = ap (λ o. lets_pass o word) (sym is) ∙ known.1 in
+      same_if word first (eqb word first) refl (or_right (is_even word) (not (eqb word first)) lets)
+
+-- two looks
+module _ (p q : Pass) (other m : ℕ) (one : HasLooked p other m q.view) where
+  -- the batch was taken by the first one
+  taken_first : batch_taken q.view ≡ looks_on p.view other m
+  taken_first = taken_waits q.view one.waits ∙ one.view
+
+  first_batch : HasBatch p.view q.view
+  first_batch = one.view ∙ ap (λ (g : Looks). record (batch_taken p.view) { grace = g }) (sym (ap (λ (u : View). u.grace) one.view))
+
+  freed_second : (w : View) → w ≡ batch_freed (batch_taken q.view) → w ≡ batch_freed (batch_taken p.view)
+  freed_second w is = is ∙ ap batch_freed taken_first
+
+  module _ (n : ℕ) (w : View) (two : HasLooked q other n w) where
+    second_view : w ≡ record (batch_taken p.view) { grace = looked_at (looked_at (batch_taken p.view).grace other m) other n }
+    second_view = two.view ∙ ap (λ (u : View). record u { grace = looked_at u.grace other n }) taken_first
+
+    second_batch : HasBatch p.view w
+    second_batch = second_view ∙ ap (λ (g : Looks). record (batch_taken p.view) { grace = g }) (sym (ap (λ (u : View). u.grace) second_view))
+
+    second_taken : batch_taken w ≡ w
+    second_taken = taken_waits w two.waits
+
+    passed_second : has other w.grace.passed ≡ true → HasPassed p.view other w
+    passed_second is = record {
+      taking = second_taken ∙ second_batch ∙ ap (λ (u : View). record (batch_taken p.view) { grace = u.grace }) (sym second_taken);
+      keeps = λ k had. ap (λ (u : View). has k u.grace.passed) (second_taken ∙ second_view)
+          ∙ stays_passed (looked_at (batch_taken p.view).grace other m) other n k (stays_passed (batch_taken p.view).grace other m k had);
+      done = λ own. ap (λ (u : View). has other u.grace.passed) second_taken ∙ is;
+    }
+
+    held_second : has other q.view.grace.passed ≡ false → has other w.grace.passed ≡ false → IsSamePass p q → other < p.view.layout.passes → other ≢ p.number → IsHeld p other n w
+    held_second new none same low apart_from = record {
+      there = low;
+      other = apart_from;
+      odd = (found_inside q.view.grace other n at_second).odd;
+      batch = second_batch;
+      again = record {
+        before = q.view;
+        batch = first_batch;
+        first = first_at ∙ ap Some (sym (found_same q.view.grace other n m first_at at_second));
+        event = subst (λ (s : ℕ). Happened p.view.layout (looking (record p { seat = s }) other) q.view n w) same.seat
+            (subst (λ (z : Layout). Happened z (looking (record q { view = record q.view { layout = z } }) other) q.view n w) same.layout two.event);
+      };
+    }
+      where
+        grace_first : q.view.grace ≡ looked_at (batch_taken p.view).grace other m
+        grace_first = ap (λ (u : View). u.grace) one.view
+
+        first_at : first_found other q.view.grace.found ≡ Some m
+        first_at =
+            ap (λ (g : Looks). first_found other g.found) grace_first
+            ∙ (found_inside (batch_taken p.view).grace other m (ap (λ (g : Looks). has other g.passed) (sym grace_first) ∙ new)).first
+
+        grace_second : w.grace ≡ looked_at q.view.grace other n
+        grace_second = ap (λ (u : View). u.grace) two.view ∙ ap (λ (u : View). looked_at u.grace other n) (taken_waits q.view one.waits)
+
+        at_second : has other (looked_at q.view.grace other n).passed ≡ false
+        at_second = ap (λ (g : Looks). has other g.passed) (sym grace_second) ∙ none
+
+-- what the second look comes to
+pub seen_again : (p q : Pass) (other m : ℕ) (r : Seen) (w : View) → IsSamePass p q → other < p.view.layout.passes → other ≢ p.number
+    → HasLooked p other m q.view → has other q.view.grace.passed ≡ false → IsSeen q other r w → IsSeenAgain p other r w
+seen_again p q other m Freed w same low apart_from one new is = freed_second p q other m one w is
+seen_again p q other m Passed w same low apart_from one new is = passed_second p q other m one is.0 w is.1 is.2
+seen_again p q other m (Inside n) w same low apart_from one new is = held_second p q other m one n w is.0 new is.1 same low apart_from
+
+-- the enter at the end frees the batch
+section_taken : (v : View) (y : ℕ) → batch_taken (in_section v y) ≡ in_section (batch_taken v) y
+section_taken v y = by (is_empty v.batch)
+  where
+    by : (b : Bool) → cond b (taken_of (in_section v y)) (in_section v y) ≡ in_section (cond b (taken_of v) v) y
+    by true = refl
+    by false = refl
+
+taken_number : (v : View) → (batch_taken v).number ≡ v.number
+taken_number v = either (λ u. u.number) (is_empty v.batch) (taken_of v) v v.number refl refl
+
+module _ (passes : ℕ) (v : View) (y : ℕ) where
+  entered_freed : PassedOthers passes v.number (batch_taken v).grace.passed → entered passes v y ≡ batch_freed (in_section (batch_taken v) y)
+  entered_freed others =
+      let all : all_passed passes (batch_taken v).number (batch_taken v).grace.passed ≡ true
+      = ap (λ n. all_passed passes n (batch_taken v).grace.passed) (taken_number v) ∙ passed_all passes v.number (batch_taken v).grace.passed others in
+      ap (settled passes) (section_taken v y) ∙ ap (λ b. cond b (batch_freed (in_section (batch_taken v) y)) (in_section (batch_taken v) y)) all
+
+  -- and the leave behind it leaves that
+  pub left_settled : PassedOthers passes v.number (batch_taken v).grace.passed → (e w : View) (x : ℕ) → e ≡ entered passes v y → w ≡ left e x → HasSettled v w
+  left_settled others e w x first second =
+      let is : w ≡ left (batch_freed (in_section (batch_taken v) y)) x = second ∙ ap (λ u. left u x) (first ∙ entered_freed others) in
+      record {
+        free = ap (λ (u : View). u.free) is ∙ ap (λ (s : Slots). both s (batch_of v)) (taken_free v);
+        batch = ap (λ (u : View). u.batch) is;
+        retired = ap (λ (u : View). u.retired) is;
+      }
+
+  pub left_apart : v.reading ≡ no_reading → (e w : View) (x : ℕ) → e ≡ entered passes v y → w ≡ left e x → KeepsAllElse v w
+  left_apart rest e w x first second =
+      let inside : apart_from_slots e ≡ apart_from_slots (in_section v y)
+      = ap apart_from_slots first ∙ settled_apart passes (batch_taken (in_section v y)) ∙ taken_apart (in_section v y) in
+      ap apart_from_slots second ∙ ap (λ (u : View). record u { reading = no_reading }) inside ∙ ap (λ (r : Reading). record (apart_from_slots v) { reading = r }) (sym rest)
+
+-- from the start of a try over the looks so far
+module _ (v u : View) (taking : IsTaking v u) where
+  pub freed_from : (w : View) → w ≡ batch_freed (batch_taken u) → w ≡ batch_freed (batch_taken v)
+  freed_from w is = is ∙ ap batch_freed taking
+
+  pub batch_from : (w : View) → HasBatch u w → HasBatch v w
+  batch_from w is = is ∙ ap (λ (t : View). record t { grace = w.grace }) taking
+
+  pub taking_from : (w : View) → IsTaking u w → IsTaking v w
+  taking_from w is = is ∙ ap (λ (t : View). record t { grace = (batch_taken w).grace }) taking
+
+-- of each kind as many slots are in the batch and retired as were before the batch was taken
+empty_nodes : (s : Slots) → is_empty s ≡ true → length s.nodes ≡ 0
+empty_nodes s is = eqb-true (length s.nodes) 0 (and_parts (eqb (length s.nodes) 0) (eqb (length s.entries) 0) is).0
+
+empty_entries : (s : Slots) → is_empty s ≡ true → length s.entries ≡ 0
+empty_entries s is = eqb-true (length s.entries) 0 (and_parts (eqb (length s.nodes) 0) (eqb (length s.entries) 0) is).1
+
+taken_nodes : (v : View) → length (batch_of v).nodes + length (retired_of v).nodes ≡ length v.batch.nodes + length v.retired.nodes
+taken_nodes v = by (is_empty v.batch) refl
+  where
+    by : (b : Bool) → is_empty v.batch ≡ b → length (cond b (taken_of v) v).batch.nodes + length (cond b (taken_of v) v).retired.nodes ≡ length v.batch.nodes + length v.retired.nodes
+    by true is = omega (arith, empty_nodes v.batch is)
+    by false is = refl
+
+taken_entries : (v : View) → length (batch_of v).entries + length (retired_of v).entries ≡ length v.batch.entries + length v.retired.entries
+taken_entries v = by (is_empty v.batch) refl
+  where
+    by : (b : Bool) → is_empty v.batch ≡ b → length (cond b (taken_of v) v).batch.entries + length (cond b (taken_of v) v).retired.entries ≡ length v.batch.entries + length v.retired.entries
+    by true is = omega (arith, empty_entries v.batch is)
+    by false is = refl
+
+-- so a try to settle keeps the counts of slots
+pub settled_counts : (v w : View) → HasSettled v w → KeepsSlotCounts v w
+settled_counts v w s = record {
+  nodes = omega (
+    arith,
+    ap (λ (t : Slots). length t.nodes) s.free,
+    ap (λ (t : Slots). length t.nodes) s.batch,
+    ap (λ (t : Slots). length t.nodes) s.retired,
+    length-append v.free.nodes (batch_of v).nodes,
+    taken_nodes v,
+  );
+  entries = omega (
+    arith,
+    ap (λ (t : Slots). length t.entries) s.free,
+    ap (λ (t : Slots). length t.entries) s.batch,
+    ap (λ (t : Slots). length t.entries) s.retired,
+    length-append v.free.entries (batch_of v).entries,
+    taken_entries v,
+  );
+}
+
+pub batch_counts : (v w : View) → HasBatch v w → KeepsSlotCounts v w
+batch_counts v w is =
+    let free : w.free ≡ v.free = ap (λ (u : View). u.free) is ∙ taken_free v in
+    let batch : w.batch ≡ batch_of v = ap (λ (u : View). u.batch) is in
+    let retired : w.retired ≡ retired_of v = ap (λ (u : View). u.retired) is in
+    record {
+      nodes = omega (arith, ap (λ (t : Slots). length t.nodes) free, ap (λ (t : Slots). length t.nodes) batch, ap (λ (t : Slots). length t.nodes) retired, taken_nodes v);
+      entries = omega (arith, ap (λ (t : Slots). length t.entries) free, ap (λ (t : Slots). length t.entries) batch, ap (λ (t : Slots). length t.entries) retired, taken_entries v);
+    }

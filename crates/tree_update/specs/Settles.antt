@@ -1,0 +1,112 @@
+-- What a try to settle does with the slots of a pass that wait to become free.
+use Rattle.std.specs.Prelude.{◌≡◌, ◌≢◌, ℕ, ◌+◌, ◌<◌, length, true, false, Some}
+use Rattle.index_words.specs.declared.view.View.{View}
+use Rattle.index_words.specs.declared.view.slots.Slots.{Slots}
+use Rattle.index_words.specs.Views.{no_slots, no_looks}
+use Rattle.key_map.specs.Lists.{has}
+use Rattle.core_grace.specs.Batches.{batch_taken, batch_freed, both, first_found, is_empty, is_number, looked_at}
+use Rattle.core_grace.specs.Sections.{is_even}
+use Rattle.table_rule.specs.Running.{Happened}
+use Rattle.table_steps.specs.Gives.{looking}
+use Rattle.table_steps.specs.Passes.{Pass}
+use Rattle.tree_update.specs.declared.settle.Seen.{Seen}
+use Rattle.tree_update.specs.declared.settle.Seen.TheVariants.{Freed, Passed, Inside}
+use Rattle.tree_update.specs.declared.settle.Settling.{Settling}
+use Rattle.tree_update.specs.declared.settle.Settling.TheVariants.{Settled, Held}
+
+-- the view but for the own section word, the slots, and what is known of the batch
+abbrev pub apart_from_slots : View → View
+apart_from_slots v = record v { section_word = 0; free = no_slots; retired = no_slots; batch = no_slots; grace = no_looks }
+
+-- all else is as it was: the history, what was counted, what was read, and the rest
+abbrev pub KeepsAllElse : View → View → Type 0
+KeepsAllElse v w = apart_from_slots w ≡ apart_from_slots v
+
+-- how many nodes and how many entries the view owns
+abbrev pub owned_nodes : View → ℕ
+owned_nodes v = length v.free.nodes + length v.batch.nodes + length v.retired.nodes
+
+abbrev pub owned_entries : View → ℕ
+owned_entries v = length v.free.entries + length v.batch.entries + length v.retired.entries
+
+pub record KeepsSlotCounts (v w : View) : Type 0 where
+  pub nodes : owned_nodes w ≡ owned_nodes v
+  pub entries : owned_entries w ≡ owned_entries v
+
+-- the batch of a try to settle: the one that waits, or else the slots that are retired
+abbrev pub batch_of : View → Slots
+batch_of v = (batch_taken v).batch
+
+-- and the slots that are retired then
+abbrev pub retired_of : View → Slots
+retired_of v = (batch_taken v).retired
+
+-- every slot of the batch is free
+pub record HasSettled (v w : View) : Type 0 where
+  pub free : w.free ≡ both v.free (batch_of v)
+  pub batch : w.batch ≡ no_slots
+  pub retired : w.retired ≡ retired_of v
+
+-- the batch waits: the view is as it was but that the batch was taken, and for new looks
+abbrev pub HasBatch : View → View → Type 0
+HasBatch v w = w ≡ record (batch_taken v) { grace = w.grace }
+
+-- the view where a batch was taken and a look at another pass found this word, before the test whether the batch becomes free
+abbrev pub looks_on : View → ℕ → ℕ → View
+looks_on v other word = record (batch_taken v) { grace = looked_at (batch_taken v).grace other word }
+
+-- a look at another pass found this word, and the batch waits
+pub record HasLooked (p : Pass) (other word : ℕ) (w : View) : Type 0 where
+  pub view : w ≡ looks_on p.view other word
+  pub waits : is_empty w.batch ≡ false
+  pub event : Happened p.view.layout (looking p other) p.view word w
+
+-- what a look comes to
+abbrev pub IsSeen : Pass → ℕ → Seen → View → Type 0
+IsSeen p other Freed w = w ≡ batch_freed (batch_taken p.view)
+IsSeen p other Passed w = (word : ℕ) × HasLooked p other word w × (has other w.grace.passed ≡ true)
+IsSeen p other (Inside word) w = HasLooked p other word w × (has other w.grace.passed ≡ false)
+
+-- between the looks of a try the view has the batch, whether it was taken or not, and new looks
+abbrev pub IsTaking : View → View → Type 0
+IsTaking v w = batch_taken w ≡ record (batch_taken v) { grace = (batch_taken w).grace }
+
+-- who was passed stays so
+abbrev pub KeepsPassed : View → View → Type 0
+KeepsPassed v w = (n : ℕ) → has n (batch_taken v).grace.passed ≡ true → has n (batch_taken w).grace.passed ≡ true
+
+-- the pass is the own one, or was passed
+abbrev pub IsDoneWith : ℕ → View → Type 0
+IsDoneWith other v = is_number other v.number ≡ false → has other (batch_taken v).grace.passed ≡ true
+
+-- the looks at one pass are done with: it is the own one, or was passed, and the batch waits
+pub record HasPassed (v : View) (other : ℕ) (w : View) : Type 0 where
+  pub taking : IsTaking v w
+  pub keeps : KeepsPassed v w
+  pub done : IsDoneWith other w
+
+-- a look found this word as another pass's section word, when a look had found it before, since the batch was taken
+pub record FoundAgain (p : Pass) (seat word : ℕ) (w : View) : Type 0 where
+  pub before : View
+  pub batch : HasBatch p.view before
+  pub first : first_found seat before.grace.found ≡ Some word
+  pub event : Happened p.view.layout (looking p seat) before word w
+
+-- another pass holds the batch: it is in the section in which it was found at two steps since the batch was taken
+pub record IsHeld (p : Pass) (seat word : ℕ) (w : View) : Type 0 where
+  pub there : seat < p.view.layout.passes
+  pub other : seat ≢ p.number
+  pub odd : is_even word ≡ false
+  pub batch : HasBatch p.view w
+  pub again : FoundAgain p seat word w
+
+-- what a try to settle comes to
+abbrev pub HasTried : Pass → Settling → View → Type 0
+HasTried p Settled w = HasSettled p.view w
+HasTried p (Held seat word) w = IsHeld p seat word w
+
+-- what the looks at one pass come to
+abbrev pub IsSeenAgain : Pass → ℕ → Seen → View → Type 0
+IsSeenAgain p other Freed w = w ≡ batch_freed (batch_taken p.view)
+IsSeenAgain p other Passed w = HasPassed p.view other w
+IsSeenAgain p other (Inside word) w = IsHeld p other word w

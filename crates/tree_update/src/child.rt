@@ -1,0 +1,81 @@
+//! The child of a link of the tree that a pass reads, and the entry that tells it.
+ghost use Rattle.std.specs.Prelude.{◌≡◌, ◌<◌, IfSome};
+ghost use Rattle.table_steps.specs.Loads.{IsTreeLink};
+ghost use Rattle.table_steps.specs.Passes.{IsSamePass};
+ghost use Rattle.tree_update.specs.Searching.{ReadsAt, HasSearched};
+ghost use Rattle.tree_update.specs.Children.{IsSeen, waits_after, IsAtEntryOf, GoesAlong};
+
+use core_trees::Link;
+use std::sync::Wait;
+use table_steps::TablePass;
+
+/// The child of a link, 0 for none, and the entry with which the pass remembers it, 0 where no entry has it.
+#[derive(Clone, Copy)]
+pub(crate) struct Seen {
+    pub child: u32,
+    pub entry: u32,
+}
+
+/// What comes of a look at an entry of a link's bundle.
+#[derive(Clone, Copy)]
+pub(crate) enum Along {
+    /// It is the one that tells.
+    Found(Seen),
+    /// The next older one is to be looked at, 0 behind the last one.
+    Next(u32),
+    /// It has no number yet.
+    Pending,
+}
+
+/// One look at an entry of a link's bundle: if its number is at most `at`, it tells the child.
+fn look_along(pass: &mut TablePass<'_>, at: u64, link: Link, entry: u32) -> Along
+    requires reads { ReadsAt pass.old.view at }
+    requires link { IsTreeLink pass.old.view link.node link.side }
+    requires stands { IsAtEntryOf pass.old.view link entry }
+    requires some { 0 < entry }
+    ensures same { IsSamePass pass.old pass.new }
+    ensures searched { HasSearched pass.old.view pass.new.view }
+    ensures goes { GoesAlong pass.old.view pass.new.view link result }
+{
+    pass.facts();
+    let number = pass.load_ts(entry);
+    if number == 0 {
+        return Along::Pending;
+    }
+    if number <= at {
+        let child = pass.load_ptr(entry);
+        return Along::Found(Seen { child, entry });
+    }
+    let next = pass.load_next(entry);
+    Along::Next(next)
+}
+
+/// The child of a link of the tree that the pass reads at `at`: of the link's entries, from the newest on, the first
+/// one whose number is at most `at` has it. None where an entry had no number yet.
+pub(crate) fn child_at<R: Wait>(
+    pass: &mut TablePass<'_>,
+    rt: &R,
+    at: u64,
+    link: Link,
+) -> Option<Seen>
+    requires reads { ReadsAt pass.old.view at }
+    requires link { IsTreeLink pass.old.view link.node link.side }
+    ensures same { IsSamePass pass.old pass.new }
+    ensures searched { HasSearched pass.old.view pass.new.view }
+    ensures seen { IfSome result (IsSeen pass.old.view pass.new.view link) }
+    ensures waits { pass.new.view.counts.waits ≡ waits_after result pass.old.view.counts.waits }
+{
+    pass.facts();
+    let mut entry = pass.load_head(link.node, link.side);
+    'along: for _ in rt.forever() {
+        if entry == 0 {
+            return Some(Seen { child: 0, entry: 0 });
+        }
+        match look_along(pass, at, link, entry) {
+            Along::Found(seen) => return Some(seen),
+            Along::Pending => return None,
+            Along::Next(next) => entry = next,
+        }
+    }
+    unreachable!()
+}
