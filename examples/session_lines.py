@@ -1,4 +1,5 @@
 """How a record is written as a line of a session, and what the scripts beside it share."""
+import random
 import re
 import signal
 import sys
@@ -31,3 +32,13 @@ def put_line(name, size, etag, modified):
         print("left out %r: %s" % (name, fault), file=sys.stderr)
         return None
     return "PUT %s %d %s %d" % (escaped(name), size, bare, modified)
+
+
+def print_session(lines):
+    """Prints a session of one client with these PUT lines, in an order that looks random and is always the same. The index
+    keeps its keys in a tree that is not balanced: names that are put in rising order make it as deep as it can be."""
+    lines = [line for line in lines if line]
+    random.Random(1).shuffle(lines)
+    print("CLIENT")
+    for line in lines:
+        print(line)

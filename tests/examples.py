@@ -6,6 +6,8 @@
 
 - Each session examples/NAME.txt is answered by examples/NAME.out, which is also what the model of
   session_model.py answers. The pair that the program's crate is checked with is that of examples/photos.
+  A session of several clients has no answers beside it, since they depend on the schedule: what the program
+  writes is to be a legal run.
 - Each session examples/refused/CAUSE.txt is refused for this cause, at the line that the model names.
 - In README.md, docs/ and examples/README.md, each block marked `sh` that a block marked `output` follows
   prints just that, run at the top of the repository; and each block marked `session` is answered by the
@@ -17,6 +19,7 @@ import subprocess
 import sys
 from pathlib import Path
 
+from legal_runs import fault_of
 from random_sessions import make_ready
 from session_model import Refused, answers
 
@@ -67,7 +70,12 @@ def model(raw):
 
 def check_sessions(program, tally):
     for path in sorted(EXAMPLES.glob("*.txt")):
-        raw, beside = path.read_bytes(), path.with_suffix(".out").read_text()
+        raw = path.read_bytes()
+        if model(raw)[0] is None:
+            got = run(program, raw)
+            tally.compare(path.name, (fault_of(raw, got[0]) or "", *got[1:]), ("", "", 0))
+            continue
+        beside = path.with_suffix(".out").read_text()
         tally.compare("%s and the model" % path.name, model(raw), (beside, "", 0))
         tally.compare(path.name, run(program, raw), (beside, "", 0))
     crate = TOP / "crates" / "bucketidx"
@@ -109,7 +117,9 @@ def check_pages(program, tally):
 
 def write():
     for path in sorted(EXAMPLES.glob("*.txt")):
-        path.with_suffix(".out").write_text(answers(path.read_bytes()))
+        text = answers(path.read_bytes())
+        if text is not None:
+            path.with_suffix(".out").write_text(text)
     crate = TOP / "crates" / "bucketidx"
     shutil.copyfile(EXAMPLES / "photos.txt", crate / "stdin")
     shutil.copyfile(EXAMPLES / "photos.out", crate / "stdout")

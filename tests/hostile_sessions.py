@@ -5,19 +5,20 @@
 from session_model import Refused, answers
 
 MOST_BYTES = 64 * 1024 * 1024
-MOST_CLIENTS = 1  # what is built so far
+MOST_CLIENTS = 32
 MOST_LINES = 200_000
 MOST_KEY_BYTES = 1024
 
 CAUSES = [
     "NotUtf8", "UnknownVerb", "WrongFields", "BadEscape", "EmptyKey", "KeyTooLong", "BadNumber", "NumberTooLarge",
     "BadEtag", "UnknownParameter", "RepeatedParameter", "BadListType", "BadMaxKeys", "BadEncoding", "BadFetchOwner",
-    "NoClient", "TooManyLines", "TooManyEntries", "NotBuilt",
+    "NoClient", "TooManyClients", "TooManyLines", "TooManyEntries",
 ]
 
 
 def outcome(session):
-    """The exit status, the standard output and the standard error that the definitions want."""
+    """The exit status, the standard output and the standard error that the definitions want. The output is None where
+    it depends on the schedule."""
     if len(session) > MOST_BYTES:
         return 4, "", "bucketidx: input too long\n"
     try:

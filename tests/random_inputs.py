@@ -12,6 +12,7 @@ import random
 import subprocess
 import sys
 
+from legal_runs import fault_of
 from random_sessions import Session, make_ready
 from session_model import PARAMETERS, Refused, answers
 
@@ -69,11 +70,14 @@ def main():
     for _ in range(options.inputs):
         raw = odd_input(rng)
         try:
-            wanted = answers(raw).encode(), b"", 0
+            text = answers(raw)
+            wanted = text and text.encode(), b"", 0
         except Refused as refusal:
             wanted = b"", b"bucketidx: %s\n" % str(refusal).encode(), 3
         causes[wanted[1].decode().strip().split(": ")[-1]] += 1
         ran = subprocess.run([options.program, "run"], input=raw, capture_output=True)
+        if wanted[0] is None and ran.returncode == 0 and fault_of(raw, ran.stdout.decode()) is None:
+            wanted = ran.stdout, b"", 0
         if (ran.stdout, ran.stderr, ran.returncode) != wanted:
             print("input   %r\ngot     %r\nwanted  %r" % (raw, (ran.stderr, ran.stdout, ran.returncode), wanted))
             sys.exit(1)

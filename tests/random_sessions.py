@@ -66,6 +66,36 @@ def page_of(keys, query, point):
     return entries, False
 
 
+def page_members(records, query, point):
+    """The members of the page of this query, in the bucket of these records."""
+    entries, truncated = page_of(records, query, point)
+    shown = (lambda text: quote(text, safe="-._~/")) if query["url"] else (lambda text: text)
+    members = dict(
+        CommonPrefixes=[{"Prefix": shown(t.decode())} for kind, t in entries if kind == b"P"],
+        Contents=[dict(records[t], Key=shown(t.decode())) for kind, t in entries if kind == b"K"],
+        IsTruncated=truncated,
+        KeyCount=len(entries),
+        MaxKeys=query["max_keys"],
+        Prefix=shown(query["prefix"]),
+    )
+    if query["token"]:
+        members["ContinuationToken"] = query["token"]
+    if query["delimiter"]:
+        members["Delimiter"] = shown(query["delimiter"])
+    if query["url"]:
+        members["EncodingType"] = "url"
+    if query["start_after"]:
+        members["StartAfter"] = shown(query["start_after"])
+    if truncated:
+        members["NextContinuationToken"] = base64url(b"".join(entries[-1]))
+    return members
+
+
+def line_text(members):
+    """A line of the text: the members by their names, without spaces."""
+    return json.dumps(members, separators=(",", ":"), ensure_ascii=False, sort_keys=True) + "\n"
+
+
 class Model:
     """One client's bucket, the answers so far, and the journal."""
 
@@ -97,26 +127,8 @@ class Model:
         point = point_of(query["token"]) if query["token"] else None
         if query["token"] and point is None:
             return self.answer(line, 400)
-        entries, truncated = page_of(self.records, query, point)
-        shown = (lambda text: quote(text, safe="-._~/")) if query["url"] else (lambda text: text)
-        members = dict(
-            CommonPrefixes=[{"Prefix": shown(t.decode())} for kind, t in entries if kind == b"P"],
-            Contents=[dict(self.records[t], Key=shown(t.decode())) for kind, t in entries if kind == b"K"],
-            IsTruncated=truncated,
-            KeyCount=len(entries),
-            MaxKeys=query["max_keys"],
-            Prefix=shown(query["prefix"]),
-        )
-        if query["token"]:
-            members["ContinuationToken"] = query["token"]
-        if query["delimiter"]:
-            members["Delimiter"] = shown(query["delimiter"])
-        if query["url"]:
-            members["EncodingType"] = "url"
-        if query["start_after"]:
-            members["StartAfter"] = shown(query["start_after"])
-        if truncated:
-            self.next_token = members["NextContinuationToken"] = base64url(b"".join(entries[-1]))
+        members = page_members(self.records, query, point)
+        self.next_token = members.get("NextContinuationToken")
         self.answer(line, 200, **members)
 
     def next(self, line):
@@ -130,8 +142,7 @@ class Model:
         for at, (line, name, verb) in enumerate(self.journal, 1):
             lines.append(dict(At=at, Client=0, Key=name, Line=line, Verb=verb))
         lines.append(dict(Updates=len(self.journal)))
-        form = dict(separators=(",", ":"), ensure_ascii=False, sort_keys=True)
-        return "".join(json.dumps(line, **form) + "\n" for line in lines)
+        return "".join(map(line_text, lines))
 
 
 # ---- random sessions
@@ -236,9 +247,15 @@ def first_difference(got, wanted):
 
 
 def check(program, session, wanted_status, wanted, wanted_error):
-    """Runs the session, and ends with status 1 where the program does otherwise."""
+    """Runs the session, and ends with status 1 where the program does otherwise. Where no text is wanted, what it
+    writes is to be of a legal run."""
     run = subprocess.run([program, "run"], input=session, capture_output=True)
     got, error = run.stdout.decode(), run.stderr.decode()
+    if wanted is None and run.returncode == 0:
+        from legal_runs import fault_of
+
+        fault = fault_of(session, got)
+        wanted = "(a legal run: %s)\n" % fault if fault else got
     if (run.returncode, error, got) != (wanted_status, wanted_error, wanted):
         print(repr(session[:4000]) if wanted_status else session[:100_000].decode())
         print("status %d for %d, standard error %r for %r" % (run.returncode, wanted_status, error, wanted_error))

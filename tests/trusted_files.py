@@ -4,7 +4,8 @@
     tests/trusted_files.py [--list]
 
 The files are the closure of the imports of the file of `serve`, and of the two traits of its source and sink.
-Each other definition file of the crates below `serve` says in its first line that it is a helper.
+Of the crates that have one of them, each other definition file says in its first line that it is a helper. All
+other crates below `serve` have helpers alone.
 With `--list` the files are printed in place of the check, each with its lines, and with those of them that are
 neither empty nor an import.
 """
@@ -49,9 +50,10 @@ def crates_below(crate):
     return seen
 
 
-def marked():
-    """The definition files that say of themselves that they are helpers, and those that do not."""
-    files = [path for crate in crates_below("bucketidx") for path in (HERE / "crates" / crate / "specs").rglob("*.antt")]
+def marked(needed):
+    """Of the crates that have a needed file: the definition files that say that they are helpers, and the others."""
+    crates = crates_below("bucketidx") & {name.split("/")[1] for name in needed}
+    files = [path for crate in crates for path in (HERE / "crates" / crate / "specs").rglob("*.antt")]
     files = [path for path in files if path.name != "Lib.antt"]
     helpers = {path for path in files if path.read_text().startswith(HELPER + "\n")}
     return names_of(helpers), names_of(set(files) - helpers)
@@ -81,7 +83,7 @@ def main():
     wrong = ["%s is not listed" % name for name in sorted(needed - set(listed))]
     wrong += ["%s is listed and no clause of serve rests on it" % name for name in sorted(set(listed) - needed)]
     wrong += ["%s is listed twice" % name for name in sorted(set(listed)) if listed.count(name) > 1]
-    helpers, others = marked()
+    helpers, others = marked(needed)
     wrong += ["%s calls itself a helper, and a clause of serve rests on it" % name for name in sorted(helpers & needed)]
     wrong += ["%s does not call itself a helper in its first line" % name for name in sorted(others - needed)]
     if wrong:

@@ -10,7 +10,8 @@ use Rattle.bucket_terms.specs.declared.record.Record.{Record}
 use Rattle.bucket_terms.specs.declared.reply.Placed.{Placed}
 use Rattle.answer_text.specs.Objects.{line_of}
 use Rattle.answer_text.specs.Lines.{reply_data, journal_data, last_data, reply_lines, journal_lines}
-use Rattle.bucketidx.specs.ClientText.{client_text}
+use Rattle.answer_text.specs.Lines.{session_text}
+use Rattle.bucketidx.specs.Texts.{all_reply_lines, end_text}
 
 pub taken_nothing : (o : Option (List ℕ)) → IsTaken o o []
 taken_nothing (Some taken) = sym (append-nil taken)
@@ -132,40 +133,70 @@ journal_started dir updates i place d u line before between now lt here at is fi
     (subst (TakesStart before now) (sym (journal_more dir updates i place d u line lt here at is))
     (start_behind before between now (journal_lines dir 1 (take i updates)) line first second))
 
--- the text of one client's run is its three parts
-parts_are : (dir : List (List ℕ)) (records : List Record) (replies : List Placed) (updates : List Update) (line : List ℕ) → line ≡ line_of (last_data (length updates))
-    → (reply_lines dir records replies ++ journal_lines dir 1 updates) ++ line ≡ client_text dir records replies updates
-parts_are dir records replies updates line is =
-    ap (λ (l : List ℕ). (l ++ journal_lines dir 1 updates) ++ line) (sym (append-nil (reply_lines dir records replies)))
-    ∙ ap (λ (l : List ℕ). ((reply_lines dir records replies ++ []) ++ journal_lines dir 1 updates) ++ l) is
+-- ---- the replies of the clients
 
-module _ (dir : List (List ℕ)) (records : List Record) (replies : List Placed) (updates : List Update) where
-  abbrev last : List ℕ
-  last = line_of (last_data (length updates))
+lists_more : (dir : List (List ℕ)) (records : List Record) (lists : List (List Placed)) (i : ℕ) (replies : List Placed)
+    → i < length lists → replies ≡ get_or lists i []
+    → all_reply_lines dir records (take (i + 1) lists) ≡ all_reply_lines dir records (take i lists) ++ reply_lines dir records replies
+lists_more dir records lists i replies lt is =
+    let each = reply_lines dir records in
+    ap (all_reply_lines dir records) (take_more lists i [] lt)
+    ∙ flat_map-append each (take i lists) (get_or lists i [] ∷ [])
+    ∙ ap (λ (l : List ℕ). all_reply_lines dir records (take i lists) ++ l) (append-nil (each (get_or lists i [])) ∙ ap each (sym is))
 
-  pub text_taken : (line : List ℕ) (o₀ o₁ o₂ o₃ : Option (List ℕ)) → IsTaken o₀ o₁ (reply_lines dir records replies) → IsTaken o₁ o₂ (journal_lines dir 1 updates)
-      → line ≡ line_of (last_data (length updates)) → IsTaken o₂ o₃ line → IsTaken o₀ o₃ (client_text dir records replies updates)
-  text_taken line o₀ o₁ o₂ o₃ first second is third =
-      let front = taken_both o₀ o₁ o₂ (reply_lines dir records replies) (journal_lines dir 1 updates) first second in
-      subst (IsTaken o₀ o₃) (parts_are dir records replies updates line is)
-      (taken_both o₀ o₂ o₃ (reply_lines dir records replies ++ journal_lines dir 1 updates) line front third)
+-- the replies of one client more
+pub client_taken : (dir : List (List ℕ)) (records : List Record) (lists : List (List Placed)) (i : ℕ) (replies : List Placed) (before between now : Option (List ℕ))
+    → i < length lists → replies ≡ get_or lists i []
+    → IsTaken before between (all_reply_lines dir records (take i lists)) → IsTaken between now (reply_lines dir records replies)
+    → IsTaken before now (all_reply_lines dir records (take (i + 1) lists))
+client_taken dir records lists i replies before between now lt is first second =
+    subst (IsTaken before now) (sym (lists_more dir records lists i replies lt is)) (taken_both before between now _ (reply_lines dir records replies) first second)
 
-  pub started_in_replies : (o₀ o₁ : Option (List ℕ)) → TakesStart o₀ o₁ (reply_lines dir records replies) → TakesStart o₀ o₁ (client_text dir records replies updates)
+-- a start of the replies of one client more
+pub client_started : (dir : List (List ℕ)) (records : List Record) (lists : List (List Placed)) (i : ℕ) (replies : List Placed) (before between now : Option (List ℕ))
+    → i < length lists → replies ≡ get_or lists i []
+    → IsTaken before between (all_reply_lines dir records (take i lists)) → TakesStart between now (reply_lines dir records replies)
+    → TakesStart before now (all_reply_lines dir records lists)
+client_started dir records lists i replies before between now lt is first second =
+    let whole : all_reply_lines dir records (take (i + 1) lists) ++ all_reply_lines dir records (drop (i + 1) lists) ≡ all_reply_lines dir records lists =
+    sym (flat_map-append (reply_lines dir records) (take (i + 1) lists) (drop (i + 1) lists)) ∙ ap (all_reply_lines dir records) (take-append-drop (i + 1) lists) in
+    subst (TakesStart before now) whole
+    (start_of_more before now (all_reply_lines dir records (take (i + 1) lists)) (all_reply_lines dir records (drop (i + 1) lists))
+    (subst (TakesStart before now) (sym (lists_more dir records lists i replies lt is))
+    (start_behind before between now (all_reply_lines dir records (take i lists)) (reply_lines dir records replies) first second)))
+
+-- ---- the whole text
+
+pub text_parts : (dir : List (List ℕ)) (records : List Record) (lists : List (List Placed)) (updates : List Update)
+    → all_reply_lines dir records lists ++ end_text dir updates ≡ session_text dir records (record { updates = updates; replies = lists })
+text_parts dir records lists updates = sym (append_assoc (all_reply_lines dir records lists) (journal_lines dir 1 updates) (line_of (last_data (length updates))))
+
+module _ (dir : List (List ℕ)) (records : List Record) (lists : List (List Placed)) (updates : List Update) where
+  abbrev text : List ℕ
+  text = session_text dir records (record { updates = updates; replies = lists })
+
+  pub text_taken : (o₀ o₁ o₂ : Option (List ℕ)) → IsTaken o₀ o₁ (all_reply_lines dir records lists) → IsTaken o₁ o₂ (end_text dir updates) → IsTaken o₀ o₂ text
+  text_taken o₀ o₁ o₂ first second =
+      subst (IsTaken o₀ o₂) (text_parts dir records lists updates) (taken_both o₀ o₁ o₂ (all_reply_lines dir records lists) (end_text dir updates) first second)
+
+  pub started_in_replies : (o₀ o₁ : Option (List ℕ)) → TakesStart o₀ o₁ (all_reply_lines dir records lists) → TakesStart o₀ o₁ text
   started_in_replies o₀ o₁ start =
-      subst (TakesStart o₀ o₁) (parts_are dir records replies updates last refl)
-      (start_of_more o₀ o₁ (reply_lines dir records replies ++ journal_lines dir 1 updates) last
-      (start_of_more o₀ o₁ (reply_lines dir records replies) (journal_lines dir 1 updates) start))
+      subst (TakesStart o₀ o₁) (text_parts dir records lists updates) (start_of_more o₀ o₁ (all_reply_lines dir records lists) (end_text dir updates) start)
 
-  pub started_in_journal : (o₀ o₁ o₂ : Option (List ℕ)) → IsTaken o₀ o₁ (reply_lines dir records replies) → TakesStart o₁ o₂ (journal_lines dir 1 updates)
-      → TakesStart o₀ o₂ (client_text dir records replies updates)
-  started_in_journal o₀ o₁ o₂ first start =
-      subst (TakesStart o₀ o₂) (parts_are dir records replies updates last refl)
-      (start_of_more o₀ o₂ (reply_lines dir records replies ++ journal_lines dir 1 updates) last
-      (start_behind o₀ o₁ o₂ (reply_lines dir records replies) (journal_lines dir 1 updates) first start))
+  pub started_in_end : (o₀ o₁ o₂ : Option (List ℕ)) → IsTaken o₀ o₁ (all_reply_lines dir records lists) → TakesStart o₁ o₂ (end_text dir updates) → TakesStart o₀ o₂ text
+  started_in_end o₀ o₁ o₂ first start =
+      subst (TakesStart o₀ o₂) (text_parts dir records lists updates) (start_behind o₀ o₁ o₂ (all_reply_lines dir records lists) (end_text dir updates) first start)
 
-  pub started_in_last : (line : List ℕ) (o₀ o₁ o₂ o₃ : Option (List ℕ)) → IsTaken o₀ o₁ (reply_lines dir records replies) → IsTaken o₁ o₂ (journal_lines dir 1 updates)
-      → line ≡ line_of (last_data (length updates)) → TakesStart o₂ o₃ line → TakesStart o₀ o₃ (client_text dir records replies updates)
-  started_in_last line o₀ o₁ o₂ o₃ first second is start =
-      let front = taken_both o₀ o₁ o₂ (reply_lines dir records replies) (journal_lines dir 1 updates) first second in
-      subst (TakesStart o₀ o₃) (parts_are dir records replies updates line is)
-      (start_behind o₀ o₂ o₃ (reply_lines dir records replies ++ journal_lines dir 1 updates) line front start)
+-- the journal and the last line
+pub end_taken : (dir : List (List ℕ)) (updates : List Update) (line : List ℕ) (o₀ o₁ o₂ : Option (List ℕ)) → IsTaken o₀ o₁ (journal_lines dir 1 updates)
+    → line ≡ line_of (last_data (length updates)) → IsTaken o₁ o₂ line → IsTaken o₀ o₂ (end_text dir updates)
+end_taken dir updates line o₀ o₁ o₂ first is second =
+    subst (λ (l : List ℕ). IsTaken o₀ o₂ (journal_lines dir 1 updates ++ l)) is (taken_both o₀ o₁ o₂ (journal_lines dir 1 updates) line first second)
+
+pub started_in_journal : (dir : List (List ℕ)) (updates : List Update) (o₀ o₁ : Option (List ℕ)) → TakesStart o₀ o₁ (journal_lines dir 1 updates) → TakesStart o₀ o₁ (end_text dir updates)
+started_in_journal dir updates o₀ o₁ start = start_of_more o₀ o₁ (journal_lines dir 1 updates) (line_of (last_data (length updates))) start
+
+pub started_in_last : (dir : List (List ℕ)) (updates : List Update) (line : List ℕ) (o₀ o₁ o₂ : Option (List ℕ)) → IsTaken o₀ o₁ (journal_lines dir 1 updates)
+    → line ≡ line_of (last_data (length updates)) → TakesStart o₁ o₂ line → TakesStart o₀ o₂ (end_text dir updates)
+started_in_last dir updates line o₀ o₁ o₂ first is second =
+    subst (λ (l : List ℕ). TakesStart o₀ o₂ (journal_lines dir 1 updates ++ l)) is (start_behind o₀ o₁ o₂ (journal_lines dir 1 updates) line first second)

@@ -1,47 +1,107 @@
--- From the run of the one client, or of none, to the run of the session.
-use Rattle.std.proofs.Common.{◌≡◌, ℕ, ◌<◌, ◌≤◌, length, map, List, [], ◌∷◌, Some, None, Bool, true, refl, sym, ap, ◌∙◌, subst, arith, nat_eq}
-use Rattle.std.specs.List.{slice_get, slice_index_or}
+-- From the run of the clients to the run of the session and of the input, and the words.
+use Rattle.std.proofs.Common.{◌≡◌, ℕ, ◌<◌, ◌≤◌, ◌==◌, All, length, map, List, [], ◌∷◌, Option, Bool, true, false, refl, sym, ap, ◌∙◌, subst, arith, nat_eq}
+use Rattle.std.specs.List.{slice_index_or}
 use Rattle.std.specs.Cmp.Lexicographic.{pointwise, bytes_decides}
-use Rattle.std.proofs.lemmas.Option.{slice_get_within, get_or_from_slice_get, none-some}
+use Rattle.std.proofs.lemmas.Bool.Decides.{nat_tests}
+use Rattle.std.proofs.lemmas.Option.{slice_get_within}
+use Rattle.std.proofs.lemmas.List.Elements.{All-map, All-weaker}
 use Rattle.key_names.specs.Names.{HoldsEachOnce}
-use Rattle.bucket_terms.specs.LegalRun.{IsLegal, Run}
+use Rattle.key_map.specs.declared.update.Update.{Update}
+use Rattle.bucket_terms.specs.declared.record.Record.{Record}
+use Rattle.bucket_terms.specs.declared.reply.Placed.{Placed}
+use Rattle.bucket_terms.specs.LegalRun.{IsLegal, Run, RequestLine}
+use Rattle.request_lines.specs.declared.session.Asked.{Asked}
 use Rattle.request_lines.specs.declared.session.ClientPart.{ClientPart}
 use Rattle.request_lines.specs.declared.session.Session.{Session}
-use Rattle.request_lines.specs.Session.{request_lines}
-use Rattle.bucketidx.specs.Served.{HoldsOfSession, HoldsOfRun, slots_of}
-use Rattle.bucketidx.specs.ClientText.{client_text}
+use Rattle.request_lines.specs.Session.{request_line, request_lines}
+use Rattle.request_lines.specs.SessionLaws.{IsServed, HasRecordBelow, HasRequests, HasLines, IsSmall}
+use Rattle.client_run.proofs.Sessions.{askable}
+use Rattle.answer_text.specs.Lines.{session_text}
+use Rattle.bucketidx.specs.Clients.{RanEach}
+use Rattle.bucketidx.specs.Served.{HoldsOfInput, HoldsOfSession, HoldsOfRun, slots_of}
+use Rattle.bucketidx.specs.Sizes.{CanServe}
+use Rattle.bucketidx.specs.Texts.{end_text}
+use Rattle.bucketidx.proofs.Clients.{each_legal}
+use Rattle.bucketidx.proofs.Lines.{text_parts}
 
-one_client : (clients : List ClientPart) (part : ClientPart) → slice_get clients 0 ≡ Some part → length clients ≤ 1 → clients ≡ part ∷ []
-one_client [] part is le = absurd (none-some part is)
-one_client (p ∷ []) part is le = ap (λ (q : ClientPart). q ∷ []) (get_or_from_slice_get (p ∷ []) 0 part p is)
-one_client (p ∷ q ∷ ps) part is le = absurd (omega arith)
+-- ---- what a session gives for the run
 
-no_client : (clients : List ClientPart) → slice_get clients 0 ≡ None → clients ≡ []
-no_client [] is = refl
-no_client (p ∷ ps) is = absurd (none-some p (sym is))
+recorded_below : (names : List (List ℕ)) (count : ℕ) (asked : List Asked) → All (IsServed names count) asked → All (HasRecordBelow count) (map request_line asked)
+recorded_below names count asked served =
+    All-map (HasRecordBelow count) request_line asked (All-weaker (IsServed names count) (λ (a : Asked). HasRecordBelow count (request_line a)) (λ a is. is.place) asked served)
 
-pub one_holds : (session : Session) (part : ClientPart) (dir : List (List ℕ)) (P : Run → List ℕ → Type 0) → slice_get session.clients 0 ≡ Some part → length session.clients ≤ 1
-    → HoldsEachOnce session.names dir → HoldsOfRun dir session.records (request_lines part ∷ []) (slots_of (request_lines part ∷ [])) P → HoldsOfSession slots_of session P
-one_holds session part dir P is le names text = record {
-  dir = dir;
-  names = names;
-  text = subst (λ (cs : List ClientPart). HoldsOfRun dir session.records (map request_lines cs) (slots_of (map request_lines cs)) P) (sym (one_client session.clients part is le)) text;
+-- the session can be run, its names being the directory
+pub can_serve : (session : Session) (dir : List (List ℕ)) (names : List (List ℕ)) → 0 < length session.clients → HoldsEachOnce session.names dir → HasRequests session → HasLines session → IsSmall session
+    → CanServe dir (record session { names = names })
+can_serve session dir names some holds requests lines small = record {
+  few = record { some = some; few = small.clients; requests = small.requests };
+  askable = λ c d lt. askable dir session.names (length session.records) (slice_index_or session.clients c d).requests holds (requests.served c d lt);
+  rising = lines.rising;
+  recorded = λ c d lt. recorded_below session.names (length session.records) (slice_index_or session.clients c d).requests (requests.served c d lt);
 }
 
-legal_none : (dir : List (List ℕ)) → IsLegal dir [] (slots_of []) (record { updates = []; replies = [] })
+-- ---- the run of the session
+
+pub run_holds : (session : Session) (dir names : List (List ℕ)) (P : Run → List ℕ → Type 0) → HoldsEachOnce session.names dir
+    → HoldsOfRun dir session.records (map request_lines session.clients) (slots_of (map request_lines session.clients)) P → HoldsOfSession slots_of session P
+run_holds session dir names P holds text = record { dir = dir; names = holds; text = text }
+
+-- a run of the clients, with the parts of what is written as a call was given them
+pub written : (dir : List (List ℕ)) (records given : List Record) (clients : List ClientPart) (updates shown : List Update) (replies : List (List Placed)) (P : Run → List ℕ → Type 0)
+    → given ≡ records → shown ≡ updates → RanEach dir (map request_lines clients) (slots_of (map request_lines clients)) (record { updates = updates; replies = replies })
+    → P (record { updates = shown; replies = replies }) (session_text dir given (record { updates = shown; replies = replies }))
+    → HoldsOfRun dir records (map request_lines clients) (slots_of (map request_lines clients)) P
+written dir records given clients updates shown replies P same_records same_updates ran holds =
+    let run : Run = record { updates = shown; replies = replies } in
+    let parts = map request_lines clients in
+    record {
+      run = run;
+      legal =
+          each_legal dir parts (slots_of parts) run
+          (subst (λ (us : List Update). RanEach dir parts (slots_of parts) (record { updates = us; replies = replies })) (sym same_updates) ran);
+      holds = subst (λ (rs : List Record). P run (session_text dir rs run)) same_records holds;
+    }
+
+no_client : (clients : List ClientPart) → (length clients == 0) ≡ true → clients ≡ []
+no_client [] is = refl
+no_client (p ∷ ps) is = absurd (grind (arith, nat_tests))
+
+pub some_client : (clients : List ClientPart) → (length clients == 0) ≡ false → 0 < length clients
+some_client [] is = absurd (grind (arith, nat_tests))
+some_client (p ∷ ps) is = omega arith
+
+abbrev no_run : Run
+no_run = record { updates = []; replies = [] }
+
+legal_none : (dir : List (List ℕ)) → IsLegal dir [] (slots_of []) no_run
 legal_none dir = record {
   clients = refl;
   answered = λ c lt. absurd (omega (arith, lt));
   made = λ i u is. let no : i < 0 = slice_get_within [] i u is in absurd (omega (arith, no));
 }
 
-pub none_holds : (session : Session) (dir : List (List ℕ)) (P : Run → List ℕ → Type 0) → slice_get session.clients 0 ≡ None
-    → HoldsEachOnce session.names dir → P (record { updates = []; replies = [] }) (client_text dir session.records [] []) → HoldsOfSession slots_of session P
+pub none_holds : (session : Session) (dir : List (List ℕ)) (P : Run → List ℕ → Type 0) → (length session.clients == 0) ≡ true
+    → HoldsEachOnce session.names dir → P no_run (end_text dir []) → HoldsOfSession slots_of session P
 none_holds session dir P is names holds = record {
   dir = dir;
   names = names;
   text = subst (λ (cs : List ClientPart). HoldsOfRun dir session.records (map request_lines cs) (slots_of (map request_lines cs)) P) (sym (no_client session.clients is))
-      (record { run = record { updates = []; replies = [] }; legal = legal_none dir; holds = holds });
+      (record { run = no_run; legal = legal_none dir; holds = subst (P no_run) (text_parts dir session.records [] []) holds });
+}
+
+-- what holds of a run and its text, and more, holds of it
+pub input_first : (slots : List (List RequestLine) → ℕ → ℕ) (before after : Option (List ℕ)) (P Q : Run → List ℕ → Type 0)
+    → HoldsOfInput slots before after (λ (run : Run) (text : List ℕ). P run text × Q run text) → HoldsOfInput slots before after P
+input_first slots before after P Q both = record {
+  input = both.input;
+  session = both.session;
+  has_read = both.has_read;
+  of_input = both.of_input;
+  text = record {
+    dir = both.text.dir;
+    names = both.text.names;
+    text = record { run = both.text.text.run; legal = both.text.text.legal; holds = both.text.text.holds.0 };
+  };
 }
 
 -- ---- the words

@@ -1,4 +1,8 @@
 pub mod Words
 pub mod Statuses
 pub mod Served
-pub mod ClientText
+pub mod Clients
+pub mod Runs
+pub mod Sizes
+pub mod Threads
+pub mod Texts

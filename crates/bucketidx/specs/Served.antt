@@ -1,8 +1,10 @@
 -- What a call of `serve` has read and written, by how it ended.
-use Rattle.std.specs.Prelude.{◌≡◌, ℕ, ◌≤◌, List, length, map, Option, Some}
+use Rattle.std.specs.Prelude.{◌≡◌, ℕ, ◌≤◌, ◌⊎◌, List, [], length, map, Option, Some}
 use Rattle.key_names.specs.Names.{HoldsEachOnce}
+use Rattle.outside_io.specs.Faults.{one_more}
 use Rattle.outside_io.specs.Source.{IsReadToEnd}
 use Rattle.bucket_terms.specs.declared.record.Record.{Record}
+use Rattle.bucket_terms.specs.declared.reply.Placed.{Placed}
 use Rattle.bucket_terms.specs.LegalRun.{RequestLine, Run, IsLegal, default_slots, lines_of}
 use Rattle.request_lines.specs.declared.session.Session.{Session}
 use Rattle.request_lines.specs.declared.session_error.InputError.{InputError}
@@ -34,6 +36,11 @@ pub record HoldsOfSession (slots : List (List RequestLine) → ℕ → ℕ) (ses
   pub dir : List (List ℕ)
   pub names : HoldsEachOnce session.names dir
   pub text : HoldsOfRun dir session.records (map request_lines session.clients) (slots (map request_lines session.clients)) P
+
+-- the replies of the run are those that a runner has now, whose count of runs was `old` before and is one more; where
+-- there is no client there are none
+abbrev pub IsRunOf : (old new : ℕ) → List (List Placed) → Run → Type 0
+IsRunOf old new replied run = (run.replies ≡ []) ⊎ ((new ≡ one_more old) × (run.replies ≡ replied))
 
 -- an input was read, and this is true of one legal run of its session and of its text
 pub record HoldsOfInput (slots : List (List RequestLine) → ℕ → ℕ) (before after : Option (List ℕ)) (P : Run → List ℕ → Type 0) : Type 0 where

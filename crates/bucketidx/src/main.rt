@@ -1,6 +1,6 @@
 //! The program: reads a session on standard input, answers it, and writes the answers, the journal of
 //! updates and their number as lines of JSON. `serve` is the whole of it but for the real input and
-//! output, and its clauses say what a run has read and written.
+//! output and the runner of the clients, and its clauses say what a run has read and written.
 #![tactic(auto)]
 
 ghost use Rattle.std.specs.Prelude.{◌≡◌};
@@ -9,23 +9,28 @@ ghost use Rattle.bucketidx.specs.Statuses.{exit_code};
 
 mod command;
 mod naming;
+mod opening;
+mod runner;
 mod running;
 mod serving;
 mod status;
 mod stop;
 #[cfg(test)]
 mod tests;
+mod threaded;
 mod writing;
 
 use client_run::OpenGate;
 use key_names::Text;
 use outside_io::{StdSink, StdSource};
+pub use runner::Runner;
 pub use serving::serve;
 pub use status::Status;
 use std::alloc::Global;
 use std::process::ExitCode;
 use std::rt::Env;
 use std::{env, io};
+pub use threaded::Threaded;
 
 fn main(rt: HostRuntime) -> ExitCode {
     let mut source = StdSource::new(&rt);
@@ -33,7 +38,15 @@ fn main(rt: HostRuntime) -> ExitCode {
     match words(&rt) {
         Ok(words) => end(
             &rt,
-            serve(&rt, rt.alloc(), &words, &mut source, &mut sink, &OpenGate),
+            serve(
+                &rt,
+                rt.alloc(),
+                &words,
+                &mut source,
+                &mut sink,
+                &OpenGate,
+                &mut Threaded::new(),
+            ),
         ),
         Err(status) => end(&rt, status),
     }

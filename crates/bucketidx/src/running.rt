@@ -1,37 +1,41 @@
-// The run of a session: its one client over a plain pass.
-ghost use Rattle.std.specs.Prelude.{◌≡◌, ◌⊎◌, ◌≤◌, [], ◌∷◌, All, length, OnOk, IsErrOf};
+// The run of a session: its clients over one shared index, by a runner.
+ghost use Rattle.std.specs.Prelude.{◌≡◌, ◌⊎◌, IfOk, OnOk, IsErrOf};
 ghost use Rattle.outside_io.specs.Faults.{one_more};
 ghost use Rattle.outside_io.specs.Sink.{IsTaken, TakesStart};
-ghost use Rattle.request_lines.specs.Limits.{most_requests};
-ghost use Rattle.request_lines.specs.Session.{request_lines};
-ghost use Rattle.request_lines.specs.SessionLaws.{Rise, HasNames, HasRequests, HasLines, IsSmall, IsAskable, HasRecordBelow};
-ghost use Rattle.bucketidx.specs.Served.{HoldsOfSession, HoldsOfRun, slots_of};
+ghost use Rattle.request_lines.specs.SessionLaws.{HasNames, HasRequests, HasLines, IsSmall};
+ghost use Rattle.bucketidx.specs.Served.{HoldsOfSession, HoldsOfRun, IsRunOf, slots_of};
+ghost use Rattle.bucketidx.specs.Clients.{RanEach};
+ghost use Rattle.bucketidx.specs.Runs.{parts_of};
+ghost use Rattle.bucketidx.specs.Sizes.{CanServe};
 
 use crate::naming::directory_of;
+use crate::opening::open_index;
+use crate::runner::Runner;
 use crate::stop::Stop;
-use crate::writing::write_run;
-use bucket_terms::{PlainPass, Record};
-use client_run::{Gate, run_client};
-use key_map::PassSize;
-use key_names::Directory;
+use crate::writing::{write_end, write_run};
+use client_run::Gate;
+use key_map::{Items, Update};
+use key_names::{Directory, NoMemory};
 use outside_io::Sink;
-use request_lines::{ClientPart, Session};
+use request_lines::Session;
 use std::alloc::Global;
 use std::sync::Wait;
+use std::thread::Threads;
 
 /// Runs the session and writes its text.
-pub(crate) fn run_session<K: Sink, G: Gate, Rt: Wait>(
+pub(crate) fn run_session<K: Sink, G: Gate + Sync, R: Runner<G>, Rt: Threads + Wait + Sync>(
     rt: &Rt,
     alloc: Global,
     session: Session,
     sink: &mut K,
     gate: &G,
+    runner: &mut R,
 ) -> Result<(), Stop>
     requires names { HasNames session }
     requires requests { HasRequests session }
     requires lines { HasLines session }
     requires small { IsSmall session }
-    ensures wrote { OnOk result (HoldsOfSession slots_of session (λ _ text. IsTaken (K.taken sink.old) (K.taken sink.new) text)) }
+    ensures wrote { OnOk result (HoldsOfSession slots_of session (λ run text. IsTaken (K.taken sink.old) (K.taken sink.new) text × IsRunOf (R.runs runner.old) (R.runs runner.new) (R.replied runner.new) run)) }
     ensures start { IsErrOf result Stop.Fault → HoldsOfSession slots_of session (λ _ text. TakesStart (K.taken sink.old) (K.taken sink.new) text) }
     ensures no_memory { IsErrOf result Stop.NoMemory → (sink.new ≡ sink.old) ⊎ HoldsOfSession slots_of session (λ _ text. TakesStart (K.taken sink.old) (K.taken sink.new) text) }
     ensures fault { IsErrOf result Stop.Fault → K.faults sink.new ≡ one_more (K.faults sink.old) }
@@ -43,39 +47,58 @@ pub(crate) fn run_session<K: Sink, G: Gate, Rt: Wait>(
         records,
     } = session;
     let dir = directory_of(alloc, names)?;
-    match clients.as_slice().first() {
-        Some(part) => run_part(rt, alloc, part, &dir, records.as_slice(), sink, gate),
-        None => write_run(alloc, sink, &dir, records.as_slice(), &[], &[]),
+    if clients.is_empty() {
+        return write_end(alloc, sink, &dir, &[]);
     }
+    // The names are the directory's from here on.
+    let session = Session {
+        clients,
+        names: Items::new(alloc),
+        records,
+    };
+    run_clients(rt, alloc, &session, &dir, sink, gate, runner)
 }
 
-// Runs the one client and writes the text.
-fn run_part<K: Sink, G: Gate, Rt: Wait>(
+// Runs the clients and writes the text.
+fn run_clients<K: Sink, G: Gate + Sync, R: Runner<G>, Rt: Threads + Wait + Sync>(
     rt: &Rt,
     alloc: Global,
-    part: &ClientPart,
+    session: &Session,
     dir: &Directory,
-    records: &[Record],
     sink: &mut K,
     gate: &G,
+    runner: &mut R,
 ) -> Result<(), Stop>
-    requires askable { All (IsAskable dir.now) (request_lines part.now) }
-    requires recorded { All (HasRecordBelow (length records.now)) (request_lines part.now) }
-    requires rising { Rise (request_lines part.now) }
-    requires few { length part.now.requests ≤ most_requests }
-    ensures wrote { OnOk result (HoldsOfRun dir.now records.now (request_lines part.now ∷ []) (slots_of (request_lines part.now ∷ [])) (λ _ text. IsTaken (K.taken sink.old) (K.taken sink.new) text)) }
-    ensures start { IsErrOf result Stop.Fault → HoldsOfRun dir.now records.now (request_lines part.now ∷ []) (slots_of (request_lines part.now ∷ [])) (λ _ text. TakesStart (K.taken sink.old) (K.taken sink.new) text) }
-    ensures no_memory { IsErrOf result Stop.NoMemory → (sink.new ≡ sink.old) ⊎ HoldsOfRun dir.now records.now (request_lines part.now ∷ []) (slots_of (request_lines part.now ∷ [])) (λ _ text. TakesStart (K.taken sink.old) (K.taken sink.new) text) }
+    requires can { CanServe dir.now session.now }
+    ensures wrote { OnOk result (HoldsOfRun dir.now session.now.records (parts_of session.now.clients) (slots_of (parts_of session.now.clients)) (λ run text. IsTaken (K.taken sink.old) (K.taken sink.new) text × IsRunOf (R.runs runner.old) (R.runs runner.new) (R.replied runner.new) run)) }
+    ensures start { IsErrOf result Stop.Fault → HoldsOfRun dir.now session.now.records (parts_of session.now.clients) (slots_of (parts_of session.now.clients)) (λ _ text. TakesStart (K.taken sink.old) (K.taken sink.new) text) }
+    ensures no_memory { IsErrOf result Stop.NoMemory → (sink.new ≡ sink.old) ⊎ HoldsOfRun dir.now session.now.records (parts_of session.now.clients) (slots_of (parts_of session.now.clients)) (λ _ text. TakesStart (K.taken sink.old) (K.taken sink.new) text) }
     ensures fault { IsErrOf result Stop.Fault → K.faults sink.new ≡ one_more (K.faults sink.old) }
     ensures quiet { ¬ (IsErrOf result Stop.Fault) → K.faults sink.new ≡ K.faults sink.old }
 {
-    let writes = part.writes();
-    let size = PassSize {
-        nodes: writes + 1,
-        entries: 4 * (writes + 1),
-        calls: writes,
-    };
-    let mut pass = PlainPass::new(alloc, 0, size)?;
-    let replies = run_client(rt, alloc, &mut pass, part, dir, gate)?;
-    write_run(alloc, sink, dir, records, &replies, pass.updates())
+    let updates = history_of(rt, alloc, session, dir, gate, runner)?;
+    let records = session.records.as_slice();
+    let clients = session.clients.len() as u32;
+    write_run::<K, G, R>(alloc, sink, dir, records, clients, runner, &updates)
+}
+
+// Runs the clients over an index of their own, and closes it: the whole history of their updates.
+fn history_of<G: Gate + Sync, R: Runner<G>, Rt: Threads + Wait + Sync>(
+    rt: &Rt,
+    alloc: Global,
+    session: &Session,
+    dir: &Directory,
+    gate: &G,
+    runner: &mut R,
+) -> Result<Vec<Update>, NoMemory>
+    requires can { CanServe dir.now session.now }
+    ensures ran { IfOk result (λ updates. RanEach dir.now (parts_of session.now.clients) (slots_of (parts_of session.now.clients)) (record { updates = updates.items; replies = R.replied runner.new })) }
+    ensures runs { OnOk result (R.runs runner.new ≡ one_more (R.runs runner.old)) }
+{
+    let (index, keys) = open_index(alloc, session.clients.as_slice())?;
+    let keys = runner.run_all(rt, alloc, &index, keys, session, dir, gate)?;
+    match index.finish(alloc, keys) {
+        Ok(updates) => Ok(updates),
+        Err(_) => Err(NoMemory),
+    }
 }

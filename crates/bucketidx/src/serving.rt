@@ -7,10 +7,11 @@ ghost use Rattle.request_lines.specs.declared.session_error.InputError.{InputErr
 ghost use Rattle.bucketidx.specs.declared.status.Status.TheVariants.{Done as IsDone, BadWords as HasBadWords};
 ghost use Rattle.request_lines.specs.Limits.{most_input_bytes};
 ghost use Rattle.bucketidx.specs.Words.{IsRun};
-ghost use Rattle.bucketidx.specs.Served.{HoldsOfInput, RefusedInput, EndsUnwritten, slots_of};
+ghost use Rattle.bucketidx.specs.Served.{HoldsOfInput, RefusedInput, EndsUnwritten, IsRunOf, slots_of};
 
 use crate::Status;
 use crate::command::is_run;
+use crate::runner::Runner;
 use crate::running::run_session;
 use crate::stop::Stop;
 use client_run::Gate;
@@ -19,20 +20,24 @@ use outside_io::{ReadError, Sink, Source, read_all};
 use request_lines::{MAX_INPUT_BYTES, SessionError, read_session};
 use std::alloc::Global;
 use std::sync::Wait;
+use std::thread::Threads;
 
-/// Reads a session, runs it and writes its text. The words are those behind the program's name; the one
-/// form is `run`. The gate is told of each request before and after it is answered.
+/// Reads a session, runs its clients over one shared index and writes its text. The words are those behind the
+/// program's name; the one form is `run`. The runner runs the clients. The gate is told of each request before and after
+/// it is answered.
 /// After `Done` the text of one legal run of the input's session was written; after `WriteFault` a start of
 /// such a text; after `NoMemory` nothing or a start of one. Each other end comes before anything is written.
-pub fn serve<S: Source, K: Sink, G: Gate, Rt: Wait>(
+pub fn serve<S: Source, K: Sink, G: Gate + Sync, R: Runner<G>, Rt: Threads + Wait + Sync>(
     rt: &Rt,
     alloc: Global,
     words: &[Text],
     source: &mut S,
     sink: &mut K,
     gate: &G,
+    runner: &mut R,
 ) -> Status
     ensures headline { result ≡ IsDone → HoldsOfInput slots_of (S.rest source.old) (S.rest source.new) (λ _ text. IsTaken (K.taken sink.old) (K.taken sink.new) text) }
+    ensures runner { result ≡ IsDone → HoldsOfInput slots_of (S.rest source.old) (S.rest source.new) (λ run text. IsTaken (K.taken sink.old) (K.taken sink.new) text × IsRunOf (R.runs runner.old) (R.runs runner.new) (R.replied runner.new) run) }
     ensures bad_words { (result ≡ HasBadWords) ↔ ¬ (IsRun words.now) }
     ensures nothing_read { result ≡ HasBadWords → source.new ≡ source.old }
     ensures nothing_written { EndsUnwritten result → sink.new ≡ sink.old }
@@ -61,7 +66,7 @@ pub fn serve<S: Source, K: Sink, G: Gate, Rt: Wait>(
         Err(SessionError::Input(error)) => return Status::BadInput(error),
         Err(SessionError::NoMemory) => return Status::NoMemory,
     };
-    match run_session(rt, alloc, session, sink, gate) {
+    match run_session(rt, alloc, session, sink, gate, runner) {
         Ok(()) => Status::Done,
         Err(Stop::Fault) => Status::WriteFault,
         Err(Stop::NoMemory) => Status::NoMemory,

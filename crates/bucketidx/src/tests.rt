@@ -5,7 +5,9 @@ use request_lines::{Cause, InputError};
 use std::process::Abort;
 use std::sync::Wait;
 use std::test::Fail;
+use std::thread::Threads;
 
+mod clients;
 mod ends;
 mod faults;
 mod refusals;
@@ -43,7 +45,7 @@ fn texts(alloc: Global, words: &[&str]) -> Result<Vec<Text>, Fail> {
 }
 
 // Serves `run` over this source, with room for so many bytes of output.
-fn serve_run<Rt: Wait, S: Source>(
+fn serve_run<Rt: Threads + Wait + Sync, S: Source>(
     rt: &Rt,
     alloc: Global,
     source: &mut S,
@@ -51,17 +53,34 @@ fn serve_run<Rt: Wait, S: Source>(
 ) -> Result<Ended, Fail> {
     let words = texts(alloc, &["run"])?;
     let mut sink = MemSink::with_room(alloc, room)?;
-    let status = serve(rt, alloc, &words, source, &mut sink, &OpenGate);
+    let status = serve(
+        rt,
+        alloc,
+        &words,
+        source,
+        &mut sink,
+        &OpenGate,
+        &mut Threaded::new(),
+    );
     Ok(Ended { status, sink })
 }
 
-fn serve_bytes<Rt: Wait>(rt: &Rt, alloc: Global, input: &[u8]) -> Result<Ended, Fail> {
+fn serve_bytes<Rt: Threads + Wait + Sync>(
+    rt: &Rt,
+    alloc: Global,
+    input: &[u8],
+) -> Result<Ended, Fail> {
     let mut source = MemSource::new(input.to_vec(alloc)?);
     serve_run(rt, alloc, &mut source, AMPLE)
 }
 
 // The session is served, and this is its whole text.
-fn writes<Rt: Wait + Abort>(rt: &Rt, alloc: Global, input: &str, text: &str) -> Result<(), Fail> {
+fn writes<Rt: Threads + Wait + Sync + Abort>(
+    rt: &Rt,
+    alloc: Global,
+    input: &str,
+    text: &str,
+) -> Result<(), Fail> {
     let ended = serve_bytes(rt, alloc, input.as_bytes())?;
     assert_eq!(rt; ended.status, Status::Done);
     assert_eq!(rt; std::str::from_utf8(ended.sink.taken())?, text);

@@ -70,8 +70,9 @@ has_moved links node side head = list_any (λ (l : Link). l.node == node && same
 abbrev pub with_held : View → List HeldNode → List HeldNext → View
 with_held v nodes nexts = record v { held = record { nodes = nodes; nexts = nexts } }
 
-abbrev pub with_place : View → Place → List Link → View
-with_place v place links = record v { reading = record v.reading { place = place; links = links } }
+-- where the seat stands, the number of the entry that it left behind for this place, and the links that it remembers
+abbrev pub with_place : View → Place → Option ℕ → List Link → View
+with_place v place above links = record v { reading = record v.reading { place = place; above = above; links = links } }
 
 -- this seat stored the head: its entry is pending in the view, or has the number of one of its own updates
 abbrev pub stored_by : View → ℕ → ℕ → Bool
@@ -97,7 +98,7 @@ found_at k side e h = cond (h.node == k) (head_found side e h) h
 abbrev pub head_loaded : View → ℕ → Side → ℕ → ℕ → View
 head_loaded v node side head number =
     record (with_place (with_held v (map (found_at node side head) v.held.nodes) v.held.nexts)
-    (Entry node side head None) (remembered_if (head == 0) v.reading.links (bundle_link node side 0 0))) {
+    (Entry node side head None) None (remembered_if (head == 0) v.reading.links (bundle_link node side 0 0))) {
       counts = record v.counts { moves = raised_if (has_moved v.reading.links node side head && not (stored_by v head number)) v.counts.moves };
     }
 
@@ -121,7 +122,7 @@ place_known x (Gap node side) = Gap node side
 -- load of a stamp: what was found is kept with the place, and with the heads of locked nodes
 abbrev pub ts_loaded : View → ℕ → ℕ → View
 ts_loaded v e x =
-    record (with_place (with_held v (map (node_known e x) v.held.nodes) v.held.nexts) (place_known x v.reading.place) v.reading.links) {
+    record (with_place (with_held v (map (node_known e x) v.held.nodes) v.held.nexts) (place_known x v.reading.place) v.reading.above v.reading.links) {
       counts = record v.counts { waits = raised_if (x == 0 && not (has e v.update.pending)) v.counts.waits };
     }
 
@@ -140,7 +141,7 @@ child_links v (Gap node side) child = v.reading.links
 
 -- load of a child: the link is remembered at the selected entry
 abbrev pub ptr_loaded : View → ℕ → View
-ptr_loaded v child = with_place v v.reading.place (child_links v v.reading.place child)
+ptr_loaded v child = with_place v v.reading.place v.reading.above (child_links v v.reading.place child)
 
 -- the entry's number is known to be above the section number, or the entry is pending and has none yet
 abbrev pub is_above_at : Option ℕ → Option ℕ → Bool → Bool
@@ -157,10 +158,10 @@ kept_if b nexts next = cond b (nexts ++ next ∷ []) nexts
 abbrev pub next_nexts : View → ℕ → ℕ → Option ℕ → ℕ → List HeldNext
 next_nexts v node e found next = kept_if (locks node v.held.nodes) v.held.nexts (record { node = node; entry = e; stamp = found; next = next })
 
--- load of a next: the seat stands at the entry behind; behind the last one the link is remembered as null
+-- load of a next: the seat stands at the entry behind, and the number found of the entry left is kept; behind the last one the link is remembered as null
 abbrev pub next_at : View → Place → ℕ → ℕ → View
 next_at v (Entry node side entry found) e next =
-    with_place (with_held v v.held.nodes (next_nexts v node e found next)) (Entry node side next None)
+    with_place (with_held v v.held.nodes (next_nexts v node e found next)) (Entry node side next None) found
     (remembered_if (next == 0 && is_above v e found) v.reading.links (bundle_link node side 0 0))
 next_at v Nowhere e next = v
 next_at v (Node node key) e next = v

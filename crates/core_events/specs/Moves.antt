@@ -11,7 +11,7 @@ use Rattle.core_grace.specs.Batches.{batch_taken, settled, both}
 
 -- it stands nowhere, remembers no link, and knows of no word that it has filled
 abbrev pub nowhere : Reading → Reading
-nowhere r = record r { place = Nowhere; links = []; left_turn = None; right_turn = None; filled = [] }
+nowhere r = record r { place = Nowhere; above = None; links = []; left_turn = None; right_turn = None; filled = [] }
 
 abbrev pub in_section : View → ℕ → View
 in_section v word = record v { section_word = word; reading = nowhere v.reading }

@@ -77,7 +77,7 @@ module _ (z : Layout) (m : Memory) (vs : List View) (g : Meaning) (rule : Rule z
   pub bundle : IsBundle m vs g node side
   bundle = rule.bundles node live side
 
-  pub stands : IsWatched v node → StandsAt stamp es e found (IsPassed g.bundles.number v node)
+  pub stands : IsWatched v node → StandsAt stamp es e found v.reading.above (IsPassed g.bundles.number v node)
   stands watched = right.stands some watched
 
   pub member : IsWatched v node → 0 < count e es

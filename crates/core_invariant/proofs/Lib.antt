@@ -52,3 +52,5 @@ pub mod Longest
 pub mod ReadMoves
 -- What a seat knows that stands at an entry: the entry is in the bundle, and its number, and what is selected.
 pub mod AtEntries
+-- Numbers fall along a bundle: behind an entry whose number was found stands one whose number is written, and below it.
+pub mod Falling

@@ -22,7 +22,7 @@ use Rattle.core_grace.proofs.RuleMoves.{HoldsFrom}
 use Rattle.core_invariant.specs.Meanings.{Meaning, linked_by}
 use Rattle.core_invariant.specs.Locks.{IsTakenOut, IsNodeAt, IsNextAt}
 use Rattle.core_invariant.specs.BundleRule.{IsPending}
-use Rattle.core_invariant.specs.Readers.{IsReachable, IsLocked, IsWatched, StandsAt, IsPassed, PlaceRight, SourceRight, LinkRight}
+use Rattle.core_invariant.specs.Readers.{IsReachable, IsLocked, IsWatched, StandsAt, IsPassed, IsBelow, PlaceRight, SourceRight, LinkRight}
 use Rattle.core_invariant.specs.SeatRule.{SeatRight}
 use Rattle.core_events.specs.LoadMoves.{with_held, with_place}
 use Rattle.core_invariant.specs.Rule.{Rule}
@@ -39,9 +39,9 @@ module _ (z : Layout) (m : Memory) (vs : List View) (g : Meaning) (rule : Rule z
       apart false f t = cc
 
   -- a view that stands at another place, remembers other links, and has loaded more of the same locked nodes
-  module _ (i : ℕ) (v : View) (at : IsItem vs i v) (c : Counts) (nodes : List HeldNode) (nexts : List HeldNext) (place : Place) (links : List Link) (same : held_slots nodes ≡ held_slots v.held.nodes) where
+  module _ (i : ℕ) (v : View) (at : IsItem vs i v) (c : Counts) (nodes : List HeldNode) (nexts : List HeldNext) (place : Place) (above : Option ℕ) (links : List Link) (same : held_slots nodes ≡ held_slots v.held.nodes) where
     abbrev pub w : View
-    w = record (with_place (with_held v nodes nexts) place links) { counts = c }
+    w = record (with_place (with_held v nodes nexts) place above links) { counts = c }
 
     seat : SeatRight z m g v
     seat = seat_at z m vs g i v at rule
@@ -69,20 +69,21 @@ module _ (z : Layout) (m : Memory) (vs : List View) (g : Meaning) (rule : Rule z
         passed_by (Some t) (inl locked) = inl (subst (λ xs. 0 < count k xs) (sym same) locked)
         passed_by (Some t) (inr above) = inr above
 
-    pub place_back : (p : Place) → PlaceRight z (λ e. m (Entry Number e)) g.bundles v p → PlaceRight z (λ e. m (Entry Number e)) g.bundles w p
-    place_back Nowhere right = tt
-    place_back (AtNode k key) right = tt
-    place_back (Gap k side) right = tt
-    place_back (AtEntry k side e found) right = record {
+    pub place_back : above ≡ v.reading.above → (p : Place) → PlaceRight z (λ e. m (Entry Number e)) g.bundles v p → PlaceRight z (λ e. m (Entry Number e)) g.bundles w p
+    place_back left_same Nowhere right = tt
+    place_back left_same (AtNode k key) right = tt
+    place_back left_same (Gap k side) right = tt
+    place_back left_same (AtEntry k side e found) right = record {
       reach = reach_back k right.reach;
       stands = λ some watched.
-          let stood : StandsAt (λ d. m (Entry Number d)) (g.bundles.bundle side k) e found (IsPassed g.bundles.number v k) = right.stands some (watched_back k watched) in
+          let stood : StandsAt (λ d. m (Entry Number d)) (g.bundles.bundle side k) e found v.reading.above (IsPassed g.bundles.number v k) = right.stands some (watched_back k watched) in
           record {
             front = stood.front;
             back = stood.back;
             splits = stood.splits;
             passed = every_map (IsPassed g.bundles.number v k) (IsPassed g.bundles.number w k) stood.front (passed_back k) stood.passed;
             found = stood.found;
+            falls = subst (IsBelow (λ d. m (Entry Number d)) e) (sym left_same) stood.falls;
           };
     }
 

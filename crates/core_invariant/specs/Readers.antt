@@ -31,14 +31,20 @@ IsLocked v k = 0 < count k (held_slots v.held.nodes)
 abbrev pub IsWatched : View → ℕ → Type 0
 IsWatched v k = IsLocked v k ⊎ (is_some v.reading.section ≡ true)
 
+-- the entry's number is written, and below that of the entry which the seat left behind for it, where that was loaded and
+-- written
+abbrev pub IsBelow : (ℕ → ℕ) → ℕ → Option ℕ → Type 0
+IsBelow stamp e above = IfSome above (λ x. 0 < x → (0 < stamp e) × (stamp e < x))
+
 -- the entry stands in the bundle, and each entry in front of it is one that the seat may be past; a number that was
--- found in its stamp is still there
-pub record StandsAt (stamp : ℕ → ℕ) (es : List ℕ) (e : ℕ) (loaded : Option ℕ) (unread : ℕ → Type 0) : Type 0 where
+-- found in its stamp is still there, and it is below the number of the entry left behind
+pub record StandsAt (stamp : ℕ → ℕ) (es : List ℕ) (e : ℕ) (loaded above : Option ℕ) (unread : ℕ → Type 0) : Type 0 where
   pub front : List ℕ
   pub back : List ℕ
   pub splits : es ≡ front ++ e ∷ back
   pub passed : Every unread front
   pub found : IfSome loaded (λ x. 0 < x → stamp e ≡ x)
+  pub falls : IsBelow stamp e above
 
 -- the seat may be past the entry: its number is above the seat's, or the seat has locked the node
 abbrev pub IsPassed : (ℕ → ℕ) → View → ℕ → ℕ → Type 0
@@ -46,15 +52,15 @@ IsPassed number v node e = IfSome v.reading.section (λ t. IsLocked v node ⊎ (
 
 -- a place in a bundle, over what its node and its bundle are to the seat: the node is reachable, and where the seat
 -- watches it the entry stands in the bundle
-pub record EntryPlace (reachable watched : Type 0) (stamp : ℕ → ℕ) (es : List ℕ) (entry : ℕ) (found : Option ℕ) (unread : ℕ → Type 0) : Type 0 where
+pub record EntryPlace (reachable watched : Type 0) (stamp : ℕ → ℕ) (es : List ℕ) (entry : ℕ) (found above : Option ℕ) (unread : ℕ → Type 0) : Type 0 where
   pub reach : reachable
-  pub stands : 0 < entry → watched → StandsAt stamp es entry found unread
+  pub stands : 0 < entry → watched → StandsAt stamp es entry found above unread
 
 -- where the seat stands, over the stamps of entries
 abbrev pub PlaceRight : Layout → (ℕ → ℕ) → Bundles → View → Place → Type 0
 PlaceRight z stamp b v Nowhere = Unit {0}
 PlaceRight z stamp b v (Entry node side entry found) =
-    EntryPlace (IsReachable z v node) (IsWatched v node) stamp (b.bundle side node) entry found (IsPassed b.number v node)
+    EntryPlace (IsReachable z v node) (IsWatched v node) stamp (b.bundle side node) entry found v.reading.above (IsPassed b.number v node)
 PlaceRight z stamp b v (Node node key) = Unit {0}
 PlaceRight z stamp b v (Gap node side) = Unit {0}
 

@@ -276,7 +276,7 @@ module _ (t : Table) (right : IsRight t) where
           let next : ℕ → ℕ = λ d. m (Entry Next d) in
           let es : List ℕ = g.bundles.bundle side node in
           let bundle = rule.bundles node place_live side in
-          let stands : StandsAt (λ d. m (Entry Number d)) es e found (IsPassed g.bundles.number v node) = right_place.stands some (inr (ap is_some section)) in
+          let stands : StandsAt (λ d. m (Entry Number d)) es e found v.reading.above (IsPassed g.bundles.number v node) = right_place.stands some (inr (ap is_some section)) in
           let chain = subst (IsChain next (m (Node (Head side) node))) stands.splits bundle.chain in
           let behind = chain_head next (next e) stands.back (chain_behind next (m (Node (Head side) node)) e stands.front stands.back chain) in
           let over : n < g.bundles.number e = subst (λ o. IfSome o (λ s. s < g.bundles.number e)) section (above_is t.layout m t.views g rule i v at node side e found here some above) in

@@ -30,3 +30,5 @@ pub mod OneTree
 pub mod Found
 -- The stamp to which an allowed raise adds one is small.
 pub mod RaiseStamps
+-- Numbers fall along a bundle.
+pub mod Falls

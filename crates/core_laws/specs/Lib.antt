@@ -4,3 +4,4 @@ pub mod Owners
 pub mod ViewNeeds
 pub mod Counts
 pub mod Found
+pub mod Falls

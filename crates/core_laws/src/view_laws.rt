@@ -1,5 +1,6 @@
 // Laws on the tables that meet the rule. These calls do nothing: their clauses are what is proved.
 ghost use Rattle.core_laws.specs.Counts.{CountsLaw, OtherHeadLaw, TakenLaw, TreeNotRetiredLaw};
+ghost use Rattle.core_laws.specs.Falls.{FallsLaw};
 ghost use Rattle.core_laws.specs.Found.{ReadLaw, StampLaw, OneTreeLaw, BundleLengthLaw};
 ghost use Rattle.core_laws.specs.Owners.{OwnersLaw};
 ghost use Rattle.core_laws.specs.ViewNeeds.{EnterLaw, LeaveLaw, LookLaw, FillLaw, LoadStampLaw, FixLaw, ReadHeadLaw, ReadNumberLaw, ReadChildLaw, ReadNextLaw, PrepareLaw, FinaliseLaw, LockLaw, UnlockLaw, ReadMarkLaw, MarkLaw, ReadKeyLaw, ReadValLaw, SplitLaw, JoinLaw};
@@ -56,9 +57,12 @@ pub fn where_counts_rise()
 /// most the section number, the null link where a head or a next is found 0, and each remembered link are the tree's,
 /// and that entry is the selected one. A load of the stamp finds the whole history, of which the seat has seen a
 /// beginning. A tree is determined by its list of nodes; a bundle has at most as many entries as the table.
+/// Along a bundle the numbers fall: behind an entry whose number was found to be above 0, a load of the next entry's
+/// number finds one that is above 0 and smaller.
 pub fn what_loads_find()
     ensures reads { ReadLaw }
     ensures stamp { StampLaw }
     ensures one_tree { OneTreeLaw }
     ensures bundle_length { BundleLengthLaw }
+    ensures falls { FallsLaw }
 {}

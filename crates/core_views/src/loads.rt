@@ -38,6 +38,7 @@ pub fn load_stamp(
     view.reading.opened = if fixes { Some(stamp) } else { None };
     view.reading.tree = nodes;
     view.reading.place = Place::Nowhere;
+    view.reading.above = None;
     view.reading.links.clear();
     view.reading.left_turn = None;
     view.reading.right_turn = None;
@@ -222,6 +223,7 @@ pub fn load_head(
         entry,
         stamp: None,
     };
+    view.reading.above = None;
     hold_found(alloc, &mut view.held, node, side, entry);
     Ok(())
 }
@@ -376,6 +378,7 @@ pub fn load_next(view: &mut View, entry: u32, next: u64) -> Result<(), NoMemory>
                 entry: next,
                 stamp: None,
             };
+            view.reading.above = stamp;
             Ok(())
         }
         _ => Ok(()),

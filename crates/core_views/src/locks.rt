@@ -138,6 +138,7 @@ pub fn unlock(alloc: Global, view: &mut View, node: u32)
     forget_node(alloc, &mut view.held, node);
     end_update(alloc, &mut view.update, &view.held.nodes);
     view.reading.place = Place::Nowhere;
+    view.reading.above = None;
     view.reading.links.clear();
     view.reading.left_turn = None;
     view.reading.right_turn = None;

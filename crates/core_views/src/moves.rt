@@ -18,6 +18,7 @@ pub fn enter(alloc: Global, view: &mut View, passes: u32, word: u64) -> Result<(
     settle(alloc, view, looks, passes)?;
     view.section_word = word;
     view.reading.place = Place::Nowhere;
+    view.reading.above = None;
     view.reading.links.clear();
     view.reading.left_turn = None;
     view.reading.right_turn = None;

@@ -132,6 +132,7 @@ pub fn raise(
     view.history.mine = mine;
     view.history.left -= 1;
     view.reading.place = Place::Nowhere;
+    view.reading.above = None;
     view.reading.links.clear();
     view.reading.left_turn = None;
     view.reading.right_turn = None;

@@ -29,6 +29,7 @@ no_reading = record {
   opened = None;
   tree = [];
   place = Nowhere;
+  above = None;
   links = [];
   left_turn = None;
   right_turn = None;

@@ -76,10 +76,10 @@ empty_chain : (next : ℕ → ℕ) (head : ℕ) (es : List ℕ) → IsChain next
 empty_chain next head [] chain none = refl
 empty_chain next head (e ∷ es) chain none = absurd (omega (arith, chain.0, chain.1, none))
 
-first_stands : (next stamp : ℕ → ℕ) (head : ℕ) (es : List ℕ) (unread : ℕ → Type 0) → IsChain next head es → 0 < head → StandsAt stamp es head None unread
+first_stands : (next stamp : ℕ → ℕ) (head : ℕ) (es : List ℕ) (unread : ℕ → Type 0) → IsChain next head es → 0 < head → StandsAt stamp es head None None unread
 first_stands next stamp head [] unread chain some = absurd (omega (arith, chain, some))
 first_stands next stamp head (e ∷ es) unread chain some =
-    record { front = []; back = es; splits = ap (λ x. x ∷ es) (sym chain.0); passed = tt; found = tt }
+    record { front = []; back = es; splits = ap (λ x. x ∷ es) (sym chain.0); passed = tt; found = tt; falls = tt }
 
 module _ (z : Layout) (m : Memory) (vs : List View) (g : Meaning) (rule : Rule z m vs g) where
   stamp_seen : (v : View) (known : List Update) (fixes : Bool) (nodes : List TreeNode) → SeatRight z m g v → known ≡ g.updates
@@ -197,14 +197,14 @@ module _ (z : Layout) (m : Memory) (vs : List View) (g : Meaning) (rule : Rule z
       let seat = seat_at z m vs g i v at rule in
       let same = held-found node side x v.held.nodes in
       let chain = (rule.bundles node (reachable_live z vs g rule.slots i node v at reach) side).chain in
-      let back = λ (k : ℕ). reach_back z m vs g rule i v at w.counts w.held.nodes w.held.nexts w.reading.place w.reading.links same k in
-      read_kept z m vs g rule i v at w.counts w.held.nodes w.held.nexts w.reading.place w.reading.links same inside
+      let back = λ (k : ℕ). reach_back z m vs g rule i v at w.counts w.held.nodes w.held.nexts w.reading.place w.reading.above w.reading.links same k in
+      read_kept z m vs g rule i v at w.counts w.held.nodes w.held.nexts w.reading.place w.reading.above w.reading.links same inside
       (every_mapped (IsNodeAt m) (IsNodeAt m)
       (found_at node side x) v.held.nodes (λ h right. known_now node side h (eqb h.node node) refl right) seat.loaded.nodes)
-      (nexts_back z m vs g rule i v at w.counts w.held.nodes w.held.nexts w.reading.place w.reading.links same)
+      (nexts_back z m vs g rule i v at w.counts w.held.nodes w.held.nexts w.reading.place w.reading.above w.reading.links same)
       (record { reach = back node reach; stands = λ some watched. first_stands (λ e. m (Entry Next e)) (λ e. m (Entry Number e)) x (g.bundles.bundle side node) (IsPassed g.bundles.number w node) chain some })
       (links_push (LinkRight z (λ e. m (Entry Child e)) g.bundles w) (eqb x 0) v.reading.links (bundle_link node side 0 0)
-      (links_back z m vs g rule i v at w.counts w.held.nodes w.held.nexts w.reading.place w.reading.links same)
+      (links_back z m vs g rule i v at w.counts w.held.nodes w.held.nexts w.reading.place w.reading.above w.reading.links same)
       (λ none. record { reach = back node reach; selected = null_by v.reading.section (empty_chain (λ e. m (Entry Next e)) x (g.bundles.bundle side node) chain (eqb-true x 0 none)) }))
     where
       null_by : (o : Option ℕ) → g.bundles.bundle side node ≡ [] → EntryRight (λ e. m (Entry Child e)) g.bundles.number (g.bundles.bundle side node) o 0 0

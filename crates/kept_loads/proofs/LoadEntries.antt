@@ -18,7 +18,7 @@ use Rattle.core_links.specs.Bundle.{IsChain, select}
 use Rattle.core_invariant.specs.Meanings.{Meaning}
 use Rattle.core_invariant.specs.Locks.{IsNodeAt, IsNextAt}
 use Rattle.core_invariant.specs.BundleRule.{IsBundle}
-use Rattle.core_invariant.specs.Readers.{IsWatched, IsLocked, StandsAt, IsPassed, PlaceRight, EntryRight, LinkRight}
+use Rattle.core_invariant.specs.Readers.{IsWatched, IsLocked, StandsAt, IsPassed, IsBelow, PlaceRight, EntryRight, LinkRight}
 use Rattle.core_invariant.specs.SeatRule.{SeatRight}
 use Rattle.core_events.specs.LoadMoves.{locks, ts_loaded, node_known, place_known, ptr_loaded, child_links, is_selected, is_above, next_at, next_loaded, bundle_link}
 use Rattle.core_invariant.specs.Rule.{Rule}
@@ -28,6 +28,7 @@ use Rattle.core_invariant.proofs.Owned.{in_entries}
 use Rattle.core_invariant.proofs.ReadMoves.{watched_back, reach_back, passed_back, links_back, nexts_back, read_kept}
 use Rattle.kept_loads.proofs.HeadLoads.{side_node, side_at, links_push}
 use Rattle.core_invariant.proofs.HeldFacts.{locks-count}
+use Rattle.core_invariant.proofs.Falling.{next_falls}
 use Rattle.core_invariant.proofs.AtEntries.{chain_behind, selected_by, child_is, above_is, last_by, unlocked_is, right as right_there, inside as inside_there, bundle as bundle_there, stands as stands_there, member as member_of}
 
 -- what follows an entry
@@ -69,7 +70,7 @@ module _ (z : Layout) (m : Memory) (vs : List View) (g : Meaning) (rule : Rule z
       let x : ℕ = m (Entry Number e) in
       let w : View = ts_loaded v e x in
       let same = side_node e x v.held.nodes in
-      read_kept z m vs g rule i v at w.counts w.held.nodes w.held.nexts w.reading.place w.reading.links same inside
+      read_kept z m vs g rule i v at w.counts w.held.nodes w.held.nexts w.reading.place w.reading.above w.reading.links same inside
       (every_mapped (IsNodeAt m) (IsNodeAt m)
       (node_known e x) v.held.nodes (λ h known. record {
         key = known.key;
@@ -78,29 +79,30 @@ module _ (z : Layout) (m : Memory) (vs : List View) (g : Meaning) (rule : Rule z
         left = record { head = side_at e x _ stamp h.left.head refl known.left.head };
         right = record { head = side_at e x _ stamp h.right.head refl known.right.head };
       }) seat.loaded.nodes)
-      (nexts_back z m vs g rule i v at w.counts w.held.nodes w.held.nexts w.reading.place w.reading.links same)
+      (nexts_back z m vs g rule i v at w.counts w.held.nodes w.held.nexts w.reading.place w.reading.above w.reading.links same)
       (subst (λ (p : Place). PlaceRight z stamp g.bundles w (place_known x p)) (sym here) (record {
-        reach = reach_back z m vs g rule i v at w.counts w.held.nodes w.held.nexts w.reading.place w.reading.links same node right.reach;
+        reach = reach_back z m vs g rule i v at w.counts w.held.nodes w.held.nexts w.reading.place w.reading.above w.reading.links same node right.reach;
         stands = λ above watched.
-            let stood = stands_there z m vs g rule i v at node side e found here some (watched_back z m vs g rule i v at w.counts w.held.nodes w.held.nexts w.reading.place w.reading.links same node watched) in
+            let stood = stands_there z m vs g rule i v at node side e found here some (watched_back z m vs g rule i v at w.counts w.held.nodes w.held.nexts w.reading.place w.reading.above w.reading.links same node watched) in
             record {
               front = stood.front;
               back = stood.back;
               splits = stood.splits;
               passed = every_map (IsPassed g.bundles.number v node) (IsPassed g.bundles.number w node) stood.front
-                  (λ d is. passed_back z m vs g rule i v at w.counts w.held.nodes w.held.nexts w.reading.place w.reading.links same node d is) stood.passed;
+                  (λ d is. passed_back z m vs g rule i v at w.counts w.held.nodes w.held.nexts w.reading.place w.reading.above w.reading.links same node d is) stood.passed;
               found = λ _. refl;
+              falls = stood.falls;
             };
       }))
-      (links_back z m vs g rule i v at w.counts w.held.nodes w.held.nexts w.reading.place w.reading.links same)
+      (links_back z m vs g rule i v at w.counts w.held.nodes w.held.nexts w.reading.place w.reading.above w.reading.links same)
 
   -- a load of the entry's child
   pub load_ptr_kept : Rule z m (set vs i (ptr_loaded v (m (Entry Child e)))) g
   load_ptr_kept =
       let c : ℕ = m (Entry Child e) in
       let w : View = ptr_loaded v c in
-      let place = reach_back z m vs g rule i v at w.counts w.held.nodes w.held.nexts w.reading.place w.reading.links refl in
-      read_kept z m vs g rule i v at w.counts w.held.nodes w.held.nexts w.reading.place w.reading.links refl inside
+      let place = reach_back z m vs g rule i v at w.counts w.held.nodes w.held.nexts w.reading.place w.reading.above w.reading.links refl in
+      read_kept z m vs g rule i v at w.counts w.held.nodes w.held.nexts w.reading.place w.reading.above w.reading.links refl inside
       seat.loaded.nodes seat.loaded.nexts seat.place
       (subst (λ (p : Place). Every (LinkRight z (λ d. m (Entry Child d)) g.bundles w) (child_links v p c)) (sym here)
       (links_push (LinkRight z (λ d. m (Entry Child d)) g.bundles w) (is_selected v.reading.section found (locks node v.held.nodes)) v.reading.links (bundle_link node side c e)
@@ -139,7 +141,7 @@ module _ (z : Layout) (m : Memory) (vs : List View) (g : Meaning) (rule : Rule z
   pub load_next_kept : IsLocked v node ⊎ (is_above v e found ≡ true) → Rule z m (set vs i (next_loaded v e (m (Entry Next e)))) g
   load_next_kept may =
       subst (λ (p : Place). Rule z m (set vs i (next_at v p e (m (Entry Next e)))) g) (sym here)
-      (read_kept z m vs g rule i v at next_view.counts next_view.held.nodes next_view.held.nexts next_view.reading.place next_view.reading.links refl inside
+      (read_kept z m vs g rule i v at next_view.counts next_view.held.nodes next_view.held.nexts next_view.reading.place next_view.reading.above next_view.reading.links refl inside
       seat.loaded.nodes
       (nexts_by (locks node v.held.nodes) locked_has)
       (record { reach = right.reach; stands = stands_behind })
@@ -152,7 +154,7 @@ module _ (z : Layout) (m : Memory) (vs : List View) (g : Meaning) (rule : Rule z
       entry_by None is = (refl, refl)
       entry_by (Some t) is = (is, refl)
 
-      stands_behind : 0 < next_word → IsWatched v node → StandsAt stamp es next_word None (IsPassed g.bundles.number next_view node)
+      stands_behind : 0 < next_word → IsWatched v node → StandsAt stamp es next_word None found (IsPassed g.bundles.number next_view node)
       stands_behind low watched =
           let stood = stands_there z m vs g rule i v at node side e found here some watched in
           let chain = subst (IsChain (λ d. m (Entry Next d)) (m (Node (Head side) node))) stood.splits bundle.chain in
@@ -163,4 +165,9 @@ module _ (z : Layout) (m : Memory) (vs : List View) (g : Meaning) (rule : Rule z
             splits = stood.splits ∙ ap (λ xs. stood.front ++ e ∷ xs) behind.is ∙ sym (append_assoc stood.front (e ∷ []) (next_word ∷ behind.rest));
             passed = every_push (IsPassed g.bundles.number next_view node) stood.front e stood.passed (passes_by next_view v.reading.section refl (λ locked. locked) may);
             found = tt;
+            falls = falls_by found refl;
           }
+        where
+          falls_by : (o : Option ℕ) → found ≡ o → IsBelow stamp next_word o
+          falls_by None same = tt
+          falls_by (Some x) same = λ above. next_falls z m vs g rule i v at node side e found here some watched x same above low

@@ -74,12 +74,12 @@ module _ (z : Layout) (m : Memory) (vs : List View) (g : Meaning) (rule : Rule z
   -- a load of a mark
   pub load_mark_kept : (c : Counts) → is_even v.section_word ≡ false → x ≡ m (Node Mark k) → Rule z m (set vs i (known_view c)) g
   load_mark_kept c inside found =
-      read_kept z m vs g rule i v at c known_nodes v.held.nexts v.reading.place v.reading.links same inside
+      read_kept z m vs g rule i v at c known_nodes v.held.nexts v.reading.place v.reading.above v.reading.links same inside
       (every_mapped (IsNodeAt m) (IsNodeAt m)
       (mark_known k x) v.held.nodes (λ h right. known_by h (eqb h.node k) refl found right) own_seat.loaded.nodes)
-      (nexts_back z m vs g rule i v at c known_nodes v.held.nexts v.reading.place v.reading.links same)
-      (place_back z m vs g rule i v at c known_nodes v.held.nexts v.reading.place v.reading.links same v.reading.place own_seat.place)
-      (links_back z m vs g rule i v at c known_nodes v.held.nexts v.reading.place v.reading.links same)
+      (nexts_back z m vs g rule i v at c known_nodes v.held.nexts v.reading.place v.reading.above v.reading.links same)
+      (place_back z m vs g rule i v at c known_nodes v.held.nexts v.reading.place v.reading.above v.reading.links same refl v.reading.place own_seat.place)
+      (links_back z m vs g rule i v at c known_nodes v.held.nexts v.reading.place v.reading.above v.reading.links same)
 
 field_node : (f : Field) (k x : ℕ) (h : HeldNode) → (pair_known f k x h).node ≡ h.node
 field_node Key k x h = key_by (eqb h.node k)
@@ -128,11 +128,11 @@ load_pair_kept z m vs g i k f v rule at inside =
     let seat = seat_at z m vs g i v at rule in
     let nodes : List HeldNode = map (pair_known f k x) v.held.nodes in
     let same = slots_paired f k x v.held.nodes in
-    read_kept z m vs g rule i v at v.counts nodes v.held.nexts v.reading.place v.reading.links same inside
+    read_kept z m vs g rule i v at v.counts nodes v.held.nexts v.reading.place v.reading.above v.reading.links same inside
     (every_mapped (IsNodeAt m) (IsNodeAt m) (pair_known f k x) v.held.nodes (λ h right. pair_right m f k x h refl right) seat.loaded.nodes)
-    (nexts_back z m vs g rule i v at v.counts nodes v.held.nexts v.reading.place v.reading.links same)
-    (place_back z m vs g rule i v at v.counts nodes v.held.nexts v.reading.place v.reading.links same v.reading.place seat.place)
-    (links_back z m vs g rule i v at v.counts nodes v.held.nexts v.reading.place v.reading.links same)
+    (nexts_back z m vs g rule i v at v.counts nodes v.held.nexts v.reading.place v.reading.above v.reading.links same)
+    (place_back z m vs g rule i v at v.counts nodes v.held.nexts v.reading.place v.reading.above v.reading.links same refl v.reading.place seat.place)
+    (links_back z m vs g rule i v at v.counts nodes v.held.nexts v.reading.place v.reading.above v.reading.links same)
 
 module _ (z : Layout) (m : Memory) (vs : List View) (g : Meaning) (rule : Rule z m vs g) (i k : ℕ) (v : View) (at : IsItem vs i v) (locked : 0 < lock_count k v) (taken : 0 < count k v.update.taken) where
   abbrev m' : Memory
@@ -154,7 +154,7 @@ module _ (z : Layout) (m : Memory) (vs : List View) (g : Meaning) (rule : Rule z
   locks_same = slots_marked k 1 v.held.nodes
 
   works_same : work_nodes w ≡ work_nodes v
-  works_same = work_same z m vs g rule i v at v.counts nodes v.held.nexts v.reading.place v.reading.links locks_same
+  works_same = work_same z m vs g rule i v at v.counts nodes v.held.nexts v.reading.place v.reading.above v.reading.links locks_same
 
   -- the node is neither in the tree nor the root
   unlinked : count k (slots_of g.tree) ≡ 0
@@ -213,7 +213,7 @@ module _ (z : Layout) (m : Memory) (vs : List View) (g : Meaning) (rule : Rule z
     loaded = record {
       nodes = every_mapped (IsNodeAt m) (IsNodeAt m')
           (mark_known k 1) v.held.nodes (λ h right. node_now h (eqb h.node k) refl right) seat.loaded.nodes;
-      nexts = nexts_back z m vs g rule i v at v.counts nodes v.held.nexts v.reading.place v.reading.links locks_same;
+      nexts = nexts_back z m vs g rule i v at v.counts nodes v.held.nexts v.reading.place v.reading.above v.reading.links locks_same;
     };
     marks = record {
       retired = λ j waits. elim (seat.marks.retired j waits) as (λ _. (m' (Node Mark j) ≡ 1) ⊎ IsTakenOut w j) [
@@ -225,9 +225,9 @@ module _ (z : Layout) (m : Memory) (vs : List View) (g : Meaning) (rule : Rule z
     };
     pending = every_map (IsPending z (λ s j. m (Node (Head s) j)) (λ d. m (Entry Number d)) g.bundles.number v) (IsPending z (λ s j. m (Node (Head s) j)) (λ d. m (Entry Number d)) g.bundles.number w) v.update.pending
         (λ d old. (old.0, old.1, record { node = old.2.node; side = old.2.side; there = old.2.there; is = old.2.is; some = old.2.some; of = subst (λ xs. 0 < count old.2.node xs) (sym works_same) old.2.of })) seat.pending;
-    place = place_back z m vs g rule i v at v.counts nodes v.held.nexts v.reading.place v.reading.links locks_same v.reading.place seat.place;
+    place = place_back z m vs g rule i v at v.counts nodes v.held.nexts v.reading.place v.reading.above v.reading.links locks_same refl v.reading.place seat.place;
     filled = every_filled m m' v.free v.free v.update v.update v.reading.filled (λ y is. is) (node_apart m v.free v.update Mark k 1 (unfree i v at)) seat.filled;
-    links = links_back z m vs g rule i v at v.counts nodes v.held.nexts v.reading.place v.reading.links locks_same;
+    links = links_back z m vs g rule i v at v.counts nodes v.held.nexts v.reading.place v.reading.above v.reading.links locks_same;
   }
 
   holder_apart : (u : View) (h : HeldNode) → Beside vs i u → 0 < lock_count h.node u → h.node ≡ k → ⊥
@@ -278,7 +278,7 @@ module _ (z : Layout) (m : Memory) (vs : List View) (g : Meaning) (rule : Rule z
       history = history_kept z _ g vs i v w at refl refl rule.history;
       slots = quiet z (linked_by g) HoldsNode (HoldsEntry g.bundles) vs i v w at rule.slots refl refl refl
           (record {
-            nodes = λ j holds. inl (holds_same z m vs g rule i v at v.counts nodes v.held.nexts v.reading.place v.reading.links locks_same j holds);
+            nodes = λ j holds. inl (holds_same z m vs g rule i v at v.counts nodes v.held.nexts v.reading.place v.reading.above v.reading.links locks_same j holds);
             entries = λ x holds. inl (entry_same x holds);
           }) (record { number = refl; section = inl refl })
           (λ known. same_looks z (linked_by g) HoldsNode (HoldsEntry g.bundles) v w w refl refl known)

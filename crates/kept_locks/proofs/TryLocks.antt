@@ -193,13 +193,14 @@ module _ (z : Layout) (m : Memory) (vs : List View) (g : Meaning) (rule : Rule z
       passed_by (Some t) (inl locked) = inl (still_locked j locked)
       passed_by (Some t) (inr above) = inr above
 
-  stands_now : (j e : ℕ) (found : Option ℕ) (es : List ℕ) → StandsAt stamp es e found (IsPassed g.bundles.number v j) → StandsAt stamp es e found (IsPassed g.bundles.number w j)
+  stands_now : (j e : ℕ) (found : Option ℕ) (es : List ℕ) → StandsAt stamp es e found v.reading.above (IsPassed g.bundles.number v j) → StandsAt stamp es e found v.reading.above (IsPassed g.bundles.number w j)
   stands_now j e found es stands = record {
     front = stands.front;
     back = stands.back;
     splits = stands.splits;
     passed = every_map (IsPassed g.bundles.number v j) (IsPassed g.bundles.number w j) stands.front (passed_now j) stands.passed;
     found = stands.found;
+    falls = stands.falls;
   }
 
   -- without a section number, a seat that stands at an entry watches its node only where it had locked it before
@@ -330,4 +331,4 @@ pub met_kept : (z : Layout) (m : Memory) (vs : List View) (g : Meaning) (i : ℕ
     → Rule z m (set vs i (record v { counts = c })) g
 met_kept z m vs g i v c rule at inside =
     let seat = seat_at z m vs g i v at rule in
-    read_kept z m vs g rule i v at c v.held.nodes v.held.nexts v.reading.place v.reading.links refl inside seat.loaded.nodes seat.loaded.nexts seat.place seat.links
+    read_kept z m vs g rule i v at c v.held.nodes v.held.nexts v.reading.place v.reading.above v.reading.links refl inside seat.loaded.nodes seat.loaded.nexts seat.place seat.links

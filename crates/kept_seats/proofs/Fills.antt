@@ -193,14 +193,16 @@ module _ (z : Layout) (m : Memory) (vs : List View) (g : Meaning) (rule : Rule z
     entry_place n u (AtEntry node side entry found) of right = record {
       reach = right.reach;
       stands = λ some watched.
-          let stands : StandsAt (λ d. m (Entry Number d)) (g.bundles.bundle side node) entry found (IsPassed g.bundles.number u node) = right.stands some watched in
+          let stands : StandsAt (λ d. m (Entry Number d)) (g.bundles.bundle side node) entry found u.reading.above (IsPassed g.bundles.number u node) = right.stands some watched in
           let here : 0 < count entry (g.bundles.bundle side node) = subst (λ es. 0 < count entry es) (sym stands.splits) (count-middle entry stands.front stands.back) in
+          let same : written m (Entry p e) x (Entry Number entry) ≡ m (Entry Number entry) = entry_other m p Number e entry x (member_apart i e node entry v side at free (reachable_live z vs g rule.slots n node u of right.reach) here) in
           record {
             front = stands.front;
             back = stands.back;
             splits = stands.splits;
             passed = stands.passed;
-            found = IfSome_then found stands.found (λ y known low. entry_other m p Number e entry x (member_apart i e node entry v side at free (reachable_live z vs g rule.slots n node u of right.reach) here) ∙ known low);
+            found = IfSome_then found stands.found (λ y known low. same ∙ known low);
+            falls = IfSome_then u.reading.above stands.falls (λ y known low. let old = known low in (omega (arith, old.0, same), omega (arith, old.1, same)));
           };
     }
 

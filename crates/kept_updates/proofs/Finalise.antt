@@ -27,7 +27,7 @@ use Rattle.core_invariant.specs.Meanings.{Meaning, linked_by}
 use Rattle.core_invariant.specs.Numbers.{number_count}
 use Rattle.core_invariant.specs.Locks.{lock_count, SideRight, IsNodeAt, IsNextAt}
 use Rattle.core_invariant.specs.BundleRule.{IsLive, IsPendingAt, IsBundle, IsNumbered, TailWritten, IsPending, pending_count, shown}
-use Rattle.core_invariant.specs.Readers.{StandsAt, IsPassed, PlaceRight}
+use Rattle.core_invariant.specs.Readers.{StandsAt, IsPassed, IsBelow, PlaceRight}
 use Rattle.core_invariant.specs.FilledRule.{IsOwnSlotWord}
 use Rattle.core_invariant.specs.SeatRule.{SeatRight}
 use Rattle.core_events.specs.UpdateMoves.{finalised}
@@ -53,6 +53,11 @@ pub found_kept : (stamp stamp' : ℕ → ℕ) (d : ℕ) (found : Option ℕ) →
     → IfSome found (λ x. 0 < x → stamp d ≡ x) → IfSome found (λ x. 0 < x → stamp' d ≡ x)
 found_kept stamp stamp' d found same right =
     IfSome_then found right (λ x known some. same (omega (arith, some, known some)) ∙ known some)
+
+-- so is a number that is below another one
+below_kept : (stamp stamp' : ℕ → ℕ) (d : ℕ) (above : Option ℕ) → (0 < stamp d → stamp' d ≡ stamp d) → IsBelow stamp d above → IsBelow stamp' d above
+below_kept stamp stamp' d None same right = tt
+below_kept stamp stamp' d (Some x) same right = λ some. let old = right some in (omega (arith, old.0, same old.0), omega (arith, old.1, same old.0))
 
 side_kept : (stamp stamp' : ℕ → ℕ) (head : ℕ) (s : HeldSide) → ((d : ℕ) → 0 < stamp d → stamp' d ≡ stamp d) → SideRight head stamp s → SideRight head stamp' s
 side_kept stamp stamp' head s same right =
@@ -134,8 +139,15 @@ module _ (z : Layout) (m : Memory) (vs : List View) (g : Meaning) (rule : Rule z
   place_kept u (AtEntry node side entry found) right = record {
     reach = right.reach;
     stands = λ low watched.
-        let stands : StandsAt stamp (g.bundles.bundle side node) entry found (IsPassed g.bundles.number u node) = right.stands low watched in
-        record { front = stands.front; back = stands.back; splits = stands.splits; passed = stands.passed; found = found_kept stamp stamp' entry found (kept_stamp entry) stands.found };
+        let stands : StandsAt stamp (g.bundles.bundle side node) entry found u.reading.above (IsPassed g.bundles.number u node) = right.stands low watched in
+        record {
+          front = stands.front;
+          back = stands.back;
+          splits = stands.splits;
+          passed = stands.passed;
+          found = found_kept stamp stamp' entry found (kept_stamp entry) stands.found;
+          falls = below_kept stamp stamp' entry u.reading.above (kept_stamp entry) stands.falls;
+        };
   }
 
   node_kept : (h : HeldNode) → IsNodeAt m h → IsNodeAt m' h

@@ -159,25 +159,28 @@ module _ (z : Layout) (m : Memory) (vs : List View) (g : Meaning) (rule : Rule z
     front_by n None past = tt
     front_by n (Some t) past = inr (omega (arith, past, low, numbered_new g.bundles.number e))
 
-    stands_same : (n entry : ℕ) (found : Option ℕ) (es : List ℕ) → StandsAt stamp es entry found (IsPassed g.bundles.number u n) → StandsAt stamp es entry found (IsPassed number' u' n)
-    stands_same n entry found es old = record {
+    stands_same : (n entry : ℕ) (found above : Option ℕ) (es : List ℕ) → StandsAt stamp es entry found above (IsPassed g.bundles.number u n) → StandsAt stamp es entry found above (IsPassed number' u' n)
+    stands_same n entry found above es old = record {
       front = old.front;
       back = old.back;
       splits = old.splits;
       passed = every_map (IsPassed g.bundles.number u n) (IsPassed number' u' n) old.front (λ d is. passed_by n d u.reading.section seat.version.past is) old.passed;
       found = old.found;
+      falls = old.falls;
     }
 
-    stands_by : (n entry : ℕ) (found : Option ℕ) (es : List ℕ) (c : Bool) → StandsAt stamp es entry found (IsPassed g.bundles.number u n) → StandsAt stamp (cond c (e ∷ es) es) entry found (IsPassed number' u' n)
-    stands_by n entry found es false old = stands_same n entry found es old
-    stands_by n entry found es true old =
-        let rest = stands_same n entry found es old in
+    stands_by : (n entry : ℕ) (found above : Option ℕ) (es : List ℕ) (c : Bool) → StandsAt stamp es entry found above (IsPassed g.bundles.number u n)
+        → StandsAt stamp (cond c (e ∷ es) es) entry found above (IsPassed number' u' n)
+    stands_by n entry found above es false old = stands_same n entry found above es old
+    stands_by n entry found above es true old =
+        let rest = stands_same n entry found above es old in
         record {
           front = e ∷ rest.front;
           back = rest.back;
           splits = ap (λ xs. e ∷ xs) rest.splits;
           passed = (front_by n u.reading.section seat.version.past, rest.passed);
           found = rest.found;
+          falls = rest.falls;
         }
 
     place_now : (place : Place) → PlaceRight z stamp g.bundles u place → PlaceRight z stamp g'.bundles u' place
@@ -186,7 +189,7 @@ module _ (z : Layout) (m : Memory) (vs : List View) (g : Meaning) (rule : Rule z
     place_now (Gap n s) right = tt
     place_now (AtEntry n s entry found) right = record {
       reach = reach n right.reach;
-      stands = λ above watched. stands_by n entry found (g.bundles.bundle s n) (same_side s side && eqb n k) (right.stands above (watched_before n watched));
+      stands = λ some watched. stands_by n entry found u.reading.above (g.bundles.bundle s n) (same_side s side && eqb n k) (right.stands some (watched_before n watched));
     }
 
     entry_now : (n c entry : ℕ) (s : Side) (o : Option ℕ) → IfSome o (λ t. t ≤ m Stamp) → IsLive z vs n

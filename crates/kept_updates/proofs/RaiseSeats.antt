@@ -247,14 +247,15 @@ module _ (z : Layout) (m : Memory) (vs : List View) (g : Meaning) (rule : Rule z
   passed_by y k d (Some t) past (inl locked) = inl locked
   passed_by y k d (Some t) past (inr above) = inr (above_still z m vs g rule i v u move tree at can moves t d past above)
 
-  stands_now : (y : View) (k e : ℕ) (found : Option ℕ) (es : List ℕ) → IfSome y.reading.section (λ t. t ≤ s)
-      → StandsAt stamp es e found (IsPassed g.bundles.number y k) → StandsAt stamp es e found (IsPassed number' y k)
-  stands_now y k e found es past old = record {
+  stands_now : (y : View) (k e : ℕ) (found above : Option ℕ) (es : List ℕ) → IfSome y.reading.section (λ t. t ≤ s)
+      → StandsAt stamp es e found above (IsPassed g.bundles.number y k) → StandsAt stamp es e found above (IsPassed number' y k)
+  stands_now y k e found above es past old = record {
     front = old.front;
     back = old.back;
     splits = old.splits;
     passed = every_map (IsPassed g.bundles.number y k) (IsPassed number' y k) old.front (λ d is. passed_by y k d y.reading.section past is) old.passed;
     found = old.found;
+    falls = old.falls;
   }
 
   place_now : (j : ℕ) (y : View) (place : Place) → IsItem vs j y → IfSome y.reading.section (λ t. t ≤ s) → PlaceRight z stamp g.bundles y place → PlaceRight z stamp g'.bundles y place
@@ -263,9 +264,9 @@ module _ (z : Layout) (m : Memory) (vs : List View) (g : Meaning) (rule : Rule z
   place_now j y (Gap k w) of past right = tt
   place_now j y (AtEntry k w e found) of past right = record {
     reach = right.reach;
-    stands = λ above watched. subst (λ es. StandsAt stamp es e found (IsPassed number' y k))
+    stands = λ some watched. subst (λ es. StandsAt stamp es e found y.reading.above (IsPassed number' y k))
         (sym (live_bundle z m vs g rule i v u move tree at moves k w (reachable_live z vs g rule.slots j k y of right.reach)))
-        (stands_now y k e found (g.bundles.bundle w k) past (right.stands above watched));
+        (stands_now y k e found y.reading.above (g.bundles.bundle w k) past (right.stands some watched));
   }
 
   entry_now : (k c entry : ℕ) (w : Side) (o : Option ℕ) → IfSome o (λ t. t ≤ s) → IsLive z vs k

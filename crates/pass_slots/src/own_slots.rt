@@ -98,6 +98,13 @@ impl OwnSlots {
         self.free.len()
     }
 
+    /// How many slots there are together.
+    pub fn owned_count(&self) -> usize
+        ensures { result ≡ slot_count self.now }
+    {
+        self.free.len() + self.batch.len() + self.retired.len()
+    }
+
     /// The free slot at this place of the list. None behind the last one.
     pub fn free_at(&self, place: usize) -> Option<u32>
         ensures { result ≡ slice_get self.now.free place }

@@ -63,6 +63,20 @@ impl PassSlots {
         self.entries.free_count()
     }
 
+    /// How many nodes there are together: free ones, those of the batch, and retired ones.
+    pub fn owned_nodes(&self) -> usize
+        ensures { result ≡ node_count self.now }
+    {
+        self.nodes.owned_count()
+    }
+
+    /// How many entries there are together: free ones, those of the batch, and retired ones.
+    pub fn owned_entries(&self) -> usize
+        ensures { result ≡ entry_count self.now }
+    {
+        self.entries.owned_count()
+    }
+
     /// The free node at this place of the list. None behind the last one.
     pub fn free_node(&self, place: usize) -> Option<u32>
         ensures { result ≡ slice_get self.now.free.nodes place }

@@ -143,7 +143,6 @@ holds_more seen p ps causes.NoClient = refl
 holds_more seen p ps causes.TooManyClients = refl
 holds_more seen p ps causes.TooManyLines = refl
 holds_more seen p ps causes.TooManyEntries = refl
-holds_more seen p ps causes.NotBuilt = refl
 
 holds_none : (seen : List Name) (c : Cause) → holds_behind seen [] c ≡ false
 holds_none seen causes.NotUtf8 = refl
@@ -165,7 +164,6 @@ holds_none seen causes.NoClient = refl
 holds_none seen causes.TooManyClients = refl
 holds_none seen causes.TooManyLines = refl
 holds_none seen causes.TooManyEntries = refl
-holds_none seen causes.NotBuilt = refl
 
 turned : (b : Bool) (cause : Cause) → (if b then None else Some cause) ≡ (if not b then Some cause else None)
 turned true cause = refl
@@ -326,7 +324,6 @@ have_is ps causes.NoClient = refl
 have_is ps causes.TooManyClients = refl
 have_is ps causes.TooManyLines = refl
 have_is ps causes.TooManyEntries = refl
-have_is ps causes.NotBuilt = refl
 
 -- ---- where no name stands twice
 

@@ -355,7 +355,7 @@ sound_end p number s below within sound clients names records =
         rising = rw clients (All-weaker IsPartRising (λ (part : ClientPart). Rise (request_lines part)) (λ part rise. rise_of 0 (2 ^ 32) (request_lines part) rise) (all_ended p) rising);
         numbers = rw clients (All-weaker IsPartRising (λ (part : ClientPart). All HasLineNumber (request_lines part)) (λ part rise. numbers_of 0 (request_lines part) rise) (all_ended p) rising);
       };
-      small = record { clients = omega (arith, within.clients); one_client = omega (arith, within.clients); requests = rw (all, sound.requests) (omega (arith, within.requests)) };
+      small = record { clients = omega (arith, within.clients); requests = rw (all, sound.requests) (omega (arith, within.requests)) };
     }
 
 pub sound_answer : (p : Progress) (number : ℕ) (r : Result Session SessionError) → number ≤ 2 ^ 32 → IsWithin p.counts → IsSound p number

@@ -4,7 +4,7 @@ use Rattle.std.specs.Prelude.{◌+◌, ◌≤◌, ◌==◌, ◌&&◌, not, nat_l
 use Rattle.bucket_terms.specs.declared.request.Request.{Request}
 use Rattle.bucket_terms.specs.declared.request.Request.TheVariants as asks
 use Rattle.request_lines.specs.declared.cause.Cause.{Cause}
-use Rattle.request_lines.specs.declared.cause.Cause.TheVariants.{NoClient, TooManyClients, TooManyLines, TooManyEntries, NotBuilt}
+use Rattle.request_lines.specs.declared.cause.Cause.TheVariants.{NoClient, TooManyClients, TooManyLines, TooManyEntries}
 use Rattle.request_lines.specs.declared.command.Command.{Command}
 use Rattle.request_lines.specs.declared.command.Command.TheVariants as says
 use Rattle.request_lines.specs.declared.counts.Counts.{Counts}
@@ -27,7 +27,7 @@ counted so_far says.Next = record so_far { requests = so_far.requests + 1; entri
 
 -- the counts of lines that keep the limits
 pub record IsWithin (so_far : Counts) : Type 0 where
-  pub clients : so_far.clients ≤ 1
+  pub clients : so_far.clients ≤ most_clients
   pub requests : so_far.requests ≤ most_requests
   pub puts : so_far.puts ≤ so_far.requests
   pub entries : so_far.entries ≤ most_listed
@@ -40,7 +40,6 @@ limit_by_counts so_far command =
     else if is_client command && nat_lt most_clients so_far.clients then Some TooManyClients
     else if nat_lt most_requests so_far.requests then Some TooManyLines
     else if nat_lt most_listed so_far.entries then Some TooManyEntries
-    else if is_client command && nat_lt 1 so_far.clients then Some NotBuilt
     else None
 
 abbrev pub counted_with : Counts → Result Command Cause → Counts

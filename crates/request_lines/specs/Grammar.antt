@@ -2,7 +2,7 @@
 use Rattle.std.specs.Prelude.{ℕ, ◌+◌, ◌==◌, ◌&&◌, not, nat_lt, Bool, true, false, List, [], ◌∷◌, Option, Some, None, Result, Ok, Err, codes, count_by, if◌then◌else◌}
 use Rattle.std.specs.Str.{is_utf8, bytes_eq}
 use Rattle.request_lines.specs.declared.cause.Cause.{Cause}
-use Rattle.request_lines.specs.declared.cause.Cause.TheVariants.{NotUtf8, UnknownVerb, WrongFields, NoClient, TooManyClients, TooManyLines, TooManyEntries, NotBuilt}
+use Rattle.request_lines.specs.declared.cause.Cause.TheVariants.{NotUtf8, UnknownVerb, WrongFields, NoClient, TooManyClients, TooManyLines, TooManyEntries}
 use Rattle.request_lines.specs.declared.command.Command.{Command}
 use Rattle.request_lines.specs.declared.command.Command.TheVariants as says
 use Rattle.request_lines.specs.declared.verb.Verb.{Verb}
@@ -109,5 +109,4 @@ limit_cause commands last =
     else if is_client last && nat_lt most_clients (clients_in commands) then Some TooManyClients
     else if nat_lt most_requests (requests_in commands) then Some TooManyLines
     else if nat_lt most_listed (entries_behind 0 commands) then Some TooManyEntries
-    else if is_client last && nat_lt 1 (clients_in commands) then Some NotBuilt
     else None

@@ -83,5 +83,4 @@ pub record HasLines (session : Session) : Type 0 where
 -- how many clients and requests there are at most
 pub record IsSmall (session : Session) : Type 0 where
   pub clients : length session.clients ≤ most_clients
-  pub one_client : length session.clients ≤ 1
   pub requests : length (all_requests session.clients) ≤ most_requests

@@ -45,8 +45,6 @@ pub enum Cause {
     TooManyLines,
     /// The pages of the LIST and NEXT lines so far can have more than 4,000,000 entries together.
     TooManyEntries,
-    /// The second `CLIENT` line, which is not built yet.
-    NotBuilt,
 }
 
 // The place of a cause in the order in which they are tested.

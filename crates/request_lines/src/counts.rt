@@ -61,9 +61,6 @@ impl Counts {
         if so_far.entries > MAX_LISTED {
             return Err(Cause::TooManyEntries);
         }
-        if is_client && so_far.clients > 1 {
-            return Err(Cause::NotBuilt);
-        }
         Ok(so_far)
     }
 

@@ -154,7 +154,11 @@ fn gives_the_first_faulty_line(rt: HostRuntime) -> Result<(), Fail> {
         ("PUT a 1 e1 1", 1, Cause::NoClient),
         ("PUT a x e! 1", 1, Cause::BadNumber),
         ("CLIENT\n\nPUT a 1 e! 1\nGET\n", 3, Cause::BadEtag),
-        ("CLIENT\nPUT a 1 e1 1\n\nCLIENT", 4, Cause::NotBuilt),
+        (
+            "CLIENT\nPUT a 1 e1 1\n\nCLIENT\nHEAD",
+            5,
+            Cause::WrongFields,
+        ),
     ] {
         assert_eq!(rt; refusal(alloc, text), input(line, wanted), "in {text:?}");
     }
@@ -244,9 +248,37 @@ fn limits_the_entries_of_all_pages(rt: HostRuntime) -> Result<(), Fail> {
     Ok(())
 }
 
+// The parts of three clients, of which the second asks nothing. A record is named by its place among those of all.
 #[test]
-fn takes_one_client_alone(rt: HostRuntime) -> Result<(), Fail> {
-    assert_eq!(rt; cause(rt.alloc(), "CLIENT")?, Some(Cause::NotBuilt));
+fn reads_several_clients(rt: HostRuntime) -> Result<(), Fail> {
+    let text = "CLIENT\nPUT a 1 e1 1\n\nCLIENT\nCLIENT\nNEXT\nPUT a 2 e2 2\n";
+    let session = read(rt.alloc(), text)?;
+    let clients = session.clients.as_slice();
+    assert_eq!(rt; clients.len(), 3);
+    assert_eq!(rt; clients[0].requests.as_slice().len(), 1);
+    assert_eq!(rt; clients[1].requests.as_slice().len(), 0);
+    let last = clients[2].requests.as_slice();
+    assert_eq!(rt; last.len(), 2);
+    assert_eq!(rt; last[1].line, 7);
+    let Request::Put { val, .. } = &last[1].request else {
+        panic!(rt; "line 7 is no put")
+    };
+    assert_eq!(rt; *val, 1);
+    assert_eq!(rt; session.names.as_slice().len(), 2);
+    assert_eq!(rt; session.records.as_slice().len(), 2);
+    Ok(())
+}
+
+#[test]
+fn takes_32_clients(rt: HostRuntime) -> Result<(), Fail> {
+    let alloc = rt.alloc();
+    let mut text = String::new(alloc);
+    for _ in 0..32 {
+        text.push_str("CLIENT\n")?;
+    }
+    assert_eq!(rt; read(alloc, &text)?.clients.as_slice().len(), 32);
+    text.push_str("\nCLIENT\nHEAD\n")?;
+    assert_eq!(rt; refusal(alloc, &text), input(34, Cause::TooManyClients));
     Ok(())
 }
 

@@ -13,11 +13,11 @@ use Rattle.table_steps.specs.Passes.{Extends, Inside}
 use Rattle.snapshot_read.specs.Snapshots.{ReadsAt, HasBegun, owned_nodes, owned_entries}
 
 -- how many slots a view owns
-record Owned : Type 0 where
-  nodes : ℕ
-  entries : ℕ
+pub record Owned : Type 0 where
+  pub nodes : ℕ
+  pub entries : ℕ
 
-abbrev owned : View → Owned
+abbrev pub owned : View → Owned
 owned v = record { nodes = owned_nodes v; entries = owned_entries v }
 
 same_owned : (a b c d : ℕ) → a ≡ c → b ≡ d → let one : Owned = record { nodes = a; entries = b } in let two : Owned = record { nodes = c; entries = d } in one ≡ two
@@ -41,7 +41,7 @@ taken_owned v = by_test (is_empty v.batch) refl
         same_owned _ _ _ _ (omega (arith, nodes)) (omega (arith, entries))
     by_test false empty = refl
 
-entered_owned : (passes word : ℕ) (v : View) → owned (entered passes v word) ≡ owned v
+pub entered_owned : (passes word : ℕ) (v : View) → owned (entered passes v word) ≡ owned v
 entered_owned passes word v = settled_owned passes (batch_taken (in_section v word)) ∙ taken_owned (in_section v word)
 
 module _ (v w : View) (at : ℕ) (opened : HasOpened v 1 at w) where

@@ -1,5 +1,5 @@
 -- One level down the snapshot's tree: what the loads at the node find, and where the search then stands.
-use Rattle.std.proofs.Common.{◌≡◌, ℕ, List, ◌+◌, ◌<◌, ◌≤◌, ◌⊎◌, ◌++◌, leb, true, length, arith, refl, ap, ◌∙◌, sym, subst, Some}
+use Rattle.std.proofs.Common.{◌≡◌, ℕ, List, ◌<◌, ◌≤◌, ◌⊎◌, ◌++◌, leb, true, length, arith, refl, ap, ◌∙◌, sym, subst, Some}
 use Rattle.std.proofs.lemmas.Bool.Decides.{nat_tests}
 use Rattle.key_map.specs.declared.pair.Pair.{Pair}
 use Rattle.core_grace.specs.Holds.{tree_slots}
@@ -18,17 +18,19 @@ use Rattle.table_rule.specs.Running.{Happened}
 use Rattle.table_rule.proofs.Happens.{happened_word}
 use Rattle.table_steps.specs.Loads.{IsTreeLink}
 use Rattle.table_steps.specs.Passes.{Pass, IsSamePass}
-use Rattle.snapshot_read.specs.Snapshots.{ReadsAt, IsSnapshotTree, LeadsThere, HasRead}
-use Rattle.snapshot_read.specs.Ways.{keys_left, OnWay, IsOnWay}
-use Rattle.snapshot_read.specs.declared.search.Search.{Search}
+use Rattle.core_updates.specs.Plans.{link_of}
+use Rattle.snapshot_read.specs.Links.{LeadsThere}
+use Rattle.snapshot_read.specs.Snapshots.{ReadsAt, IsSnapshotTree, HasRead}
+use Rattle.snapshot_read.specs.Ways.{keys_left, OnWay, IsOnWay, right_of}
+use Rattle.snapshot_read.specs.declared.kept_way.Search.{Search}
 use Rattle.snapshot_read.proofs.SnapshotTrees.{finds}
-use Rattle.snapshot_read.proofs.Ways.{node, here, in_tree, right_way, right_closer, left_way, left_closer, HasTop, top_at}
+use Rattle.snapshot_read.proofs.Ways.{left_of, node, here, in_tree, right_way, right_closer, left_way, left_closer, HasTop, top_at}
 
 -- the link at which a search goes on is one of the tree
-pub way_link : (v w : View) (t key : ℕ) (s : Search) (tree : NamedTree) → IsSnapshotTree v t tree → HasRead v w → OnWay tree key s → IsTreeLink w s.node s.side
-way_link v w t key s tree is read way =
-    subst (λ (u : View). IsTreeLink u s.node s.side) (sym read.view)
-    (subst (λ (ns : List TreeNode). ((s.node ≡ 0) × (s.side ≡ Right)) ⊎ (0 < count s.node (tree_slots ns))) (sym is.nodes_are) way.link)
+pub way_link : (v w : View) (t : ℕ) (s : Search) (tree : NamedTree) → IsSnapshotTree v t tree → HasRead v w → OnWay tree s → IsTreeLink w s.at.node s.at.side
+way_link v w t s tree is read way =
+    subst (λ (u : View). IsTreeLink u s.at.node s.at.side) (sym read.view)
+    (subst (λ (ns : List TreeNode). ((s.at.node ≡ 0) × (s.at.side ≡ Right)) ⊎ (0 < count s.at.node (tree_slots ns))) (sym is.nodes_are) way.link)
 
 -- the same pass with the same view
 pub pass_same : (p q : Pass) → IsSamePass p q → q.view ≡ p.view → q ≡ p
@@ -38,21 +40,21 @@ pass_same p q same is =
     ∙ ap (λ x. record q { id = p.id; seat = p.seat; number = x }) same.number
     ∙ ap (λ x. record p { view = x }) is
 
-module _ (v : View) (t key child : ℕ) (s : Search) (reads : ReadsAt v t) (some : 0 < child) (leads : LeadsThere v t s.node s.side child) (on : IsOnWay v t key s) (tree : NamedTree) (is : IsSnapshotTree v t tree) where
-  way : OnWay tree key s
+module _ (v : View) (t child : ℕ) (s : Search) (reads : ReadsAt v t) (some : 0 < child) (leads : LeadsThere v s.at child) (on : IsOnWay v t s) (tree : NamedTree) (is : IsSnapshotTree v t tree) where
+  way : OnWay tree s
   way = on tree is
 
   top : HasTop way.below child
-  top = top_at v t key s child tree is way some leads
+  top = top_at v t s child tree is way some leads
 
   abbrev n : TreeNode
-  n = node tree key s way child top.key top.val top.left top.right top.is
+  n = node tree s way child top.key top.val top.left top.right top.is
 
   item : IsItem v.reading.tree (length (way.front ++ tree_nodes top.left)) n
-  item = subst (λ ns. IsItem ns (length (way.front ++ tree_nodes top.left)) n) (sym is.nodes_are) (here tree key s way child top.key top.val top.left top.right top.is)
+  item = subst (λ ns. IsItem ns (length (way.front ++ tree_nodes top.left)) n) (sym is.nodes_are) (here tree s way child top.key top.val top.left top.right top.is)
 
   pub child_high : child ≤ v.layout.nodes
-  child_high = is.there child (in_tree tree key s way child top.key top.val top.left top.right top.is)
+  child_high = is.there child (in_tree tree s way child top.key top.val top.left top.right top.is)
 
   pub may_pair : MayReadPair v child
   may_pair = record { inside = reads.inside.odd; there = child_high }
@@ -70,15 +72,15 @@ module _ (v : View) (t key child : ℕ) (s : Search) (reads : ReadsAt v t) (some
         sym (happened_word v.layout (event_at v.layout seat LoadKeyOrVal (Node Key child) 0) v w x (Node Key child) there refl tt h)
         ∙ ((finds v.layout h.words h.views h.rule seat v h.seat t reads).pairs (length (way.front ++ tree_nodes top.left)) n item).key
 
-    pub go_right : x < key → OnWay tree key (record { node = child; side = Right; low = x + 1; best = s.best })
-    go_right small =
-        subst (λ k. OnWay tree key (record { node = child; side = Right; low = k + 1; best = s.best })) (sym key_is)
-        (right_way tree key s way child top.key top.val top.left top.right top.is (subst (λ k. k < key) key_is small))
+    pub go_right : OnWay tree (right_of child x s.best)
+    go_right =
+        subst (λ k. OnWay tree (right_of child k s.best)) (sym key_is)
+        (right_way tree s way child top.key top.val top.left top.right top.is)
 
-    pub closer_right : keys_left (record { node = child; side = Right; low = x + 1; best = s.best }) < keys_left s
+    pub closer_right : keys_left (right_of child x s.best) < keys_left s
     closer_right =
-        subst (λ k. keys_left (record { node = child; side = Right; low = k + 1; best = s.best }) < keys_left s) (sym key_is)
-        (right_closer tree key s way child top.key top.val top.left top.right top.is)
+        subst (λ k. keys_left (right_of child k s.best) < keys_left s) (sym key_is)
+        (right_closer tree s way child top.key top.val top.left top.right top.is)
 
     -- and the value
     module _ (seat' y : ℕ) (u : View) (g : Happened v.layout (event_at v.layout seat' LoadKeyOrVal (Node Val child) 0) v y u) where
@@ -90,12 +92,12 @@ module _ (v : View) (t key child : ℕ) (s : Search) (reads : ReadsAt v t) (some
       pair_is : pair x y ≡ pair top.key top.val
       pair_is = ap (λ k. pair k y) key_is ∙ ap (pair top.key) val_is
 
-      pub go_left : key ≤ x → OnWay tree key (record { node = child; side = Left; low = s.low; best = Some (pair x y) })
-      go_left large =
-          subst (λ (p : Pair). OnWay tree key (record { node = child; side = Left; low = s.low; best = Some p })) (sym pair_is)
-          (left_way tree key s way child top.key top.val top.left top.right top.is (subst (λ k. key ≤ k) key_is large))
+      pub go_left : OnWay tree (left_of child s.low x y)
+      go_left =
+          subst (λ (p : Pair). OnWay tree (record { at = link_of child Left; low = s.low; best = Some p })) (sym pair_is)
+          (left_way tree s way child top.key top.val top.left top.right top.is)
 
-      pub closer_left : keys_left (record { node = child; side = Left; low = s.low; best = Some (pair x y) }) < keys_left s
+      pub closer_left : keys_left (left_of child s.low x y) < keys_left s
       closer_left =
-          subst (λ (p : Pair). keys_left (record { node = child; side = Left; low = s.low; best = Some p }) < keys_left s) (sym pair_is)
-          (left_closer tree key s way child top.key top.val top.left top.right top.is)
+          subst (λ (p : Pair). keys_left (record { at = link_of child Left; low = s.low; best = Some p }) < keys_left s) (sym pair_is)
+          (left_closer tree s way child top.key top.val top.left top.right top.is)

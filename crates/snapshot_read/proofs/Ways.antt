@@ -3,12 +3,13 @@ use Rattle.std.proofs.Common.{◌≡◌, ℕ, ◌+◌, ◌<◌, ◌≤◌, List,
 use Rattle.std.specs.Option.{option_or}
 use Rattle.key_map.specs.declared.pair.Pair.{Pair}
 use Rattle.key_map.specs.History.{after}
-use Rattle.key_map.specs.Lists.{count, IsItem}
+use Rattle.key_map.specs.Lists.{count, IsItem, Every}
 use Rattle.key_map.specs.Map.{pair, first_from}
-use Rattle.index_words.specs.declared.side.Side.TheVariants.{Left, Right}
+use Rattle.index_words.specs.declared.side.Side.TheVariants.{Left}
 use Rattle.index_words.specs.declared.view.View.{View}
 use Rattle.index_words.specs.declared.view.reading.TreeNode.{TreeNode}
 use Rattle.core_grace.specs.Holds.{tree_slots}
+use Rattle.core_grace.proofs.RuleMoves.{every_weaker}
 use Rattle.core_events.specs.Versions.{slots_of, top_slot, tree_nodes}
 use Rattle.core_invariant.proofs.Frames.{count-middle}
 use Rattle.core_invariant.proofs.TreeNodes.{tree_slots-append}
@@ -16,9 +17,16 @@ use Rattle.core_trees.specs.NamedTree.{NamedTree, Null, Branch, IsWithin}
 use Rattle.core_trees.specs.Search.{search_from}
 use Rattle.core_trees.proofs.StepLaws.{search_contents}
 use Rattle.core_trees.proofs.Updates.{search_from-left, search_from-right}
-use Rattle.snapshot_read.specs.Snapshots.{IsSnapshotTree, LeadsThere}
-use Rattle.snapshot_read.specs.Ways.{high_of, keys_left, OnWay, IsOnWay}
-use Rattle.snapshot_read.specs.declared.search.Search.{Search}
+use Rattle.core_updates.specs.Plans.{link_of}
+use Rattle.snapshot_read.specs.Links.{LeadsThere}
+use Rattle.snapshot_read.specs.Snapshots.{ReadsAt, IsSnapshotTree, HasRead}
+use Rattle.snapshot_read.specs.Ways.{high_of, keys_left, Covers, OnWay, IsOnWay, root, right_of, IsKeptWay}
+use Rattle.snapshot_read.specs.declared.kept_way.Search.{Search}
+use Rattle.snapshot_read.proofs.ReadMoves.{tree_before, tree_after, reads_on}
+
+-- where a search goes on to the left of a node with this slot and pair
+abbrev pub left_of : ℕ → ℕ → ℕ → ℕ → Search
+left_of node low key val = record { at = link_of node Left; low = low; best = Some (pair key val) }
 
 or_none : (o : Option Pair) → option_or o None ≡ o
 or_none None = refl
@@ -29,8 +37,8 @@ or_some None p best = refl
 or_some (Some q) p best = refl
 
 -- the search begins at the root
-pub at_root : (v : View) (t key : ℕ) → IsOnWay v t key (record { node = 0; side = Right; low = 0; best = None })
-at_root v t key = λ tree is. record {
+pub at_root : (v : View) (t : ℕ) → IsOnWay v t root
+at_root v t = λ tree is. record {
   below = tree;
   front = [];
   back = [];
@@ -38,7 +46,7 @@ at_root v t key = λ tree is. record {
   link = inl (refl, refl);
   hangs = λ child leads. leads.top refl refl;
   within = is.lawful;
-  rest = or_none (search_from key tree);
+  rest = λ key covers. or_none (search_from key tree);
 }
 
 -- an item in the middle of a list
@@ -49,7 +57,7 @@ item_middle (y ∷ xs) ys x =
     record { within = omega (arith, rest.within); is = λ d. rest.is d }
 
 -- at the node that hangs at the link
-module _ (tree : NamedTree) (key : ℕ) (s : Search) (way : OnWay tree key s) (slot k v : ℕ) (l r : NamedTree) (is : way.below ≡ Branch slot k v l r) where
+module _ (tree : NamedTree) (s : Search) (way : OnWay tree s) (slot k v : ℕ) (l r : NamedTree) (is : way.below ≡ Branch slot k v l r) where
   abbrev pub node : TreeNode
   node = record { slot = slot; key = k; val = v; left = top_slot l; right = top_slot r }
 
@@ -77,9 +85,9 @@ module _ (tree : NamedTree) (key : ℕ) (s : Search) (way : OnWay tree key s) (s
   bounds : (s.low ≤ k) × (k < high_of s.best) × IsWithin s.low k l × IsWithin (k + 1) (high_of s.best) r
   bounds = subst (IsWithin s.low (high_of s.best)) is way.within
 
-  -- to the right, where the key is too small
-  pub right_way : k < key → OnWay tree key (record { node = slot; side = Right; low = k + 1; best = s.best })
-  right_way small = record {
+  -- to the right
+  pub right_way : OnWay tree (right_of slot k s.best)
+  right_way = record {
     below = r;
     front = before ++ node ∷ [];
     back = way.back;
@@ -87,15 +95,22 @@ module _ (tree : NamedTree) (key : ℕ) (s : Search) (way : OnWay tree key s) (s
     link = inr in_tree;
     hangs = λ child leads. leads.below (length before) node here refl;
     within = bounds.3;
-    rest = ap (λ o. option_or o s.best) (sym (search_from-right key slot k v l r small) ∙ ap (search_from key) (sym is)) ∙ way.rest;
+    rest = λ key covers.
+        let low : s.low ≤ k = bounds.0 in
+        let past : k + 1 ≤ key = covers.0 in
+        ap (λ o. option_or o s.best) (sym (search_from-right key slot k v l r (omega (arith, past))) ∙ ap (search_from key) (sym is))
+        ∙ way.rest key (omega (arith, low, past), covers.1);
   }
 
-  pub right_closer : keys_left (record { node = slot; side = Right; low = k + 1; best = s.best }) < keys_left s
+  pub right_covers : (key : ℕ) → Covers key s → k < key → Covers key (right_of slot k s.best)
+  right_covers key covers small = (omega (arith, small), covers.1)
+
+  pub right_closer : keys_left (right_of slot k s.best) < keys_left s
   right_closer = let low : s.low ≤ k = bounds.0 in let high : k < high_of s.best = bounds.1 in omega arith
 
-  -- and else to the left
-  pub left_way : key ≤ k → OnWay tree key (record { node = slot; side = Left; low = s.low; best = Some (pair k v) })
-  left_way large = record {
+  -- and to the left
+  pub left_way : OnWay tree (left_of slot s.low k v)
+  left_way = record {
     below = l;
     front = way.front;
     back = node ∷ behind;
@@ -103,13 +118,15 @@ module _ (tree : NamedTree) (key : ℕ) (s : Search) (way : OnWay tree key s) (s
     link = inr in_tree;
     hangs = λ child leads. leads.below (length before) node here refl;
     within = bounds.2;
-    rest =
+    rest = λ key covers.
+        let high : k < high_of s.best = bounds.1 in
+        let large : key ≤ k = covers.1 in
         sym (or_some (search_from key l) (pair k v) s.best)
         ∙ ap (λ o. option_or o s.best) (sym (search_from-left key slot k v l r large) ∙ ap (search_from key) (sym is))
-        ∙ way.rest;
+        ∙ way.rest key (covers.0, omega (arith, high, large));
   }
 
-  pub left_closer : keys_left (record { node = slot; side = Left; low = s.low; best = Some (pair k v) }) < keys_left s
+  pub left_closer : keys_left (left_of slot s.low k v) < keys_left s
   left_closer = let low : s.low ≤ k = bounds.0 in let high : k < high_of s.best = bounds.1 in omega arith
 
 -- a tree that hangs at a link with a child has that child's node at its top
@@ -124,18 +141,50 @@ top_of : (tree : NamedTree) (child : ℕ) → 0 < child → child ≡ top_slot t
 top_of Null child some same = absurd (omega (arith, some, same))
 top_of (Branch slot k v l r) child some same = record { key = k; val = v; left = l; right = r; is = ap (λ x. Branch x k v l r) (sym same) }
 
-pub top_at : (v : View) (t key : ℕ) (s : Search) (child : ℕ) (tree : NamedTree) (is : IsSnapshotTree v t tree) (way : OnWay tree key s) → 0 < child → LeadsThere v t s.node s.side child → HasTop way.below child
-top_at v t key s child tree is way some leads = top_of way.below child some (way.hangs child (leads tree is))
+pub top_at : (v : View) (t : ℕ) (s : Search) (child : ℕ) (tree : NamedTree) (is : IsSnapshotTree v t tree) (way : OnWay tree s) → 0 < child → LeadsThere v s.at child → HasTop way.below child
+top_at v t s child tree is way some leads = top_of way.below child some (way.hangs child (leads tree is.nodes_are))
 
 -- at a null link the search ends
-null_top : (tree : NamedTree) (key : ℕ) (s : Search) (way : OnWay tree key s) → count 0 (slots_of tree) ≡ 0 → (b : NamedTree) → way.below ≡ b → 0 ≡ top_slot b → b ≡ Null
-null_top tree key s way none Null is same = refl
-null_top tree key s way none (Branch slot k v l r) is same =
-    let some = in_tree tree key s way slot k v l r is in
+null_top : (tree : NamedTree) (s : Search) (way : OnWay tree s) → count 0 (slots_of tree) ≡ 0 → (b : NamedTree) → way.below ≡ b → 0 ≡ top_slot b → b ≡ Null
+null_top tree s way none Null is same = refl
+null_top tree s way none (Branch slot k v l r) is same =
+    let some = in_tree tree s way slot k v l r is in
     absurd (omega (arith, none, subst (λ x. 0 < count x (slots_of tree)) (sym same) some))
 
-pub way_ends : (v : View) (t key : ℕ) (s : Search) (tree : NamedTree) → IsSnapshotTree v t tree → IsOnWay v t key s → LeadsThere v t s.node s.side 0 → s.best ≡ first_from key (after v.history.seen t)
-way_ends v t key s tree is on leads =
+pub way_ends : (v : View) (t key : ℕ) (s : Search) (tree : NamedTree) → IsSnapshotTree v t tree → IsOnWay v t s → Covers key s → LeadsThere v s.at 0 → s.best ≡ first_from key (after v.history.seen t)
+way_ends v t key s tree is on covers leads =
     let way = on tree is in
-    let null : way.below ≡ Null = null_top tree key s way is.some way.below refl (way.hangs 0 (leads tree is)) in
-    ap (λ b. option_or (search_from key b) s.best) (sym null) ∙ way.rest ∙ search_contents key tree is.lawful ∙ ap (first_from key) is.contents_are
+    let null : way.below ≡ Null = null_top tree s way is.some way.below refl (way.hangs 0 (leads tree is.nodes_are)) in
+    ap (λ b. option_or (search_from key b) s.best) (sym null) ∙ way.rest key covers ∙ search_contents key tree is.lawful ∙ ap (first_from key) is.contents_are
+
+-- what is kept
+
+-- each item but the last, and the last one
+pub every_taken : {X : Type 0} (P : X → Type 0) (xs : List X) (y : X) → Every P (xs ++ y ∷ []) → Every P xs × P y
+every_taken P [] y all = (tt, all.0)
+every_taken P (x ∷ xs) y all =
+    let rest = every_taken P xs y all.1 in
+    ((all.0, rest.0), rest.1)
+
+pub every_on : (v w : View) (t : ℕ) (kept : List Search) → HasRead v w → Every (IsOnWay v t) kept → Every (IsOnWay w t) kept
+every_on v w t kept read = every_weaker (IsOnWay v t) (IsOnWay w t) kept (λ s on. λ tree is. on tree (tree_before v w t tree read is))
+
+pub taken : {X : Type 0} (P : X → Type 0) (old new : List X) (y : X) → old ≡ new ++ y ∷ [] → Every P old → Every P new × P y
+taken P old new y is all = every_taken P new y (subst (Every P) is all)
+
+some_or : Option ℕ → ℕ → ℕ
+some_or None d = d
+some_or (Some x) d = x
+
+some_same : (a b : ℕ) → Some a ≡ Some b → a ≡ b
+unfolding some_or
+some_same a b is = ap (λ (o : Option ℕ). some_or o a) is
+
+pub every_before : (v w : View) (t : ℕ) (kept : List Search) → HasRead v w → Every (IsOnWay w t) kept → Every (IsOnWay v t) kept
+every_before v w t kept read = every_weaker (IsOnWay w t) (IsOnWay v t) kept (λ s on. λ tree is. on tree (tree_after v w t tree read is))
+
+-- after loads of the snapshot what is kept is on the way still
+pub kept_on : (v w : View) (t : ℕ) (kept : List Search) → HasRead v w → ReadsAt v t → Every (IsOnWay v t) kept → IsKeptWay w kept
+kept_on v w t kept read reads all = λ u opened.
+    let same : t ≡ u = some_same t u (sym (reads_on v w t read reads).opened ∙ opened) in
+    subst (λ n. Every (IsOnWay w n) kept) same (every_on v w t kept read all)

@@ -1,3 +1,5 @@
 pub mod Snapshots
+pub mod Links
+pub mod Children
 pub mod Ways
 pub mod Looks

@@ -1,9 +1,8 @@
 -- A pass with an open snapshot, the tree that it reads, and what reading leaves of the pass's view.
-use Rattle.std.specs.Prelude.{◌≡◌, ℕ, ◌+◌, ◌<◌, ◌≤◌, List, length, Some}
+use Rattle.std.specs.Prelude.{◌≡◌, ℕ, ◌+◌, ◌<◌, ◌≤◌, List, length, Option, Some}
 use Rattle.key_map.specs.declared.pair.Pair.{Pair}
 use Rattle.key_map.specs.History.{after}
 use Rattle.key_map.specs.Lists.{count}
-use Rattle.index_words.specs.declared.side.Side.{Side}
 use Rattle.index_words.specs.declared.view.View.{View}
 use Rattle.index_words.specs.declared.view.reading.Link.{Link}
 use Rattle.index_words.specs.declared.view.reading.Place.{Place}
@@ -11,7 +10,7 @@ use Rattle.index_words.specs.declared.view.reading.TreeNode.{TreeNode}
 use Rattle.core_trees.specs.NamedTree.{NamedTree, IsLawful, contents}
 use Rattle.core_events.specs.LoadMoves.{risen}
 use Rattle.core_events.specs.Versions.{slots_of, tree_nodes}
-use Rattle.core_laws.specs.Found.{LeadsTo}
+use Rattle.plan_steps.specs.Frames.{CountsGrow}
 use Rattle.table_steps.specs.Passes.{Extends, Inside}
 
 -- a snapshot is open at this number: the pass is inside a section, with no lock held
@@ -35,25 +34,24 @@ pub record IsTreeOf (slots : ℕ) (nodes : List TreeNode) (pairs : List Pair) (t
 abbrev pub IsSnapshotTree : View → ℕ → NamedTree → Type 0
 IsSnapshotTree v t tree = IsTreeOf v.layout.nodes v.reading.tree (after v.history.seen t) tree
 
--- the snapshot's tree has this child at the link, 0 for none
-abbrev pub LeadsThere : View → ℕ → ℕ → Side → ℕ → Type 0
-LeadsThere v t node side child = (tree : NamedTree) → IsSnapshotTree v t tree → LeadsTo tree node side child
-
--- the view with another place, other remembered links, and other counts of entries without a stamp and of changed heads
-abbrev pub read_on : View → Place → List Link → ℕ → ℕ → View
-read_on v place links waits moves = record v {
-  reading = record v.reading { place = place; links = links };
+-- the view with another place, another number left behind for it, other remembered links, and other counts of entries
+-- without a stamp and of changed heads
+abbrev pub read_on : View → Place → Option ℕ → List Link → ℕ → ℕ → View
+read_on v place above links waits moves = record v {
+  reading = record v.reading { place = place; above = above; links = links };
   counts = record v.counts { waits = waits; moves = moves };
 }
 
--- some loads of the snapshot were made: but for where the pass stands, the links that it remembers, and these two counts,
--- the view is as before
+-- some loads of the snapshot were made: but for where the pass stands and what it left behind, the links that it remembers,
+-- and these two counts, the view is as before. No count has fallen
 pub record HasRead (v w : View) : Type 0 where
   pub place : Place
+  pub above : Option ℕ
   pub links : List Link
   pub waits : ℕ
   pub moves : ℕ
-  pub view : w ≡ read_on v place links waits moves
+  pub view : w ≡ read_on v place above links waits moves
+  pub grown : CountsGrow v w
 
 -- how many node slots and entry slots a pass owns: free, retired, and in the batch
 abbrev pub owned_nodes : View → ℕ

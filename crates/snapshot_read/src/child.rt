@@ -1,61 +1,75 @@
-//! The child of a link of the open snapshot's tree.
-ghost use Rattle.std.specs.Prelude.{◌≡◌, ℕ, Some};
-ghost use Rattle.core_trees.specs.NamedTree.{NamedTree};
+//! The child of a link of the tree that a pass reads, and the entry that tells it.
+ghost use Rattle.std.specs.Prelude.{◌≡◌, ◌<◌, IfSome};
 ghost use Rattle.table_steps.specs.Loads.{IsTreeLink};
 ghost use Rattle.table_steps.specs.Passes.{IsSamePass};
-ghost use Rattle.snapshot_read.specs.Snapshots.{ReadsAt, IsSnapshotTree, HasRead};
-ghost use Rattle.snapshot_read.specs.Looks.{IsChildAt, waits_at};
+ghost use Rattle.snapshot_read.specs.Links.{InsideAt, HasSearched};
+ghost use Rattle.snapshot_read.specs.Children.{IsSeen, waits_after, IsAtEntryOf, GoesAlong};
 
-use index_words::Side;
-use std::sync::Wait;
+use core_trees::Link;
 use table_steps::TablePass;
 
-/// The child of a link, as far as the entries of the link's bundle tell.
+/// The child of a link, 0 for none, and the entry with which the pass remembers it, 0 where no entry has it.
 #[derive(Clone, Copy, Debug, PartialEq, Eq)]
-pub(crate) enum Child {
-    /// The slot of the child.
-    Node(u32),
-    Null,
-    /// The entry that tells has no stamp yet.
+pub struct Seen {
+    pub child: u32,
+    pub entry: u32,
+}
+
+/// What comes of a look at an entry of a link's bundle.
+#[derive(Clone, Copy)]
+pub(crate) enum Along {
+    /// It is the one that tells.
+    Found(Seen),
+    /// The next older one is to be looked at, 0 behind the last one.
+    Next(u32),
+    /// It has no number yet.
     Pending,
 }
 
-/// The child of a link of the tree of the snapshot that is open at `at`: of the link's entries, from the newest on,
-/// the first one whose number is at most `at` has it.
-pub(crate) fn child_at<R: Wait>(
-    pass: &mut TablePass<'_>,
-    rt: &R,
-    at: u64,
-    node: u32,
-    side: Side,
-) -> Child
-    requires reads { ReadsAt pass.old.view at }
-    requires link { IsTreeLink pass.old.view node side }
+/// One look at an entry of a link's bundle: if its number is at most `at`, it tells the child.
+fn look_along(pass: &mut TablePass<'_>, at: u64, link: Link, entry: u32) -> Along
+    requires reads { InsideAt pass.old.view at }
+    requires link { IsTreeLink pass.old.view link.node link.side }
+    requires stands { IsAtEntryOf pass.old.view link entry }
+    requires some { 0 < entry }
     ensures same { IsSamePass pass.old pass.new }
-    ensures child { IsChildAt pass.old.view at node side result }
-    ensures tree { (tree : NamedTree) × IsSnapshotTree pass.old.view at tree }
-    ensures read { HasRead pass.old.view pass.new.view }
-    ensures waits { pass.new.view.counts.waits ≡ waits_at result pass.old.view.counts.waits }
+    ensures searched { HasSearched pass.old.view pass.new.view }
+    ensures goes { GoesAlong pass.old.view pass.new.view link result }
 {
     pass.facts();
-    let mut entry = pass.load_head(node, side);
-    'along: for _ in rt.forever() {
-        if entry == 0 {
-            return Child::Null;
-        }
-        let number = pass.load_ts(entry);
-        if number == 0 {
-            return Child::Pending;
-        }
-        if number <= at {
-            let child = pass.load_ptr(entry);
-            return if child == 0 {
-                Child::Null
-            } else {
-                Child::Node(child)
-            };
-        }
-        entry = pass.load_next(entry);
+    let number = pass.load_ts(entry);
+    if number == 0 {
+        return Along::Pending;
     }
-    unreachable!()
+    if number <= at {
+        let child = pass.load_ptr(entry);
+        return Along::Found(Seen { child, entry });
+    }
+    let next = pass.load_next(entry);
+    Along::Next(next)
+}
+
+/// The child of a link of the tree that the pass reads at `at`: of the link's entries, from the newest on, the first
+/// one whose number is at most `at` has it. Their numbers fall, so it ends. None where an entry had no number yet; the
+/// count of such entries has then risen.
+pub fn child_at(pass: &mut TablePass<'_>, at: u64, link: Link) -> Option<Seen>
+    requires reads { InsideAt pass.old.view at }
+    requires link { IsTreeLink pass.old.view link.node link.side }
+    ensures same { IsSamePass pass.old pass.new }
+    ensures searched { HasSearched pass.old.view pass.new.view }
+    ensures seen { IfSome result (IsSeen pass.old.view pass.new.view link) }
+    ensures waits { pass.new.view.counts.waits ≡ waits_after result pass.old.view.counts.waits }
+{
+    pass.facts();
+    let mut entry = pass.load_head(link.node, link.side);
+    'along: loop {
+        if entry == 0 {
+            return Some(Seen { child: 0, entry: 0 });
+        }
+        match look_along(pass, at, link, entry) {
+            Along::Found(seen) => return Some(seen),
+            Along::Pending => return None,
+            Along::Next(next) => entry = next,
+        }
+    }
 }

@@ -1,8 +1,8 @@
 use index_words::Pair;
 
-/// What a look into the open snapshot comes to.
+/// What one look into the open snapshot comes to.
 #[derive(Clone, Copy, Debug, PartialEq, Eq)]
-pub(crate) enum Look {
+pub enum Look {
     /// The first pair from the key on.
     Found(Pair),
     /// There is no pair from the key on.

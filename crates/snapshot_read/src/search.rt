@@ -1,85 +1,83 @@
 //! The search for the first pair from a key on, down the open snapshot's tree.
 ghost use Rattle.std.specs.Prelude.{◌≡◌, ℕ, ◌<◌};
 ghost use Rattle.key_map.specs.History.{after};
+ghost use Rattle.key_map.specs.Lists.{Every};
 ghost use Rattle.key_map.specs.Map.{first_from};
 ghost use Rattle.table_steps.specs.Passes.{IsSamePass};
-ghost use Rattle.snapshot_read.specs.Snapshots.{ReadsAt, LeadsThere, HasRead};
+ghost use Rattle.snapshot_read.specs.Links.{LeadsThere};
+ghost use Rattle.snapshot_read.specs.Snapshots.{ReadsAt, HasRead};
 ghost use Rattle.snapshot_read.specs.Looks.{IsAnswer, waits_after};
-ghost use Rattle.snapshot_read.specs.Ways.{IsOnWay, keys_left};
+ghost use Rattle.snapshot_read.specs.Ways.{Covers, IsOnWay, IsKeptWay, keys_left};
 
-use crate::child::{Child, child_at};
+use crate::child::child_at;
+use crate::kept_way::{Search, Way};
 use crate::looks::Look;
+use core_trees::Link;
 use index_words::{Pair, Side};
-use std::sync::Wait;
 use table_steps::TablePass;
 
-/// How far a search has come.
-#[derive(Clone, Copy)]
-pub(crate) struct Search {
-    /// The link at which it goes on.
-    pub node: u32,
-    pub side: Side,
-    /// The keys of the tree that hangs there are at least `low`, and below that of `best`.
-    pub low: u64,
-    /// The pair that is the answer where that tree has none.
-    pub best: Option<Pair>,
-}
-
 /// One level down, at a node of the snapshot's tree: to the left with the node's pair as the best one so far, or to the
-/// right where its key is too small.
-fn go_on(pass: &mut TablePass<'_>, at: u64, key: u64, child: u32, search: Search) -> Search
+/// right where its key is too small. Where it goes to the left, the search to the right of the node is kept, for keys
+/// above the node's.
+fn go_on(
+    pass: &mut TablePass<'_>,
+    at: u64,
+    key: u64,
+    child: u32,
+    search: Search,
+    way: &mut Way,
+) -> Search
     requires reads { ReadsAt pass.old.view at }
     requires some { 0 < child }
-    requires leads { LeadsThere pass.old.view at search.node search.side child }
-    requires way { IsOnWay pass.old.view at key search }
+    requires leads { LeadsThere pass.old.view search.at child }
+    requires way { IsOnWay pass.old.view at search }
+    requires covers { Covers key search }
     ensures same { pass.new ≡ pass.old }
-    ensures way { IsOnWay pass.old.view at key result }
+    ensures way { IsOnWay pass.old.view at result }
+    ensures covers { Covers key result }
     ensures closer { keys_left result < keys_left search }
+    ensures kept { Every (IsOnWay pass.old.view at) way.old → Every (IsOnWay pass.old.view at) way.new }
 {
     pass.facts();
     let here = pass.load_key(child);
     if here < key {
-        return Search {
-            node: child,
-            side: Side::Right,
-            low: here + 1,
-            best: search.best,
-        };
+        return Search::right_of(child, here, search.best);
     }
+    way.keep_right(child, here, search.best);
     let val = pass.load_val(child);
     Search {
-        node: child,
-        side: Side::Left,
+        at: Link {
+            node: child,
+            side: Side::Left,
+        },
         low: search.low,
         best: Some(Pair { key: here, val }),
     }
 }
 
-/// The first pair from the key on, in the snapshot that is open at `at`.
-pub(crate) fn look_from<R: Wait>(pass: &mut TablePass<'_>, rt: &R, at: u64, key: u64) -> Look
+/// The first pair from the key on, in the snapshot that is open at `at`. The search goes on from one that is kept, where
+/// one covers the key.
+pub(crate) fn look_on(pass: &mut TablePass<'_>, at: u64, key: u64, way: &mut Way) -> Look
     requires reads { ReadsAt pass.old.view at }
+    requires kept { Every (IsOnWay pass.old.view at) way.old }
     ensures same { IsSamePass pass.old pass.new }
     ensures first { IsAnswer result (first_from key (after pass.old.view.history.seen at)) }
     ensures read { HasRead pass.old.view pass.new.view }
     ensures waits { pass.new.view.counts.waits ≡ waits_after result pass.old.view.counts.waits }
+    ensures kept { IsKeptWay pass.new.view way.new }
 {
     pass.facts();
-    let mut search = Search {
-        node: 0,
-        side: Side::Right,
-        low: 0,
-        best: None,
-    };
+    let mut search = way.take(key);
     'down: loop {
-        match child_at(pass, rt, at, search.node, search.side) {
-            Child::Pending => return Look::Pending,
-            Child::Null => {
-                return match search.best {
-                    Some(pair) => Look::Found(pair),
-                    None => Look::Nothing,
-                };
-            }
-            Child::Node(child) => search = go_on(pass, at, key, child, search),
+        let Some(seen) = child_at(pass, at, search.at) else {
+            return Look::Pending;
+        };
+        if seen.child == 0 {
+            return match search.best {
+                Some(pair) => Look::Found(pair),
+                None => Look::Nothing,
+            };
         }
+        search = go_on(pass, at, key, seen.child, search, way);
     }
 }

@@ -7,9 +7,12 @@ ghost use Rattle.core_grace.specs.Sections.{left_word};
 ghost use Rattle.table_steps.specs.Gives.{HasOpened};
 ghost use Rattle.table_steps.specs.Passes.{AtRest, IsSamePass};
 ghost use Rattle.snapshot_read.specs.Snapshots.{ReadsAt, IsReading, HasBegun, HasRead};
+ghost use Rattle.snapshot_read.specs.Looks.{IsAnswer, waits_after};
+ghost use Rattle.snapshot_read.specs.Ways.{IsKeptWay};
 
+use crate::kept_way::Way;
 use crate::looks::Look;
-use crate::search::look_from;
+use crate::search::look_on;
 use index_words::Pair;
 use std::sync::Wait;
 use std::thread::yield_now;
@@ -38,8 +41,61 @@ pub fn end(pass: &mut TablePass<'_>)
     pass.leave();
 }
 
+/// One look for the first pair of the open snapshot whose key is at least `key`. It does not wait: where an entry has no
+/// stamp yet it answers `Pending`, and the count of such entries rises. The search goes on from the way that an earlier one
+/// of this snapshot has kept, and keeps its own.
+pub fn try_next_on(pass: &mut TablePass<'_>, way: &mut Way, key: u64) -> Look
+    requires reads { IsReading pass.old.view }
+    requires kept { IsKeptWay pass.old.view way.old }
+    ensures same { IsSamePass pass.old pass.new }
+    ensures first { (at : ℕ) → pass.old.view.reading.opened ≡ Some at → IsAnswer result (first_from key (after pass.old.view.history.seen at)) }
+    ensures read { HasRead pass.old.view pass.new.view }
+    ensures waits { pass.new.view.counts.waits ≡ waits_after result pass.old.view.counts.waits }
+    ensures reads { IsReading pass.new.view }
+    ensures kept { IsKeptWay pass.new.view way.new }
+{
+    let Some(at) = pass.opened() else {
+        unreachable!()
+    };
+    look_on(pass, at, key, way)
+}
+
+/// As `try_next_on`, from the root of the tree on.
+pub fn try_next_from(pass: &mut TablePass<'_>, key: u64) -> Look
+    requires reads { IsReading pass.old.view }
+    ensures same { IsSamePass pass.old pass.new }
+    ensures first { (at : ℕ) → pass.old.view.reading.opened ≡ Some at → IsAnswer result (first_from key (after pass.old.view.history.seen at)) }
+    ensures read { HasRead pass.old.view pass.new.view }
+    ensures waits { pass.new.view.counts.waits ≡ waits_after result pass.old.view.counts.waits }
+    ensures reads { IsReading pass.new.view }
+{
+    let mut way = Way::new();
+    try_next_on(pass, &mut way, key)
+}
+
 /// The first pair of the open snapshot whose key is at least `key`. Where an entry has no stamp yet it tries again, until
-/// the pass that has it pending has written it. In between it lets other threads run.
+/// the pass that has it pending has written it. In between it lets other threads run. The search goes on from the way that
+/// an earlier one of this snapshot has kept, and keeps its own.
+pub fn next_on<R: Wait>(pass: &mut TablePass<'_>, rt: &R, way: &mut Way, key: u64) -> Option<Pair>
+    requires reads { IsReading pass.old.view }
+    requires kept { IsKeptWay pass.old.view way.old }
+    ensures same { IsSamePass pass.old pass.new }
+    ensures first { (at : ℕ) → pass.old.view.reading.opened ≡ Some at → result ≡ first_from key (after pass.old.view.history.seen at) }
+    ensures read { HasRead pass.old.view pass.new.view }
+    ensures reads { IsReading pass.new.view }
+    ensures kept { IsKeptWay pass.new.view way.new }
+{
+    'tries: for _ in rt.forever() {
+        match try_next_on(pass, way, key) {
+            Look::Found(pair) => return Some(pair),
+            Look::Nothing => return None,
+            Look::Pending => yield_now(),
+        }
+    }
+    unreachable!()
+}
+
+/// As `next_on`, from the root of the tree on.
 pub fn next_from<R: Wait>(pass: &mut TablePass<'_>, rt: &R, key: u64) -> Option<Pair>
     requires reads { IsReading pass.old.view }
     ensures same { IsSamePass pass.old pass.new }
@@ -47,15 +103,6 @@ pub fn next_from<R: Wait>(pass: &mut TablePass<'_>, rt: &R, key: u64) -> Option<
     ensures read { HasRead pass.old.view pass.new.view }
     ensures reads { IsReading pass.new.view }
 {
-    let Some(at) = pass.opened() else {
-        unreachable!()
-    };
-    'tries: for _ in rt.forever() {
-        match look_from(pass, rt, at, key) {
-            Look::Found(pair) => return Some(pair),
-            Look::Nothing => return None,
-            Look::Pending => yield_now(),
-        }
-    }
-    unreachable!()
+    let mut way = Way::new();
+    next_on(pass, rt, &mut way, key)
 }

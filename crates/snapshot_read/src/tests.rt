@@ -1,7 +1,7 @@
 ghost use Rattle.std.specs.Prelude.{All, IfOk};
 ghost use Rattle.table_steps.specs.Passes.{IsPassOf};
 
-use crate::{begin, end, next_from};
+use crate::{Look, begin, end, next_from, try_next_from};
 use index_words::{Layout, NoMemory, Pair, PassSize};
 use std::alloc::Global;
 use std::sync::Wait;
@@ -56,5 +56,26 @@ fn snapshots_of_an_empty_table_have_no_pair(rt: HostRuntime) -> Result<(), Fail>
     assert_eq!(rt; found.0, 0);
     assert!(rt; found.1.is_none());
     assert!(rt; found.2.is_none());
+    Ok(())
+}
+
+/// Opens a snapshot, and looks once for the first pair from a key on.
+fn look_once(table: &SharedTable, key: PassKey, from: u64) -> Look
+    requires of { IsPassOf table.now key }
+{
+    let mut pass = table.attach(key);
+    begin(&mut pass);
+    let found = try_next_from(&mut pass, from);
+    end(&mut pass);
+    found
+}
+
+#[test]
+fn one_look_into_an_empty_table_finds_nothing(rt: HostRuntime) -> Result<(), Fail> {
+    let (table, mut keys) = opened(rt.alloc())?;
+    let Some(key) = keys.pop() else {
+        panic!(rt; "a table of two passes has no key")
+    };
+    assert_eq!(rt; look_once(&table, key, 6), Look::Nothing);
     Ok(())
 }

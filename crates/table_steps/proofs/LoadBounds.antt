@@ -114,7 +114,7 @@ module _ (t : Table) (right : IsRight t) (i : ℕ) (v : View) (at : IsItem t.vie
       let place : PlaceRight t.layout stamp g.bundles v (AtEntry node side e here.found) = subst (PlaceRight t.layout stamp g.bundles v) here.place seat.place in
       let live : IsLive t.layout t.views node = reachable_live t.layout t.views g rule.slots i node v at place.reach in
       let bundle = rule.bundles node live side in
-      let stands : StandsAt stamp es e here.found (IsPassed g.bundles.number v node) = place.stands here.some watched in
+      let stands : StandsAt stamp es e here.found v.reading.above (IsPassed g.bundles.number v node) = place.stands here.some watched in
       let chain = subst (IsChain next (m (Node (Head side) node))) stands.splits bundle.chain in
       let behind = chain_head next (next e) stands.back (chain_behind next (m (Node (Head side) node)) e stands.front stands.back chain) in
       in_table node side (next e) live (elim behind as (λ _. (next e ≡ 0) ⊎ (0 < count (next e) es)) [

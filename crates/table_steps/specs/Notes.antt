@@ -17,7 +17,7 @@ pub record IsNoteOf (p : Pass) (s : Sat) : Type 0 where
   pub layout : s.view.layout ≡ p.view.layout
 
 -- the view has heard of these updates: what it has seen begins with what it had seen, and with them. Its own updates,
--- its slots and what it may still do are as they were
+-- its slots, its locks, its snapshot and what it may still do are as they were
 pub record HasHeard (v : View) (news : List Update) (w : View) : Type 0 where
   pub old : Extends v.history.seen w.history.seen
   pub told : Extends news w.history.seen
@@ -27,6 +27,8 @@ pub record HasHeard (v : View) (news : List Update) (w : View) : Type 0 where
   pub found : w.history.found ≡ v.history.found
   pub opened : w.reading.opened ≡ v.reading.opened
   pub word : w.section_word ≡ v.section_word
+  pub announced : w.announced ≡ v.announced
+  pub held : w.held ≡ v.held
   pub free : w.free ≡ v.free
   pub retired : w.retired ≡ v.retired
   pub batch : w.batch ≡ v.batch

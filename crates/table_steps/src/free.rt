@@ -1,5 +1,5 @@
-//! The free slots of a pass, by their places in its lists.
-ghost use Rattle.std.specs.Prelude.{◌≡◌, length};
+//! What a pass may still use: its free slots, by their places in its lists, all slots that it owns, and its calls.
+ghost use Rattle.std.specs.Prelude.{◌≡◌, ◌+◌, length};
 ghost use Rattle.std.specs.List.{slice_get};
 
 use crate::pass::TablePass;
@@ -31,5 +31,26 @@ impl<'t> TablePass<'t> {
         ensures { result ≡ slice_get self.now.view.free.entries place }
     {
         self.kept.slots.free_entry(place)
+    }
+
+    /// How many nodes the pass owns: free ones, those of the batch, and retired ones.
+    pub fn owned_nodes(&self) -> usize
+        ensures { result ≡ length self.now.view.free.nodes + length self.now.view.batch.nodes + length self.now.view.retired.nodes }
+    {
+        self.kept.slots.owned_nodes()
+    }
+
+    /// How many entries the pass owns: free ones, those of the batch, and retired ones.
+    pub fn owned_entries(&self) -> usize
+        ensures { result ≡ length self.now.view.free.entries + length self.now.view.batch.entries + length self.now.view.retired.entries }
+    {
+        self.kept.slots.owned_entries()
+    }
+
+    /// How many updates the pass may still make.
+    pub fn calls_left(&self) -> u32
+        ensures { result ≡ self.now.view.history.left }
+    {
+        self.kept.left
     }
 }

@@ -2,7 +2,7 @@
 ghost use Rattle.std.specs.Prelude.{◌≡◌};
 ghost use Rattle.table_rule.specs.Seats.{Split as SplitHappened};
 ghost use Rattle.table_steps.specs.Notes.{HasHeard, IsNoteOf};
-ghost use Rattle.table_steps.specs.Passes.{AtRest, IsSamePass};
+ghost use Rattle.table_steps.specs.Passes.{IsSamePass};
 
 use crate::pass::TablePass;
 use std::marker::Model;
@@ -29,7 +29,6 @@ impl Model for Note {
 impl<'t> TablePass<'t> {
     /// Tells what the pass has seen. The pass is as it was.
     pub fn tell(&mut self) -> Note
-        requires rest { AtRest self.old.view }
         ensures same { self.new ≡ self.old }
         ensures event { SplitHappened self.old.view.layout self.old.view 0 self.new.view result.view }
         ensures of { IsNoteOf self.old result }
@@ -42,11 +41,9 @@ impl<'t> TablePass<'t> {
 
     /// Hears a note: what the pass has seen then begins with what it had seen, and with what the note had.
     pub fn hear(&mut self, note: Note)
-        requires rest { AtRest self.old.view }
-        requires of { IsNoteOf self.old note }
+        requires { IsNoteOf self.old note }
         ensures same { IsSamePass self.old self.new }
         ensures heard { HasHeard self.old.view note.view.history.seen self.new.view }
-        ensures rest { AtRest self.new.view }
     {
         let Note { seat } = note;
         seat.facts();

@@ -149,6 +149,7 @@ impl SharedTable {
         ensures of { IfOk result (λ t. All (IsPassOf t.0) t.1.items) }
         ensures all { IfOk result (λ t. AreAllKeys t.0 t.1.items) }
         ensures views { IfOk result (λ t. map view_of t.1.items ≡ pass_views layout.now 0 1 1 sizes.now) }
+        ensures numbers { IfOk result (λ t. map number_of t.1.items ≡ numbers_from 0 sizes.now) }
     {
         let (ruled, mut seat) = RuledTable::open(alloc, layout)?;
         let table = SharedTable { ruled };

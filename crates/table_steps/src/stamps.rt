@@ -57,6 +57,14 @@ impl<'t> TablePass<'t> {
         self.seat.facts();
     }
 
+    /// The view has the pass's number. The call does nothing.
+    pub fn number_fact(&self)
+        ensures { self.now.view.number ≡ Some self.now.number }
+    {
+        // What a type's invariant says is known where a field is used.
+        let _ = &self.kept;
+    }
+
     /// Opens a section in which the pass reads at the number that this answers. Announcing it belongs here, and
     /// nowhere else.
     pub(crate) fn open_section(&mut self) -> u64

@@ -3,16 +3,19 @@ use Rattle.std.proofs.Common.{ℕ, Option, Some, None}
 use Rattle.std.specs.Prelude.{IfSome}
 use Rattle.index_words.specs.declared.view.View.{View}
 use Rattle.core_trees.specs.declared.link.Link.{Link}
-use Rattle.tree_update.specs.declared.child.Seen.{Seen}
+use Rattle.snapshot_read.specs.declared.child.Seen.{Seen}
+use Rattle.snapshot_read.specs.Snapshots.{HasRead}
+use Rattle.snapshot_read.specs.Links.{HasSearched}
+use Rattle.snapshot_read.specs.Children.{IsSeen}
+use Rattle.snapshot_read.proofs.ReadMoves.{leads_after, seen_later}
 use Rattle.tree_update.specs.declared.children.Children.{Children}
 use Rattle.tree_update.specs.declared.descent.Search.{Search}
 use Rattle.tree_update.specs.declared.successor.Walk.{Walk}
 use Rattle.tree_update.specs.declared.successor.NextFound.{NextFound}
-use Rattle.tree_update.specs.Searching.{HasRead, HasSearched}
-use Rattle.tree_update.specs.Children.{IsSeen, AreChildren}
+use Rattle.tree_update.specs.Children.{AreChildren}
 use Rattle.tree_update.specs.Descents.{IsOnWay, IsAtKey, EndsFound}
 use Rattle.tree_update.specs.Successors.{HasKey, IsOnWalk, IsNext}
-use Rattle.tree_update.proofs.SearchMoves.{tree_before, tree_after, leads_after, seen_later}
+use Rattle.tree_update.proofs.SearchMoves.{tree_before, tree_after}
 
 -- the loads from `v` to `w` stand between
 module _ (v w : View) (read : HasRead v w) where

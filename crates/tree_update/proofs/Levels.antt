@@ -11,8 +11,9 @@ use Rattle.core_updates.specs.Plans.{link_of}
 use Rattle.plan_steps.specs.Walks.{StandsAt, IsNodeOf}
 use Rattle.plan_steps.proofs.Walks.{walk_start, walk_child, walk_node, walk_left, walk_right, walk_missing}
 use Rattle.table_steps.specs.Loads.{IsTreeLink}
+use Rattle.snapshot_read.specs.Links.{LeadsThere}
 use Rattle.tree_update.specs.declared.descent.Search.{Search}
-use Rattle.tree_update.specs.Searching.{IsReadTree, LeadsThere, IsInTree, IsKeyThere, IsValThere}
+use Rattle.tree_update.specs.Searching.{IsReadTree, IsInTree, IsKeyThere, IsValThere}
 use Rattle.tree_update.specs.Descents.{OnWay, IsOnWay, KeyNode, IsMissingThere}
 use Rattle.tree_update.proofs.ReadTrees.{item_in_tree}
 
@@ -79,7 +80,7 @@ module _ (v : View) (key : ℕ) (s : Search) (on : IsOnWay v key s) (tree : Name
     pub way_top : Top v (on.way tree is).sub child
     way_top =
         let way = on.way tree is in
-        top_at v tree way.sub s.at s.low (s.last + 1) child is way.stands some (walk_child tree way.sub s.at s.low (s.last + 1) child way.stands (leads tree is))
+        top_at v tree way.sub s.at s.low (s.last + 1) child is way.stands some (walk_child tree way.sub s.at s.low (s.last + 1) child way.stands (leads tree is.nodes_are))
 
     pub way_in_tree : IsInTree v child
     way_in_tree = top_in_tree v (on.way tree is).sub child way_top
@@ -137,5 +138,5 @@ pub way_missing_there : (v : View) (key : ℕ) (s : Search) → IsOnWay v key s 
 way_missing_there v key s on leads = λ tree is.
     let way = on.way tree is in
     let high : key < s.last + 1 = omega (arith, on.until) in
-    let null : way.sub ≡ Null = null_at v tree way.sub s.at s.low (s.last + 1) is way.stands (walk_child tree way.sub s.at s.low (s.last + 1) 0 way.stands (leads tree is)) in
+    let null : way.sub ≡ Null = null_at v tree way.sub s.at s.low (s.last + 1) is way.stands (walk_child tree way.sub s.at s.low (s.last + 1) 0 way.stands (leads tree is.nodes_are)) in
     walk_missing tree s.at s.low (s.last + 1) key is.lawful (subst (λ sub. StandsAt tree s.at sub s.low (s.last + 1)) null way.stands) on.from high

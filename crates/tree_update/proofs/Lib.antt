@@ -1,9 +1,7 @@
--- What the loads of a search leave of the view, and of what it remembers.
+-- The tree that a pass reads stays in the loads of a search.
 pub mod SearchMoves
 -- The tree that a pass reads.
 pub mod ReadTrees
--- The way along the bundle of a link.
-pub mod Bundles
 -- One level down.
 pub mod Levels
 -- The walk to the successor.
@@ -30,3 +28,8 @@ pub mod FreeSlots
 pub mod Done
 -- A try to settle.
 pub mod SettleSteps
+-- The calls that update the map.
+pub mod CallSteps
+pub mod CallsMade
+-- One try of an update.
+pub mod TryMade

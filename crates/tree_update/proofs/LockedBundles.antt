@@ -135,12 +135,12 @@ module _ (v : View) (at : Link) (head entry : ℕ) (on : StandsOn v at head entr
     links = remembered_if (next == 0 && is_above v entry on.found) v.reading.links (bundle_link at.node at.side 0 0)
 
     abbrev then : View
-    then = with_place (with_held v v.held.nodes (v.held.nexts ++ item ∷ [])) (AtEntry at.node at.side next None) links
+    then = with_place (with_held v v.held.nodes (v.held.nexts ++ item ∷ [])) (AtEntry at.node at.side next None) on.found links
 
     view_is : w ≡ then
     view_is =
         gives ∙ ap (λ (p : Place). next_at v p entry next) on.place
-        ∙ ap (λ b. with_place (with_held v v.held.nodes (kept_if b v.held.nexts item)) (AtEntry at.node at.side next None) links) (count-locks at.node v.held.nodes on.locked)
+        ∙ ap (λ b. with_place (with_held v v.held.nodes (kept_if b v.held.nexts item)) (AtEntry at.node at.side next None) on.found links) (count-locks at.node v.held.nodes on.locked)
 
     keeps_then : KeepsPass v then
     keeps_then = record { layout = refl; joined = refl; number = refl; word = refl; announced = refl; history = refl; section = refl; opened = refl; tree = refl; nodes = refl; retired = refl; batch = refl; raised = refl; taken = refl }

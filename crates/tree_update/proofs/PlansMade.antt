@@ -18,10 +18,11 @@ use Rattle.core_updates.specs.PlanOf.{IsFoundAt}
 use Rattle.core_updates.specs.Plans.{link_of, looks_of, next_look}
 use Rattle.plan_steps.specs.Tries.{RemembersLook, RemembersLink}
 use Rattle.plan_steps.proofs.Walks.{walk_child, walk_left, walk_right}
-use Rattle.tree_update.specs.declared.child.Seen.{Seen}
+use Rattle.snapshot_read.specs.declared.child.Seen.{Seen}
+use Rattle.snapshot_read.specs.Links.{LeadsThere}
 use Rattle.tree_update.specs.declared.children.Children.{Children}
 use Rattle.tree_update.specs.declared.successor.NextFound.{NextFound}
-use Rattle.tree_update.specs.Searching.{IsReadTree, LeadsThere}
+use Rattle.tree_update.specs.Searching.{IsReadTree}
 use Rattle.tree_update.specs.Children.{AreChildren}
 use Rattle.tree_update.specs.Descents.{KeyNode, EndsMissing, EndsFound}
 use Rattle.tree_update.specs.Successors.{IsNext}
@@ -50,11 +51,11 @@ module _ (v w : View) (key : ℕ) (at : Link) (seen : Seen) (ends : EndsFound v 
 
     left_is : (left : ℕ) → LeadsThere v (link_of seen.child Left) left → left ≡ top_slot n.left
     left_is left leads =
-        walk_child tree n.left (link_of seen.child Left) n.low key left (walk_left tree n.left n.right at n.low n.high seen.child key n.val n.stands) (leads tree is)
+        walk_child tree n.left (link_of seen.child Left) n.low key left (walk_left tree n.left n.right at n.low n.high seen.child key n.val n.stands) (leads tree is.nodes_are)
 
     right_is : (right : ℕ) → LeadsThere v (link_of seen.child Right) right → right ≡ top_slot n.right
     right_is right leads =
-        walk_child tree n.right (link_of seen.child Right) (key + 1) n.high right (walk_right tree n.left n.right at n.low n.high seen.child key n.val n.stands) (leads tree is)
+        walk_child tree n.right (link_of seen.child Right) (key + 1) n.high right (walk_right tree n.left n.right at n.low n.high seen.child key n.val n.stands) (leads tree is.nodes_are)
 
     abbrev found_at : (left right : ℕ) → LeadsThere v (link_of seen.child Left) left → LeadsThere v (link_of seen.child Right) right → IsFoundAt tree key at seen.child n.val left right
     found_at left right to_left to_right =

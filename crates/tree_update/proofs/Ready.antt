@@ -15,14 +15,17 @@ use Rattle.table_rule.proofs.Happens.{happened_view}
 use Rattle.table_rule.proofs.Lists.{item_at}
 use Rattle.table_steps.specs.Gives.{HasLoadedStamp}
 use Rattle.table_steps.specs.Passes.{Inside}
+use Rattle.snapshot_read.specs.Snapshots.{HasRead}
+use Rattle.snapshot_read.specs.Links.{HasSearched}
+use Rattle.snapshot_read.proofs.ReadMoves.{inside_on}
 use Rattle.tree_update.specs.declared.search.Found.{Found}
 use Rattle.tree_update.specs.declared.search.Found.TheVariants.{Plan, Absent, Pending}
 use Rattle.tree_update.specs.declared.plans.Planned.{Planned}
 use Rattle.tree_update.specs.Found.{IsFound, IsReadyToTry}
 use Rattle.tree_update.specs.Planned.{IsPlanned}
-use Rattle.tree_update.specs.Searching.{IsFresh, HasRead, HasSearched}
+use Rattle.tree_update.specs.Searching.{IsFresh}
 use Rattle.tree_update.proofs.ReadTrees.{Reader, reader}
-use Rattle.tree_update.proofs.SearchMoves.{reads_on, tree_before}
+use Rattle.tree_update.proofs.SearchMoves.{tree_before}
 
 -- behind the load of the stamp
 pub stamp_fresh : (z : Layout) (seat n : ℕ) (v w : View) → Happened z (event_at z seat LoadStamp Stamp 0) v n w → HasLoadedStamp v 0 n w → Inside w → IsFresh w n
@@ -37,7 +40,7 @@ stamp_fresh z seat n v w h gives inside = record {
 -- it stays so in the loads of a search
 pub fresh_on : (v w : View) (t : ℕ) → HasRead v w → IsFresh v t → IsFresh w t
 fresh_on v w t read fresh = record {
-  reads = reads_on v w t read fresh.reads;
+  reads = inside_on v w t read fresh.reads;
   whole = subst (λ (u : View). length u.history.seen ≤ t) (sym read.view) fresh.whole;
   none = subst HasNoneRetired (sym read.view) fresh.none;
 }

@@ -19,9 +19,9 @@ use Rattle.core_events.specs.Moves.{entered, in_section, left}
 use Rattle.table_rule.specs.Running.{Happened}
 use Rattle.table_steps.specs.Gives.{looking}
 use Rattle.table_steps.specs.Passes.{Pass, IsSamePass}
-use Rattle.tree_update.specs.declared.settle.Seen.{Seen}
-use Rattle.tree_update.specs.declared.settle.Seen.TheVariants.{Freed, Passed, Inside}
-use Rattle.tree_update.specs.Settles.{apart_from_slots, KeepsAllElse, KeepsSlotCounts, batch_of, retired_of, HasSettled, HasBatch, looks_on, HasLooked, IsSeen, IsTaking, HasPassed, IsHeld, IsSeenAgain}
+use Rattle.tree_update.specs.declared.settle.PassLook.{PassLook}
+use Rattle.tree_update.specs.declared.settle.PassLook.TheVariants.{Freed, Passed, Inside}
+use Rattle.tree_update.specs.Settles.{apart_from_slots, KeepsAllElse, KeepsSlotCounts, batch_of, retired_of, HasSettled, HasBatch, looks_on, HasLookedAt, IsSeen, IsTaking, HasPassed, IsHeld, IsSeenAgain}
 
 -- the view with the retired slots as its batch
 abbrev taken_of : View → View
@@ -174,7 +174,7 @@ module _ (g : Looks) (pass word : ℕ) where
       same_if word first (eqb word first) refl (or_right (is_even word) (not (eqb word first)) lets)
 
 -- two looks
-module _ (p q : Pass) (other m : ℕ) (one : HasLooked p other m q.view) where
+module _ (p q : Pass) (other m : ℕ) (one : HasLookedAt p other m q.view) where
   -- the batch was taken by the first one
   taken_first : batch_taken q.view ≡ looks_on p.view other m
   taken_first = taken_waits q.view one.waits ∙ one.view
@@ -185,7 +185,7 @@ module _ (p q : Pass) (other m : ℕ) (one : HasLooked p other m q.view) where
   freed_second : (w : View) → w ≡ batch_freed (batch_taken q.view) → w ≡ batch_freed (batch_taken p.view)
   freed_second w is = is ∙ ap batch_freed taken_first
 
-  module _ (n : ℕ) (w : View) (two : HasLooked q other n w) where
+  module _ (n : ℕ) (w : View) (two : HasLookedAt q other n w) where
     second_view : w ≡ record (batch_taken p.view) { grace = looked_at (looked_at (batch_taken p.view).grace other m) other n }
     second_view = two.view ∙ ap (λ (u : View). record u { grace = looked_at u.grace other n }) taken_first
 
@@ -233,8 +233,8 @@ module _ (p q : Pass) (other m : ℕ) (one : HasLooked p other m q.view) where
         at_second = ap (λ (g : Looks). has other g.passed) (sym grace_second) ∙ none
 
 -- what the second look comes to
-pub seen_again : (p q : Pass) (other m : ℕ) (r : Seen) (w : View) → IsSamePass p q → other < p.view.layout.passes → other ≢ p.number
-    → HasLooked p other m q.view → has other q.view.grace.passed ≡ false → IsSeen q other r w → IsSeenAgain p other r w
+pub seen_again : (p q : Pass) (other m : ℕ) (r : PassLook) (w : View) → IsSamePass p q → other < p.view.layout.passes → other ≢ p.number
+    → HasLookedAt p other m q.view → has other q.view.grace.passed ≡ false → IsSeen q other r w → IsSeenAgain p other r w
 seen_again p q other m Freed w same low apart_from one new is = freed_second p q other m one w is
 seen_again p q other m Passed w same low apart_from one new is = passed_second p q other m one is.0 w is.1 is.2
 seen_again p q other m (Inside n) w same low apart_from one new is = held_second p q other m one n w is.0 new is.1 same low apart_from

@@ -10,8 +10,9 @@ use Rattle.core_updates.specs.PlanOf.{IsSuccessor}
 use Rattle.core_updates.specs.Plans.{link_of}
 use Rattle.plan_steps.specs.Walks.{StandsAt, GoesToFirst}
 use Rattle.plan_steps.proofs.Walks.{walk_child, walk_left, walk_right, successor_start, successor_step, successor_end}
+use Rattle.snapshot_read.specs.Links.{LeadsThere}
 use Rattle.tree_update.specs.declared.successor.Walk.{Walk}
-use Rattle.tree_update.specs.Searching.{IsReadTree, LeadsThere, IsInTree, IsKeyThere, IsValThere}
+use Rattle.tree_update.specs.Searching.{IsReadTree, IsInTree, IsKeyThere, IsValThere}
 use Rattle.tree_update.specs.Descents.{KeyNode}
 use Rattle.tree_update.specs.Successors.{OnWalk}
 use Rattle.tree_update.proofs.Levels.{Top, top_at, null_at, top_in_tree, top_key, top_val}
@@ -31,7 +32,7 @@ module _ (v : View) (tree : NamedTree) (is : IsReadTree v tree) (node key : ℕ)
   -- its right child
   module _ (child : ℕ) (some : 0 < child) (leads : LeadsThere v (link_of node Right) child) where
     right_top : Top v n.right child
-    right_top = top_at v tree n.right (link_of node Right) (key + 1) n.high child is right_stands some (walk_child tree n.right (link_of node Right) (key + 1) n.high child right_stands (leads tree is))
+    right_top = top_at v tree n.right (link_of node Right) (key + 1) n.high child is right_stands some (walk_child tree n.right (link_of node Right) (key + 1) n.high child right_stands (leads tree is.nodes_are))
 
     pub right_in_tree : IsInTree v child
     right_in_tree = top_in_tree v n.right child right_top
@@ -70,7 +71,7 @@ module _ (v : View) (tree : NamedTree) (is : IsReadTree v tree) (node key : ℕ)
     -- its left child
     module _ (child : ℕ) (some : 0 < child) (leads : LeadsThere v (link_of w.seen.child Left) child) where
       left_top : Top v walk.left child
-      left_top = top_at v tree walk.left (link_of w.seen.child Left) (key + 1) w.key child is left_stands some (walk_child tree walk.left (link_of w.seen.child Left) (key + 1) w.key child left_stands (leads tree is))
+      left_top = top_at v tree walk.left (link_of w.seen.child Left) (key + 1) w.key child is left_stands some (walk_child tree walk.left (link_of w.seen.child Left) (key + 1) w.key child left_stands (leads tree is.nodes_are))
 
       pub left_in_tree : IsInTree v child
       left_in_tree = top_in_tree v walk.left child left_top
@@ -95,7 +96,7 @@ module _ (v : View) (tree : NamedTree) (is : IsReadTree v tree) (node key : ℕ)
     -- without a left child it is the successor
     module _ (some : 0 < w.seen.child) (none : LeadsThere v (link_of w.seen.child Left) 0) where
       left_null : walk.left ≡ Null
-      left_null = null_at v tree walk.left (link_of w.seen.child Left) (key + 1) w.key is left_stands (walk_child tree walk.left (link_of w.seen.child Left) (key + 1) w.key 0 left_stands (none tree is))
+      left_null = null_at v tree walk.left (link_of w.seen.child Left) (key + 1) w.key is left_stands (walk_child tree walk.left (link_of w.seen.child Left) (key + 1) w.key 0 left_stands (none tree is.nodes_are))
 
       ends_at : GoesToFirst tree node key n.right w.at (Branch w.seen.child w.key walk.val Null walk.below) walk.high
       ends_at = subst (λ sub. GoesToFirst tree node key n.right w.at (Branch w.seen.child w.key walk.val sub walk.below) walk.high) left_null walk.goes
@@ -103,7 +104,7 @@ module _ (v : View) (tree : NamedTree) (is : IsReadTree v tree) (node key : ℕ)
       right_is : (right : ℕ) → LeadsThere v (link_of w.seen.child Right) right → right ≡ top_slot walk.below
       right_is right leads =
           let stands = walk_right tree walk.left walk.below w.at (key + 1) walk.high w.seen.child w.key walk.val walk.goes.stands in
-          walk_child tree walk.below (link_of w.seen.child Right) (w.key + 1) walk.high right stands (leads tree is)
+          walk_child tree walk.below (link_of w.seen.child Right) (w.key + 1) walk.high right stands (leads tree is.nodes_are)
 
       pub ends_next : (val right : ℕ) → IsValThere v w.seen.child val → LeadsThere v (link_of w.seen.child Right) right
           → IsSuccessor tree key node n.right (record { at = w.at; node = w.seen.child; pair = pair w.key val; right = right })

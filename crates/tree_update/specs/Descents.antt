@@ -5,12 +5,12 @@ use Rattle.core_trees.specs.declared.link.Link.{Link}
 use Rattle.core_trees.specs.NamedTree.{NamedTree, Branch}
 use Rattle.core_updates.specs.PlanOf.{IsMissing}
 use Rattle.plan_steps.specs.Walks.{StandsAt}
+use Rattle.snapshot_read.specs.declared.child.Seen.{Seen}
+use Rattle.snapshot_read.specs.Children.{IsSeen}
 use Rattle.tree_update.specs.declared.descent.Search.{Search}
 use Rattle.tree_update.specs.declared.descent.End.{End}
 use Rattle.tree_update.specs.declared.descent.End.TheVariants.{Missing, Found}
-use Rattle.tree_update.specs.declared.child.Seen.{Seen}
 use Rattle.tree_update.specs.Searching.{IsReadTree}
-use Rattle.tree_update.specs.Children.{IsSeen}
 
 -- how many keys may still be met
 abbrev pub keys_left : Search → ℕ

@@ -10,3 +10,5 @@ pub mod Preparing
 pub mod Walked
 pub mod Carried
 pub mod Settles
+pub mod Calls
+pub mod Trying

@@ -9,8 +9,8 @@ use Rattle.core_grace.specs.Sections.{is_even}
 use Rattle.table_rule.specs.Running.{Happened}
 use Rattle.table_steps.specs.Gives.{looking}
 use Rattle.table_steps.specs.Passes.{Pass}
-use Rattle.tree_update.specs.declared.settle.Seen.{Seen}
-use Rattle.tree_update.specs.declared.settle.Seen.TheVariants.{Freed, Passed, Inside}
+use Rattle.tree_update.specs.declared.settle.PassLook.{PassLook}
+use Rattle.tree_update.specs.declared.settle.PassLook.TheVariants.{Freed, Passed, Inside}
 use Rattle.tree_update.specs.declared.settle.Settling.{Settling}
 use Rattle.tree_update.specs.declared.settle.Settling.TheVariants.{Settled, Held}
 
@@ -56,16 +56,16 @@ abbrev pub looks_on : View → ℕ → ℕ → View
 looks_on v other word = record (batch_taken v) { grace = looked_at (batch_taken v).grace other word }
 
 -- a look at another pass found this word, and the batch waits
-pub record HasLooked (p : Pass) (other word : ℕ) (w : View) : Type 0 where
+pub record HasLookedAt (p : Pass) (other word : ℕ) (w : View) : Type 0 where
   pub view : w ≡ looks_on p.view other word
   pub waits : is_empty w.batch ≡ false
   pub event : Happened p.view.layout (looking p other) p.view word w
 
 -- what a look comes to
-abbrev pub IsSeen : Pass → ℕ → Seen → View → Type 0
+abbrev pub IsSeen : Pass → ℕ → PassLook → View → Type 0
 IsSeen p other Freed w = w ≡ batch_freed (batch_taken p.view)
-IsSeen p other Passed w = (word : ℕ) × HasLooked p other word w × (has other w.grace.passed ≡ true)
-IsSeen p other (Inside word) w = HasLooked p other word w × (has other w.grace.passed ≡ false)
+IsSeen p other Passed w = (word : ℕ) × HasLookedAt p other word w × (has other w.grace.passed ≡ true)
+IsSeen p other (Inside word) w = HasLookedAt p other word w × (has other w.grace.passed ≡ false)
 
 -- between the looks of a try the view has the batch, whether it was taken or not, and new looks
 abbrev pub IsTaking : View → View → Type 0
@@ -106,7 +106,7 @@ HasTried p Settled w = HasSettled p.view w
 HasTried p (Held seat word) w = IsHeld p seat word w
 
 -- what the looks at one pass come to
-abbrev pub IsSeenAgain : Pass → ℕ → Seen → View → Type 0
+abbrev pub IsSeenAgain : Pass → ℕ → PassLook → View → Type 0
 IsSeenAgain p other Freed w = w ≡ batch_freed (batch_taken p.view)
 IsSeenAgain p other Passed w = HasPassed p.view other w
 IsSeenAgain p other (Inside word) w = IsHeld p other word w

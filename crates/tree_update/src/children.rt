@@ -1,13 +1,14 @@
 //! The two children of a node of the tree that a pass reads.
 ghost use Rattle.std.specs.Prelude.{◌≡◌, IfSome};
 ghost use Rattle.table_steps.specs.Passes.{IsSamePass};
-ghost use Rattle.tree_update.specs.Searching.{ReadsAt, IsInTree, HasSearched};
-ghost use Rattle.tree_update.specs.Children.{AreChildren, waits_after};
+ghost use Rattle.snapshot_read.specs.Links.{InsideAt, HasSearched};
+ghost use Rattle.snapshot_read.specs.Children.{waits_after};
+ghost use Rattle.tree_update.specs.Searching.{IsInTree};
+ghost use Rattle.tree_update.specs.Children.{AreChildren};
 
-use crate::child::{Seen, child_at};
 use core_trees::Link;
 use index_words::Side;
-use std::sync::Wait;
+use snapshot_read::{Seen, child_at};
 use table_steps::TablePass;
 
 /// The children of a node.
@@ -18,13 +19,8 @@ pub(crate) struct Children {
 }
 
 /// The children of a node of the tree that the pass reads at `at`. None where an entry had no number yet.
-pub(crate) fn children_of<R: Wait>(
-    pass: &mut TablePass<'_>,
-    rt: &R,
-    at: u64,
-    node: u32,
-) -> Option<Children>
-    requires reads { ReadsAt pass.old.view at }
+pub(crate) fn children_of(pass: &mut TablePass<'_>, at: u64, node: u32) -> Option<Children>
+    requires reads { InsideAt pass.old.view at }
     requires node { IsInTree pass.old.view node }
     ensures same { IsSamePass pass.old pass.new }
     ensures searched { HasSearched pass.old.view pass.new.view }
@@ -33,7 +29,6 @@ pub(crate) fn children_of<R: Wait>(
 {
     let left = child_at(
         pass,
-        rt,
         at,
         Link {
             node,
@@ -42,7 +37,6 @@ pub(crate) fn children_of<R: Wait>(
     )?;
     let right = child_at(
         pass,
-        rt,
         at,
         Link {
             node,

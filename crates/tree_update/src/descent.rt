@@ -1,14 +1,14 @@
 //! The search for a key, down the tree that a pass reads.
 ghost use Rattle.std.specs.Prelude.{◌≡◌, ◌<◌, IfSome, MatchOption};
 ghost use Rattle.table_steps.specs.Passes.{IsSamePass};
-ghost use Rattle.tree_update.specs.Searching.{ReadsAt, IsInTree, IsKeyThere, IsValThere, LeadsThere, HasSearched};
-ghost use Rattle.tree_update.specs.Children.{waits_after};
+ghost use Rattle.snapshot_read.specs.Links.{InsideAt, LeadsThere, HasSearched};
+ghost use Rattle.snapshot_read.specs.Children.{waits_after};
+ghost use Rattle.tree_update.specs.Searching.{IsInTree, IsKeyThere, IsValThere};
 ghost use Rattle.tree_update.specs.Descents.{keys_left, IsOnWay, IsAtKey, IsEnd};
 
-use crate::child::{Seen, child_at};
 use core_trees::Link;
 use index_words::Side;
-use std::sync::Wait;
+use snapshot_read::{Seen, child_at};
 use table_steps::TablePass;
 
 /// How far a search has come.
@@ -32,7 +32,7 @@ pub(crate) enum End {
 
 /// The key of a node of the tree that the pass reads.
 pub(crate) fn key_at(pass: &mut TablePass<'_>, at: u64, node: u32) -> u64
-    requires reads { ReadsAt pass.old.view at }
+    requires reads { InsideAt pass.old.view at }
     requires node { IsInTree pass.old.view node }
     ensures same { pass.new ≡ pass.old }
     ensures key { IsKeyThere pass.old.view node result }
@@ -43,7 +43,7 @@ pub(crate) fn key_at(pass: &mut TablePass<'_>, at: u64, node: u32) -> u64
 
 /// The value of a node of the tree that the pass reads.
 pub(crate) fn val_at(pass: &mut TablePass<'_>, at: u64, node: u32) -> u64
-    requires reads { ReadsAt pass.old.view at }
+    requires reads { InsideAt pass.old.view at }
     requires node { IsInTree pass.old.view node }
     ensures same { pass.new ≡ pass.old }
     ensures val { IsValThere pass.old.view node result }
@@ -54,7 +54,7 @@ pub(crate) fn val_at(pass: &mut TablePass<'_>, at: u64, node: u32) -> u64
 
 /// One level down, at a node of the tree: on to its left or to its right. None where it has the key.
 fn go_on(pass: &mut TablePass<'_>, at: u64, key: u64, child: u32, search: Search) -> Option<Search>
-    requires reads { ReadsAt pass.old.view at }
+    requires reads { InsideAt pass.old.view at }
     requires some { 0 < child }
     requires leads { LeadsThere pass.old.view search.at child }
     requires way { IsOnWay pass.old.view key search }
@@ -89,8 +89,8 @@ fn go_on(pass: &mut TablePass<'_>, at: u64, key: u64, child: u32, search: Search
 }
 
 /// Where the search for a key ends, in the tree that the pass reads at `at`. None where an entry had no number yet.
-pub(crate) fn find_end<R: Wait>(pass: &mut TablePass<'_>, rt: &R, at: u64, key: u64) -> Option<End>
-    requires reads { ReadsAt pass.old.view at }
+pub(crate) fn find_end(pass: &mut TablePass<'_>, at: u64, key: u64) -> Option<End>
+    requires reads { InsideAt pass.old.view at }
     ensures same { IsSamePass pass.old pass.new }
     ensures searched { HasSearched pass.old.view pass.new.view }
     ensures end { IfSome result (IsEnd pass.old.view pass.new.view key) }
@@ -106,7 +106,7 @@ pub(crate) fn find_end<R: Wait>(pass: &mut TablePass<'_>, rt: &R, at: u64, key: 
         last: u64::MAX,
     };
     'down: loop {
-        let Some(seen) = child_at(pass, rt, at, search.at) else {
+        let Some(seen) = child_at(pass, at, search.at) else {
             return None;
         };
         if seen.child == 0 {

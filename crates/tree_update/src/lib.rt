@@ -2,8 +2,8 @@
 //! the steps of `table_steps`, and on the laws of `plan_steps` that lead from stage to stage.
 #![tactic(auto)]
 
+mod calls;
 mod carry;
-mod child;
 mod children;
 mod descent;
 mod fills;
@@ -19,6 +19,12 @@ mod search;
 mod settle;
 mod slots;
 mod successor;
+mod trying;
 mod walking;
 
+pub use calls::{put, remove};
 pub use settle::{Settling, try_settle};
+pub use trying::{Try, try_put};
+
+#[cfg(test)]
+mod tests;

@@ -4,7 +4,7 @@ ghost use Rattle.std.specs.List.{slice_get};
 ghost use Rattle.core_trees.specs.declared.link.Link.{Link as TreeLink};
 ghost use Rattle.core_updates.specs.declared.plan.Look.TheVariants.{Link as LinkLook};
 ghost use Rattle.core_updates.specs.Plans.{looks_of, out_of};
-ghost use Rattle.key_map.specs.Lists.{count};
+ghost use Rattle.key_map.specs.Lists.{has};
 ghost use Rattle.plan_steps.specs.Fills.{HasLookedAll};
 ghost use Rattle.plan_steps.specs.Frames.{KeepsTry};
 ghost use Rattle.plan_steps.specs.Looks.{HasLooked};
@@ -61,7 +61,7 @@ fn look_at_link(
 
 /// Whether a node goes out.
 fn is_out(plan: &Plan, node: u32) -> bool
-    ensures { result ≡ false → count node (out_of plan.now) ≡ 0 }
+    ensures { result ≡ has node (out_of plan.now) }
 {
     match plan {
         Plan::Grow(_) => false,

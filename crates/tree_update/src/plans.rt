@@ -3,17 +3,18 @@ ghost use Rattle.std.specs.Prelude.{◌≡◌, ◌<◌};
 ghost use Rattle.index_words.specs.declared.view.View.{View};
 ghost use Rattle.key_map.specs.declared.update.Change.TheVariants.{Put, Remove};
 ghost use Rattle.core_updates.specs.Plans.{link_of, other_side};
-ghost use Rattle.tree_update.specs.Children.{IsSeen, AreChildren};
+ghost use Rattle.snapshot_read.specs.Children.{IsSeen};
+ghost use Rattle.tree_update.specs.Children.{AreChildren};
 ghost use Rattle.tree_update.specs.Descents.{EndsMissing, EndsFound};
 ghost use Rattle.tree_update.specs.Successors.{IsNext};
 ghost use Rattle.tree_update.specs.Planned.{IsPlanned};
 
-use crate::child::Seen;
 use crate::children::Children;
 use crate::successor::NextFound;
 use core_trees::Link;
 use core_updates::{GrowPlan, JoinPlan, LiftPlan, Plan, ReplacePlan};
 use index_words::{Pair, Side};
+use snapshot_read::Seen;
 
 /// A plan, and the entries with which the pass remembers the links that the plan looks at: each at the place of its
 /// look, 0 at the other places.

@@ -2,20 +2,21 @@
 ghost use Rattle.std.specs.Prelude.{◌≡◌, IfSome, Some};
 ghost use Rattle.key_map.specs.declared.update.Change.TheVariants.{Remove};
 ghost use Rattle.table_steps.specs.Passes.{IsSamePass};
-ghost use Rattle.tree_update.specs.Searching.{ReadsAt, IsFresh, HasSearched};
-ghost use Rattle.tree_update.specs.Children.{AreChildren, waits_after};
+ghost use Rattle.snapshot_read.specs.Links.{InsideAt, HasSearched};
+ghost use Rattle.snapshot_read.specs.Children.{waits_after};
+ghost use Rattle.tree_update.specs.Searching.{IsFresh};
+ghost use Rattle.tree_update.specs.Children.{AreChildren};
 ghost use Rattle.tree_update.specs.Descents.{EndsFound};
 ghost use Rattle.tree_update.specs.Found.{IsFound, IsReadyToTry, waits_found};
 ghost use Rattle.tree_update.specs.Planned.{IsPlanned};
 
-use crate::child::Seen;
 use crate::children::{Children, children_of};
 use crate::descent::{End, find_end};
 use crate::plans::{Planned, grow, join, lift_left, lift_right, replace};
 use crate::successor::find_next;
 use core_trees::Link;
 use index_words::Change;
-use std::sync::Wait;
+use snapshot_read::Seen;
 use table_steps::TablePass;
 
 /// What a search for a plan comes to.
@@ -29,16 +30,15 @@ pub(crate) enum Found {
 }
 
 /// The plan of a removal of a node that was found, with these children. None where an entry had no number yet.
-fn plan_removal<R: Wait>(
+fn plan_removal(
     pass: &mut TablePass<'_>,
-    rt: &R,
     at: u64,
     key: u64,
     link: Link,
     seen: Seen,
     children: Children,
 ) -> Option<Planned>
-    requires reads { ReadsAt pass.old.view at }
+    requires reads { InsideAt pass.old.view at }
     requires found { EndsFound pass.old.view pass.old.view key link seen }
     requires children { AreChildren pass.old.view pass.old.view seen.child children }
     ensures same { IsSamePass pass.old pass.new }
@@ -52,21 +52,20 @@ fn plan_removal<R: Wait>(
     if children.right.child == 0 {
         return Some(lift_left(key, link, seen, children));
     }
-    let found = find_next(pass, rt, at, seen.child, children.right)?;
+    let found = find_next(pass, at, seen.child, children.right)?;
     Some(join(key, link, seen, children, found))
 }
 
 /// The plan of an update of a key that was found. None where an entry had no number yet.
-fn plan_found<R: Wait>(
+fn plan_found(
     pass: &mut TablePass<'_>,
-    rt: &R,
     at: u64,
     key: u64,
     change: Change,
     link: Link,
     seen: Seen,
 ) -> Option<Planned>
-    requires reads { ReadsAt pass.old.view at }
+    requires reads { InsideAt pass.old.view at }
     requires found { EndsFound pass.old.view pass.old.view key link seen }
     ensures same { IsSamePass pass.old pass.new }
     ensures searched { HasSearched pass.old.view pass.new.view }
@@ -74,28 +73,22 @@ fn plan_found<R: Wait>(
     ensures waits { pass.new.view.counts.waits ≡ waits_after result pass.old.view.counts.waits }
 {
     pass.facts();
-    let children = children_of(pass, rt, at, seen.child)?;
+    let children = children_of(pass, at, seen.child)?;
     match change {
         Change::Put(val) => Some(replace(key, val, link, seen, children)),
-        Change::Remove => plan_removal(pass, rt, at, key, link, seen, children),
+        Change::Remove => plan_removal(pass, at, key, link, seen, children),
     }
 }
 
 /// What the search comes to, without what follows of it for a fresh pass.
-fn search_plan<R: Wait>(
-    pass: &mut TablePass<'_>,
-    rt: &R,
-    at: u64,
-    key: u64,
-    change: Change,
-) -> Found
-    requires reads { ReadsAt pass.old.view at }
+fn search_plan(pass: &mut TablePass<'_>, at: u64, key: u64, change: Change) -> Found
+    requires reads { InsideAt pass.old.view at }
     ensures same { IsSamePass pass.old pass.new }
     ensures searched { HasSearched pass.old.view pass.new.view }
     ensures found { IsFound pass.old.view pass.new.view key change result }
     ensures waits { pass.new.view.counts.waits ≡ waits_found result pass.old.view.counts.waits }
 {
-    let Some(end) = find_end(pass, rt, at, key) else {
+    let Some(end) = find_end(pass, at, key) else {
         return Found::Pending;
     };
     match end {
@@ -104,7 +97,7 @@ fn search_plan<R: Wait>(
             Change::Remove => Found::Absent,
         },
         End::Found { at: link, seen } => {
-            match plan_found(pass, rt, at, key, change, link, seen) {
+            match plan_found(pass, at, key, change, link, seen) {
                 Some(planned) => Found::Plan(planned),
                 None => Found::Pending,
             }
@@ -113,21 +106,15 @@ fn search_plan<R: Wait>(
 }
 
 /// The plan of an update, in the tree that the pass reads at `at`, with the entries of its links.
-pub(crate) fn find_plan<R: Wait>(
-    pass: &mut TablePass<'_>,
-    rt: &R,
-    at: u64,
-    key: u64,
-    change: Change,
-) -> Found
-    requires reads { ReadsAt pass.old.view at }
+pub(crate) fn find_plan(pass: &mut TablePass<'_>, at: u64, key: u64, change: Change) -> Found
+    requires reads { InsideAt pass.old.view at }
     ensures same { IsSamePass pass.old pass.new }
     ensures searched { HasSearched pass.old.view pass.new.view }
     ensures found { IsFound pass.old.view pass.new.view key change result }
     ensures ready { IsFresh pass.old.view at → pass.old.view.number ≡ Some pass.old.number → IsReadyToTry pass.new.view pass.old.number result }
     ensures waits { pass.new.view.counts.waits ≡ waits_found result pass.old.view.counts.waits }
 {
-    let found = search_plan(pass, rt, at, key, change);
+    let found = search_plan(pass, at, key, change);
     pass.facts();
     found
 }

@@ -19,7 +19,7 @@ pub enum Settling {
 
 /// What looks at another pass come to.
 #[derive(Clone, Copy, Debug, PartialEq, Eq)]
-pub(crate) enum Seen {
+pub(crate) enum PassLook {
     /// The batch is free.
     Freed,
     /// The batch has passed the other pass.
@@ -29,7 +29,7 @@ pub(crate) enum Seen {
 }
 
 /// Looks at another pass, which the batch has not passed.
-fn look_once(pass: &mut TablePass<'_>, other: u32) -> Seen
+fn look_once(pass: &mut TablePass<'_>, other: u32) -> PassLook
     requires rest { AtRest pass.old.view }
     requires other { other ≢ pass.old.number }
     requires there { other < pass.old.view.layout.passes }
@@ -40,17 +40,17 @@ fn look_once(pass: &mut TablePass<'_>, other: u32) -> Seen
 {
     let word = pass.look_sec(other);
     if !pass.has_batch() {
-        return Seen::Freed;
+        return PassLook::Freed;
     }
     if pass.was_passed(other) {
-        return Seen::Passed;
+        return PassLook::Passed;
     }
-    Seen::Inside(word)
+    PassLook::Inside(word)
 }
 
 /// Looks at another pass, twice at most, where the batch has not passed it. The second look tells whether the pass is in
 /// the section still in which the first one found it.
-fn look_at(pass: &mut TablePass<'_>, other: u32) -> Seen
+fn look_at(pass: &mut TablePass<'_>, other: u32) -> PassLook
     requires rest { AtRest pass.old.view }
     requires there { other < pass.old.view.layout.passes }
     requires waiting { (is_empty pass.old.view.batch && is_empty pass.old.view.retired) ≡ false }
@@ -59,10 +59,10 @@ fn look_at(pass: &mut TablePass<'_>, other: u32) -> Seen
     ensures seen { IsSeenAgain pass.old other result pass.new.view }
 {
     if pass.is_own(other) || pass.was_passed(other) {
-        return Seen::Passed;
+        return PassLook::Passed;
     }
     match look_once(pass, other) {
-        Seen::Inside(_) => look_once(pass, other),
+        PassLook::Inside(_) => look_once(pass, other),
         seen => seen,
     }
 }
@@ -98,9 +98,9 @@ pub fn try_settle(pass: &mut TablePass<'_>) -> Settling
     let passes = pass.passes();
     'passes: for other in 0..passes {
         match look_at(pass, other) {
-            Seen::Freed => return Settling::Settled,
-            Seen::Inside(word) => return Settling::Held { seat: other, word },
-            Seen::Passed => {}
+            PassLook::Freed => return Settling::Settled,
+            PassLook::Inside(word) => return Settling::Held { seat: other, word },
+            PassLook::Passed => {}
         }
     }
     // No look was made that freed the batch: the pass is alone, and an enter frees it.

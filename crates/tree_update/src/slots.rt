@@ -1,9 +1,10 @@
 //! The free slots of which an update takes what it needs.
-ghost use Rattle.std.specs.Prelude.{◌≡◌, ◌<◌, ◌^◌, ◌⊎◌, length, IfSome, None, Some};
+ghost use Rattle.std.specs.Prelude.{◌≡◌, ◌<◌, ◌^◌, length, IfSome, None, Some};
 ghost use Rattle.std.specs.List.{slice_get};
 ghost use Rattle.core_updates.specs.declared.plan.PlanSlots.{PlanSlots as Slots};
 ghost use Rattle.core_updates.specs.PlanEvents.{HasSlots};
 ghost use Rattle.plan_steps.specs.Fills.{AreApart};
+ghost use Rattle.tree_update.specs.Trying.{HasFreeSlots, LacksFreeSlots};
 
 use core_updates::PlanSlots;
 use table_steps::TablePass;
@@ -37,7 +38,8 @@ pub(crate) fn plan_slots(pass: &TablePass<'_>) -> Option<PlanSlots>
     ensures free { IfSome result (HasSlots pass.now.view) }
     ensures apart { IfSome result AreApart }
     ensures node { IfSome result (λ (s : Slots). 0 < s.node) }
-    ensures none { result ≡ None → (length pass.now.view.free.nodes ≡ 0) ⊎ (length pass.now.view.free.entries < 4) }
+    ensures enough { IfSome result (λ s. HasFreeSlots pass.now.view) }
+    ensures none { result ≡ None → LacksFreeSlots pass.now.view }
 {
     pass.facts();
     let nodes = pass.free_nodes();

@@ -3,16 +3,15 @@ ghost use Rattle.std.specs.Prelude.{◌≡◌, ◌<◌, IfSome};
 ghost use Rattle.table_steps.specs.Passes.{IsSamePass};
 ghost use Rattle.index_words.specs.declared.side.Side.TheVariants.{Left, Right};
 ghost use Rattle.core_updates.specs.Plans.{link_of};
-ghost use Rattle.tree_update.specs.Searching.{ReadsAt, LeadsThere, HasSearched};
-ghost use Rattle.tree_update.specs.Children.{IsSeen, waits_after};
+ghost use Rattle.snapshot_read.specs.Links.{InsideAt, LeadsThere, HasSearched};
+ghost use Rattle.snapshot_read.specs.Children.{IsSeen, waits_after};
 ghost use Rattle.tree_update.specs.Successors.{HasKey, IsOnWalk, IsNext};
 
-use crate::child::{Seen, child_at};
 use crate::descent::{key_at, val_at};
 use core_trees::Link;
 use core_updates::NextNode;
 use index_words::{Pair, Side};
-use std::sync::Wait;
+use snapshot_read::{Seen, child_at};
 use table_steps::TablePass;
 
 /// How far the walk has come: to a link that leads to a node, which has this key.
@@ -34,7 +33,7 @@ pub(crate) struct NextFound {
 
 /// The walk begins at the right child of the node.
 fn begin_walk(pass: &mut TablePass<'_>, at: u64, node: u32, right: Seen) -> Walk
-    requires reads { ReadsAt pass.old.view at }
+    requires reads { InsideAt pass.old.view at }
     requires node { HasKey pass.old.view node }
     requires some { 0 < right.child }
     requires leads { LeadsThere pass.old.view (link_of node Right) right.child }
@@ -57,7 +56,7 @@ fn begin_walk(pass: &mut TablePass<'_>, at: u64, node: u32, right: Seen) -> Walk
 
 /// The walk goes on to the left child of the node to which it has come.
 fn walk_on(pass: &mut TablePass<'_>, at: u64, node: u32, walk: Walk, left: Seen) -> Walk
-    requires reads { ReadsAt pass.old.view at }
+    requires reads { InsideAt pass.old.view at }
     requires node { HasKey pass.old.view node }
     requires walk { IsOnWalk pass.old.view node walk }
     requires some { 0 < left.child }
@@ -81,15 +80,14 @@ fn walk_on(pass: &mut TablePass<'_>, at: u64, node: u32, walk: Walk, left: Seen)
 }
 
 /// The walk ends at a node without a left child. None where an entry had no number yet.
-fn end_walk<R: Wait>(
+fn end_walk(
     pass: &mut TablePass<'_>,
-    rt: &R,
     at: u64,
     node: u32,
     walk: Walk,
     left: Seen,
 ) -> Option<NextFound>
-    requires reads { ReadsAt pass.old.view at }
+    requires reads { InsideAt pass.old.view at }
     requires node { HasKey pass.old.view node }
     requires walk { IsOnWalk pass.old.view node walk }
     requires seen { IsSeen pass.old.view pass.old.view walk.at walk.seen }
@@ -104,7 +102,6 @@ fn end_walk<R: Wait>(
     let val = val_at(pass, at, walk.seen.child);
     let right = child_at(
         pass,
-        rt,
         at,
         Link {
             node: walk.seen.child,
@@ -126,14 +123,13 @@ fn end_walk<R: Wait>(
 
 /// The successor of a node that has a right child, in the tree that the pass reads at `at`. None where an entry had no
 /// number yet.
-pub(crate) fn find_next<R: Wait>(
+pub(crate) fn find_next(
     pass: &mut TablePass<'_>,
-    rt: &R,
     at: u64,
     node: u32,
     right: Seen,
 ) -> Option<NextFound>
-    requires reads { ReadsAt pass.old.view at }
+    requires reads { InsideAt pass.old.view at }
     requires node { HasKey pass.old.view node }
     requires some { 0 < right.child }
     requires seen { IsSeen pass.old.view pass.old.view (link_of node Right) right }
@@ -149,11 +145,11 @@ pub(crate) fn find_next<R: Wait>(
             node: walk.seen.child,
             side: Side::Left,
         };
-        let Some(left) = child_at(pass, rt, at, link) else {
+        let Some(left) = child_at(pass, at, link) else {
             return None;
         };
         if left.child == 0 {
-            return end_walk(pass, rt, at, node, walk, left);
+            return end_walk(pass, at, node, walk, left);
         }
         walk = walk_on(pass, at, node, walk, left);
     }

@@ -55,7 +55,15 @@ fn bad_words(rt: HostRuntime) -> Result<(), Fail> {
         let words = texts(alloc, list)?;
         let mut source = MemSource::new(ONE_CLIENT.as_bytes().to_vec(alloc)?);
         let mut sink = MemSink::with_room(alloc, AMPLE)?;
-        let status = serve(&rt, alloc, &words, &mut source, &mut sink, &OpenGate);
+        let status = serve(
+            &rt,
+            alloc,
+            &words,
+            &mut source,
+            &mut sink,
+            &OpenGate,
+            &mut Threaded::new(),
+        );
         assert_eq!(rt; status, Status::BadWords);
         assert_eq!(rt; sink.taken().len(), 0);
         let left = read_all(alloc, &mut source, AMPLE)?;

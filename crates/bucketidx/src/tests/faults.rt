@@ -3,14 +3,22 @@ use super::*;
 use outside_io::{FailingSink, Sink};
 
 // How serving `run` ends over this source and this sink.
-fn end_of<Rt: Wait, S: Source, K: Sink>(
+fn end_of<Rt: Threads + Wait + Sync, S: Source, K: Sink>(
     rt: &Rt,
     alloc: Global,
     source: &mut S,
     sink: &mut K,
 ) -> Result<Status, Fail> {
     let words = texts(alloc, &["run"])?;
-    Ok(serve(rt, alloc, &words, source, sink, &OpenGate))
+    Ok(serve(
+        rt,
+        alloc,
+        &words,
+        source,
+        sink,
+        &OpenGate,
+        &mut Threaded::new(),
+    ))
 }
 
 fn one_call(alloc: Global, call: u64) -> Result<Vec<u64>, Fail> {

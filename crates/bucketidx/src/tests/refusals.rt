@@ -1,7 +1,7 @@
 // Each cause, provoked by a line in the middle of a session; nothing is written then.
 use super::*;
 
-fn refused<Rt: Wait + Abort>(
+fn refused<Rt: Threads + Wait + Sync + Abort>(
     rt: &Rt,
     alloc: Global,
     input: &[u8],
@@ -15,7 +15,7 @@ fn refused<Rt: Wait + Abort>(
 }
 
 // The line stands between good ones.
-fn refused_in_the_middle<Rt: Wait + Abort>(
+fn refused_in_the_middle<Rt: Threads + Wait + Sync + Abort>(
     rt: &Rt,
     alloc: Global,
     bad: &[u8],
@@ -30,7 +30,7 @@ fn refused_in_the_middle<Rt: Wait + Abort>(
 #[test]
 fn causes_of_one_line(rt: HostRuntime) -> Result<(), Fail> {
     let alloc = rt.alloc();
-    let rows: [(&[u8], Cause); 26] = [
+    let rows: [(&[u8], Cause); 25] = [
         (b"HEAD \xff", Cause::NotUtf8),
         (b"GET a", Cause::UnknownVerb),
         (b"head a", Cause::UnknownVerb),
@@ -56,7 +56,6 @@ fn causes_of_one_line(rt: HostRuntime) -> Result<(), Fail> {
         (b"LIST max-keys=2147483648", Cause::BadMaxKeys),
         (b"LIST encoding-type=gzip", Cause::BadEncoding),
         (b"LIST fetch-owner=yes", Cause::BadFetchOwner),
-        (b"CLIENT", Cause::NotBuilt),
     ];
     for (bad, cause) in rows {
         refused_in_the_middle(&rt, alloc, bad, cause)?;
@@ -94,18 +93,11 @@ fn limits_of_a_session(rt: HostRuntime) -> Result<(), Fail> {
     refused(&rt, alloc, &lines, 200_003, Cause::TooManyLines)
 }
 
-// The second client is not built, wherever its line stands.
 #[test]
-fn lines_of_a_second_client(rt: HostRuntime) -> Result<(), Fail> {
+fn the_33rd_client(rt: HostRuntime) -> Result<(), Fail> {
     let alloc = rt.alloc();
-    let mut puts = repeated(alloc, "CLIENT\n", "PUT a 1 e1 1\n", 1000)?;
-    puts.extend_from_slice(b"CLIENT\n")?;
-    refused(&rt, alloc, &puts, 1002, Cause::NotBuilt)?;
-    let mut listings = repeated(alloc, "CLIENT\n", "LIST\n", 4000)?;
-    listings.extend_from_slice(b"CLIENT\n")?;
-    refused(&rt, alloc, &listings, 4002, Cause::NotBuilt)?;
     let clients = repeated(alloc, "", "CLIENT\n", 33)?;
-    refused(&rt, alloc, &clients, 2, Cause::NotBuilt)
+    refused(&rt, alloc, &clients, 33, Cause::TooManyClients)
 }
 
 // Of two causes of a line the first of the grammar's order is named, and of two faulty lines the first.

@@ -2,7 +2,7 @@
 use super::*;
 
 // The session is served, and these are the lines of its text at these places, counted from 1.
-fn answers<Rt: Wait + Abort>(
+fn answers<Rt: Threads + Wait + Sync + Abort>(
     rt: &Rt,
     alloc: Global,
     input: &str,

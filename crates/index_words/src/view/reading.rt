@@ -91,6 +91,8 @@ pub struct Reading {
     /// The tree at the section number, in the order of the keys. Empty without a section number.
     pub tree: Items<TreeNode>,
     pub place: Place,
+    /// The number of the entry that it has just left behind on its way along a bundle, where that was loaded.
+    pub above: Option<u64>,
     pub links: Items<Link>,
     /// The node at which the search last turned left, and the one at which it last turned right.
     pub left_turn: Option<Turn>,
@@ -116,6 +118,7 @@ impl Reading {
             opened: None,
             tree: Items::new(alloc),
             place: Place::Nowhere,
+            above: None,
             links: Items::new(alloc),
             left_turn: None,
             right_turn: None,

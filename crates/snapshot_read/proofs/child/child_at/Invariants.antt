@@ -1,6 +1,10 @@
 use Rattle.table_steps.specs.Passes.{IsSamePass}
-use Rattle.snapshot_read.specs.Looks.{AtLink}
+use Rattle.snapshot_read.specs.Links.{HasSearched}
+use Rattle.snapshot_read.specs.Children.{ComesAlong, number_bound}
 use Rattle.snapshot_read.proofs.child.child_at.Given as goal
 
 abbrev pub invariant-along : goal.invariant-along
-invariant-along g l = AtLink l.fn.pass.view l.fn.at l.fn.node l.fn.side l.entry l.pass.view × IsSamePass l.fn.pass l.pass
+invariant-along l = ComesAlong l.fn.pass.view l.pass.view l.fn.link l.entry × HasSearched l.fn.pass.view l.pass.view × IsSamePass l.fn.pass l.pass
+
+abbrev pub decreases-along : goal.decreases-along
+decreases-along l = number_bound l.pass.view.reading.above

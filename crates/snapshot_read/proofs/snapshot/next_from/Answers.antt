@@ -1,5 +1,4 @@
-use Rattle.snapshot_read.proofs.ReadMoves.{read_nothing, same_pass}
 use Rattle.snapshot_read.proofs.snapshot.next_from.Goals as goal
 
-pub tries-init : goal.tries-init
-tries-init g c = (read_nothing c.args.pass.now.view, same_pass c.args.pass.now)
+pub next_on-requires-clause-kept : goal.next_on-requires-clause-kept
+next_on-requires-clause-kept g c = c.new-way.ensures c.args.pass.now.view

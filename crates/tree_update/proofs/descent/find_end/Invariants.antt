@@ -1,12 +1,12 @@
 use Rattle.std.proofs.Common.{◌≡◌}
 use Rattle.table_steps.specs.Passes.{IsSamePass}
-use Rattle.tree_update.specs.Searching.{HasSearched}
+use Rattle.snapshot_read.specs.Links.{HasSearched}
 use Rattle.tree_update.specs.Descents.{IsOnWay, keys_left}
 use Rattle.tree_update.proofs.descent.find_end.Given as goal
 
 abbrev pub invariant-down : goal.invariant-down
-invariant-down g l =
+invariant-down l =
     HasSearched l.fn.pass.view l.pass.view × (l.pass.view.counts.waits ≡ l.fn.pass.view.counts.waits) × IsSamePass l.fn.pass l.pass × IsOnWay l.fn.pass.view l.fn.key l.search
 
 abbrev pub decreases-down : goal.decreases-down
-decreases-down g l = keys_left l.search
+decreases-down l = keys_left l.search

@@ -2,13 +2,13 @@ use Rattle.tree_update.proofs.Later.{ends_later, children_later}
 use Rattle.tree_update.proofs.search.plan_removal.Goals as goal
 
 pub returns-then-children-eq0-clause-planned : goal.returns-then-children-eq0-clause-planned
-returns-then-children-eq0-clause-planned g c = c.lift_right.ensures c.args.pass.now.view c.args.pass.now.view c.requires.found c.requires.children
+returns-then-children-eq0-clause-planned c = c.lift_right.ensures c.args.pass.now.view c.args.pass.now.view c.requires.found c.requires.children
 
 pub returns-then-children-eq0-2-clause-planned : goal.returns-then-children-eq0-2-clause-planned
-returns-then-children-eq0-2-clause-planned g c = c.lift_left.ensures c.args.pass.now.view c.args.pass.now.view c.requires.found c.requires.children
+returns-then-children-eq0-2-clause-planned c = c.lift_left.ensures c.args.pass.now.view c.args.pass.now.view c.requires.found c.requires.children
 
 pub returns-clause-planned : goal.returns-clause-planned
-returns-clause-planned g c =
+returns-clause-planned c =
     let v = c.args.pass.now.view in
     let x = c.find_next.new.pass.view in
     let more = c.find_next.ensures.searched in

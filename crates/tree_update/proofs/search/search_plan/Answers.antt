@@ -4,7 +4,7 @@ use Rattle.tree_update.specs.Planned.{IsPlanned}
 use Rattle.tree_update.proofs.search.search_plan.Goals as goal
 
 pub returns-in-Put-clause-found : goal.returns-in-Put-clause-found
-returns-in-Put-clause-found g c =
+returns-in-Put-clause-found c =
     let v = c.args.pass.now.view in
     let x = c.find_end.new.pass.view in
     subst (λ change. IsPlanned v x c.args.key change c.grow.result) (sym c.in-Put.is)

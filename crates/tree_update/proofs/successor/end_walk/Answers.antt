@@ -4,14 +4,14 @@ use Rattle.core_updates.specs.Plans.{link_of}
 use Rattle.plan_steps.specs.Tries.{RemembersLink}
 use Rattle.table_steps.specs.Loads.{IsTreeLink}
 use Rattle.table_steps.specs.Passes.{Pass}
-use Rattle.tree_update.specs.Searching.{LeadsThere, HasSearched}
-use Rattle.tree_update.specs.Children.{IsSeen}
+use Rattle.snapshot_read.specs.Links.{LeadsThere, HasSearched}
+use Rattle.snapshot_read.specs.Children.{IsSeen}
 use Rattle.tree_update.proofs.ReadTrees.{reader}
 use Rattle.tree_update.proofs.Walks.{walk_in_tree, ends_next}
 use Rattle.tree_update.proofs.successor.end_walk.Goals as goal
 
 pub val_at-val-requires-clause-node : goal.val_at-val-requires-clause-node
-val_at-val-requires-clause-node g c =
+val_at-val-requires-clause-node c =
     let v = c.args.pass.now.view in
     let known = reader v c.args.at c.facts.ensures c.requires.reads in
     let node = c.requires.node in
@@ -19,7 +19,7 @@ val_at-val-requires-clause-node g c =
     walk_in_tree v known.tree known.is c.args.node node.key node.top n c.args.walk (c.requires.walk.walk known.tree known.is node.top node.key n) c.requires.walk.some
 
 pub child_at-requires-clause-link : goal.child_at-requires-clause-link
-child_at-requires-clause-link g c =
+child_at-requires-clause-link c =
     let v = c.args.pass.now.view in
     let known = reader v c.args.at c.facts.ensures c.requires.reads in
     let node = c.requires.node in
@@ -29,7 +29,7 @@ child_at-requires-clause-link g c =
     subst (λ (p : Pass). IsTreeLink p.view c.args.walk.seen.child Right) (sym c.val_at-val.ensures.same) link
 
 pub returns-clause-next : goal.returns-clause-next
-returns-clause-next g c =
+returns-clause-next c =
     let v = c.args.pass.now.view in
     let x = c.child_at.new.pass.view in
     let w = c.args.walk in

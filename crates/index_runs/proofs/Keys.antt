@@ -1,0 +1,31 @@
+-- The keys that passes lay down are all keys of the index again.
+use Rattle.std.proofs.Common.{◌≡◌, ℕ, zero, suc, ◌<◌, List, [], ◌∷◌, ◌++◌, length, get_or, map, refl, sym, ap, ◌∙◌, arith}
+use Rattle.std.proofs.lemmas.List.{length-map, get_or-map, map-append}
+use Rattle.key_map.specs.Lists.{Every}
+use Rattle.table_rule.specs.Homes.{Home}
+use Rattle.table_steps.specs.Closes.{number_of}
+use Rattle.table_steps.specs.Passes.{Pass}
+use Rattle.shared_index.specs.Keys.{AreAllKeys, IsKeyOf}
+use Rattle.shared_index.proofs.KeyHomes.{all_kept}
+use Rattle.index_runs.specs.declared.run.Worked.{Worked}
+use Rattle.index_runs.specs.Runs.{LaidDown, key_of}
+
+every_key : (index : Home) (left : List Worked) → ((i : ℕ) (d : Worked) → i < length left → IsKeyOf index (key_of (get_or left i d))) → Every (IsKeyOf index) (map key_of left)
+every_key index [] each = tt
+every_key index (w ∷ left) each = (each 0 w (omega arith), every_key index left (λ i d lt. each (suc i) d (omega arith)))
+
+same_numbers : (keys : List Pass) (left : List Worked) → length left ≡ length keys
+    → ((i : ℕ) (k : Pass) (d : Worked) → i < length keys → number_of (key_of (get_or left i d)) ≡ number_of (get_or keys i k))
+    → map number_of (map key_of left) ≡ map number_of keys
+same_numbers [] [] long each = refl
+same_numbers [] (w ∷ left) long each = absurd (omega arith)
+same_numbers (k ∷ keys) [] long each = absurd (omega arith)
+same_numbers (k ∷ keys) (w ∷ left) long each =
+    ap (λ n. n ∷ map number_of (map key_of left)) (each 0 k w (omega arith))
+    ∙ ap (λ ns. number_of k ∷ ns) (same_numbers keys left (omega arith) (λ i a d lt. each (suc i) a d (omega arith)))
+
+pub all_laid_down : (index : Home) (keys : List Pass) (left : List Worked) → AreAllKeys index keys → LaidDown index keys left → AreAllKeys index (map key_of left)
+all_laid_down index keys left all laid =
+    all_kept index keys (map key_of left) all
+    (every_key index left (λ i d lt. (laid.each i (key_of d) d (omega (arith, laid.one_each))).0))
+    (same_numbers keys left laid.one_each (λ i k d lt. (laid.each i k d lt).1))

@@ -1,0 +1,2 @@
+-- The keys of a run.
+pub mod Keys

@@ -1,0 +1,56 @@
+// What is printed of a run, a line each.
+use crate::work::Event;
+use index_words::{Change, Update};
+use std::fmt::Write;
+use std::io;
+
+pub(crate) fn print_events(rt: &HostRuntime, number: usize, events: &[Event]) -> io::Result<()> {
+    for event in events {
+        print_event(rt, number, event)?;
+    }
+    Ok(())
+}
+
+fn print_event(rt: &HostRuntime, number: usize, event: &Event) -> io::Result<()> {
+    match event {
+        Event::Put {
+            line,
+            key,
+            val,
+            done,
+        } => println!(rt; "P {number} {line} {} {key} {val} {}", done.at, done.was),
+        Event::Removed { line, key, done } => {
+            println!(rt; "R {number} {line} {} {key} {}", done.at, done.was)
+        }
+        Event::Refused { line } => println!(rt; "N {number} {line}"),
+        Event::Listed {
+            at,
+            from,
+            page,
+            pairs,
+        } => {
+            let mut text = String::new(rt.alloc());
+            for pair in pairs {
+                write!(text, " {}:{}", pair.key, pair.val)?;
+            }
+            println!(rt; "L {number} {at} {from} {page}{text}")
+        }
+    }
+}
+
+pub(crate) fn print_history(rt: &HostRuntime, history: &[Update]) -> io::Result<()> {
+    for (place, update) in history.iter().enumerate() {
+        let place = place.saturating_add(1);
+        match update.change {
+            Change::Put(val) => println!(rt;
+                "J {place} {} {} {} {val}",
+                update.client, update.line, update.key
+            )?,
+            Change::Remove => println!(rt;
+                "J {place} {} {} {}",
+                update.client, update.line, update.key
+            )?,
+        }
+    }
+    Ok(())
+}

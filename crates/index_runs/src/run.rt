@@ -1,0 +1,156 @@
+// A run: passes at work at once, each on a thread of its own, over one index, to the index's end.
+ghost use Rattle.std.specs.Prelude.{◌≡◌, map, IfOk};
+ghost use Rattle.table_steps.specs.Closes.{number_of};
+ghost use Rattle.shared_index.specs.Keys.{AreAllKeys, IsKeyOf};
+ghost use Rattle.index_runs.specs.Runs.{LaidDown, key_of};
+
+use crate::work::{Event, Plan, work};
+use index_words::{PassSize, Update};
+use shared_index::{OpenError, PassKey, SharedIndex};
+use std::alloc::{AllocError, Global};
+use std::sync::Wait;
+use std::thread::{Threads, map_vec};
+
+/// How many passes there are, what each is to do, and the slots of each.
+#[derive(Clone, Copy, Drop)]
+pub(crate) struct Run {
+    pub(crate) passes: u32,
+    pub(crate) plan: Plan,
+    pub(crate) nodes: u32,
+    pub(crate) entries: u32,
+}
+
+/// What a run came to: what each pass was answered, and the history.
+#[derive(Drop)]
+pub(crate) struct Ran {
+    pub(crate) events: Vec<Vec<Event>>,
+    pub(crate) history: Vec<Update>,
+}
+
+/// Why a run did not come to its end.
+#[derive(Clone, Copy, Debug)]
+pub(crate) enum Stopped {
+    /// No index takes these sizes.
+    BadSizes,
+    NoMemory,
+}
+
+impl From<AllocError> for Stopped {
+    fn from(_: AllocError) -> Stopped {
+        Stopped::NoMemory
+    }
+}
+
+/// What a pass leaves: its key, and what it was answered.
+#[derive(Drop)]
+pub(crate) struct Worked {
+    key: PassKey,
+    events: Result<Vec<Event>, AllocError>,
+}
+
+/// The size of each pass.
+fn sizes_of(alloc: Global, run: &Run) -> Result<Vec<PassSize>, AllocError> {
+    let mut sizes = Vec::new(alloc);
+    for _ in 0..run.passes {
+        sizes.push(PassSize {
+            nodes: run.nodes,
+            entries: run.entries,
+            calls: run.plan.requests,
+        })?;
+    }
+    Ok(sizes)
+}
+
+/// Opens an index, with its keys.
+fn opened(alloc: Global, run: &Run) -> Result<(SharedIndex, Vec<PassKey>), Stopped>
+    ensures all { IfOk result (λ o. AreAllKeys o.0 o.1.items) }
+{
+    let sizes = sizes_of(alloc, run)?;
+    match SharedIndex::open(alloc, sizes.as_slice()) {
+        Ok(opened) => Ok(opened),
+        Err(OpenError::BadSizes) => Err(Stopped::BadSizes),
+        Err(OpenError::NoMemory) => Err(Stopped::NoMemory),
+    }
+}
+
+/// Takes up the pass of a key, and makes its requests.
+fn work_on<R: Wait>(rt: &R, alloc: Global, index: &SharedIndex, key: PassKey, plan: &Plan) -> Worked
+    requires of { IsKeyOf index.now key }
+    ensures of { IsKeyOf index.now result.key }
+    ensures number { number_of result.key ≡ number_of key }
+{
+    let mut pass = index.attach(key);
+    let events = work(rt, alloc, &mut pass, plan);
+    Worked {
+        key: pass.detach(),
+        events,
+    }
+}
+
+/// Takes up the pass of each key, each on a thread of its own.
+fn work_on_each<R: Threads + Wait + Sync>(
+    rt: &R,
+    alloc: Global,
+    index: &SharedIndex,
+    keys: Vec<PassKey>,
+    plan: &Plan,
+) -> Result<Vec<Worked>, AllocError>
+    requires all { AreAllKeys index.now keys.items }
+    ensures laid { IfOk result (λ left. LaidDown index.now keys.items left.items) }
+{
+    let run = |key: PassKey| -> Worked
+        requires { IsKeyOf index.now key }
+        ensures { IsKeyOf index.entry.now result.key × (number_of result.key ≡ number_of key) }
+    { work_on(rt, alloc, index, key, plan) };
+    map_vec(rt, keys, &run)
+}
+
+/// What the passes leave, kept apart: their keys in one list, what they were answered in another.
+fn take_apart(
+    alloc: Global,
+    mut left: Vec<Worked>,
+) -> Result<(Vec<PassKey>, Vec<Vec<Event>>), AllocError>
+    ensures keys { IfOk result (λ p. p.0.items ≡ map key_of left.items) }
+{
+    let Some(last) = left.pop() else {
+        return Ok((Vec::new(alloc), Vec::new(alloc)));
+    };
+    let (mut keys, mut events) = take_apart(alloc, left)?;
+    let Worked {
+        key,
+        events: answered,
+    } = last;
+    keys.push(key)?;
+    events.push(answered?)?;
+    Ok((keys, events))
+}
+
+/// All passes make their requests at once.
+fn work_all<R: Threads + Wait + Sync>(
+    rt: &R,
+    alloc: Global,
+    index: &SharedIndex,
+    keys: Vec<PassKey>,
+    plan: &Plan,
+) -> Result<(Vec<PassKey>, Vec<Vec<Event>>), AllocError>
+    requires all { AreAllKeys index.now keys.items }
+    ensures all { IfOk result (λ p. AreAllKeys index.now p.0.items) }
+{
+    let left = work_on_each(rt, alloc, index, keys, plan)?;
+    let (back, events) = take_apart(alloc, left)?;
+    Ok((back, events))
+}
+
+/// Makes a run, and takes its index to the end.
+pub(crate) fn make_run<R: Threads + Wait + Sync>(
+    rt: &R,
+    alloc: Global,
+    run: &Run,
+) -> Result<Ran, Stopped> {
+    let (index, keys) = opened(alloc, run)?;
+    let (keys, events) = work_all(rt, alloc, &index, keys, &run.plan)?;
+    match index.finish(alloc, keys) {
+        Ok(history) => Ok(Ran { events, history }),
+        Err(_) => Err(Stopped::NoMemory),
+    }
+}

@@ -1,0 +1,4 @@
+-- What the rule of the table says of a pass.
+pub mod OwnFacts
+-- Which index a key or a note is of, and the keys of an index.
+pub mod KeyHomes

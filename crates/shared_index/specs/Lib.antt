@@ -1,0 +1,4 @@
+pub mod Shown
+pub mod Keys
+pub mod Notes
+pub mod Tries

@@ -1,0 +1,70 @@
+//! The index: how it is opened, and how a pass of it is taken up.
+ghost use Rattle.std.specs.Prelude.{◌≡◌, ◌↔◌, All, IfOk, IsErrOf, None};
+ghost use Rattle.index_words.specs.Sizes.{FitTable};
+ghost use Rattle.shared_index.specs.Keys.{AreAllKeys, AreFresh, IsKeyOf};
+
+use crate::facts::own_facts;
+use crate::pass::IndexPass;
+use index_words::{Layout, NoMemory, PassSize};
+use snapshot_read::Way;
+use std::alloc::Global;
+use std::marker::Model;
+use table_steps::{PassKey, SharedTable};
+
+/// An ordered map that passes share. Contracts see which table it is kept in, and that table's layout.
+#[derive(Drop)]
+pub struct SharedIndex {
+    pub(crate) table: SharedTable,
+}
+
+impl Model for SharedIndex {
+    ghost use Rattle.table_rule.specs.Homes.{Home};
+
+    ghost Value = { Home };
+
+    ghost view = { λ x. x.table };
+}
+
+/// Why no index was opened.
+#[derive(Clone, Copy, Debug, PartialEq, Eq)]
+pub enum OpenError {
+    /// No table takes these sizes.
+    BadSizes,
+    NoMemory,
+}
+
+impl SharedIndex {
+    /// Opens an index for passes of these sizes, with an empty history. The keys are all keys of the index, each once, in
+    /// the order of the sizes: key `i` has the number `i`, and the slots and calls of size `i`, all of them free. All
+    /// memory that later calls use is taken here, but for that of `finish`.
+    ///
+    /// # Errors
+    /// `BadSizes` where there are no sizes or more than 32 of them, where one has no node or fewer than 4 entries, or
+    /// where the sum of nodes is above 262,144, of entries above 1,048,576 or of calls above 16,777,216.
+    pub fn open(alloc: Global, sizes: &[PassSize]) -> Result<(SharedIndex, Vec<PassKey>), OpenError>
+        ensures bad_sizes { IsErrOf result OpenError.BadSizes ↔ (¬ FitTable sizes.now) }
+        ensures of { IfOk result (λ opened. All (IsKeyOf opened.0) opened.1.items) }
+        ensures all { IfOk result (λ opened. AreAllKeys opened.0 opened.1.items) }
+        ensures fresh { IfOk result (λ opened. AreFresh 0 sizes.now opened.1.items) }
+    {
+        let Some(layout) = Layout::new(sizes) else {
+            return Err(OpenError::BadSizes);
+        };
+        match SharedTable::open(alloc, &layout, sizes) {
+            Ok((table, keys)) => Ok((SharedIndex { table }, keys)),
+            Err(NoMemory) => Err(OpenError::NoMemory),
+        }
+    }
+
+    /// Takes up the work of a pass. No snapshot is open, and all else is the key's.
+    pub fn attach(&self, key: PassKey) -> IndexPass<'_>
+        requires of { IsKeyOf self.now key }
+        ensures same { result ≡ key }
+        ensures closed { result.view.reading.opened ≡ None }
+    {
+        let pass = self.table.attach(key);
+        own_facts(&pass);
+        let way = Way::new();
+        IndexPass { pass, way }
+    }
+}

@@ -1,0 +1,117 @@
+//! A pass of the index at work.
+ghost use Rattle.std.specs.Prelude.{◌≡◌, ◌↔◌, ℕ, None, Some, IsSome, IfOk, OnErr, IsErrOf};
+ghost use Rattle.key_map.specs.History.{after};
+ghost use Rattle.key_map.specs.Map.{first_from};
+ghost use Rattle.bucket_terms.specs.PassView.{MadePut};
+ghost use Rattle.snapshot_read.specs.Looks.{IsAnswer, waits_after};
+ghost use Rattle.shared_index.specs.Keys.{home_of_pass, home_of_note};
+ghost use Rattle.shared_index.specs.Notes.{told_by, Hears};
+ghost use Rattle.shared_index.specs.Shown.{shown};
+ghost use Rattle.shared_index.specs.Tries.{SeesOn};
+ghost use Rattle.tree_update.specs.Outcomes.{HasRisen};
+ghost use Rattle.tree_update.specs.Settles.{HasTried};
+ghost use Rattle.tree_update.specs.Trying.{IsOutOfFreeSlots, IfDone, IfBusy, IfMoved, IfPending, UnlessDone};
+
+use crate::facts::own_facts;
+use key_map::PassError;
+use snapshot_read::{Look, Way};
+use std::marker::Model;
+use table_steps::{Note, PassKey, TablePass};
+use tree_update::{Settling, Try};
+
+/// One caller's way to the index. Between two calls it holds no lock, and it is inside a read-side section exactly while
+/// a snapshot is open. Contracts see the pass of the table; what it is to its caller is its `PassView` (`shown`).
+#[derive(Drop)]
+pub struct IndexPass<'t> {
+    pub(crate) pass: TablePass<'t>,
+    /// What the searches of the open snapshot have kept.
+    pub(crate) way: Way,
+}
+
+impl<'t> Model for IndexPass<'t> {
+    ghost use Rattle.table_steps.specs.Passes.{Pass};
+    ghost use Rattle.shared_index.specs.Shown.{IsBetweenCalls};
+    ghost use Rattle.snapshot_read.specs.Ways.{IsKeptWay};
+
+    ghost Value = { Pass };
+
+    ghost view = { λ p. p.pass };
+
+    ghost invariant = { λ p. IsBetweenCalls p.pass.view × IsKeptWay p.pass.view p.way };
+}
+
+impl<'t> IndexPass<'t> {
+    /// Lays the work of the pass down. The key is of the same index, and all of the pass's meanings are the key's.
+    pub fn detach(self) -> PassKey
+        requires closed { (shown self).opened ≡ None }
+        ensures same { result ≡ self.entry }
+    {
+        self.pass.detach()
+    }
+
+    /// Tells what the pass has seen. The pass is as it was. It takes no memory and never waits.
+    pub fn tell(&mut self) -> Note
+        ensures same { self.new ≡ self.old }
+        ensures of { home_of_note result ≡ home_of_pass self.old }
+        ensures seen { told_by result ≡ (shown self.new).seen }
+    {
+        self.pass.tell()
+    }
+
+    /// Hears a note of the same index: what the pass has seen then begins with what it had seen, and with what the note
+    /// has. An open snapshot stays open. It takes no memory and never waits.
+    pub fn hear(&mut self, note: Note)
+        requires of { home_of_note note ≡ home_of_pass self.old }
+        ensures heard { Hears (shown self.old) (shown self.new) (told_by note) }
+        ensures home { home_of_pass self.new ≡ home_of_pass self.old }
+    {
+        self.pass.hear(note);
+        self.way.forget();
+    }
+
+    /// Tries to free the slots that updates of this pass took out. Where none of them waits yet, all of them begin to wait.
+    /// `Settled`: all that waited are free. `Held`: another pass was found in the same section at two looks since they
+    /// began to wait. It takes no memory and never waits.
+    pub fn try_settle(&mut self) -> Settling
+        requires closed { (shown self.old).opened ≡ None }
+        ensures tried { HasTried self.old result self.new.view }
+        ensures same { shown self.new ≡ shown self.old }
+        ensures home { home_of_pass self.new ≡ home_of_pass self.old }
+    {
+        tree_update::try_settle(&mut self.pass)
+    }
+    /// Tries once to put the key with this value, for the request line `line`. It takes no memory and never waits: where it
+    /// meets what another pass is doing, it gives all back and tells what it has met, and the count of this has risen.
+    ///
+    /// # Errors
+    /// `Spent` where no call is left. `NoSlot` where calls are left, but no node or fewer than four entries are free; a try
+    /// does not free retired slots first (`try_settle` does). The pass is then unchanged.
+    pub fn try_put(&mut self, line: u32, key: u64, val: u64) -> Result<Try, PassError>
+        requires closed { (shown self.old).opened ≡ None }
+        ensures made { IfOk result (λ tried. IfDone tried (MadePut (shown self.old) (shown self.new) line key val)) }
+        ensures busy { IfOk result (λ tried. IfBusy tried (HasRisen self.old.view.counts.busy self.new.view.counts.busy)) }
+        ensures moved { IfOk result (λ tried. IfMoved tried (HasRisen self.old.view.counts.moves self.new.view.counts.moves)) }
+        ensures pending { IfOk result (λ tried. IfPending tried (HasRisen self.old.view.counts.waits self.new.view.counts.waits)) }
+        ensures kept { IfOk result (λ tried. UnlessDone tried (SeesOn (shown self.old) (shown self.new))) }
+        ensures spent { IsErrOf result PassError.Spent ↔ ((shown self.old).left ≡ 0) }
+        ensures no_slot { IsErrOf result PassError.NoSlot ↔ IsOutOfFreeSlots self.old.view }
+        ensures unchanged { OnErr result (self.new ≡ self.old) }
+        ensures home { home_of_pass self.new ≡ home_of_pass self.old }
+    {
+        let answer = tree_update::try_put(&mut self.pass, line, key, val);
+        own_facts(&self.pass);
+        answer
+    }
+
+    /// Looks once for the first pair of the open snapshot whose key is at least `key`. It takes no memory and never waits:
+    /// where an entry has no number yet it answers `Pending`, and the count of such entries rises.
+    pub fn try_next_from(&mut self, key: u64) -> Look
+        requires open { IsSome (shown self.old).opened }
+        ensures first { (at : ℕ) → (shown self.old).opened ≡ Some at → IsAnswer result (first_from key (after (shown self.old).seen at)) }
+        ensures waits { self.new.view.counts.waits ≡ waits_after result self.old.view.counts.waits }
+        ensures same { shown self.new ≡ shown self.old }
+        ensures home { home_of_pass self.new ≡ home_of_pass self.old }
+    {
+        snapshot_read::try_next_on(&mut self.pass, &mut self.way, key)
+    }
+}

@@ -1,0 +1,14 @@
+use Rattle.std.proofs.Common.{◌≡◌}
+use Rattle.key_map.specs.Lists.{Every}
+use Rattle.table_steps.specs.Passes.{IsSamePass}
+use Rattle.snapshot_read.specs.Snapshots.{HasRead}
+use Rattle.snapshot_read.specs.Ways.{Covers, IsOnWay, keys_left}
+use Rattle.snapshot_read.proofs.search.look_on.Given as goal
+
+abbrev pub invariant-down : goal.invariant-down
+invariant-down l =
+    HasRead l.fn.pass.view l.pass.view × (l.pass.view.counts.waits ≡ l.fn.pass.view.counts.waits) × IsSamePass l.fn.pass l.pass
+    × IsOnWay l.fn.pass.view l.fn.at l.search × Covers l.fn.key l.search × Every (IsOnWay l.fn.pass.view l.fn.at) l.way
+
+abbrev pub decreases-down : goal.decreases-down
+decreases-down l = keys_left l.search

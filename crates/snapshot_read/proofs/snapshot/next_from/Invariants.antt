@@ -1,6 +1,0 @@
-use Rattle.table_steps.specs.Passes.{IsSamePass}
-use Rattle.snapshot_read.specs.Snapshots.{HasRead}
-use Rattle.snapshot_read.proofs.snapshot.next_from.Given as goal
-
-abbrev pub invariant-tries : goal.invariant-tries
-invariant-tries g l = HasRead l.fn.pass.view l.pass.view × IsSamePass l.fn.pass l.pass

@@ -1,0 +1,7 @@
+use Rattle.table_steps.specs.Passes.{IsSamePass}
+use Rattle.snapshot_read.specs.Snapshots.{IsReading, HasRead}
+use Rattle.snapshot_read.specs.Ways.{IsKeptWay}
+use Rattle.snapshot_read.proofs.snapshot.next_on.Given as goal
+
+abbrev pub invariant-tries : goal.invariant-tries
+invariant-tries g l = HasRead l.fn.pass.view l.pass.view × IsSamePass l.fn.pass l.pass × IsReading l.pass.view × IsKeptWay l.pass.view l.way

@@ -1,0 +1,168 @@
+-- An update that a try has carried out, and a key that a snapshot has not.
+use Rattle.std.proofs.Common.{◌≡◌, ◌↔◌, ◌⊎◌, ℕ, ◌+◌, ◌-◌, ◌<◌, ◌≤◌, List, [], ◌∷◌, ◌++◌, length, drop, Bool, true, false, arith, refl, ap, sym, ◌∙◌, subst, Option, Some, None, is_some, Ok, Err, IsErrOf, MatchBool, inl, inr}
+use Rattle.std.proofs.lemmas.Bool.Decides.{nat_tests}
+use Rattle.std.proofs.lemmas.List.{length-append, take-append-drop, length_push}
+use Rattle.index_words.specs.declared.view.View.{View}
+use Rattle.index_words.specs.declared.view.history.SeenHistory.{SeenHistory}
+use Rattle.key_map.specs.declared.pair.Pair.{Pair}
+use Rattle.key_map.specs.declared.update.Update.{Update}
+use Rattle.key_map.specs.declared.update.Change.{Change}
+use Rattle.key_map.specs.declared.update.Change.TheVariants.{Remove}
+use Rattle.key_map.specs.declared.pass.Done.{Done}
+use Rattle.key_map.specs.declared.pass.PassError.{PassError}
+use Rattle.key_map.specs.declared.pass.PassError.TheVariants.{NoSlot, Spent}
+use Rattle.key_map.specs.History.{after}
+use Rattle.key_map.specs.Map.{map_has, map_get, first_from, value_at}
+use Rattle.key_map.proofs.HistoryLaws.{after-append, IsMap-after}
+use Rattle.key_map.proofs.MapLaws.{map_get-first_from}
+use Rattle.core_events.specs.LoadMoves.{risen}
+use Rattle.core_updates.specs.declared.plan.Plan.{Plan}
+use Rattle.core_updates.specs.declared.plan.Plan.TheVariants.{Grow, Replace, Lift, Join}
+use Rattle.core_updates.specs.Plans.{key_of, change_of}
+use Rattle.plan_steps.specs.Answers.{owned_nodes, owned_entries, was_there, MovesNodes as PlanMovesNodes}
+use Rattle.plan_steps.specs.Raises.{update_by}
+use Rattle.snapshot_read.specs.Snapshots.{HasBegun}
+use Rattle.tree_update.specs.Calls.{GoesOn, FixesNone, StaysOn, MakesChange, MovesNodes, FindsAbsent, HasMade, AnswersRemoval, IsOutOfSlots, IsRefusal}
+use Rattle.tree_update.proofs.CallSteps.{fixes_more, made_more, absent_more}
+use Rattle.tree_update.specs.Carried.{HasCarriedOut}
+
+-- the nodes of a plan, by its change
+plan_nodes : (plan : Plan) (old new : ℕ) → PlanMovesNodes plan old new → MovesNodes (change_of plan) (was_there plan) old new
+plan_nodes (Grow p) old new moves = moves
+plan_nodes (Replace p) old new moves = omega (arith, moves)
+plan_nodes (Lift p) old new moves = (refl, moves)
+plan_nodes (Join p) old new moves = (refl, moves)
+
+module _ (v w : View) (n line : ℕ) (plan : Plan) (place : ℕ) (done : HasCarriedOut v w n line plan place) where
+  abbrev u : Update
+  u = update_by n line plan
+
+  abbrev old : List Update
+  old = v.history.seen
+
+  abbrev behind : List Update
+  behind = drop (length old) done.others
+
+  whole : done.others ≡ old ++ behind
+  whole = sym (take-append-drop (length old) done.others) ∙ ap (λ (xs : List Update). xs ++ behind) (sym done.before)
+
+  place_len : place ≡ length done.others + 1
+  place_len = done.place_is ∙ ap (λ (xs : List Update). length xs) done.seen ∙ length_push done.others u
+
+  map_before : after w.history.seen (place - 1) ≡ after done.others (length done.others)
+  map_before =
+      ap (λ (k : ℕ). after w.history.seen k) (omega (arith, place_len))
+      ∙ ap (λ (xs : List Update). after xs (length done.others)) done.seen
+      ∙ after-append done.others (u ∷ []) (length done.others) (omega arith)
+
+  pub carried_made : (answer : Done) → answer.at ≡ place → answer.was ≡ was_there plan → MakesChange v w n line (key_of plan) (change_of plan) answer
+  carried_made answer at was = record {
+    update = record {
+      above = omega (arith, at, place_len, ap (λ (xs : List Update). length xs) whole, length-append old behind);
+      others = behind;
+      seen = done.seen ∙ ap (λ (xs : List Update). xs ++ u ∷ []) whole;
+      place = at ∙ done.place_is;
+      mine = done.mine ∙ ap (λ (k : ℕ). v.history.mine ++ k ∷ []) (sym at);
+      left = done.left;
+      entries = done.entries;
+      looks = omega (arith, done.looks);
+    };
+    was =
+        was ∙ sym done.was ∙ ap (λ (m : List Pair). map_has (key_of plan) m) (sym map_before)
+        ∙ ap (λ (k : ℕ). map_has (key_of plan) (after w.history.seen (k - 1))) (sym at);
+    nodes =
+        subst (λ (b : Bool). MovesNodes (change_of plan) b (owned_nodes v) (owned_nodes w)) (sym was)
+        (plan_nodes plan (owned_nodes v) (owned_nodes w) done.nodes);
+  }
+
+  pub carried_fixes : FixesNone v w
+  carried_fixes = record { looks = done.looks; found = done.found }
+
+-- a key without a value is not there
+none_has : (key : ℕ) (m : List Pair) → is_some (map_get key m) ≡ false → map_has key m ≡ false
+none_has key [] none = refl
+none_has key (p ∷ ps) none = grind (arith, nat_tests, none_has key ps)
+
+not_first : (key t : ℕ) (us : List Update) → is_some (value_at key (first_from key (after us t))) ≡ false → map_has key (after us t) ≡ false
+not_first key t us none =
+    none_has key (after us t) (ap (λ (o : Option ℕ). is_some o) (map_get-first_from key 0 (after us t) (IsMap-after us t)) ∙ none)
+
+risen_least : (n : ℕ) → n ≤ risen n
+risen_least n = grind (arith, nat_tests)
+
+pub begun_goes : (v w : View) (at : ℕ) → HasBegun v w at → GoesOn v w
+begun_goes v w at begun = record {
+  seen = begun.seen;
+  mine = begun.mine;
+  left = begun.left;
+  nodes = omega (arith, begun.nodes);
+  entries = omega (arith, begun.entries);
+  looks = omega (arith, begun.looks, risen_least v.history.looks);
+}
+
+-- from the begin of a snapshot, in which the key was not found, to its end
+pub absent_found : (v b w : View) (key at : ℕ) (first : Option Pair) → HasBegun v b at → StaysOn b w → w.history ≡ b.history → GoesOn v w
+    → first ≡ first_from key (after b.history.seen at) → is_some (value_at key first) ≡ false → FindsAbsent v w key at
+absent_found v b w key at first begun stays same goes is none = record {
+  goes = goes;
+  found = stays.fixes.found ∙ begun.found;
+  place = sym begun.whole ∙ ap (λ (h : SeenHistory). length h.seen) (sym same);
+  looks = omega (arith, stays.fixes.looks, begun.looks);
+  absent =
+      ap (λ (h : SeenHistory). map_has key (after h.seen at)) same
+      ∙ not_first key at b.history.seen (ap (λ (o : Option Pair). is_some (value_at key o)) (sym is) ∙ none);
+}
+
+-- an update that was made, by the key and the change of its plan, and from an earlier view on
+pub made_as : (v w : View) (n m line key : ℕ) (change : Change) (plan : Plan) (done : Done) → n ≡ m → key_of plan ≡ key → change_of plan ≡ change
+    → HasMade v w n line (key_of plan) (change_of plan) done → HasMade v w m line key change done
+made_as v w n m line key change plan done number key_is change_is is =
+    subst (λ (k : ℕ). HasMade v w k line key change done) number
+    (subst (λ (k : ℕ). HasMade v w n line k change done) key_is (subst (λ (c : Change). HasMade v w n line (key_of plan) c done) change_is is))
+
+pub has_made_more : (u v w : View) (n line key : ℕ) (change : Change) (done : Done) → StaysOn u v → HasMade v w n line key change done → HasMade u w n line key change done
+has_made_more u v w n line key change done on is = (made_more u v w n line key change done on.goes is.0, fixes_more u v w on.fixes is.1)
+
+-- a call is refused for this cause exactly where it stands
+pub refused_spent : (v : View) (e : PassError) → IsRefusal v (Some e) → {T : Type 0} → IsErrOf {T = T} (Err e) Spent ↔ (v.history.left ≡ 0)
+refused_spent v Spent is = (λ _. is, λ _. refl)
+refused_spent v NoSlot is = (λ err. absurd (no_slot_spent err), λ left. absurd (omega (arith, is.0, left)))
+  where
+    no_slot_spent : {T : Type 0} → IsErrOf {T = T} (Err NoSlot) Spent → ⊥
+    no_slot_spent err = cc
+
+pub refused_slots : (v : View) (e : PassError) → IsRefusal v (Some e) → {T : Type 0} → IsErrOf {T = T} (Err e) NoSlot ↔ IsOutOfSlots v
+refused_slots v Spent is = (λ err. absurd (spent_no_slot err), λ out. absurd (omega (arith, is, out.0)))
+  where
+    spent_no_slot : {T : Type 0} → IsErrOf {T = T} (Err Spent) NoSlot → ⊥
+    spent_no_slot err = cc
+refused_slots v NoSlot is = (λ _. is, λ _. refl)
+
+pub accepted_spent : (v : View) → IsRefusal v None → {T : Type 0} (x : T) → IsErrOf (Ok x) Spent ↔ (v.history.left ≡ 0)
+accepted_spent v is x = (λ err. absurd (no_error err), λ left. absurd (omega (arith, is.0, left)))
+  where
+    no_error : IsErrOf (Ok x) Spent → ⊥
+    no_error err = cc
+
+pub accepted_slots : (v : View) → IsRefusal v None → {T : Type 0} (x : T) → IsErrOf (Ok x) NoSlot ↔ IsOutOfSlots v
+accepted_slots v is x = (λ err. absurd (no_error err), λ out. absurd (either out.1))
+  where
+    no_error : IsErrOf (Ok x) NoSlot → ⊥
+    no_error err = cc
+
+    either : (owned_nodes v < 1) ⊎ (owned_entries v < 4) → ⊥
+    either (inl few) = omega (arith, few, is.1)
+    either (inr few) = omega (arith, few, is.2)
+
+-- a removal that was made is one that found its key
+pub removal_answers : (v w : View) (n line key : ℕ) (done : Done) → MakesChange v w n line key Remove done → AnswersRemoval v w n line key done
+removal_answers v w n line key done made =
+    subst (λ (b : Bool). MatchBool b (MakesChange v w n line key Remove done) (FindsAbsent v w key done.at)) (sym made.nodes.0) made
+
+-- an answer holds from an earlier view on
+pub removal_more : (u v w : View) (n line key : ℕ) (done : Done) → GoesOn u v → AnswersRemoval v w n line key done → AnswersRemoval u w n line key done
+removal_more u v w n line key done on = by_answer done.was
+  where
+    by_answer : (b : Bool) → MatchBool b (MakesChange v w n line key Remove done) (FindsAbsent v w key done.at) → MatchBool b (MakesChange u w n line key Remove done) (FindsAbsent u w key done.at)
+    by_answer true made = made_more u v w n line key Remove done on made
+    by_answer false absent = absent_more u v w key done.at on absent

@@ -1,0 +1,8 @@
+use Rattle.core_grace.specs.Sections.{left_word}
+use Rattle.tree_update.proofs.CallSteps.{left_stays}
+use Rattle.tree_update.proofs.trying.give_up.Goals as goal
+
+pub returns-clause-stays : goal.returns-clause-stays
+returns-clause-stays c =
+    let v = c.args.pass.now.view in
+    left_stays v c.leave.new.self.view (left_word v.section_word) c.leave.ensures.view

@@ -1,0 +1,88 @@
+-- What the calls of a pass that update the map answer, by what the pass knows of the history and owns before and after.
+use Rattle.std.specs.Prelude.{◌≡◌, ℕ, ◌+◌, ◌-◌, ◌<◌, ◌≤◌, ◌⊎◌, Bool, true, false, MatchBool, if◌then◌else◌, List, [], ◌∷◌, ◌++◌, length, Option, Some, None}
+use Rattle.index_words.specs.declared.view.View.{View}
+use Rattle.key_map.specs.declared.update.Update.{Update}
+use Rattle.key_map.specs.declared.update.Change.{Change}
+use Rattle.key_map.specs.declared.update.Change.TheVariants.{Put, Remove}
+use Rattle.key_map.specs.declared.pass.Done.{Done}
+use Rattle.key_map.specs.declared.pass.PassError.{PassError}
+use Rattle.key_map.specs.declared.pass.PassError.TheVariants.{NoSlot, Spent}
+use Rattle.key_map.specs.History.{after}
+use Rattle.key_map.specs.Map.{map_has}
+use Rattle.plan_steps.specs.Answers.{owned_nodes, owned_entries}
+use Rattle.table_steps.specs.Passes.{Extends}
+use Rattle.tree_update.specs.Outcomes.{HasRisen}
+
+-- the pass made no update: what it has seen goes on, its own updates, how many it may still make and how many slots it owns
+-- are as before, and no look is forgotten
+pub record GoesOn (v w : View) : Type 0 where
+  pub seen : Extends v.history.seen w.history.seen
+  pub mine : w.history.mine ≡ v.history.mine
+  pub left : w.history.left ≡ v.history.left
+  pub nodes : owned_nodes w ≡ owned_nodes v
+  pub entries : owned_entries w ≡ owned_entries v
+  pub looks : v.history.looks ≤ w.history.looks
+
+-- no load of the stamp has fixed a place
+pub record FixesNone (v w : View) : Type 0 where
+  pub looks : w.history.looks ≡ v.history.looks
+  pub found : w.history.found ≡ v.history.found
+
+-- both
+pub record StaysOn (v w : View) : Type 0 where
+  pub goes : GoesOn v w
+  pub fixes : FixesNone v w
+
+-- an update was made at place `at`, above all that the pass had seen: it stands at the end of the new history
+pub record MakesUpdate (v w : View) (n line key : ℕ) (change : Change) (at : ℕ) : Type 0 where
+  pub above : length v.history.seen < at
+  pub others : List Update
+  pub seen : w.history.seen ≡ (v.history.seen ++ others) ++ record { client = n; line = line; key = key; change = change } ∷ []
+  pub place : at ≡ length w.history.seen
+  pub mine : w.history.mine ≡ v.history.mine ++ at ∷ []
+  pub left : w.history.left + 1 ≡ v.history.left
+  pub entries : owned_entries v ≤ owned_entries w + 4
+  pub looks : v.history.looks ≤ w.history.looks
+
+-- how many nodes the pass owns then: one fewer after a put of a key that was not there, as many after one of a key that was,
+-- and one more after a removal, which finds its key
+abbrev pub MovesNodes : Change → Bool → ℕ → ℕ → Type 0
+MovesNodes (Put val) was old new = new + (if was then 0 else 1) ≡ old
+MovesNodes Remove was old new = (was ≡ true) × (new ≡ old + 1)
+
+-- an update was made, with this answer: `was` tells whether its key was in the map before
+pub record MakesChange (v w : View) (n line key : ℕ) (change : Change) (done : Done) : Type 0 where
+  pub update : MakesUpdate v w n line key change done.at
+  pub was : done.was ≡ map_has key (after w.history.seen (done.at - 1))
+  pub nodes : MovesNodes change done.was (owned_nodes v) (owned_nodes w)
+
+-- a put was made, and no load of the stamp has fixed a place
+pub record MakesPut (v w : View) (n line key val : ℕ) (done : Done) : Type 0 where
+  pub made : MakesChange v w n line key (Put val) done
+  pub fixes : FixesNone v w
+
+-- the key was not there at the place that the last load of the stamp has fixed, in this call: no update was made
+pub record FindsAbsent (v w : View) (key at : ℕ) : Type 0 where
+  pub goes : GoesOn v w
+  pub found : w.history.found ≡ at
+  pub place : at ≡ length w.history.seen
+  pub looks : HasRisen v.history.looks w.history.looks
+  pub absent : map_has key (after w.history.seen at) ≡ false
+
+-- a removal was answered: `was` tells whether the key was there
+abbrev pub AnswersRemoval : View → View → ℕ → ℕ → ℕ → Done → Type 0
+AnswersRemoval v w n line key done = MatchBool done.was (MakesChange v w n line key Remove done) (FindsAbsent v w key done.at)
+
+-- calls are left, but not the slots that an update may take: one node and four entries, free or not
+abbrev pub IsOutOfSlots : View → Type 0
+IsOutOfSlots v = (0 < v.history.left) × ((owned_nodes v < 1) ⊎ (owned_entries v < 4))
+
+-- why the pass can make no update, where it cannot
+abbrev pub IsRefusal : View → Option PassError → Type 0
+IsRefusal v None = (0 < v.history.left) × (1 ≤ owned_nodes v) × (4 ≤ owned_entries v)
+IsRefusal v (Some Spent) = v.history.left ≡ 0
+IsRefusal v (Some NoSlot) = IsOutOfSlots v
+
+-- what a try that was made has done
+abbrev pub HasMade : View → View → ℕ → ℕ → ℕ → Change → Done → Type 0
+HasMade v w n line key change done = MakesChange v w n line key change done × FixesNone v w

@@ -1,0 +1,69 @@
+-- What one try of an update comes to.
+use Rattle.std.specs.Prelude.{◌≡◌, ◌<◌, ◌≤◌, ◌⊎◌, length}
+use Rattle.index_words.specs.declared.view.View.{View}
+use Rattle.key_map.specs.declared.pass.Done.{Done}
+use Rattle.key_map.specs.declared.update.Change.{Change}
+use Rattle.key_map.specs.declared.update.Change.TheVariants.{Remove}
+use Rattle.core_updates.specs.declared.plan.PlanSlots.{PlanSlots}
+use Rattle.core_updates.specs.PlanEvents.{HasSlots}
+use Rattle.plan_steps.specs.Fills.{AreApart}
+use Rattle.tree_update.specs.declared.trying.Missed.{Missed}
+use Rattle.tree_update.specs.declared.trying.Missed.TheVariants.{Absent, Failed}
+use Rattle.tree_update.specs.declared.trying.Try.{Try}
+use Rattle.tree_update.specs.declared.trying.Try.TheVariants.{Done as Made, Busy, Moved, Pending}
+use Rattle.tree_update.specs.Outcomes.{IsCounted}
+
+-- the view has the free slots that an update may take: one node and four entries. Retired ones are not free
+abbrev pub HasFreeSlots : View → Type 0
+HasFreeSlots v = (1 ≤ length v.free.nodes) × (4 ≤ length v.free.entries)
+
+abbrev pub LacksFreeSlots : View → Type 0
+LacksFreeSlots v = (length v.free.nodes < 1) ⊎ (length v.free.entries < 4)
+
+-- calls are left, but not the free slots that an update may take
+abbrev pub IsOutOfFreeSlots : View → Type 0
+IsOutOfFreeSlots v = (0 < v.history.left) × LacksFreeSlots v
+
+-- these are free slots of the view that an update may take: different ones, none of them 0
+pub record OffersSlots (v : View) (slots : PlanSlots) : Type 0 where
+  pub free : HasSlots v slots
+  pub apart : AreApart slots
+  pub node : 0 < slots.node
+
+-- why a try of this change was not made: the search has not found the key of a removal, or the count of the failure has risen
+abbrev pub IsMissed : Change → View → View → Missed → Type 0
+IsMissed change v w Absent = change ≡ Remove
+IsMissed change v w (Failed failed) = IsCounted failed v w
+
+-- what holds where a try has made its update, by its answer
+abbrev pub IfDone : Try → (Done → Type 0) → Type 0
+IfDone (Made done) fact = fact done
+IfDone Busy fact = Unit {0}
+IfDone Moved fact = Unit {0}
+IfDone Pending fact = Unit {0}
+
+-- what holds where it has not, for this cause
+abbrev pub IfBusy : Try → Type 0 → Type 0
+IfBusy (Made done) fact = Unit {0}
+IfBusy Busy fact = fact
+IfBusy Moved fact = Unit {0}
+IfBusy Pending fact = Unit {0}
+
+abbrev pub IfMoved : Try → Type 0 → Type 0
+IfMoved (Made done) fact = Unit {0}
+IfMoved Busy fact = Unit {0}
+IfMoved Moved fact = fact
+IfMoved Pending fact = Unit {0}
+
+abbrev pub IfPending : Try → Type 0 → Type 0
+IfPending (Made done) fact = Unit {0}
+IfPending Busy fact = Unit {0}
+IfPending Moved fact = Unit {0}
+IfPending Pending fact = fact
+
+-- what holds where it has not, for whatever cause
+abbrev pub UnlessDone : Try → Type 0 → Type 0
+UnlessDone (Made done) fact = Unit {0}
+UnlessDone Busy fact = fact
+UnlessDone Moved fact = fact
+UnlessDone Pending fact = fact

@@ -1,0 +1,189 @@
+//! The calls that update the map: a put and a removal.
+//!
+//! Each tries until a try comes through. It waits between the tries alone: outside of the section, with no lock held and
+//! nothing pending, so that no other pass waits for it meanwhile.
+ghost use Rattle.std.specs.Prelude.{◌≡◌, ◌↔◌, ◌<◌, ◌≤◌, None, is_some, IfOk, IfSome, IsErrOf, OnErr};
+ghost use Rattle.key_map.specs.Map.{value_at};
+ghost use Rattle.table_steps.specs.Passes.{AtRest, IsSamePass};
+ghost use Rattle.tree_update.specs.Calls.{StaysOn, GoesOn, MakesPut, FindsAbsent, AnswersRemoval, IsRefusal, IsOutOfSlots};
+ghost use Rattle.tree_update.specs.Trying.{OffersSlots};
+
+use crate::settle::try_settle;
+use crate::slots::plan_slots;
+use crate::trying::{Missed, try_update};
+use core_updates::PlanSlots;
+use index_words::{Change, Pair};
+use key_map::{Done, PassError};
+use snapshot_read::{begin, end, next_from};
+use std::sync::Wait;
+use std::thread::yield_now;
+use table_steps::TablePass;
+
+/// Whether the pair is the key's.
+fn is_of_key(pair: Option<Pair>, key: u64) -> bool
+    ensures { result ≡ is_some (value_at key pair) }
+{
+    match pair {
+        Some(pair) => pair.key == key,
+        None => false,
+    }
+}
+
+/// Why the pass can make no update, where it cannot.
+fn refusal(pass: &TablePass<'_>) -> Option<PassError>
+    ensures { IsRefusal pass.now.view result }
+{
+    if pass.calls_left() == 0 {
+        return Some(PassError::Spent);
+    }
+    if pass.owned_nodes() == 0 {
+        return Some(PassError::NoSlot);
+    }
+    if pass.owned_entries() < 4 {
+        return Some(PassError::NoSlot);
+    }
+    None
+}
+
+/// Waits until the pass has the free slots that an update may take. It owns them, so they become free once the passes
+/// that were in a section have left it.
+fn wait_for_slots<R: Wait>(pass: &mut TablePass<'_>, rt: &R) -> PlanSlots
+    requires rest { AtRest pass.old.view }
+    ensures slots { OffersSlots pass.new.view result }
+    ensures same { IsSamePass pass.old pass.new }
+    ensures rest { AtRest pass.new.view }
+    ensures stays { StaysOn pass.old.view pass.new.view }
+{
+    'tries: for _ in rt.forever() {
+        if let Some(slots) = plan_slots(pass) {
+            return slots;
+        }
+        try_settle(pass);
+        yield_now();
+    }
+    unreachable!()
+}
+
+/// Looks for a key in a snapshot of its own. Where it is not there, this answers the snapshot's place.
+fn look_absent<R: Wait>(pass: &mut TablePass<'_>, rt: &R, key: u64) -> Option<u64>
+    requires rest { AtRest pass.old.view }
+    ensures same { IsSamePass pass.old pass.new }
+    ensures rest { AtRest pass.new.view }
+    ensures goes { GoesOn pass.old.view pass.new.view }
+    ensures absent { IfSome result (FindsAbsent pass.old.view pass.new.view key) }
+{
+    let at = begin(pass);
+    let first = next_from(pass, rt, key);
+    end(pass);
+    if is_of_key(first, key) {
+        return None;
+    }
+    Some(at)
+}
+
+/// One try of a removal. Where its search has not found the key, a snapshot tells whether it is there.
+fn try_removal<R: Wait>(
+    pass: &mut TablePass<'_>,
+    rt: &R,
+    line: u32,
+    key: u64,
+    slots: &PlanSlots,
+) -> Option<Done>
+    requires rest { AtRest pass.old.view }
+    requires left { 0 < pass.old.view.history.left }
+    requires slots { OffersSlots pass.old.view slots.now }
+    ensures same { IsSamePass pass.old pass.new }
+    ensures rest { AtRest pass.new.view }
+    ensures answered { IfSome result (AnswersRemoval pass.old.view pass.new.view pass.old.number line key) }
+    ensures goes { result ≡ None → GoesOn pass.old.view pass.new.view }
+{
+    match try_update(pass, line, key, Change::Remove, slots) {
+        Ok(done) => Some(done),
+        Err(Missed::Absent) => match look_absent(pass, rt, key) {
+            Some(at) => Some(Done { at, was: false }),
+            None => None,
+        },
+        Err(Missed::Failed(_)) => None,
+    }
+}
+
+/// Tries a put until it is made.
+fn make_put<R: Wait>(pass: &mut TablePass<'_>, rt: &R, line: u32, key: u64, val: u64) -> Done
+    requires rest { AtRest pass.old.view }
+    requires left { 0 < pass.old.view.history.left }
+    ensures same { IsSamePass pass.old pass.new }
+    ensures rest { AtRest pass.new.view }
+    ensures made { MakesPut pass.old.view pass.new.view pass.old.number line key val result }
+{
+    'tries: for _ in rt.forever() {
+        let slots = wait_for_slots(pass, rt);
+        if let Ok(done) = try_update(pass, line, key, Change::Put(val), &slots) {
+            return done;
+        }
+        yield_now();
+    }
+    unreachable!()
+}
+
+/// Tries a removal until it is made, or until a snapshot shows that the key is not there.
+fn make_removal<R: Wait>(pass: &mut TablePass<'_>, rt: &R, line: u32, key: u64) -> Done
+    requires rest { AtRest pass.old.view }
+    requires left { 0 < pass.old.view.history.left }
+    ensures same { IsSamePass pass.old pass.new }
+    ensures rest { AtRest pass.new.view }
+    ensures answered { AnswersRemoval pass.old.view pass.new.view pass.old.number line key result }
+{
+    'tries: for _ in rt.forever() {
+        let slots = wait_for_slots(pass, rt);
+        if let Some(done) = try_removal(pass, rt, line, key, &slots) {
+            return done;
+        }
+        yield_now();
+    }
+    unreachable!()
+}
+
+/// Puts the key with this value, for the request line `line`. It takes no memory. While other passes hold the locks that
+/// it needs, or are inside sections in which they may use slots that it needs, it lets other threads run.
+pub fn put<R: Wait>(
+    pass: &mut TablePass<'_>,
+    rt: &R,
+    line: u32,
+    key: u64,
+    val: u64,
+) -> Result<Done, PassError>
+    requires rest { AtRest pass.old.view }
+    ensures same { IsSamePass pass.old pass.new }
+    ensures rest { AtRest pass.new.view }
+    ensures made { IfOk result (MakesPut pass.old.view pass.new.view pass.old.number line key val) }
+    ensures spent { IsErrOf result PassError.Spent ↔ (pass.old.view.history.left ≡ 0) }
+    ensures no_slot { IsErrOf result PassError.NoSlot ↔ IsOutOfSlots pass.old.view }
+    ensures unchanged { OnErr result (pass.new ≡ pass.old) }
+{
+    match refusal(pass) {
+        Some(error) => Err(error),
+        None => Ok(make_put(pass, rt, line, key, val)),
+    }
+}
+
+/// Takes the key out, for the request line `line`. Where it is not there, no update is made: the answer is that of a
+/// snapshot. The conditions on calls and slots are the same then.
+pub fn remove<R: Wait>(
+    pass: &mut TablePass<'_>,
+    rt: &R,
+    line: u32,
+    key: u64,
+) -> Result<Done, PassError>
+    requires rest { AtRest pass.old.view }
+    ensures same { IsSamePass pass.old pass.new }
+    ensures rest { AtRest pass.new.view }
+    ensures answered { IfOk result (AnswersRemoval pass.old.view pass.new.view pass.old.number line key) }
+    ensures spent { IsErrOf result PassError.Spent ↔ (pass.old.view.history.left ≡ 0) }
+    ensures no_slot { IsErrOf result PassError.NoSlot ↔ IsOutOfSlots pass.old.view }
+    ensures unchanged { OnErr result (pass.new ≡ pass.old) }
+{
+    match refusal(pass) {
+        Some(error) => Err(error),
+        None => Ok(make_removal(pass, rt, line, key)),
+    }
+}

@@ -1,0 +1,179 @@
+//! One try of an update: a search, and the try of the plan that it has found, in one section. It never waits.
+ghost use Rattle.std.specs.Prelude.{◌≡◌, ◌↔◌, ◌<◌, None, IfOk, IfErr, IsErrOf, OnErr};
+ghost use Rattle.core_updates.specs.Plans.{key_of, change_of};
+ghost use Rattle.plan_steps.specs.Answers.{was_there as had_key};
+ghost use Rattle.plan_steps.specs.Tries.{IsSearched};
+ghost use Rattle.table_steps.specs.Passes.{AtRest, IsSamePass};
+ghost use Rattle.tree_update.specs.Calls.{StaysOn, HasMade, MakesPut};
+ghost use Rattle.tree_update.specs.Outcomes.{HasRisen, IsCounted};
+ghost use Rattle.tree_update.specs.Trying.{IsMissed, IsOutOfFreeSlots, OffersSlots, IfDone, IfBusy, IfMoved, IfPending, UnlessDone};
+ghost use Rattle.snapshot_read.specs.Links.{InsideAt};
+
+use crate::carry::carry_out;
+use crate::opening::begin_search;
+use crate::outcome::Failed;
+use crate::plans::Planned;
+use crate::search::{Found, find_plan};
+use crate::slots::plan_slots;
+use core_updates::{Plan, PlanSlots};
+use index_words::Change;
+use key_map::{Done, PassError};
+use table_steps::TablePass;
+
+/// Why one try of an update was not made. It has changed nothing.
+#[derive(Clone, Copy, Debug, PartialEq, Eq)]
+pub(crate) enum Missed {
+    /// The search has not found the key of a removal.
+    Absent,
+    /// The count of this failure has risen. A later try may come through.
+    Failed(Failed),
+}
+
+/// What one try of a put comes to.
+#[derive(Clone, Copy, Debug, PartialEq, Eq)]
+pub enum Try {
+    /// The put is made.
+    Done(Done),
+    /// A lock was found held: another pass is changing the tree there.
+    Busy,
+    /// What the search had found has changed since: a node is marked, or a bundle has another head.
+    Moved,
+    /// An entry had no number yet: another pass has it pending.
+    Pending,
+}
+
+/// Whether the key of a plan is in the map before the update.
+fn was_there(plan: &Plan) -> bool
+    ensures { result ≡ had_key plan.now }
+{
+    match plan {
+        Plan::Grow(_) => false,
+        Plan::Replace(_) => true,
+        Plan::Lift(_) => true,
+        Plan::Join(_) => true,
+    }
+}
+
+/// Leaves the section where nothing was locked.
+fn give_up(pass: &mut TablePass<'_>, at: u64)
+    requires reads { InsideAt pass.old.view at }
+    ensures same { IsSamePass pass.old pass.new }
+    ensures rest { AtRest pass.new.view }
+    ensures stays { StaysOn pass.old.view pass.new.view }
+    ensures counts { pass.new.view.counts ≡ pass.old.view.counts }
+{
+    pass.leave();
+}
+
+/// Carries out a plan that a search has found, with these slots.
+fn carry_found(
+    pass: &mut TablePass<'_>,
+    line: u32,
+    planned: &Planned,
+    slots: &PlanSlots,
+) -> Result<Done, Failed>
+    requires searched { IsSearched pass.old.view pass.old.number planned.now.plan planned.now.entries }
+    requires slots { OffersSlots pass.old.view slots.now }
+    requires left { 0 < pass.old.view.history.left }
+    requires unannounced { pass.old.view.announced ≡ 0 }
+    ensures same { IsSamePass pass.old pass.new }
+    ensures rest { AtRest pass.new.view }
+    ensures made { IfOk result (HasMade pass.old.view pass.new.view pass.old.number line (key_of planned.now.plan) (change_of planned.now.plan)) }
+    ensures stays { IfErr result (λ failed. StaysOn pass.old.view pass.new.view) }
+    ensures counted { IfErr result (λ failed. IsCounted failed pass.old.view pass.new.view) }
+{
+    match carry_out(pass, line, &planned.plan, slots, &planned.entries) {
+        Ok(at) => Ok(Done {
+            at,
+            was: was_there(&planned.plan),
+        }),
+        Err(failed) => Err(failed),
+    }
+}
+
+/// One try of an update, in a section of its own, with these slots. The enter takes no free slot away, so they are free
+/// still where the plan is carried out.
+pub(crate) fn try_update(
+    pass: &mut TablePass<'_>,
+    line: u32,
+    key: u64,
+    change: Change,
+    slots: &PlanSlots,
+) -> Result<Done, Missed>
+    requires rest { AtRest pass.old.view }
+    requires left { 0 < pass.old.view.history.left }
+    requires slots { OffersSlots pass.old.view slots.now }
+    ensures same { IsSamePass pass.old pass.new }
+    ensures rest { AtRest pass.new.view }
+    ensures made { IfOk result (HasMade pass.old.view pass.new.view pass.old.number line key change) }
+    ensures missed { IfErr result (IsMissed change pass.old.view pass.new.view) }
+    ensures stays { IfErr result (λ missed. StaysOn pass.old.view pass.new.view) }
+{
+    let at = begin_search(pass);
+    pass.facts();
+    pass.number_fact();
+    match find_plan(pass, at, key, change) {
+        Found::Plan(planned) => match carry_found(pass, line, &planned, slots) {
+            Ok(done) => Ok(done),
+            Err(failed) => Err(Missed::Failed(failed)),
+        },
+        Found::Absent => {
+            give_up(pass, at);
+            Err(Missed::Absent)
+        }
+        Found::Pending => {
+            give_up(pass, at);
+            Err(Missed::Failed(Failed::Pending))
+        }
+    }
+}
+
+/// One try of a put with these slots.
+fn try_with(pass: &mut TablePass<'_>, line: u32, key: u64, val: u64, slots: &PlanSlots) -> Try
+    requires rest { AtRest pass.old.view }
+    requires left { 0 < pass.old.view.history.left }
+    requires slots { OffersSlots pass.old.view slots.now }
+    ensures same { IsSamePass pass.old pass.new }
+    ensures rest { AtRest pass.new.view }
+    ensures made { IfDone result (MakesPut pass.old.view pass.new.view pass.old.number line key val) }
+    ensures busy { IfBusy result (HasRisen pass.old.view.counts.busy pass.new.view.counts.busy) }
+    ensures moved { IfMoved result (HasRisen pass.old.view.counts.moves pass.new.view.counts.moves) }
+    ensures pending { IfPending result (HasRisen pass.old.view.counts.waits pass.new.view.counts.waits) }
+    ensures kept { UnlessDone result (StaysOn pass.old.view pass.new.view) }
+{
+    match try_update(pass, line, key, Change::Put(val), slots) {
+        Ok(done) => Try::Done(done),
+        Err(Missed::Failed(Failed::Busy)) => Try::Busy,
+        Err(Missed::Failed(Failed::Moved)) => Try::Moved,
+        Err(Missed::Failed(Failed::Pending)) => Try::Pending,
+        Err(Missed::Absent) => unreachable!(),
+    }
+}
+
+/// Tries once to put the key with this value, for the request line `line`. It takes no memory and never waits: where it
+/// meets what another pass is doing, it gives all back and tells what it has met, and the count of this has risen.
+///
+/// # Errors
+/// `Spent` where no call is left. `NoSlot` where calls are left, but no node or fewer than four entries are free; a try
+/// does not free retired slots first. The pass is then unchanged.
+pub fn try_put(pass: &mut TablePass<'_>, line: u32, key: u64, val: u64) -> Result<Try, PassError>
+    requires rest { AtRest pass.old.view }
+    ensures same { IsSamePass pass.old pass.new }
+    ensures rest { AtRest pass.new.view }
+    ensures made { IfOk result (λ tried. IfDone tried (MakesPut pass.old.view pass.new.view pass.old.number line key val)) }
+    ensures busy { IfOk result (λ tried. IfBusy tried (HasRisen pass.old.view.counts.busy pass.new.view.counts.busy)) }
+    ensures moved { IfOk result (λ tried. IfMoved tried (HasRisen pass.old.view.counts.moves pass.new.view.counts.moves)) }
+    ensures pending { IfOk result (λ tried. IfPending tried (HasRisen pass.old.view.counts.waits pass.new.view.counts.waits)) }
+    ensures kept { IfOk result (λ tried. UnlessDone tried (StaysOn pass.old.view pass.new.view)) }
+    ensures spent { IsErrOf result PassError.Spent ↔ (pass.old.view.history.left ≡ 0) }
+    ensures no_slot { IsErrOf result PassError.NoSlot ↔ IsOutOfFreeSlots pass.old.view }
+    ensures unchanged { OnErr result (pass.new ≡ pass.old) }
+{
+    if pass.calls_left() == 0 {
+        return Err(PassError::Spent);
+    }
+    let Some(slots) = plan_slots(pass) else {
+        return Err(PassError::NoSlot);
+    };
+    Ok(try_with(pass, line, key, val, &slots))
+}
