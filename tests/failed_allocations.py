@@ -3,8 +3,10 @@
 
     tests/failed_allocations.py PROGRAM [SESSION ..]
 
-Without names it takes each text of examples/ that has its answers beside it. Wanted of each failure: status 7, a start of the whole text, down to
-nothing, and one line on standard error. PROGRAM is the built program itself, crates/bucketidx/out/bucketidx. A
+Without names it takes each text of examples/ that has its answers beside it, and tests/three_clients.txt, whose text does
+not depend on the schedule. Wanted of each failure: status 7, a start of the whole text, down to
+nothing, and one line on standard error; or the whole text and status 0, where a thread could not be started and its
+client was run without one. A session of several clients needs answers that do not depend on the schedule. PROGRAM is the built program itself, crates/bucketidx/out/bucketidx. A
 small library, which is compiled with cc and loaded before the C library, counts the program's allocations and
 refuses one of them; those of the C library itself are let through. Not part of the gate.
 """
@@ -20,38 +22,40 @@ LIBRARY = r"""
 #include <dlfcn.h>
 #include <elf.h>
 #include <errno.h>
+#include <fcntl.h>
 #include <stddef.h>
-#include <stdio.h>
 #include <stdlib.h>
 #include <sys/auxv.h>
+#include <sys/mman.h>
+#include <unistd.h>
 
 void *__libc_malloc(size_t);
 void *__libc_calloc(size_t, size_t);
 void *__libc_realloc(void *, size_t);
 void *__libc_memalign(size_t, size_t);
 
-static long count, failing;
+static long uncounted, failing;
+static long *count = &uncounted;
 static void *program;
 
+/* How many allocations were asked for, of which one may have been refused, stands in a file that is mapped: so it is there
+   however the program ends, and whichever thread asks. */
 __attribute__((constructor)) static void begin(void) {
     Dl_info info;
-    if (dladdr((void *)getauxval(AT_ENTRY), &info)) program = info.dli_fbase;
-    const char *word = getenv("FAILED_ALLOCATION");
+    const char *word = getenv("FAILED_ALLOCATION"), *name = getenv("ALLOCATIONS_FILE");
     failing = word ? atol(word) : 0;
-}
-
-/* How many allocations were asked for, of which the last may have been refused. */
-__attribute__((destructor)) static void end(void) {
-    const char *name = getenv("ALLOCATIONS_FILE");
-    FILE *file = name ? fopen(name, "w") : NULL;
-    if (file) { fprintf(file, "%ld\n", count); fclose(file); }
+    int file = name ? open(name, O_RDWR | O_CREAT | O_TRUNC, 0600) : -1;
+    if (file >= 0 && ftruncate(file, sizeof *count) == 0) {
+        void *mapped = mmap(NULL, sizeof *count, PROT_READ | PROT_WRITE, MAP_SHARED, file, 0);
+        if (mapped != MAP_FAILED) count = mapped;
+    }
+    if (dladdr((void *)getauxval(AT_ENTRY), &info)) program = info.dli_fbase;
 }
 
 static int refused(void *caller) {
     Dl_info info;
     if (!program || !dladdr(caller, &info) || info.dli_fbase != program) return 0;
-    count += 1;
-    if (count != failing) return 0;
+    if (__atomic_add_fetch(count, 1, __ATOMIC_SEQ_CST) != failing) return 0;
     errno = ENOMEM;
     return 1;
 }
@@ -85,7 +89,7 @@ class Tried:
 
     def allocations(self):
         """How many allocations the last run asked for."""
-        return int(self.counted.read_text())
+        return int.from_bytes(self.counted.read_bytes(), sys.byteorder)
 
 
 def refused_rightly(ran, whole):
@@ -94,19 +98,22 @@ def refused_rightly(ran, whole):
 
 
 def failures_of(tried, session):
-    """How many allocations were refused in turn, and at how many of them something was written."""
+    """How many allocations were refused in turn, at how many of them something was written, and at how many all of it."""
     ran = tried.run(session)
     if ran.returncode != 0:
         sys.exit("status %d without a failing allocation" % ran.returncode)
-    whole, count, begun = ran.stdout, tried.allocations(), 0
+    whole, count, begun, borne = ran.stdout, tried.allocations(), 0, 0
     for number in range(1, count + 1):
         ran = tried.run(session, number)
+        if ran.returncode == 0 and ran.stdout == whole and not ran.stderr:
+            borne += 1
+            continue
         if not refused_rightly(ran, whole):
             print("allocation %d: status %d, standard error %r" % (number, ran.returncode, ran.stderr.decode()))
             print("written: %r" % ran.stdout[-200:])
             sys.exit(1)
         begun += bool(ran.stdout)
-    return count, begun
+    return count, begun, borne
 
 
 def main():
@@ -114,14 +121,14 @@ def main():
         sys.exit(__doc__)
     # The answers of several clients depend on the schedule: such a session has none beside it.
     found = (path for path in (HERE / "examples").glob("*.txt") if path.with_suffix(".out").exists())
-    names = sys.argv[2:] or sorted(map(str, found))
+    names = sys.argv[2:] or sorted(map(str, found)) + [str(HERE / "tests" / "three_clients.txt")]
     with tempfile.TemporaryDirectory() as folder:
         tried = Tried(sys.argv[1], Path(folder))
         for name in names:
-            count, begun = failures_of(tried, Path(name).read_bytes())
+            count, begun, borne = failures_of(tried, Path(name).read_bytes())
             if count == 0:
                 sys.exit("%s: no allocation was seen" % name)
-            print("%s: %d allocations failed in turn, %d of them behind the first line" % (name, count, begun))
+            print("%s: %d allocations failed in turn, %d of them behind the first line, %d borne" % (name, count, begun, borne))
 
 
 if __name__ == "__main__":

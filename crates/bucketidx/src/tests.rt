@@ -10,6 +10,7 @@ use std::thread::Threads;
 mod clients;
 mod ends;
 mod faults;
+mod meeting;
 mod refusals;
 mod rows;
 

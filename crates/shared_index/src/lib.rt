@@ -18,4 +18,6 @@ pub use table_steps::{Note, PassKey};
 pub use tree_update::{Settling, Try};
 
 #[cfg(test)]
+mod row_tests;
+#[cfg(test)]
 mod tests;

@@ -1,5 +1,5 @@
 // Answers of indexes of two passes, worked by hand.
-ghost use Rattle.std.specs.Prelude.{◌≡◌, ◌∷◌, [], ◌<◌, None, IfSome};
+ghost use Rattle.std.specs.Prelude.{◌≡◌, ◌∷◌, [], ◌<◌, None, IfSome, IsSome};
 ghost use Rattle.shared_index.specs.Keys.{AreAllKeys, IsKeyOf};
 
 use crate::{OpenError, PassKey, Settling, SharedIndex};
@@ -11,7 +11,7 @@ use std::sync::Wait;
 use std::test::Fail;
 use std::thread::{Threads, join};
 
-const fn size(nodes: u32, entries: u32, calls: u32) -> PassSize {
+pub(crate) const fn size(nodes: u32, entries: u32, calls: u32) -> PassSize {
     PassSize {
         nodes,
         entries,
@@ -23,7 +23,7 @@ const fn pair(key: u64, val: u64) -> Option<Pair> {
     Some(Pair { key, val })
 }
 
-const fn done(at: u64, was: bool) -> Result<Done, PassError> {
+pub(crate) const fn done(at: u64, was: bool) -> Result<Done, PassError> {
     Ok(Done { at, was })
 }
 
@@ -49,7 +49,10 @@ fn both(keys: Vec<PassKey>) -> Option<(PassKey, PassKey)>
 }
 
 /// An index of two passes, and its keys.
-fn opened(alloc: Global, sizes: &[PassSize; 2]) -> Option<(SharedIndex, PassKey, PassKey)>
+pub(crate) fn opened(
+    alloc: Global,
+    sizes: &[PassSize; 2],
+) -> Option<(SharedIndex, PassKey, PassKey)>
     ensures { IfSome result (λ o. AreAllKeys o.0 (o.1 ∷ o.2 ∷ [])) }
 {
     let Ok((index, keys)) = SharedIndex::open(alloc, sizes) else {
@@ -62,7 +65,7 @@ fn opened(alloc: Global, sizes: &[PassSize; 2]) -> Option<(SharedIndex, PassKey,
 }
 
 /// A put, which leaves no snapshot open.
-fn put<P: KeyPass, R: Wait>(
+pub(crate) fn put<P: KeyPass, R: Wait>(
     rt: &R,
     pass: &mut P,
     line: u32,
@@ -219,6 +222,39 @@ fn put_twenty<R: Wait>(rt: &R, index: &SharedIndex, key: PassKey, from: u64) -> 
         let _ = put(rt, &mut pass, 1, from + i, i);
     }
     pass.detach()
+}
+
+/// Whether the open snapshot has exactly the keys of `put_twenty`, in order, from this one on.
+fn lists_twenty<P: KeyPass, R: Wait>(rt: &R, pass: &mut P, from: u64) -> bool
+    requires open { IsSome (P.view pass.old).opened }
+    requires small { from < 1000 }
+    ensures open { IsSome (P.view pass.new).opened }
+{
+    for i in 0..20 {
+        let Some(found) = pass.next_from(rt, from + i) else {
+            return false;
+        };
+        if found.key != from + i || found.val != i {
+            return false;
+        }
+    }
+    pass.next_from(rt, from + 20).is_none()
+}
+
+#[test]
+fn keys_put_in_rising_order_are_listed_in_it(rt: HostRuntime) -> Result<(), Fail> {
+    let Some((index, first, _)) = opened(rt.alloc(), &[size(20, 200, 20); 2]) else {
+        panic!(rt; "there is no index of two passes")
+    };
+    let key = put_twenty(&rt, &index, first, 100);
+    let mut pass = index.attach(key);
+    assert_eq!(rt; pass.begin(), 20);
+    assert_eq!(rt; pass.next_from(&rt, 110), pair(110, 10));
+    assert_eq!(rt; pass.next_from(&rt, 105), pair(105, 5));
+    assert!(rt; lists_twenty(&rt, &mut pass, 100));
+    assert_eq!(rt; pass.next_from(&rt, 0), pair(100, 0));
+    pass.end();
+    Ok(())
 }
 
 /// Two passes put keys at once, some of them the same.

@@ -29,7 +29,11 @@ use core_updates::{Plan, PlanSlots};
 use table_steps::TablePass;
 
 /// Locks the nodes of a plan, and looks at all that it asks for.
-fn validate(pass: &mut TablePass<'_>, plan: &Plan, heads: &[u32; 9]) -> Result<(), Failed>
+pub(crate) fn validate(
+    pass: &mut TablePass<'_>,
+    plan: &Plan,
+    heads: &[u32; 9],
+) -> Result<(), Failed>
     requires searched { IsSearched pass.old.view pass.old.number plan.now heads.now }
     ensures same { IsSamePass pass.old pass.new }
     ensures looked { IfOk result (λ done. HasLookedAll pass.new.view pass.new.number plan.now heads.now) }
@@ -45,7 +49,7 @@ fn validate(pass: &mut TablePass<'_>, plan: &Plan, heads: &[u32; 9]) -> Result<(
 }
 
 /// Fills the slots of a plan, and puts its entries in front of their bundles.
-fn make_ready(pass: &mut TablePass<'_>, plan: &Plan, slots: &PlanSlots, heads: &[u32; 9])
+pub(crate) fn make_ready(pass: &mut TablePass<'_>, plan: &Plan, slots: &PlanSlots, heads: &[u32; 9])
     requires looked { HasLookedAll pass.old.view pass.old.number plan.now heads.now }
     requires walked { HasWalkedAll pass.old.view plan.now heads.now }
     requires free { HasSlots pass.old.view slots.now }

@@ -27,4 +27,6 @@ pub use settle::{Settling, try_settle};
 pub use trying::{Try, try_put};
 
 #[cfg(test)]
+mod stopped_tests;
+#[cfg(test)]
 mod tests;

@@ -11,7 +11,10 @@ use std::test::Fail;
 use table_steps::{PassKey, SharedTable, TablePass};
 
 /// A table of two passes, of these sizes.
-fn opened(alloc: Global, sizes: &[PassSize; 2]) -> Result<(SharedTable, Vec<PassKey>), NoMemory>
+pub(crate) fn opened(
+    alloc: Global,
+    sizes: &[PassSize; 2],
+) -> Result<(SharedTable, Vec<PassKey>), NoMemory>
     ensures of { IfOk result (λ t. All (IsPassOf t.0) t.1.items) }
 {
     match Layout::new(sizes) {
@@ -20,7 +23,7 @@ fn opened(alloc: Global, sizes: &[PassSize; 2]) -> Result<(SharedTable, Vec<Pass
     }
 }
 
-const ROOMY: PassSize = PassSize {
+pub(crate) const ROOMY: PassSize = PassSize {
     nodes: 3,
     entries: 12,
     calls: 8,
@@ -64,7 +67,7 @@ fn remove_row(key: u64, answer: Result<Done, PassError>) -> Row {
     }
 }
 
-fn done(at: u64, was: bool) -> Result<Done, PassError> {
+pub(crate) fn done(at: u64, was: bool) -> Result<Done, PassError> {
     Ok(Done { at, was })
 }
 

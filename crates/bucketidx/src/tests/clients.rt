@@ -85,5 +85,6 @@ fn clients_run_at_once(rt: HostRuntime) -> Result<(), Fail> {
     );
     assert_eq!(rt; status, Status::Done);
     assert_eq!(rt; gate.given_up.load(Ordering::SeqCst), false);
+    assert_eq!(rt; gate.answered.load(Ordering::SeqCst), true);
     Ok(())
 }
