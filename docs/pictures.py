@@ -183,7 +183,7 @@ def session():
     p.text(95, 38, "read_all", "t m", 11)
     p.text(688, 148, "put, remove,", "t m", 11, "start")
     p.text(688, 163, "begin, next_from", "t m", 11, "start")
-    p.text(387, 274, "reply_line, journal_line, last_line", "t m", 11)
+    p.text(387, 274, "push_reply_line, push_journal_line, last_line", "t m", 11)
     return p
 
 

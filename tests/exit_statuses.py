@@ -3,22 +3,30 @@
 
     tests/exit_statuses.py PROGRAM
 
-The input of one run is a folder, which cannot be read, and the output of another a full device.
+The input of one run is a folder, which cannot be read, and the output of another a full device. With words of no
+form nothing of the input is read.
 """
 import os
 import subprocess
 import sys
+import tempfile
 
 SESSION = b"CLIENT\nPUT a 1 e1 1\nLIST\n"
 FAULTY = b"CLIENT\nPUT a 1 e1 1\nPUT b\n"
 TOO_LONG = b"\n" * (64 * 1024 * 1024 + 1)
 
-# the words, the input, where the output goes, the status, standard error, and whether anything is written
+# the words, the input or a folder, where the output goes, the status, standard error, and whether anything is written
 ROWS = [
     (["run"], SESSION, None, 0, "", True),
     (["run"], b"", None, 0, "", True),
     ([], SESSION, None, 2, "bucketidx: bad words\n", False),
     (["run", "run"], SESSION, None, 2, "bucketidx: bad words\n", False),
+    (["run", "now"], SESSION, None, 2, "bucketidx: bad words\n", False),
+    (["run", ""], SESSION, None, 2, "bucketidx: bad words\n", False),
+    ([""], SESSION, None, 2, "bucketidx: bad words\n", False),
+    (["RUN"], SESSION, None, 2, "bucketidx: bad words\n", False),
+    (["runs"], SESSION, None, 2, "bucketidx: bad words\n", False),
+    (["ru"], SESSION, None, 2, "bucketidx: bad words\n", False),
     (["--help"], SESSION, None, 2, "bucketidx: bad words\n", False),
     ([b"r\xffn"], SESSION, None, 2, "bucketidx: bad words\n", False),
     (["run"], FAULTY, None, 3, "bucketidx: line 3: WrongFields\n", False),
@@ -31,23 +39,27 @@ ROWS = [
 
 
 def run(program, words, source, target):
-    """The status, standard error, and what was written where that is seen."""
+    """The status, standard error, whether anything was written where that is seen, and whether anything was read."""
     output = os.open(target, os.O_WRONLY) if target else subprocess.PIPE
-    if isinstance(source, str):
-        folder = os.open(source, os.O_RDONLY)
-        return subprocess.run([program, *words], stdin=folder, stdout=output, stderr=subprocess.PIPE)
-    return subprocess.run([program, *words], input=source, stdout=output, stderr=subprocess.PIPE)
+    with tempfile.TemporaryFile() as file:
+        if isinstance(source, bytes):
+            file.write(source)
+            file.seek(0)
+        given = file.fileno() if isinstance(source, bytes) else os.open(source, os.O_RDONLY)
+        ran = subprocess.run([program, *words], stdin=given, stdout=output, stderr=subprocess.PIPE)
+        # The program has moved the place in the file that it shares with this script.
+        return ran.returncode, ran.stderr.decode(), bool(ran.stdout), os.lseek(file.fileno(), 0, os.SEEK_CUR) > 0
 
 
 def main():
     if len(sys.argv) != 2:
         sys.exit(__doc__)
     for words, source, target, status, error, writes in ROWS:
-        ran = run(sys.argv[1], words, source, target)
-        got = (ran.returncode, ran.stderr.decode(), bool(ran.stdout))
-        if got != (status, error, writes):
-            shown = source if isinstance(source, str) else source[:40]
-            print("words %r, input %r, output %s\n  got    %r\n  wanted %r" % (words, shown, target, got, (status, error, writes)))
+        got = run(sys.argv[1], words, source, target)
+        reads = isinstance(source, bytes) and source != b"" and status != 2
+        if got != (status, error, writes, reads):
+            wanted, shown = (status, error, writes, reads), source[:40]
+            print("words %r, input %r, output %s\n  got    %r\n  wanted %r" % (words, shown, target, got, wanted))
             sys.exit(1)
     print("%d runs ended with the wanted status and line" % len(ROWS), file=sys.stderr)
 

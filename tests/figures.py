@@ -12,6 +12,8 @@ import sys
 from pathlib import Path
 
 from contracts import crates, public_functions
+import rows as rows_by_hand
+from trusted_files import closure, sums
 
 TOP = Path(__file__).resolve().parent.parent
 CRATES = TOP / "crates"
@@ -31,26 +33,7 @@ def files(kind):
 
 
 def is_test(path):
-    return "tests" in path.parts or path.name == "tests.rt" or path.parts[-3] in ("core_tests", "core_runs")
-
-
-def imports(text):
-    """The files of specs/ that this text imports from crates of this repository."""
-    for crate, module in re.findall(r"\buse Rattle\.(\w+)\.specs\.(\w+)", text):
-        path = CRATES / crate / "specs" / (module + ".antt")
-        if module != "declared" and path.exists():
-            yield path
-
-
-def trusted(source):
-    """The files of specs/ that the contracts of a source file rest on."""
-    todo, seen = list(imports(source.read_text())), []
-    while todo:
-        path = todo.pop()
-        if path not in seen:
-            seen.append(path)
-            todo.extend(imports(path.read_text()))
-    return sorted(seen)
+    return "tests" in path.parts or path.name == "tests.rt" or path.parts[-3] in ("core_tests", "path_tests", "core_runs")
 
 
 def hundreds(paths):
@@ -73,14 +56,16 @@ def figures():
     edits = lambda folder: len(files(folder + "/*.edit"))
     clauses = [clause for name in crates() for found in public_functions(name).values() for clause in found]
     promised = sum(kind == "ensures" for kind, _, _ in clauses)
-    headline = trusted(CRATES / "bucketidx" / "src" / "serving.rt")
+    headline = closure()
+    by_hand = (sum(1 for _ in rows_by_hand.rows()), sum(1 for _ in rows_by_hand.starts()))
     rows = [
         ("Clauses that public functions promise, each proved", promised),
         ("Lines of code with its contracts, to the nearest hundred", hundreds(src)),
         ("Lines of definitions; of proofs", (hundreds(files("specs/**/*.antt")), hundreds(files("proofs/**/*.antt")))),
-        ("Lines of definitions that the headline rests on; files", (lines_in(headline), len(headline))),
+        ("Lines of definitions that the headline rests on; of these neither empty nor an import; files", (*sums(headline), len(headline))),
         ("Wrong bodies that `.ci/run` tries; others kept beside them", (edits("must-fail"), edits("more-edits"))),
         ("Tests", len(re.findall(r"^\s*#\[test\]", text_of(files("src/**/*.rt")), re.M))),
+        ("Rows of whole sessions, written by hand, that `.ci/run` compares; starts of one session, cut at every byte", by_hand),
         ("Random sessions that `.ci/run` compares with a model", compared("random_sessions.py", "sessions")),
         ("Random inputs, most of them faulty, that `.ci/run` compares with a model", compared("random_inputs.py", "inputs")),
         ("Random lists of events that `.ci/run` compares with a model", compared("random_runs.py", "runs")),

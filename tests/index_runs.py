@@ -3,8 +3,11 @@
 
     tests/index_runs.py PROGRAM [--runs N] [--passes P] [--keys K] [--requests R] [--updates U] [--listings L]
                         [--page P] [--nodes N] [--seconds S] [--seed SEED]
+    tests/index_runs.py PROGRAM --held MEANWHILE [--runs N] [--passes P] [--keys K] [--requests R]
+    tests/index_runs.py PROGRAM --tries [--runs N] [--passes P] [--keys K] [--requests R] [--nodes N] [--least-met N]
+    tests/index_runs.py PROGRAM --sections TURNS [--runs N]
 
-PROGRAM is the built `crates/index_runs`. Each run is a process of its own, with a bound on its seconds. Of what it
+PROGRAM is the built `crates/index_runs`, or with `--sections` the built `crates/table_runs`. Each run is a process of its own, with a bound on its seconds. Of what it
 prints this is checked, by a map of the script's own that the history is replayed on:
 
 - each update stands in the history once, at the place that its pass was told, with the pass's number, its line, key and value,
@@ -14,6 +17,18 @@ prints this is checked, by a map of the script's own that the history is replaye
 - a listing has the first pairs of the map at its place, from its key on;
 - an update is refused exactly where its pass owns no node: one less after each put of a new key, one more after each removal
   (the passes have entries for all updates).
+
+With `--held` the first pass makes its requests, all updates; then each other pass opens a snapshot and is held inside it
+while the first one makes MEANWHILE more updates. Their listings come after these: they are the map at the place that
+was theirs. Behind each of the updates a try to settle is held by pass 1 in its first section, once something was taken out;
+behind the end of the snapshots one settles.
+
+With `--tries` each request is one try of a put. With `--least-met N` fewer than N tries in all the runs that found a lock
+held, that found that something had moved, or that found an entry without a number, are a failure.
+
+With `--sections` four passes enter, leave, fill and look four times TURNS times, while a fifth one stays inside its
+section. Each of them has met the other three at work four times; it has made just the looks that it was to make; no word had
+fallen between two looks; and each other pass's word rose by just 2 for each of its turns, that of the fifth not at all.
 """
 import argparse
 import subprocess
@@ -86,40 +101,127 @@ def checked(lines, nodes):
     return None, (len(history), listings, refused)
 
 
+def printed(words, *numbers):
+    """The lines of one run, of these words."""
+    try:
+        ended = subprocess.run(
+            [words.program, *map(str, numbers)], capture_output=True, text=True, timeout=words.seconds
+        )
+    except subprocess.TimeoutExpired:
+        sys.exit(f"{numbers}: the run had not ended after {words.seconds} seconds")
+    if ended.returncode != 0:
+        sys.exit(f"{numbers}: status {ended.returncode}: {ended.stderr}")
+    return ended.stdout.splitlines()
+
+
+def run_of_requests(words, seed):
+    """A run in which each pass makes its requests: what is wrong, and how many updates, listings and refusals it has."""
+    nodes = words.requests if words.nodes is None else words.nodes
+    numbers = (
+        words.passes, words.keys, words.requests, words.updates, words.listings, words.page, seed, nodes,
+        4 * words.requests + 4,
+    )
+    lines = printed(words, "run", *numbers)
+    if len(lines) < words.passes * words.requests:
+        return f"{lines[:1]}", None
+    wrong, counts = checked(lines, nodes)
+    return wrong, counts and dict(zip(("updates", "listings", "refused"), counts))
+
+
+def run_while_held(words, seed):
+    """A run in which all passes but the first are held: what is wrong, and how many updates, listings and held tries it has."""
+    updates = words.requests + words.held + 1
+    lines = printed(words, "held", words.passes, words.keys, words.requests, words.held, seed)
+    wrong, counts = checked([line for line in lines if line[0] != "T"], updates)
+    if wrong:
+        return wrong, None
+    out, tried, held = 0, 0, 0
+    for line in lines:
+        kind, number, *fields = line.split()
+        if kind in "PR" and number == "0":
+            out += fields[-1] == "true"
+        if kind == "T":
+            tried += 1
+            wanted = ["held", "1", "1"] if out > 0 and tried <= words.held else ["settled"]
+            if fields != wanted:
+                return f"try {tried} to settle: {fields}, and not {wanted}", None
+            held += fields[0] == "held"
+    if tried != words.held + 1 or counts[1] != words.passes - 1:
+        return f"{tried} tries to settle, {counts[1]} listings", None
+    return None, {"updates": counts[0], "listings": counts[1], "held tries": held}
+
+
+def run_of_tries(words, seed):
+    """A run of tries: what is wrong, and how many puts were made and how many tries have met what."""
+    nodes = 64 if words.nodes is None else words.nodes
+    lines = printed(words, "tries", words.passes, words.keys, words.requests, nodes, seed)
+    wrong, counts = checked([line for line in lines if line[0] != "C"], nodes)
+    if wrong:
+        return wrong, None
+    met = [[int(field) for field in line.split()[2:]] for line in lines if line[0] == "C"]
+    if len(met) != words.passes:
+        return f"{len(met)} passes have counted", None
+    busy, moved, pending = map(sum, zip(*met))
+    return None, {"updates": counts[0], "busy": busy, "moved": moved, "pending": pending}
+
+
+def run_in_sections(words, _seed):
+    """A run over the table itself: what is wrong, and how many looks it has."""
+    turns, looks = words.sections, 0
+    lines = printed(words, turns)
+    found = [line.split()[1:] for line in lines if line[0] == "S"]
+    history = [line for line in lines if line[0] == "J"]
+    # The puts were made one behind another: each pass's number as the key, with the values 1 and 2.
+    if history != [f"J {2 * n + i} {n} {i} {n} {i}" for n in range(4) for i in (1, 2)]:
+        return f"the history is {history}", None
+    if [fields[0] for fields in found] != ["0", "1", "2", "3"]:
+        return f"{len(found)} passes have counted: {lines[:1]}", None
+    for number, (_, meetings, looked, falls, *words_of) in enumerate(found):
+        others = [other for other in range(5) if other != number]
+        wanted = 8 + 4 * sum(turn % 5 != number for turn in range(turns))
+        if (meetings, int(looked), falls) != ("4", wanted, "0"):
+            return f"pass {number}: {meetings} meetings, {looked} looks and not {wanted}, {falls} falls", None
+        looks += wanted
+        for other in others:
+            first, last = map(int, words_of[other].split(":"))
+            rise = 8 * turns if other < 4 else 0
+            if last - first != rise or first % 2 != (other == 4):
+                return f"pass {number} found {first} and then {last} at pass {other}", None
+    return None, {"looks": looks}
+
+
 def main():
     parser = argparse.ArgumentParser()
     parser.add_argument("program")
     for name, value in (
         ("runs", 10), ("passes", 4), ("keys", 16), ("requests", 2000), ("updates", 60), ("listings", 10),
-        ("page", 10), ("seed", 1), ("seconds", 60),
+        ("page", 10), ("seed", 1), ("seconds", 60), ("least-met", 0),
     ):
         parser.add_argument(f"--{name}", type=int, default=value)
-    parser.add_argument("--nodes", type=int)
+    for name in ("nodes", "held", "sections"):
+        parser.add_argument(f"--{name}", type=int)
+    parser.add_argument("--tries", action="store_true")
     words = parser.parse_args()
-    nodes = words.requests if words.nodes is None else words.nodes
-    entries = 4 * words.requests + 4
-    sums = [0, 0, 0]
+    make = run_of_requests
+    if words.held is not None:
+        make = run_while_held
+    elif words.sections is not None:
+        make = run_in_sections
+    elif words.tries:
+        make = run_of_tries
+    sums = defaultdict(int)
     for run in range(words.runs):
         seed = words.seed + run * 1000
-        numbers = (
-            words.passes, words.keys, words.requests, words.updates, words.listings, words.page, seed, nodes, entries,
-        )
-        try:
-            ended = subprocess.run(
-                [words.program, "run", *map(str, numbers)], capture_output=True, text=True, timeout=words.seconds
-            )
-        except subprocess.TimeoutExpired:
-            sys.exit(f"seed {seed}: the run had not ended after {words.seconds} seconds")
-        if ended.returncode != 0:
-            sys.exit(f"seed {seed}: status {ended.returncode}: {ended.stderr}")
-        lines = ended.stdout.splitlines()
-        if len(lines) < words.passes * words.requests:
-            sys.exit(f"seed {seed}: {lines[:1]}")
-        wrong, counts = checked(lines, nodes)
+        wrong, counts = make(words, seed)
         if wrong:
             sys.exit(f"seed {seed}: {wrong}")
-        sums = [one + more for one, more in zip(sums, counts)]
-    print(f"{words.runs} runs of {words.passes} passes: {sums[0]} updates, {sums[1]} listings, {sums[2]} refused, none wrong")
+        for name, count in counts.items():
+            sums[name] += count
+    for name in ("busy", "moved", "pending"):
+        if words.tries and sums[name] < words.least_met:
+            sys.exit(f"{sums[name]} tries were answered {name}, and {words.least_met} were wanted")
+    told = ", ".join(f"{count} {name}" for name, count in sums.items())
+    print(f"{words.runs} runs, none wrong: {told}")
 
 
 if __name__ == "__main__":

@@ -2,14 +2,15 @@
 """Checks that what the program writes for several clients is a legal run of its session.
 
     tests/legal_runs.py PROGRAM [--sessions N] [--most-clients N] [--requests N] [--seed N] [--seconds S]
-                        [--least-interleaved N]
+                        [--least-interleaved N] [--rounds N]
     tests/legal_runs.py --session FILE --text FILE
 
 Which of several legal texts is written depends on the schedule, so nothing is compared here: `fault_of` takes a
 session and a text, and says what is wrong with it, from the definition of a legal run in docs/DEFINITIONS.md alone.
 The first form runs random sessions, with few names and with many, and ends with status 1 at the first faulty text, or at
 the first run that takes too many seconds. It counts the texts that no run of the clients one after another writes, and
-ends with status 1 too where there are fewer of them than asked for.
+ends with status 1 too where there are fewer of them than asked for. With --rounds each session is the same: two
+clients that put the same seven names, list them and remove them, each so many times.
 """
 import argparse
 import bisect
@@ -281,6 +282,17 @@ def random_session(rng, most_clients, most_requests):
     return "".join(line + "\n" for line in parts).encode()
 
 
+def rounds_session(rounds):
+    """Two clients that put the same seven names, list them and remove them, each so many times. No two puts are alike."""
+    names, lines = "abcdefg", []
+    for client in range(2):
+        lines.append("CLIENT")
+        for turn in range(rounds):
+            lines += ["PUT %s %d e%d %d" % (name, turn, client, at) for at, name in enumerate(names)]
+            lines += ["LIST"] + ["DELETE " + name for name in names]
+    return "".join(line + "\n" for line in lines).encode()
+
+
 def random_line(rng, names, most_keys):
     name = rng.choice(names)
     kind = rng.random()
@@ -319,10 +331,16 @@ def text_of(program, raw, seconds):
     return ran.stdout.decode()
 
 
+def session_of(rng, options):
+    if options.rounds:
+        return rounds_session(options.rounds)
+    return random_session(rng, options.most_clients, options.requests)
+
+
 def run_sessions(options):
     rng, requests, interleaved = random.Random(options.seed), 0, 0
     for _ in range(options.sessions):
-        raw, text = random_session(rng, options.most_clients, options.requests), ""
+        raw, text = session_of(rng, options), ""
         try:
             text = text_of(options.program, raw, options.seconds)
             run = legal_run_of(raw, text)
@@ -345,6 +363,7 @@ def main():
     parser.add_argument("--seed", type=int, default=7)
     parser.add_argument("--seconds", type=int, default=60)
     parser.add_argument("--least-interleaved", type=int, default=0)
+    parser.add_argument("--rounds", type=int, default=0)
     parser.add_argument("--session")
     parser.add_argument("--text")
     options = parser.parse_args()

@@ -7,7 +7,7 @@ The files are the closure of the imports of the file of `serve`, and of the two 
 Of the crates that have one of them, each other definition file says in its first line that it is a helper. All
 other crates below `serve` have helpers alone.
 With `--list` the files are printed in place of the check, each with its lines, and with those of them that are
-neither empty nor an import.
+neither empty nor an import; then the definitions in these files that no clause of `serve` needs, by their names.
 """
 import re
 import sys
@@ -63,6 +63,34 @@ def names_of(paths):
     return {str(path.relative_to(HERE)) for path in paths}
 
 
+def definitions(name):
+    """Each definition of a file: its name, and its text without comments."""
+    text = re.sub(r"--.*", "", (HERE / name).read_text())
+    for block in re.split(r"\n\s*\n", text):
+        found = re.search(r"^(?:pub )?(?:abbrev|unfoldable|record|data) (?:pub )?(\S+)", block, re.MULTILINE)
+        if found:
+            yield found[1], block
+
+
+def words(text):
+    """The names in a text; `do` blocks use one that they do not write."""
+    return set(re.findall(r"[A-Za-z_][\w'-]*", text)) | {"◌>>=◌" for _ in re.findall("←", text)}
+
+
+def not_needed(needed):
+    """The definitions of these files that no clause reaches by names. Two that share a name count as one."""
+    texts = {}
+    for name in needed:
+        for definition, text in definitions(name):
+            texts[definition] = texts.get(definition, "") + text
+    waiting, seen = [(HERE / "crates" / root).read_text() for root in ROOTS], set()
+    while waiting:
+        for word in (words(waiting.pop()) & texts.keys()) - seen:
+            seen.add(word)
+            waiting.append(texts[word])
+    return sorted(texts.keys() - seen)
+
+
 def lines_of(name):
     """The lines of a file, and those that are neither empty nor an import."""
     lines = (HERE / name).read_text().splitlines()
@@ -78,7 +106,8 @@ def main():
     if sys.argv[1:] == ["--list"]:
         for name in sorted(needed):
             print("%4d %4d  %s" % (*lines_of(name), name))
-        return print("%d files, %d lines, %d of them neither empty nor an import" % (len(needed), *sums(needed)))
+        print("%d files, %d lines, %d of them neither empty nor an import" % (len(needed), *sums(needed)))
+        return print("not needed: %s" % ", ".join(not_needed(needed)))
     listed = re.findall(r"^\d+\. `(crates/[\w/]+\.antt)`", DOCUMENT.read_text(), re.MULTILINE)
     wrong = ["%s is not listed" % name for name in sorted(needed - set(listed))]
     wrong += ["%s is listed and no clause of serve rests on it" % name for name in sorted(set(listed) - needed)]

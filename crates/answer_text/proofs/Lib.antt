@@ -1,4 +1,6 @@
-pub mod Sent
-pub mod Whole
 pub mod EscapedBytes
 pub mod Order
+pub mod Joined
+pub mod Quotes
+pub mod LineTexts
+pub mod Elements

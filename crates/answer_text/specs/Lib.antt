@@ -3,5 +3,4 @@ pub mod Objects
 pub mod MemberOrder
 pub mod Lines
 pub mod InRange
-pub mod Sending
-pub mod Views
+pub mod Pieces

@@ -1,19 +1,17 @@
 //! The lines that a run is told in: one JSON object for each reply, for each update of the history, and for
 //! the number of updates. Each call's contract is the exact text. It stands on `bucket_terms` and
-//! `page_token`; `serde_json` writes the lines. The layers above use the three calls, and `session_text` of
-//! `specs/Lines.antt`, the text of a whole run.
+//! `page_token`; `serde_json` says what JSON is, and writes the texts that have escapes. A line is put together
+//! in a buffer of the caller, who uses it again for the next line. The layers above use the calls, and
+//! `session_text` of `specs/Lines.antt`, the text of a whole run.
 #![tactic(auto)]
 
+mod entries;
 mod escapes;
 mod journal;
-mod lines;
 mod listing;
-mod members;
+mod pieces;
+mod plain;
 mod replies;
-mod rows;
 
-pub use journal::{journal_line, last_line};
-pub use replies::reply_line;
-
-#[cfg(test)]
-mod tests;
+pub use journal::{journal_line, last_line, push_journal_line, push_last_line};
+pub use replies::{push_reply_line, reply_line};

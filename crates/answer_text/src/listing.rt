@@ -1,95 +1,120 @@
 // The line of a listing.
-ghost use Rattle.std.specs.Prelude.{◌≡◌, IfOk, OnOk, take, drop};
-ghost use Rattle.serde_json.specs.Events.{SendsValue, members_len};
+ghost use Rattle.std.specs.Prelude.{◌≡◌, ◌++◌, length, string_bytes, IfOk, OnOk};
 ghost use Rattle.bucket_terms.specs.Page.{page_point};
 ghost use Rattle.bucket_terms.specs.PageInRange.{IsInRange};
-ghost use Rattle.answer_text.specs.Objects.{members_there, object_of, line_of};
-ghost use Rattle.answer_text.specs.Lines.{is_given, page_shown, point_token, listed_members};
+ghost use Rattle.answer_text.specs.Escaping.{shown};
+ghost use Rattle.answer_text.specs.Lines.{is_given, page_shown, point_token};
 ghost use Rattle.answer_text.specs.InRange.{IsPageOf};
-ghost use Rattle.answer_text.specs.Views.{listed_line, listed_view};
-ghost use Rattle.answer_text.specs.Sending.{SendsAll};
+ghost use Rattle.answer_text.specs.Pieces as spec;
 
+use crate::entries::{push_contents, push_prefixes};
 use crate::escapes::shown;
-use crate::lines::line_text;
-use crate::members::{send_given, send_number, send_place, send_text, send_truth};
-use crate::rows::Rows;
+use crate::pieces::{push, push_given, push_number, push_text, push_truth};
+use crate::replies::push_start;
 use bucket_terms::{ListQuery, Page, Placed, Record};
 use key_names::{Directory, NoMemory, Text};
-use serde::{Described, Serialize, Serializer};
 use std::alloc::Global;
-use std::borrow::CowStr;
 
-/// What the line of a listing shows.
-#[derive(Drop)]
-pub(crate) struct ListedLine<'a> {
-    pub(crate) at: Option<u64>,
-    pub(crate) client: u32,
-    pub(crate) line: u32,
-    pub(crate) query: &'a ListQuery,
-    pub(crate) rows: Rows<'a>,
-    pub(crate) count: u64,
-    pub(crate) truncated: bool,
-    pub(crate) next: Text,
-    pub(crate) prefix: CowStr<'a>,
-    pub(crate) delimiter: CowStr<'a>,
-    pub(crate) start_after: CowStr<'a>,
+/// The reply to a listing.
+pub(crate) fn push_listing(
+    out: &mut String,
+    dir: &Directory,
+    records: &[Record],
+    placed: &Placed,
+    query: &ListQuery,
+    page: &Page,
+) -> Result<(), NoMemory>
+    requires { IsPageOf dir.now records.now page.now }
+    ensures { OnOk result (string_bytes out.new ≡ string_bytes out.old ++ spec.listed_text placed.now.at placed.now.client placed.now.line query.now (page_shown dir.now records.now query.now page.now)) }
+{
+    push_start(out, placed)?;
+    push_entries(out, dir, records, query, page)?;
+    push_asked(out, query)?;
+    push_size(out, placed, query, page)?;
+    push_bounds(out, dir, query, page)
 }
 
-impl Described for ListedLine<'_> {
-    ghost writes = { λ l. SendsValue (listed_line l) };
+// The members from `CommonPrefixes` to `Contents`.
+fn push_entries(
+    out: &mut String,
+    dir: &Directory,
+    records: &[Record],
+    query: &ListQuery,
+    page: &Page,
+) -> Result<(), NoMemory>
+    requires { IsPageOf dir.now records.now page.now }
+    ensures { OnOk result (string_bytes out.new ≡ string_bytes out.old ++ spec.entries_text (page_shown dir.now records.now query.now page.now)) }
+{
+    let entries = page.entries.as_slice();
+    push(out, ",\"CommonPrefixes\":[")?;
+    push_prefixes(out, dir, query.url, entries)?;
+    push(out, ",\"Contents\":[")?;
+    push_contents(out, dir, records, query.url, entries)
 }
 
-impl Serialize for ListedLine<'_> {
-    fn serialize<S: Serializer>(&self, out: &mut S) -> Result<(), S::Error> {
-        out.begin_map(Some(self.count_members()))?;
-        self.send_first(out)?;
-        self.send_rest(out)?;
-        out.end_map()
-    }
+// The members from `ContinuationToken` to `EncodingType`. A token is never escaped.
+fn push_asked(out: &mut String, query: &ListQuery) -> Result<(), NoMemory>
+    ensures { OnOk result (string_bytes out.new ≡ string_bytes out.old ++ spec.asked_text query.now (shown query.now.url query.now.delimiter)) }
+{
+    let delimiter = shown(*out.allocator(), query.url, query.delimiter.as_str())?;
+    push_given(
+        out,
+        is_given(&query.token),
+        ",\"ContinuationToken\":",
+        query.token.as_str(),
+    )?;
+    push_given(
+        out,
+        is_given(&query.delimiter),
+        ",\"Delimiter\":",
+        delimiter.as_str(),
+    )?;
+    push_given(out, query.url, ",\"EncodingType\":", "url")
 }
 
-impl ListedLine<'_> {
-    // How many members are there: ten always, and the others where they are given.
-    fn count_members(&self) -> usize
-        ensures { result ≡ members_len (members_there (listed_view self.now)) }
-    {
-        let query = self.query;
-        let texts = usize::from(is_given(&query.token))
-            + usize::from(is_given(&query.delimiter))
-            + usize::from(is_given(&query.start_after));
-        10 + texts + usize::from(query.url) + usize::from(self.truncated)
-    }
+// The members from `IsTruncated` to `MaxKeys`.
+fn push_size(
+    out: &mut String,
+    placed: &Placed,
+    query: &ListQuery,
+    page: &Page,
+) -> Result<(), NoMemory>
+    ensures { OnOk result (string_bytes out.new ≡ string_bytes out.old ++ spec.size_text placed.now.line query.now page.now.truncated (length page.now.entries)) }
+{
+    push_truth(out, ",\"IsTruncated\":", page.truncated)?;
+    push_number(out, ",\"KeyCount\":", page.entries.as_slice().len() as u64)?;
+    push_number(out, ",\"Line\":", u64::from(placed.line))?;
+    push_number(out, ",\"MaxKeys\":", u64::from(query.max_keys))
+}
 
-    // The members from `At` to `EncodingType`.
-    fn send_first<S: Serializer>(&self, out: &mut S) -> Result<(), S::Error>
-        ensures { OnOk result (SendsAll (take 7 (listed_view self.now)) (S.written out.old) (S.written out.new)) }
-    {
-        let query = self.query;
-        let (token, delimiter) = (query.token.as_str(), self.delimiter.as_str());
-        send_place(out, "At", self.at)?;
-        send_number(out, "Client", u64::from(self.client))?;
-        self.rows.send_prefixes(out)?;
-        self.rows.send_contents(out)?;
-        send_given(out, is_given(&query.token), "ContinuationToken", token)?;
-        send_given(out, is_given(&query.delimiter), "Delimiter", delimiter)?;
-        send_given(out, query.url, "EncodingType", "url")
-    }
-
-    // The members from `IsTruncated` to `Status`.
-    fn send_rest<S: Serializer>(&self, out: &mut S) -> Result<(), S::Error>
-        ensures { OnOk result (SendsAll (drop 7 (listed_view self.now)) (S.written out.old) (S.written out.new)) }
-    {
-        let query = self.query;
-        let (next, start_after) = (self.next.as_str(), self.start_after.as_str());
-        send_truth(out, "IsTruncated", self.truncated)?;
-        send_number(out, "KeyCount", self.count)?;
-        send_number(out, "Line", u64::from(self.line))?;
-        send_number(out, "MaxKeys", u64::from(query.max_keys))?;
-        send_given(out, self.truncated, "NextContinuationToken", next)?;
-        send_text(out, "Prefix", self.prefix.as_str())?;
-        send_given(out, is_given(&query.start_after), "StartAfter", start_after)?;
-        send_number(out, "Status", 200)
-    }
+// The members from `NextContinuationToken` to the end of the line.
+fn push_bounds(
+    out: &mut String,
+    dir: &Directory,
+    query: &ListQuery,
+    page: &Page,
+) -> Result<(), NoMemory>
+    requires { IsInRange dir.now page.now }
+    ensures { OnOk result (string_bytes out.new ≡ string_bytes out.old ++ spec.bounds_text query.now page.now.truncated (point_token (page_point dir.now page.now)) (shown query.now.url query.now.prefix) (shown query.now.url query.now.start_after)) }
+{
+    let alloc = *out.allocator();
+    let next = next_token(alloc, dir, page)?;
+    let prefix = shown(alloc, query.url, query.prefix.as_str())?;
+    let start_after = shown(alloc, query.url, query.start_after.as_str())?;
+    push_given(
+        out,
+        page.truncated,
+        ",\"NextContinuationToken\":",
+        next.as_str(),
+    )?;
+    push_text(out, ",\"Prefix\":", prefix.as_str())?;
+    push_given(
+        out,
+        is_given(&query.start_after),
+        ",\"StartAfter\":",
+        start_after.as_str(),
+    )?;
+    push(out, ",\"Status\":200}\n")
 }
 
 // Whether a parameter was given.
@@ -97,34 +122,6 @@ fn is_given(text: &Text) -> bool
     ensures { result ≡ is_given text.now }
 {
     !text.as_str().is_empty()
-}
-
-pub(crate) fn listed_line(
-    alloc: Global,
-    dir: &Directory,
-    records: &[Record],
-    placed: &Placed,
-    query: &ListQuery,
-    page: &Page,
-) -> Result<Text, NoMemory>
-    requires { IsPageOf dir.now records.now page.now }
-    ensures { IfOk result (λ line. line ≡ line_of (object_of (listed_members placed.now.at placed.now.client placed.now.line query.now (page_shown dir.now records.now query.now page.now)))) }
-{
-    let entries = page.entries.as_slice();
-    let line = ListedLine {
-        at: placed.at,
-        client: placed.client,
-        line: placed.line,
-        query,
-        rows: Rows::of(alloc, dir, records, query.url, entries)?,
-        count: entries.len() as u64,
-        truncated: page.truncated,
-        next: next_token(alloc, dir, page)?,
-        prefix: shown(alloc, query.url, query.prefix.as_str())?,
-        delimiter: shown(alloc, query.url, query.delimiter.as_str())?,
-        start_after: shown(alloc, query.url, query.start_after.as_str())?,
-    };
-    line_text(alloc, &line)
 }
 
 // The token of the page's point; empty where the page is not truncated.

@@ -1,19 +1,16 @@
 // The lines of replies.
-ghost use Rattle.std.specs.Prelude.{◌≡◌, ℕ, List, IfOk};
-ghost use Rattle.serde_json.specs.Events.{SendsValue};
+ghost use Rattle.std.specs.Prelude.{◌≡◌, ◌++◌, ℕ, List, string_bytes, IfOk, OnOk};
 ghost use Rattle.bucket_terms.specs.declared.record.Record.{Record as StoredRecord};
-ghost use Rattle.answer_text.specs.Objects.{object_of, line_of};
+ghost use Rattle.answer_text.specs.Objects.{line_of};
 ghost use Rattle.answer_text.specs.MemberOrder.{StandInOrder};
-ghost use Rattle.answer_text.specs.Lines.{reply_data, reply_members, content_members, short_members, found_members};
+ghost use Rattle.answer_text.specs.Lines.{reply_data, reply_members, content_members};
 ghost use Rattle.answer_text.specs.InRange.{IsReplyOf};
-ghost use Rattle.answer_text.specs.Views.{short_line, found_line};
+ghost use Rattle.answer_text.specs.Pieces as spec;
 
-use crate::lines::line_text;
-use crate::listing::listed_line;
-use crate::members::{send_number, send_place, send_replaced, send_text};
+use crate::listing::push_listing;
+use crate::pieces::{push, push_number, push_place, push_text, push_truth};
 use bucket_terms::{Placed, Record, Reply};
 use key_names::{Directory, NoMemory, Text};
-use serde::{Described, Serialize, Serializer};
 use std::alloc::Global;
 
 /// The line of a reply. Its status is that of the S3 API: 200, 204 for a removal, 400 for a continuation
@@ -31,108 +28,100 @@ pub fn reply_line(
     ensures order { StandInOrder (reply_members dir.now records.now placed.now.at placed.now.client placed.now.line placed.now.reply) }
     ensures key_order { (key : List ℕ) → (stored : StoredRecord) → StandInOrder (content_members key stored) }
 {
-    shown_reply(alloc, dir, records, placed)
+    let mut line = String::new(alloc);
+    push_reply_line(&mut line, dir, records, placed)?;
+    Ok(Text::from_string(line))
 }
 
-fn shown_reply(
-    alloc: Global,
+/// Puts the line of `reply_line` behind what the buffer has.
+pub fn push_reply_line(
+    out: &mut String,
     dir: &Directory,
     records: &[Record],
     placed: &Placed,
-) -> Result<Text, NoMemory>
+) -> Result<(), NoMemory>
     requires { IsReplyOf dir.now records.now placed.now.reply }
-    ensures { IfOk result (λ line. line ≡ line_of (reply_data dir.now records.now placed.now)) }
+    ensures text { OnOk result (string_bytes out.new ≡ string_bytes out.old ++ line_of (reply_data dir.now records.now placed.now)) }
+
+    // Of the line's object, and of each object of its entries.
+    ensures order { StandInOrder (reply_members dir.now records.now placed.now.at placed.now.client placed.now.line placed.now.reply) }
+    ensures key_order { (key : List ℕ) → (stored : StoredRecord) → StandInOrder (content_members key stored) }
+{
+    push_reply(out, dir, records, placed)
+}
+
+fn push_reply(
+    out: &mut String,
+    dir: &Directory,
+    records: &[Record],
+    placed: &Placed,
+) -> Result<(), NoMemory>
+    requires { IsReplyOf dir.now records.now placed.now.reply }
+    ensures { OnOk result (string_bytes out.new ≡ string_bytes out.old ++ spec.reply_text dir.now records.now placed.now.at placed.now.client placed.now.line placed.now.reply) }
 {
     match &placed.reply {
-        Reply::Put { was } => short_line(alloc, placed, Some(*was), 200),
-        Reply::Deleted => short_line(alloc, placed, None, 204),
-        Reply::Found { val } => found_line(alloc, placed, &records[*val as usize]),
-        Reply::Missing => short_line(alloc, placed, None, 404),
-        Reply::Listed { query, page } => listed_line(alloc, dir, records, placed, query, page),
-        Reply::BadToken => short_line(alloc, placed, None, 400),
-        Reply::NoSlot => short_line(alloc, placed, None, 503),
+        Reply::Put { was } => push_short(out, placed, Some(*was), 200),
+        Reply::Deleted => push_short(out, placed, None, 204),
+        Reply::Found { val } => push_found(out, placed, &records[*val as usize]),
+        Reply::Missing => push_short(out, placed, None, 404),
+        Reply::Listed { query, page } => push_listing(out, dir, records, placed, query, page),
+        Reply::BadToken => push_short(out, placed, None, 400),
+        Reply::NoSlot => push_short(out, placed, None, 503),
     }
 }
 
-/// What the line of a reply without a record or a page shows.
-#[derive(Drop)]
-pub(crate) struct ShortLine {
-    pub(crate) at: Option<u64>,
-    pub(crate) client: u32,
-    pub(crate) line: u32,
-    pub(crate) replaced: Option<bool>,
-    pub(crate) status: u64,
+/// The members from `At` to `Client`, with which each reply begins.
+pub(crate) fn push_start(out: &mut String, placed: &Placed) -> Result<(), NoMemory>
+    ensures { OnOk result (string_bytes out.new ≡ string_bytes out.old ++ spec.start_text placed.now.at placed.now.client) }
+{
+    push_place(out, placed.at)?;
+    push_number(out, ",\"Client\":", u64::from(placed.client))
 }
 
-impl Described for ShortLine {
-    ghost writes = { λ l. SendsValue (short_line l) };
-}
-
-impl Serialize for ShortLine {
-    fn serialize<S: Serializer>(&self, out: &mut S) -> Result<(), S::Error> {
-        out.begin_map(Some(4 + usize::from(self.replaced.is_some())))?;
-        send_place(out, "At", self.at)?;
-        send_number(out, "Client", u64::from(self.client))?;
-        send_number(out, "Line", u64::from(self.line))?;
-        send_replaced(out, self.replaced)?;
-        send_number(out, "Status", self.status)?;
-        out.end_map()
-    }
-}
-
-fn short_line(
-    alloc: Global,
+// A reply without a record or a page.
+#[tactic(auto, unfolding(crate::specs::Pieces::short_text))]
+fn push_short(
+    out: &mut String,
     placed: &Placed,
     replaced: Option<bool>,
     status: u64,
-) -> Result<Text, NoMemory>
-    ensures { IfOk result (λ line. line ≡ line_of (object_of (short_members placed.now.at placed.now.client placed.now.line replaced status))) }
+) -> Result<(), NoMemory>
+    ensures { OnOk result (string_bytes out.new ≡ string_bytes out.old ++ spec.short_text placed.now.at placed.now.client placed.now.line replaced status) }
 {
-    let shown = ShortLine {
-        at: placed.at,
-        client: placed.client,
-        line: placed.line,
-        replaced,
-        status,
-    };
-    line_text(alloc, &shown)
+    push_start(out, placed)?;
+    push_number(out, ",\"Line\":", u64::from(placed.line))?;
+    push_replaced(out, replaced)?;
+    push_number(out, ",\"Status\":", status)?;
+    push(out, "}\n")
 }
 
-/// What the line of a found key shows.
-#[derive(Drop)]
-pub(crate) struct FoundLine<'a> {
-    pub(crate) at: Option<u64>,
-    pub(crate) client: u32,
-    pub(crate) line: u32,
-    pub(crate) stored: &'a Record,
-}
-
-impl Described for FoundLine<'_> {
-    ghost writes = { λ l. SendsValue (found_line l) };
-}
-
-impl Serialize for FoundLine<'_> {
-    fn serialize<S: Serializer>(&self, out: &mut S) -> Result<(), S::Error> {
-        out.begin_map(Some(7))?;
-        send_place(out, "At", self.at)?;
-        send_number(out, "Client", u64::from(self.client))?;
-        send_text(out, "ETag", self.stored.etag.as_str())?;
-        send_number(out, "LastModified", self.stored.modified)?;
-        send_number(out, "Line", u64::from(self.line))?;
-        send_number(out, "Size", self.stored.size)?;
-        send_number(out, "Status", 200)?;
-        out.end_map()
+// Whether a put replaced a record; nothing for another reply.
+fn push_replaced(out: &mut String, replaced: Option<bool>) -> Result<(), NoMemory>
+    ensures { OnOk result (string_bytes out.new ≡ string_bytes out.old ++ spec.replaced_text replaced) }
+{
+    match replaced {
+        Some(was) => push_truth(out, ",\"Replaced\":", was),
+        None => Ok(()),
     }
 }
 
-fn found_line(alloc: Global, placed: &Placed, stored: &Record) -> Result<Text, NoMemory>
-    ensures { IfOk result (λ line. line ≡ line_of (object_of (found_members placed.now.at placed.now.client placed.now.line stored.now))) }
+// The record of a key.
+fn push_found(out: &mut String, placed: &Placed, stored: &Record) -> Result<(), NoMemory>
+    ensures { OnOk result (string_bytes out.new ≡ string_bytes out.old ++ spec.found_text placed.now.at placed.now.client placed.now.line stored.now) }
 {
-    let shown = FoundLine {
-        at: placed.at,
-        client: placed.client,
-        line: placed.line,
-        stored,
-    };
-    line_text(alloc, &shown)
+    push_start(out, placed)?;
+    push_text(out, ",\"ETag\":", stored.etag.as_str())?;
+    push_number(out, ",\"LastModified\":", stored.modified)?;
+    push_found_end(out, placed.line, stored.size)
+}
+
+// The members from `Line` to the end of the line. Apart from those before, since the compiler builds only so
+// many pushes into one function.
+#[inline(never)]
+fn push_found_end(out: &mut String, line: u32, size: u64) -> Result<(), NoMemory>
+    ensures { OnOk result (string_bytes out.new ≡ string_bytes out.old ++ spec.found_end_text line size) }
+{
+    push_number(out, ",\"Line\":", u64::from(line))?;
+    push_number(out, ",\"Size\":", size)?;
+    push(out, ",\"Status\":200}\n")
 }

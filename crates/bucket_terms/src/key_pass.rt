@@ -11,8 +11,8 @@ use std::sync::Wait;
 /// A pass to an ordered map from ranks to values, of which every update has a number.
 /// A call that takes `rt` may wait for another pass; no call takes memory.
 pub trait KeyPass {
-    /// The index that the pass is of: passes are of one index exactly where these are equal. A pass of no
-    /// index has the empty list.
+    /// The index that the pass is of: passes are of one index exactly where these are equal and not empty. A
+    /// pass of no index has the empty list.
     ghost home: { Self → List ℕ };
 
     /// What its caller knows of the pass.

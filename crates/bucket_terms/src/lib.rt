@@ -24,6 +24,3 @@ pub use reply::{Placed, Reply};
 pub use request::Request;
 pub use summary::Summary;
 pub use token_point::TokenPoint;
-
-#[cfg(test)]
-mod tests;

@@ -1,5 +1,5 @@
 /// What a run of the generated session has done, all its clients together: the numbers of its summary line.
-/// It is this repository's own, without a counterpart in the S3 API, and nothing makes one yet.
+/// It is this repository's own, without a counterpart in the S3 API.
 #[derive(Clone, Copy, Debug, PartialEq, Eq)]
 pub struct Summary {
     /// How many keys the map has after the last update.

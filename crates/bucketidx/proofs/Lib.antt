@@ -6,3 +6,7 @@ pub mod Runs
 pub mod Lines
 pub mod Sessions
 pub mod Threads
+pub mod Sent
+pub mod Sums
+pub mod Sampled
+pub mod Forms

@@ -1,4 +1,3 @@
-pub mod Words
 pub mod Statuses
 pub mod Served
 pub mod Clients
@@ -6,3 +5,6 @@ pub mod Runs
 pub mod Sizes
 pub mod Threads
 pub mod Texts
+pub mod Sending
+pub mod Summaries
+pub mod Sampled

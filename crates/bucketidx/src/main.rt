@@ -1,5 +1,5 @@
 //! The program: reads a session on standard input, answers it, and writes the answers, the journal of
-//! updates and their number as lines of JSON. `serve` is the whole of it but for the real input and
+//! updates and their number as lines of JSON; or runs a generated session, and writes a line of numbers. `serve` is the whole of it but for the real input and
 //! output and the runner of the clients, and its clauses say what a run has read and written.
 #![tactic(auto)]
 
@@ -7,14 +7,16 @@ ghost use Rattle.std.specs.Prelude.{◌≡◌};
 ghost use Rattle.std.specs.Process.{exit_status};
 ghost use Rattle.bucketidx.specs.Statuses.{exit_code};
 
-mod command;
+mod counting;
 mod naming;
 mod opening;
 mod runner;
 mod running;
+mod sample;
 mod serving;
 mod status;
 mod stop;
+mod summary;
 #[cfg(test)]
 mod tests;
 mod threaded;
@@ -30,6 +32,7 @@ use std::alloc::Global;
 use std::process::ExitCode;
 use std::rt::Env;
 use std::{env, io};
+pub use summary::summary_line;
 pub use threaded::Threaded;
 
 fn main(rt: HostRuntime) -> ExitCode {

@@ -15,7 +15,16 @@ use std::sync::Wait;
 use std::thread::Threads;
 
 /// Runs the clients of a session, each over a pass of its own, and keeps their replies.
-/// `G` is the gate that is told of each request.
+/// `G` is the gate that is told of each request. It stands at the trait, since a method cannot lend a value of a type
+/// parameter of its own to threads.
+///
+/// ```
+/// let keys = runner.run_all(rt, alloc, &index, keys, &session, &dir, &OpenGate)?;
+/// // the first client's, one for each of its request lines
+/// let replies = runner.replies(0);
+/// // the history of all updates, once all keys of the index are back
+/// let updates = index.finish(alloc, keys)?;
+/// ```
 pub trait Runner<G: Gate + Sync> {
     /// How many runs were made: a count of 64 bits that stays at its last value.
     ghost runs: { Self → ℕ };

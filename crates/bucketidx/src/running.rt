@@ -82,8 +82,8 @@ fn run_clients<K: Sink, G: Gate + Sync, R: Runner<G>, Rt: Threads + Wait + Sync>
     write_run::<K, G, R>(alloc, sink, dir, records, clients, runner, &updates)
 }
 
-// Runs the clients over an index of their own, and closes it: the whole history of their updates.
-fn history_of<G: Gate + Sync, R: Runner<G>, Rt: Threads + Wait + Sync>(
+/// Runs the clients over an index of their own, and closes it: the whole history of their updates.
+pub(crate) fn history_of<G: Gate + Sync, R: Runner<G>, Rt: Threads + Wait + Sync>(
     rt: &Rt,
     alloc: Global,
     session: &Session,

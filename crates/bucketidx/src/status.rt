@@ -5,7 +5,13 @@ ghost use Rattle.bucketidx.specs.Statuses.{exit_code};
 use request_lines::InputError;
 use std::fmt;
 
-/// How a call of `serve` ended.
+/// How a call of `serve` ended. Shown as the line on standard error has it.
+///
+/// ```
+/// let status = Status::BadInput(InputError { line: 3, cause: Cause::WrongFields });
+/// assert_eq!(rt; format!(in alloc; "{status}")?.as_str(), "line 3: WrongFields");
+/// assert_eq!(rt; status.exit_code(), 3);
+/// ```
 #[derive(Clone, Copy, Debug, PartialEq, Eq)]
 pub enum Status {
     /// The input was read to its end, and the whole text was taken.
@@ -18,12 +24,14 @@ pub enum Status {
     TooLong,
     /// The input failed. Nothing was written.
     ReadFault,
-    /// The output failed.
+    /// The output failed. A start of the text was written.
     WriteFault,
+    /// Memory was wanted. Nothing or a start of the text was written.
     NoMemory,
 }
 
 impl Status {
+    /// Whether the whole text was taken.
     pub fn is_done(&self) -> bool
         ensures { IsTrue result ↔ (self.now ≡ Status.Done) }
     {

@@ -1,8 +1,7 @@
 // Sessions through the whole program: what is written, and how the call ends.
 use super::*;
-use outside_io::{FailingSource, MemSink, MemSource, Source, read_all};
+use outside_io::{FailingSource, MemSink, MemSource, Source};
 use request_lines::{Cause, InputError};
-use std::process::Abort;
 use std::sync::Wait;
 use std::test::Fail;
 use std::thread::Threads;
@@ -10,9 +9,9 @@ use std::thread::Threads;
 mod clients;
 mod ends;
 mod faults;
-mod meeting;
-mod refusals;
-mod rows;
+mod gates;
+mod others;
+mod sampled;
 
 // The session of one client that puts three times and lists, and its text.
 const ONE_CLIENT: &str = "CLIENT\nPUT b 2 e2 20\nPUT a 1 e1 10\nPUT b 3 e3 30\nLIST\n";
@@ -64,35 +63,4 @@ fn serve_run<Rt: Threads + Wait + Sync, S: Source>(
         &mut Threaded::new(),
     );
     Ok(Ended { status, sink })
-}
-
-fn serve_bytes<Rt: Threads + Wait + Sync>(
-    rt: &Rt,
-    alloc: Global,
-    input: &[u8],
-) -> Result<Ended, Fail> {
-    let mut source = MemSource::new(input.to_vec(alloc)?);
-    serve_run(rt, alloc, &mut source, AMPLE)
-}
-
-// The session is served, and this is its whole text.
-fn writes<Rt: Threads + Wait + Sync + Abort>(
-    rt: &Rt,
-    alloc: Global,
-    input: &str,
-    text: &str,
-) -> Result<(), Fail> {
-    let ended = serve_bytes(rt, alloc, input.as_bytes())?;
-    assert_eq!(rt; ended.status, Status::Done);
-    assert_eq!(rt; std::str::from_utf8(ended.sink.taken())?, text);
-    Ok(())
-}
-
-// A line of these bytes so many times behind a head.
-fn repeated(alloc: Global, head: &str, line: &str, count: usize) -> Result<Vec<u8>, Fail> {
-    let mut input = head.as_bytes().to_vec(alloc)?;
-    for _ in 0..count {
-        input.extend_from_slice(line.as_bytes())?;
-    }
-    Ok(input)
 }

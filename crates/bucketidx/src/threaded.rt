@@ -19,7 +19,15 @@ use std::sync::Wait;
 use std::thread;
 use std::thread::Threads;
 
-/// Runs each client on a thread of its own. Where a thread cannot be started, the caller runs the client itself.
+/// Runs each client on a thread of its own. Where a thread cannot be started, its client is run by the thread that was to
+/// start it.
+///
+/// ```
+/// let mut runner = Threaded::new();
+/// serve(&rt, alloc, &words, &mut source, &mut sink, &OpenGate, &mut runner);
+/// // after `Done` those that were written for the first client, where there is one
+/// let replies = runner.replies(0);
+/// ```
 #[derive(Drop)]
 pub struct Threaded {
     runs: u64,

@@ -1,21 +1,22 @@
 // The text of a run, one write a line.
-ghost use Rattle.std.specs.Prelude.{◌≡◌, ◌<◌, [], All, length, OnOk, IsErrOf};
+ghost use Rattle.std.specs.Prelude.{◌≡◌, ◌<◌, [], All, length, string_bytes, OnOk, IsErrOf};
 ghost use Rattle.key_map.specs.declared.update.Update.{Update};
 ghost use Rattle.bucket_terms.specs.declared.reply.Placed.{Placed};
 ghost use Rattle.outside_io.specs.Faults.{one_more};
 ghost use Rattle.outside_io.specs.Sink.{IsTaken, TakesStart};
-ghost use Rattle.answer_text.specs.Lines.{reply_lines, journal_lines, session_text};
+ghost use Rattle.answer_text.specs.Lines.{reply_data, journal_data, reply_lines, journal_lines, session_text};
+ghost use Rattle.answer_text.specs.Objects.{line_of};
 ghost use Rattle.answer_text.specs.InRange.{IsReplyOf};
 ghost use Rattle.bucketidx.specs.declared.stop.Stop.{Stop};
 ghost use Rattle.bucketidx.specs.Texts.{all_reply_lines, end_text};
 
 use crate::runner::Runner;
 use crate::stop::Stop;
-use answer_text::{journal_line, last_line, reply_line};
+use answer_text::{last_line, push_journal_line, push_reply_line};
 use bucket_terms::{Placed, Record};
 use client_run::Gate;
 use key_map::Update;
-use key_names::Directory;
+use key_names::{Directory, NoMemory};
 use outside_io::{Sink, write_all};
 use std::alloc::Global;
 
@@ -81,6 +82,7 @@ pub(crate) fn write_end<K: Sink>(
     write_all(sink, line.bytes())?;
     Ok(())
 }
+
 // Writes the line of each reply.
 fn write_replies<K: Sink>(
     alloc: Global,
@@ -95,11 +97,26 @@ fn write_replies<K: Sink>(
     ensures fault { IsErrOf result Stop.Fault → K.faults sink.new ≡ one_more (K.faults sink.old) }
     ensures quiet { ¬ (IsErrOf result Stop.Fault) → K.faults sink.new ≡ K.faults sink.old }
 {
+    let mut line = String::new(alloc);
     for placed in replies {
-        let line = reply_line(alloc, dir, records, placed)?;
-        write_all(sink, line.bytes())?;
+        fill_with_reply(&mut line, dir, records, placed)?;
+        write_all(sink, line.as_str().as_bytes())?;
     }
     Ok(())
+}
+
+// Puts the line of a reply into the buffer, in place of what it had.
+fn fill_with_reply(
+    line: &mut String,
+    dir: &Directory,
+    records: &[Record],
+    placed: &Placed,
+) -> Result<(), NoMemory>
+    requires { IsReplyOf dir.now records.now placed.now.reply }
+    ensures { OnOk result (string_bytes line.new ≡ line_of (reply_data dir.now records.now placed.now)) }
+{
+    line.clear();
+    push_reply_line(line, dir, records, placed)
 }
 
 // Writes the line of each update. Places are counted from 1.
@@ -115,11 +132,26 @@ fn write_journal<K: Sink>(
     ensures fault { IsErrOf result Stop.Fault → K.faults sink.new ≡ one_more (K.faults sink.old) }
     ensures quiet { ¬ (IsErrOf result Stop.Fault) → K.faults sink.new ≡ K.faults sink.old }
 {
+    let mut entry = String::new(alloc);
     let mut place: u64 = 0;
     for update in updates {
         place += 1;
-        let line = journal_line(alloc, dir, place, update)?;
-        write_all(sink, line.bytes())?;
+        fill_with_update(&mut entry, dir, place, update)?;
+        write_all(sink, entry.as_str().as_bytes())?;
     }
     Ok(())
+}
+
+// Puts the line of an update into the buffer, in place of what it had.
+fn fill_with_update(
+    entry: &mut String,
+    dir: &Directory,
+    place: u64,
+    update: &Update,
+) -> Result<(), NoMemory>
+    requires { update.now.key < length dir.now }
+    ensures { OnOk result (string_bytes entry.new ≡ line_of (journal_data dir.now place update.now)) }
+{
+    entry.clear();
+    push_journal_line(entry, dir, place, update)
 }

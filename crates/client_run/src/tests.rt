@@ -1,4 +1,5 @@
-// Sessions of one client over a plain pass: what each request is answered, and what a gate is told.
+// A client over a plain pass: updates for which no slot is left, the query of a next page, and what a gate is told.
+// What sessions are answered else is compared by tests/rows.py.
 ghost use Rattle.std.specs.Prelude.{◌≤◌, [], All, length, IfOk};
 ghost use Rattle.request_lines.specs.Limits.{most_requests};
 ghost use Rattle.request_lines.specs.Session.{request_lines};
@@ -7,12 +8,11 @@ ghost use Rattle.bucket_terms.specs.declared.reply.Placed.{Placed as PlacedReply
 ghost use Rattle.client_run.specs.Listing.{HasPageInRange};
 
 use super::*;
-use bucket_terms::{KeyPass, ListQuery, Page, PageEntry, Placed, PlainPass, Reply};
+use bucket_terms::{KeyPass, ListQuery, Placed, PlainPass, Reply};
 use key_map::{Done, Pair, PassError, PassSize};
 use key_names::Directory;
 use request_lines::{ClientPart, MAX_INPUT_BYTES, Session, read_session};
 use std::alloc::Global;
-use std::process::Abort;
 use std::sync::Wait;
 use std::test::Fail;
 
@@ -129,147 +129,27 @@ fn run_part<G: Gate + Watch, Rt: Wait>(
     Ok(run_client(rt, alloc, &mut pass, part, dir, gate)?)
 }
 
-// The replies are these, one a line: the request's line, the place, and what is said.
-fn answers<Rt: Wait + Abort>(
-    rt: &Rt,
-    alloc: Global,
-    text: &str,
-    nodes: u32,
-    expected: &str,
-) -> Result<(), Fail> {
-    let ran = run(rt, alloc, text, nodes, &OpenGate)?;
-    let mut told = String::new(alloc);
-    for placed in &ran.replies {
-        assert_eq!(rt; placed.client, 0);
-        told.push_str(said(alloc, &ran.dir, placed)?.as_str())?;
-    }
-    assert_eq!(rt; told.as_str(), expected, "for {text}");
-    Ok(())
-}
-
-fn said(alloc: Global, dir: &Directory, placed: &Placed) -> Result<String, Fail> {
-    let line = placed.line;
-    let reply = reply_text(alloc, dir, &placed.reply)?;
-    match placed.at {
-        Some(at) => Ok(format!(in alloc; "{line} at {at}: {reply}\n")?),
-        None => Ok(format!(in alloc; "{line}: {reply}\n")?),
-    }
-}
-
-fn reply_text(alloc: Global, dir: &Directory, reply: &Reply) -> Result<String, Fail> {
-    let text = match reply {
-        Reply::Put { was: false } => "put",
-        Reply::Put { was: true } => "replaced",
-        Reply::Deleted => "deleted",
-        Reply::Found { val } => return Ok(format!(in alloc; "found {val}")?),
-        Reply::Missing => "missing",
-        Reply::Listed { query, page } => return page_text(alloc, dir, query, page),
-        Reply::BadToken => "bad token",
-        Reply::NoSlot => "no slot",
-    };
-    Ok(String::from_str(alloc, text)?)
-}
-
-// The token from which a page goes on, its entries, and whether more are left.
-fn page_text(
-    alloc: Global,
-    dir: &Directory,
-    query: &ListQuery,
-    page: &Page,
-) -> Result<String, Fail> {
-    let token = query.token.as_str();
-    let mut text = format!(in alloc; "[{token}]")?;
-    for entry in page.entries.as_slice() {
-        text.push_str(entry_text(alloc, dir, *entry)?.as_str())?;
-    }
-    if page.truncated {
-        text.push_str(" ..")?;
-    }
-    Ok(text)
-}
-
-fn entry_text(alloc: Global, dir: &Directory, entry: PageEntry) -> Result<String, Fail> {
-    let rank = match entry {
-        PageEntry::Key { rank, .. } | PageEntry::Group { rank, .. } => rank,
-    };
-    if rank >= dir.len() {
-        return Err("no such name".into());
-    }
-    let name = dir.name(rank).as_str();
-    match entry {
-        PageEntry::Key { val, .. } => Ok(format!(in alloc; " {name}={val}")?),
-        PageEntry::Group { len, .. } => {
-            let prefix = name.get(..len as usize).ok_or("no such prefix")?;
-            Ok(format!(in alloc; " {prefix}*")?)
-        }
-    }
-}
-
-#[test]
-fn puts_and_lists(rt: HostRuntime) -> Result<(), Fail> {
-    let alloc = rt.alloc();
-    let puts = "CLIENT\nPUT b 2 e2 20\nPUT a 1 e1 10\nPUT b 3 e3 30\n";
-    let told = "2 at 1: put\n3 at 2: put\n4 at 3: replaced\n";
-    for (list, page) in [
-        ("LIST", "5 at 3: [] a=1 b=2\n"),
-        ("LIST max-keys=0", "5 at 3: []\n"),
-        ("LIST max-keys=1001", "5 at 3: [] a=1 b=2\n"),
-        ("LIST continuation-token=", "5 at 3: [] a=1 b=2\n"),
-        ("LIST continuation-token=UA", "5: bad token\n"),
-        ("NEXT", "5: bad token\n"),
-    ] {
-        let text = format!(in alloc; "{puts}{list}\n")?;
-        let expected = format!(in alloc; "{told}{page}")?;
-        answers(&rt, alloc, text.as_str(), PLENTY, expected.as_str())?;
-    }
-    answers(&rt, alloc, "CLIENT\n", PLENTY, "")
-}
-
-#[test]
-fn next_follows_the_last_listing(rt: HostRuntime) -> Result<(), Fail> {
-    let alloc = rt.alloc();
-    let puts = "2 at 1: put\n3 at 2: put\n4 at 3: put\n5 at 4: put\n";
-    for (lines, pages) in [
-        (
-            "LIST delimiter=/&max-keys=1\nNEXT\nNEXT\n",
-            "6 at 4: [] a/* ..\n7 at 4: [UGEv] b=3\n8: bad token\n",
-        ),
-        (
-            "LIST max-keys=2\nDELETE a/3\nHEAD a/3\nNEXT\n",
-            "6 at 4: [] a/1=0 a/2=1 ..\n7 at 5: deleted\n8 at 5: missing\n9 at 5: [S2EvMg] b=3\n",
-        ),
-        (
-            "LIST max-keys=1\nLIST prefix=b\nNEXT\n",
-            "6 at 4: [] a/1=0 ..\n7 at 4: [] b=3\n8: bad token\n",
-        ),
-    ] {
-        let text = format!(in alloc; "{FOUR_KEYS}{lines}")?;
-        let expected = format!(in alloc; "{puts}{pages}")?;
-        answers(&rt, alloc, text.as_str(), PLENTY, expected.as_str())?;
-    }
-    Ok(())
-}
-
-#[test]
-fn reads_a_write_back(rt: HostRuntime) -> Result<(), Fail> {
-    answers(
-        &rt,
-        rt.alloc(),
-        "CLIENT\nHEAD a\nPUT a 1 e1 10\nHEAD a\nDELETE a\nDELETE a\nHEAD a\n",
-        PLENTY,
-        "2 at 0: missing\n3 at 1: put\n4 at 1: found 0\n5 at 2: deleted\n6 at 2: deleted\n7 at 2: missing\n",
-    )
-}
-
+// A pass with one node slot: it goes to the first PUT, so the updates behind it are refused and change nothing.
 #[test]
 fn refuses_updates_without_slots(rt: HostRuntime) -> Result<(), Fail> {
-    answers(
-        &rt,
-        rt.alloc(),
-        "CLIENT\nPUT a 1 e1 1\nPUT b 2 e2 2\nDELETE a\nHEAD a\n",
-        1,
-        "2 at 1: put\n3: no slot\n4: no slot\n5 at 1: found 0\n",
-    )
+    let text = "CLIENT\nPUT a 1 e1 1\nPUT b 2 e2 2\nDELETE a\nHEAD a\n";
+    let ran = run(&rt, rt.alloc(), text, 1, &OpenGate)?;
+    let [put, refused, kept, found] = ran.replies.as_slice() else {
+        return Err("not four replies".into());
+    };
+    assert_eq!(rt;
+        (put.line, put.at, refused.line, refused.at),
+        (2, Some(1), 3, None)
+    );
+    assert_eq!(rt;
+        (kept.line, kept.at, found.line, found.at),
+        (4, None, 5, Some(1))
+    );
+    assert!(rt; matches!(put.reply, Reply::Put { was: false }));
+    assert!(rt; matches!(refused.reply, Reply::NoSlot));
+    assert!(rt; matches!(kept.reply, Reply::NoSlot));
+    assert!(rt; matches!(found.reply, Reply::Found { val: 0 }));
+    Ok(())
 }
 
 // The query behind the last reply to the client of the text.
@@ -289,9 +169,7 @@ fn gives_the_next_query(rt: HostRuntime) -> Result<(), Fail> {
     assert_eq!(rt; query.token.as_str(), "UGEv");
     assert_eq!(rt; query.delimiter.as_str(), "/");
     assert_eq!(rt; (query.max_keys, query.url), (1, false));
-    for more in ["NEXT\n", "HEAD b\n"] {
-        let text = format!(in alloc; "{first}{more}")?;
-        assert!(rt; next_of(&rt, alloc, text.as_str())?.is_none());
-    }
+    let behind_a_head = format!(in alloc; "{first}HEAD b\n")?;
+    assert!(rt; next_of(&rt, alloc, behind_a_head.as_str())?.is_none());
     Ok(())
 }

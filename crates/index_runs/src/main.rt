@@ -1,13 +1,23 @@
-// Passes at work on threads, over one shared index. The first word is `run` or `time`; the words behind it are numbers: how
-// many passes, how many keys, how many requests each pass makes, how many of a hundred are updates, how many are listings, how
-// many pairs a listing has at most, a seed, and the nodes and the entries of each pass. With `run` each request is printed with its answer,
-// pass by pass, and then the history: `tests/index_runs.py` checks it. With
-// `time` only its numbers are printed, for `bench/index`. Without words a small run is made.
+// Passes at work on threads, over one shared index. The first word says what they do, and numbers follow it. Each request
+// is printed with its answer, pass by pass, and then the history: `tests/index_runs.py` checks both.
+//
+//     run     PASSES KEYS REQUESTS UPDATES LISTINGS PAGE SEED NODES ENTRIES
+//             each pass makes requests, of a hundred so many updates and so many listings of so many pairs at most
+//     time    as `run`, and only its numbers are printed, for `bench/index`
+//     held    PASSES KEYS REQUESTS MEANWHILE SEED
+//             the first pass makes updates, and so many more while the others are held inside snapshots
+//     tries   PASSES KEYS REQUESTS NODES SEED
+//             each request is a single try of a put
+//
+// Without words a small run is made.
 #![tactic(auto)]
 
+mod gate;
+mod held;
 mod random;
 mod report;
 mod run;
+mod tries;
 mod work;
 
 use report::{print_events, print_history};
@@ -15,10 +25,9 @@ use run::{Run, make_run};
 use std::sync::Wait;
 use std::thread::Threads;
 use std::{env, io};
-use work::Plan;
+use work::{Plan, Task};
 
 const SMALL: Run = Run {
-    passes: 3,
     plan: Plan {
         requests: 300,
         keys: 5,
@@ -27,6 +36,9 @@ const SMALL: Run = Run {
         page: 10,
         seed: 1,
         keeps: true,
+        task: Task::Requests,
+        passes: 3,
+        meanwhile: 0,
     },
     nodes: 200,
     entries: 1000,
@@ -40,16 +52,20 @@ fn main(rt: HostRuntime) -> io::Result<()> {
     };
     let mut numbers = [0u32; 9];
     for number in numbers.iter_mut() {
-        let Some(read) = words
-            .next()
-            .and_then(|word| word.as_str().parse::<u32>().ok())
-        else {
-            return println!(rt; "nine numbers are wanted");
+        let Some(word) = words.next() else {
+            break;
+        };
+        let Ok(read) = word.as_str().parse::<u32>() else {
+            return println!(rt; "numbers are wanted");
         };
         *number = read;
     }
-    let whole = word.as_str() == "run";
-    print_run(&rt, &rt, &run_of(&numbers, whole), whole)
+    match word.as_str() {
+        "held" => print_run(&rt, &rt, &held_run(&numbers), true),
+        "tries" => print_run(&rt, &rt, &tries_run(&numbers), true),
+        "time" => print_run(&rt, &rt, &run_of(&numbers, false), false),
+        _ => print_run(&rt, &rt, &run_of(&numbers, true), true),
+    }
 }
 
 /// The run of the words' numbers.
@@ -66,7 +82,6 @@ fn run_of(numbers: &[u32; 9], keeps: bool) -> Run {
         entries,
     ] = *numbers;
     Run {
-        passes,
         plan: Plan {
             requests,
             keys: u64::from(keys),
@@ -75,9 +90,55 @@ fn run_of(numbers: &[u32; 9], keeps: bool) -> Run {
             page: page as usize,
             seed: u64::from(seed),
             keeps,
+            task: Task::Requests,
+            passes,
+            meanwhile: 0,
         },
         nodes,
         entries,
+    }
+}
+
+/// A run in which all passes but the first are held. The slots suffice: while they are held none becomes free.
+fn held_run(numbers: &[u32; 9]) -> Run {
+    let [passes, keys, requests, meanwhile, seed, _, _, _, _] = *numbers;
+    let updates = requests.saturating_add(meanwhile).saturating_add(1);
+    Run {
+        plan: Plan {
+            requests,
+            keys: u64::from(keys),
+            updates: 100,
+            listings: 0,
+            page: keys as usize,
+            seed: u64::from(seed),
+            keeps: true,
+            task: Task::Held,
+            passes,
+            meanwhile,
+        },
+        nodes: updates,
+        entries: updates.saturating_mul(4),
+    }
+}
+
+/// A run of tries.
+fn tries_run(numbers: &[u32; 9]) -> Run {
+    let [passes, keys, requests, nodes, seed, _, _, _, _] = *numbers;
+    Run {
+        plan: Plan {
+            requests,
+            keys: u64::from(keys),
+            updates: 100,
+            listings: 0,
+            page: 0,
+            seed: u64::from(seed),
+            keeps: true,
+            task: Task::Tries,
+            passes,
+            meanwhile: 0,
+        },
+        nodes,
+        entries: requests.saturating_mul(4),
     }
 }
 
@@ -93,7 +154,10 @@ fn print_run<R: Threads + Wait + Sync>(
         Err(stopped) => return println!(rt; "{stopped:?}"),
     };
     if !whole {
-        return println!(rt; "{} passes of {} requests", run.passes, run.plan.requests);
+        return println!(rt;
+            "{} passes of {} requests",
+            run.plan.passes, run.plan.requests
+        );
     }
     for (number, events) in ran.events.iter().enumerate() {
         print_events(rt, number, events.as_slice())?;

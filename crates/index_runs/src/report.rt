@@ -1,6 +1,7 @@
 // What is printed of a run, a line each.
 use crate::work::Event;
 use index_words::{Change, Update};
+use shared_index::Settling;
 use std::fmt::Write;
 use std::io;
 
@@ -35,6 +36,11 @@ fn print_event(rt: &HostRuntime, number: usize, event: &Event) -> io::Result<()>
             }
             println!(rt; "L {number} {at} {from} {page}{text}")
         }
+        Event::Tried(Settling::Settled) => println!(rt; "T {number} settled"),
+        Event::Tried(Settling::Held { seat, word }) => {
+            println!(rt; "T {number} held {seat} {word}")
+        }
+        Event::Met(met) => println!(rt; "C {number} {} {} {}", met.busy, met.moved, met.pending),
     }
 }
 

@@ -4,17 +4,19 @@ ghost use Rattle.table_steps.specs.Closes.{number_of};
 ghost use Rattle.shared_index.specs.Keys.{AreAllKeys, IsKeyOf};
 ghost use Rattle.index_runs.specs.Runs.{LaidDown, key_of};
 
-use crate::work::{Event, Plan, work};
+use crate::gate::Gate;
+use crate::held::work_or_be_held;
+use crate::tries::try_puts;
+use crate::work::{Event, Plan, Task, work};
 use index_words::{PassSize, Update};
 use shared_index::{OpenError, PassKey, SharedIndex};
 use std::alloc::{AllocError, Global};
 use std::sync::Wait;
 use std::thread::{Threads, map_vec};
 
-/// How many passes there are, what each is to do, and the slots of each.
+/// What the passes are to do, and the slots of each.
 #[derive(Clone, Copy, Drop)]
 pub(crate) struct Run {
-    pub(crate) passes: u32,
     pub(crate) plan: Plan,
     pub(crate) nodes: u32,
     pub(crate) entries: u32,
@@ -51,11 +53,12 @@ pub(crate) struct Worked {
 /// The size of each pass.
 fn sizes_of(alloc: Global, run: &Run) -> Result<Vec<PassSize>, AllocError> {
     let mut sizes = Vec::new(alloc);
-    for _ in 0..run.passes {
+    let calls = run.plan.requests.saturating_add(run.plan.meanwhile);
+    for _ in 0..run.plan.passes {
         sizes.push(PassSize {
             nodes: run.nodes,
             entries: run.entries,
-            calls: run.plan.requests,
+            calls,
         })?;
     }
     Ok(sizes)
@@ -73,14 +76,25 @@ fn opened(alloc: Global, run: &Run) -> Result<(SharedIndex, Vec<PassKey>), Stopp
     }
 }
 
-/// Takes up the pass of a key, and makes its requests.
-fn work_on<R: Wait>(rt: &R, alloc: Global, index: &SharedIndex, key: PassKey, plan: &Plan) -> Worked
+/// Takes up the pass of a key, and does what it is to do.
+fn work_on<R: Wait>(
+    rt: &R,
+    alloc: Global,
+    index: &SharedIndex,
+    key: PassKey,
+    plan: &Plan,
+    gate: &Gate,
+) -> Worked
     requires of { IsKeyOf index.now key }
     ensures of { IsKeyOf index.now result.key }
     ensures number { number_of result.key ≡ number_of key }
 {
     let mut pass = index.attach(key);
-    let events = work(rt, alloc, &mut pass, plan);
+    let events = match plan.task {
+        Task::Requests => work(rt, alloc, &mut pass, plan),
+        Task::Held => work_or_be_held(rt, alloc, &mut pass, plan, gate),
+        Task::Tries => try_puts(alloc, &mut pass, plan),
+    };
     Worked {
         key: pass.detach(),
         events,
@@ -98,10 +112,11 @@ fn work_on_each<R: Threads + Wait + Sync>(
     requires all { AreAllKeys index.now keys.items }
     ensures laid { IfOk result (λ left. LaidDown index.now keys.items left.items) }
 {
+    let gate = Gate::new();
     let run = |key: PassKey| -> Worked
         requires { IsKeyOf index.now key }
         ensures { IsKeyOf index.entry.now result.key × (number_of result.key ≡ number_of key) }
-    { work_on(rt, alloc, index, key, plan) };
+    { work_on(rt, alloc, index, key, plan, &gate) };
     map_vec(rt, keys, &run)
 }
 

@@ -3,9 +3,11 @@ ghost use Rattle.std.specs.Prelude.{◌≡◌, IsSome, None};
 ghost use Rattle.index_runs.specs.Runs.{GoesOn};
 
 use crate::random::Random;
+use crate::tries::Met;
 use bucket_terms::KeyPass;
 use index_words::Pair;
 use key_map::Done;
+use shared_index::Settling;
 use std::alloc::{AllocError, Global};
 use std::sync::Wait;
 
@@ -25,6 +27,22 @@ pub(crate) struct Plan {
     pub(crate) seed: u64,
     /// Whether the answers are kept.
     pub(crate) keeps: bool,
+    pub(crate) task: Task,
+    /// How many passes there are.
+    pub(crate) passes: u32,
+    /// So many updates are made while other passes are held.
+    pub(crate) meanwhile: u32,
+}
+
+/// What the passes do with their plan.
+#[derive(Clone, Copy, Drop)]
+pub(crate) enum Task {
+    /// All make their requests.
+    Requests,
+    /// One makes its requests, and then updates while the others are held inside a snapshot.
+    Held,
+    /// Each request is a single try of a put.
+    Tries,
 }
 
 /// A request of a pass, with its answer.
@@ -52,6 +70,10 @@ pub(crate) enum Event {
         page: usize,
         pairs: Vec<Pair>,
     },
+    /// A try to settle what updates have taken out.
+    Tried(Settling),
+    /// What the tries that were not made have met.
+    Met(Met),
 }
 
 /// Makes all requests of a plan, and answers what they were answered, as far as that is kept.
@@ -83,7 +105,7 @@ pub(crate) fn work<P: KeyPass, R: Wait>(
     Ok(events)
 }
 
-fn update<P: KeyPass, R: Wait>(
+pub(crate) fn update<P: KeyPass, R: Wait>(
     rt: &R,
     pass: &mut P,
     plan: &Plan,
@@ -137,7 +159,13 @@ fn listing<P: KeyPass, R: Wait>(
 }
 
 // Reads so many pairs of the open snapshot, as far as there are so many.
-fn read<P: KeyPass, R: Wait>(rt: &R, pass: &mut P, from: u64, page: usize, pairs: &mut Vec<Pair>)
+pub(crate) fn read<P: KeyPass, R: Wait>(
+    rt: &R,
+    pass: &mut P,
+    from: u64,
+    page: usize,
+    pairs: &mut Vec<Pair>,
+)
     requires open_at { IsSome (P.view pass.old).opened }
     ensures same { P.view pass.new ≡ P.view pass.old }
     ensures home { P.home pass.new ≡ P.home pass.old }

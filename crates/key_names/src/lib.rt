@@ -12,6 +12,3 @@ pub use directory::{Directory, MAX_NAME_BYTES};
 pub use names_error::NamesError;
 pub use no_memory::NoMemory;
 pub use text::Text;
-
-#[cfg(test)]
-mod tests;

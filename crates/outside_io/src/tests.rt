@@ -69,19 +69,6 @@ fn reads_pieces_and_stops_at_a_fault(rt: HostRuntime) -> Result<(), Fail> {
 }
 
 #[test]
-fn reads_more_than_one_buffer(rt: HostRuntime) -> Result<(), Fail> {
-    let alloc = rt.alloc();
-    let mut bytes = Vec::new(alloc);
-    for k in 0..200_000u32 {
-        bytes.push((k % 251) as u8)?;
-    }
-    let mut source = MemSource::new(bytes.clone()?);
-    let read = read_all(alloc, &mut source, 200_000)?;
-    assert!(rt; read == bytes);
-    Ok(())
-}
-
-#[test]
 fn writes_whole_pieces_into_room(rt: HostRuntime) -> Result<(), Fail> {
     let mut sink = MemSink::with_room(rt.alloc(), 4).ok().ok_or("memory")?;
     assert_eq!(rt; write_all(&mut sink, b"abc"), Ok(()));

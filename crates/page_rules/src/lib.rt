@@ -14,6 +14,3 @@ mod rules;
 pub use cursor::PageCursor;
 pub use list_page::page_of_list;
 pub use look_ups::page_by_look_ups;
-
-#[cfg(test)]
-mod tests;

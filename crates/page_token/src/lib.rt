@@ -10,6 +10,3 @@ mod writing;
 pub use reading::read;
 pub use token_error::TokenError;
 pub use writing::write;
-
-#[cfg(test)]
-mod tests;

@@ -1,4 +1,4 @@
-ghost use Rattle.std.specs.Prelude.{◌≡◌, ◌≤◌, ◌<◌, ◌++◌, ◌∷◌, ◌⊎◌, [], length, Some, ◌&&◌, not};
+ghost use Rattle.std.specs.Prelude.{◌≡◌, ◌≤◌, ◌<◌, ◌++◌, ◌∷◌, ◌⊎◌, [], length, Some, ◌&&◌, not, true};
 ghost use Rattle.std.specs.List.{slice_get};
 ghost use Rattle.index_words.specs.declared.view.View.{View};
 ghost use Rattle.index_words.specs.Views.{no_looks};
@@ -47,6 +47,14 @@ impl PassSlots {
             && self.entries.is_batch_empty()
             && self.nodes.is_retired_empty()
             && self.entries.is_retired_empty()
+    }
+
+    /// Whether no slot waits, and no look was made since the last batch became free.
+    fn is_idle(&self) -> bool
+        ensures settled { result ≡ true → (is_empty self.now.batch && is_empty self.now.retired) ≡ true }
+        ensures looks { result ≡ true → KeepsLooks no_looks self.now.shown }
+    {
+        self.waits.is_fresh() && self.is_settled()
     }
 
     /// How many free nodes there are.
@@ -204,6 +212,9 @@ impl PassSlots {
         ensures keeps { (v : View) → KeepsSlots v self.old → v.number ≡ Some number → KeepsSlots (settled passes (batch_taken v)) self.new }
         ensures room { HasRoomOf self.old self.new }
     {
+        if self.is_idle() {
+            return;
+        }
         self.take_batch();
         self.settle(passes, number);
     }

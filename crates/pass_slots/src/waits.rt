@@ -1,4 +1,4 @@
-ghost use Rattle.std.specs.Prelude.{◌≡◌, ◌<◌, ◌≤◌, Some};
+ghost use Rattle.std.specs.Prelude.{◌≡◌, ◌<◌, ◌≤◌, Some, true};
 ghost use Rattle.index_words.specs.declared.view.slots.Looks.{Looks};
 ghost use Rattle.index_words.specs.Views.{no_looks};
 ghost use Rattle.key_map.specs.Lists.{has};
@@ -52,6 +52,13 @@ impl Waits {
             passed: [false; PASSES],
             fresh: true,
         }
+    }
+
+    /// Whether no look was made since all were forgotten.
+    pub fn is_fresh(&self) -> bool
+        ensures { result ≡ true → KeepsLooks no_looks self.now }
+    {
+        self.fresh
     }
 
     /// Forgets all looks.

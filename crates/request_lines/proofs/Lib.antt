@@ -1,3 +1,4 @@
+pub mod FirstByte
 pub mod AskedAll
 pub mod QueryLaws
 pub mod TextLaws
@@ -8,3 +9,6 @@ pub mod InputLaws
 pub mod Rising
 pub mod Sound
 pub mod PieceLaws
+pub mod SampleQueries
+pub mod SampleLines
+pub mod SampleWalk

@@ -17,3 +17,4 @@ pub mod Fine
 pub mod Refusal
 pub mod ReadAnswers
 pub mod Sample
+pub mod SampleSession

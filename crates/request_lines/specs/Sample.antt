@@ -1,4 +1,3 @@
--- Helper: the headline does not rest on this file.
 -- The generated session: four clients, each on names of its own, with as many requests as it is asked for.
 use Rattle.std.specs.Prelude.{ℕ, zero, suc, ◌*◌, ◌/◌, ◌%◌, ◌==◌, List, [], ◌++◌, codes, if◌then◌else◌}
 use Rattle.std.specs.Fmt.{decimal}

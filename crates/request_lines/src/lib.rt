@@ -27,6 +27,3 @@ pub use read::read_session;
 pub use sample::sample_input;
 pub use session::{Asked, ClientPart, Session};
 pub use session_error::{InputError, SessionError};
-
-#[cfg(test)]
-mod tests;

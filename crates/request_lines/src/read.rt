@@ -10,9 +10,16 @@ ghost use Rattle.std.specs.Str.Lines.{strip_carriage_return};
 
 use crate::reader::Reader;
 use crate::{Session, SessionError};
+use memchr::memchr;
 use std::alloc::Global;
 
 /// The session of a text, or the first line that has a cause, with its first cause.
+///
+/// ```
+/// let session = read_session(alloc, b"CLIENT\nPUT a 1 e1 10\nHEAD a\n")?;
+/// assert_eq!(rt; session.clients.as_slice().len(), 1);
+/// assert_eq!(rt; session.names.as_slice().len(), 2);
+/// ```
 pub fn read_session(alloc: Global, bytes: &[u8]) -> Result<Session, SessionError>
     requires { length bytes.now ≤ most_input_bytes }
     ensures session { IfOk result (IsSessionOf bytes.now) }
@@ -56,7 +63,7 @@ fn first_line(bytes: &[u8]) -> (&[u8], Option<&[u8]>)
 fn line_feed(bytes: &[u8]) -> Option<usize>
     ensures { result ≡ position (λ b. b == 10) bytes.now }
 {
-    bytes.iter().position(|b| *b == b'\n')
+    memchr(b'\n', bytes)
 }
 
 // The line without one carriage return at its end.

@@ -1,6 +1,9 @@
 // The generated session.
-ghost use Rattle.std.specs.Prelude.{◌≡◌, ◌<◌, ◌≤◌, ◌++◌, codes, IfOk, OnOk};
+ghost use Rattle.std.specs.Prelude.{◌≡◌, ◌<◌, ◌≤◌, ◌++◌, codes, length, IfOk, OnOk};
 ghost use Rattle.std.specs.String.{string_bytes};
+ghost use Rattle.request_lines.specs.Input.{IsSessionOf};
+ghost use Rattle.request_lines.specs.Limits.{most_input_bytes};
+ghost use Rattle.request_lines.specs.SampleSession.{sample_session};
 ghost use Rattle.request_lines.specs.Sample.{most_sample_requests, sample_text, sample_lines, sample_line, sample_put, sample_delete, sample_list, sample_name};
 
 use key_names::NoMemory;
@@ -20,6 +23,8 @@ pub fn sample_input(alloc: Global, n: u32) -> Result<Vec<u8>, NoMemory>
     requires some { 0 < n }
     requires most { n ≤ most_sample_requests }
     ensures text { IfOk result (λ input. input.items ≡ sample_text n) }
+    ensures session { IfOk result (λ input. IsSessionOf input.items (sample_session n)) }
+    ensures short { IfOk result (λ input. length input.items ≤ most_input_bytes) }
 {
     let mut text = String::new(alloc);
     for client in 0..CLIENTS {

@@ -9,6 +9,7 @@ ghost use Rattle.request_lines.specs.Texts as spec;
 use crate::Cause;
 use crate::line_error::LineError;
 use key_names::{MAX_NAME_BYTES, Text};
+use memchr::memchr;
 use percent_encoding::{DecodeError, percent_decode};
 use std::alloc::Global;
 use std::str;
@@ -43,7 +44,7 @@ pub(crate) fn unescaped(alloc: Global, text: &str) -> Result<Text, LineError>
 fn has_percent(text: &str) -> bool
     ensures { result ≡ list_any (λ b. b == 37) text.now }
 {
-    text.bytes().any(|b| b == b'%')
+    memchr(b'%', text.as_bytes()).is_some()
 }
 
 // The text without its escapes, where it has some.

@@ -75,8 +75,8 @@ all_kept index keys others all of numbers = record { of = of; each = λ n low. a
 
 fresh_view : (z : Layout) (number node entry : ℕ) (size : PassSize) → shown_of number (pass_view z number node entry size) ≡ fresh number size
 fresh_view z number node entry size =
-    let nodes : length (from_up node size.nodes) + 0 + 0 ≡ size.nodes = omega (arith, from_length node size.nodes) in
-    let entries : length (from_up entry size.entries) + 0 + 0 ≡ size.entries = omega (arith, from_length entry size.entries) in
+    let nodes : length (from_up node size.nodes) + 0 ≡ size.nodes = omega (arith, from_length node size.nodes) in
+    let entries : length (from_up entry size.entries) + 0 ≡ size.entries = omega (arith, from_length entry size.entries) in
     λ i. record { number = number; seen = []; mine = []; looks = 0; found = 0; nodes = nodes i; entries = entries i; left = size.calls; opened = Rattle.std.proofs.Common.None }
 
 fresh_key : (z : Layout) (number node entry : ℕ) (size : PassSize) (key : Pass) → key.view ≡ pass_view z number node entry size → key.number ≡ number → IsFresh number size key

@@ -20,6 +20,11 @@ impl SharedIndex {
     /// note told that one of them heard. Each update was made by a pass of one of the keys, and the updates of each of
     /// them stand at its own places.
     ///
+    /// ```
+    /// let keys = vec![in alloc; first.detach(), second.detach()]?;
+    /// let history = index.finish(alloc, keys)?;
+    /// ```
+    ///
     /// # Errors
     /// For want of memory alone; the index and the keys then come back unchanged.
     pub fn finish(self, alloc: Global, keys: Vec<PassKey>) -> Result<Vec<Update>, FinishError>

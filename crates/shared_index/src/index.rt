@@ -38,6 +38,12 @@ impl SharedIndex {
     /// the order of the sizes: key `i` has the number `i`, and the slots and calls of size `i`, all of them free. All
     /// memory that later calls use is taken here, but for that of `finish`.
     ///
+    /// ```
+    /// let size = PassSize { nodes: 8, entries: 32, calls: 8 };
+    /// let (index, keys) = SharedIndex::open(alloc, &[size, size])?;
+    /// assert_eq!(rt; keys.len(), 2);
+    /// ```
+    ///
     /// # Errors
     /// `BadSizes` where there are no sizes or more than 32 of them, where one has no node or fewer than 4 entries, or
     /// where the sum of nodes is above 262,144, of entries above 1,048,576 or of calls above 16,777,216.
@@ -57,6 +63,14 @@ impl SharedIndex {
     }
 
     /// Takes up the work of a pass. No snapshot is open, and all else is the key's.
+    ///
+    /// ```
+    /// let mut pass = index.attach(key);
+    /// let done = pass.put(&rt, 1, 5, 50)?;
+    /// pass.begin();
+    /// assert_eq!(rt; pass.next_from(&rt, 0), Some(Pair { key: 5, val: 50 }));
+    /// pass.end();
+    /// ```
     pub fn attach(&self, key: PassKey) -> IndexPass<'_>
         requires of { IsKeyOf self.now key }
         ensures same { result ≡ key }

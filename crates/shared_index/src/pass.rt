@@ -60,6 +60,13 @@ impl<'t> IndexPass<'t> {
 
     /// Hears a note of the same index: what the pass has seen then begins with what it had seen, and with what the note
     /// has. An open snapshot stays open. It takes no memory and never waits.
+    ///
+    /// ```
+    /// first.put(&rt, 1, 5, 50)?;
+    /// second.hear(first.tell());
+    /// let found = second.begin();
+    /// assert!(rt; found >= 1);
+    /// ```
     pub fn hear(&mut self, note: Note)
         requires of { home_of_note note ≡ home_of_pass self.old }
         ensures heard { Hears (shown self.old) (shown self.new) (told_by note) }
@@ -80,6 +87,7 @@ impl<'t> IndexPass<'t> {
     {
         tree_update::try_settle(&mut self.pass)
     }
+
     /// Tries once to put the key with this value, for the request line `line`. It takes no memory and never waits: where it
     /// meets what another pass is doing, it gives all back and tells what it has met, and the count of this has risen.
     ///

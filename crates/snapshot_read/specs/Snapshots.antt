@@ -1,5 +1,5 @@
 -- A pass with an open snapshot, the tree that it reads, and what reading leaves of the pass's view.
-use Rattle.std.specs.Prelude.{◌≡◌, ℕ, ◌+◌, ◌<◌, ◌≤◌, List, length, Option, Some}
+use Rattle.std.specs.Prelude.{◌≡◌, ℕ, ◌<◌, ◌≤◌, List, length, Option, Some}
 use Rattle.key_map.specs.declared.pair.Pair.{Pair}
 use Rattle.key_map.specs.History.{after}
 use Rattle.key_map.specs.Lists.{count}
@@ -11,6 +11,7 @@ use Rattle.core_trees.specs.NamedTree.{NamedTree, IsLawful, contents}
 use Rattle.core_events.specs.LoadMoves.{risen}
 use Rattle.core_events.specs.Versions.{slots_of, tree_nodes}
 use Rattle.plan_steps.specs.Frames.{CountsGrow}
+pub use Rattle.plan_steps.specs.Answers.{owned_nodes, owned_entries}
 use Rattle.table_steps.specs.Passes.{Extends, Inside}
 
 -- a snapshot is open at this number: the pass is inside a section, with no lock held
@@ -52,13 +53,6 @@ pub record HasRead (v w : View) : Type 0 where
   pub moves : ℕ
   pub view : w ≡ read_on v place above links waits moves
   pub grown : CountsGrow v w
-
--- how many node slots and entry slots a pass owns: free, retired, and in the batch
-abbrev pub owned_nodes : View → ℕ
-owned_nodes v = length v.free.nodes + length v.retired.nodes + length v.batch.nodes
-
-abbrev pub owned_entries : View → ℕ
-owned_entries v = length v.free.entries + length v.retired.entries + length v.batch.entries
 
 -- a snapshot was opened at this number: that of all updates that the pass has seen then, which go on from what it had
 -- seen. A look is counted; its own updates, how many it may still make, and how many slots it owns are as before

@@ -17,4 +17,6 @@ pub use looks::Look;
 pub use snapshot::{begin, end, next_from, next_on, try_next_from, try_next_on};
 
 #[cfg(test)]
+mod row_tests;
+#[cfg(test)]
 mod tests;

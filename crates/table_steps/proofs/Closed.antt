@@ -132,10 +132,13 @@ told_is v u w is more =
 knows : (w : View) → IsLiveView w → KnowsPlaces w
 knows w live = at_item KnowsPlaces live.stands.views live.stands.seat w (item_at live.stands.views live.stands.seat w live.stands.at) live.stands.rule.places
 
+pub own_stand : (w : View) (n : ℕ) → IsLiveView w → w.number ≡ Some n → w.history.mine ≡ own_places n w.history.seen
+own_stand w n live number = subst (λ o. IfSome o (λ k. w.history.mine ≡ own_places k w.history.seen)) number (knows w live).own
+
 pub own_known : (v u w : View) (n : ℕ) → w ≡ joined_with (joined_with v u) (split_right v 0) → IsLiveView w → v.number ≡ Some n → Extends v.history.seen u.history.seen
     → v.history.mine ≡ own_places n u.history.seen
 own_known v u w n is live number more =
-    let own : w.history.mine ≡ own_places n w.history.seen = subst (λ o. IfSome o (λ k. w.history.mine ≡ own_places k w.history.seen)) (ap (λ (y : View). y.number) is ∙ number) (knows w live).own in
+    let own : w.history.mine ≡ own_places n w.history.seen = own_stand w n live (ap (λ (y : View). y.number) is ∙ number) in
     sym (ap (λ (y : View). y.history.mine) is) ∙ own ∙ ap (own_places n) (told_is v u w is more)
 
 pub may_hear : (v u : View) → IsLiveView v → IsLiveView u → u.number ≡ None → MayJoin v u

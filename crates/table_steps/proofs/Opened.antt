@@ -12,7 +12,7 @@ use Rattle.table_steps.specs.declared.own_updates.OwnUpdate.{OwnUpdate}
 use Rattle.table_rule.specs.Homes.{Home}
 use Rattle.table_steps.specs.Closes.{AreAllKeys, number_of}
 use Rattle.table_steps.specs.Kept.{Keeps}
-use Rattle.table_steps.specs.Opens.{numbers_from, IsFresh}
+use Rattle.table_steps.specs.Opens.{numbers_from, HasLayout, IsFresh}
 use Rattle.table_steps.specs.Passes.{Pass, AtRest, IsPassOf}
 use Rattle.table_steps.specs.declared.kept.Kept.{Kept}
 
@@ -74,3 +74,7 @@ all_keys home keys sizes of numbers layout = record {
   where
     passes : (n : ℕ) → n < home.layout.passes → n < length sizes
     passes n low = subst (λ (z : Layout). n < z.passes) layout low
+
+pub each_layout : (home : Home) (z : Layout) (keys : List Pass) → home.layout ≡ z → Every (IsPassOf home) keys → Every (HasLayout z) keys
+each_layout home z [] layout of = tt
+each_layout home z (key ∷ keys) layout of = (of.0.layout ∙ layout, each_layout home z keys layout of.1)

@@ -4,6 +4,7 @@ use Rattle.index_words.specs.declared.layout.Layout.{Layout}
 use Rattle.index_words.specs.declared.view.View.{View}
 use Rattle.index_words.specs.Views.{empty_view}
 use Rattle.key_map.specs.declared.update.Update.{Update}
+use Rattle.key_map.specs.History.{own_places}
 use Rattle.table_rule.specs.Homes.{Sat}
 use Rattle.table_steps.specs.Passes.{Pass, Extends}
 
@@ -15,6 +16,10 @@ note_view z seen = record (empty_view z) { history = record (empty_view z).histo
 pub record IsNoteOf (p : Pass) (s : Sat) : Type 0 where
   pub id : s.id ≡ p.id
   pub layout : s.view.layout ≡ p.view.layout
+
+-- the places of the pass's own updates are just those at which updates of its number stand in what it has seen
+abbrev pub KnowsOwn : Pass → Type 0
+KnowsOwn p = p.view.history.mine ≡ own_places p.number p.view.history.seen
 
 -- the view has heard of these updates: what it has seen begins with what it had seen, and with them. Its own updates,
 -- its slots, its locks, its snapshot and what it may still do are as they were

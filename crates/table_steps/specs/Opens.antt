@@ -13,6 +13,10 @@ use Rattle.table_steps.specs.declared.kept.Kept.{Kept}
 abbrev pub view_of : Pass → View
 view_of p = p.view
 
+-- the pass has this layout
+abbrev pub HasLayout : Layout → Pass → Type 0
+HasLayout z p = p.view.layout ≡ z
+
 -- the numbers of passes of these sizes, from this one on
 abbrev pub numbers_from : ℕ → List PassSize → List ℕ
 numbers_from number [] = []

@@ -1,107 +1,66 @@
-ghost use Rattle.std.specs.Prelude.{◌≡◌, All, IfOk};
+// Loads of an empty table as rows, each with what it is to find.
+ghost use Rattle.key_map.specs.Lists.{Every};
 ghost use Rattle.table_steps.specs.Passes.{IsPassOf};
 
+use crate::tests::opened;
 use crate::{PassKey, SharedTable};
-use index_words::{Layout, NoMemory, PassSize, Side};
-use std::alloc::Global;
+use index_words::Side;
 use std::test::Fail;
 
-const SIZE: PassSize = PassSize {
-    nodes: 1,
-    entries: 4,
-    calls: 1,
-};
+/// A load of a word of the root by a pass of its own, in its section.
+#[derive(Clone, Copy)]
+enum Load {
+    Head(Side),
+    Key,
+    Val,
+    Mark,
+    /// A try of its lock, which is not given back: 1 where it is won.
+    Lock,
+}
 
-/// A table of four passes.
-fn opened(alloc: Global) -> Result<(SharedTable, Vec<PassKey>), NoMemory>
-    ensures of { IfOk result (λ t. All (IsPassOf t.0) t.1.items) }
+/// What a pass finds.
+fn found(table: &SharedTable, key: PassKey, load: Load) -> u64
+    requires of { IsPassOf table.now key }
 {
-    let sizes = [SIZE; 4];
-    match Layout::new(&sizes) {
-        Some(layout) => SharedTable::open(alloc, &layout, &sizes),
-        None => Err(NoMemory),
+    let mut pass = table.attach(key);
+    pass.enter();
+    match load {
+        Load::Head(side) => u64::from(pass.load_head(0, side)),
+        Load::Key => pass.load_key(0),
+        Load::Val => pass.load_val(0),
+        Load::Mark => u64::from(pass.load_mark(0)),
+        Load::Lock => u64::from(pass.try_lock(0)),
     }
 }
 
-/// The head of the root's bundle on a side, as a pass finds it.
-fn head_of_root(table: &SharedTable, key: PassKey, side: Side) -> u32
-    requires of { IsPassOf table.now key }
+/// How many rows, from the first one on, find what they are to find, each by the next pass.
+fn held(table: &SharedTable, mut keys: Vec<PassKey>, rows: &[(Load, u64)]) -> usize
+    requires of { Every (IsPassOf table.now) keys.items }
 {
-    let mut pass = table.attach(key);
-    pass.enter();
-    pass.load_head(0, side)
+    'rows: for (place, row) in rows.iter().enumerate() {
+        let Some(key) = keys.pop() else {
+            return place;
+        };
+        if found(table, key, row.0) != row.1 {
+            return place;
+        }
+    }
+    rows.len()
 }
 
-/// The root's key as one pass finds it, and its value as another one does.
-fn pair_of_root(table: &SharedTable, key: PassKey, other: PassKey) -> (u64, u64)
-    requires of { IsPassOf table.now key }
-    requires other_of { IsPassOf table.now other }
-{
-    let mut first = table.attach(key);
-    let mut second = table.attach(other);
-    first.enter();
-    second.enter();
-    (first.load_key(0), second.load_val(0))
-}
-
+/// A lock is had by the first pass that tries it.
 #[test]
-fn the_root_of_an_empty_table_has_no_entry(rt: HostRuntime) -> Result<(), Fail> {
-    let (table, mut keys) = opened(rt.alloc())?;
-    let (Some(first), Some(second)) = (keys.pop(), keys.pop()) else {
-        panic!(rt; "a table of four passes has fewer keys")
-    };
-    assert_eq!(rt; head_of_root(&table, first, Side::Left), 0);
-    assert_eq!(rt; head_of_root(&table, second, Side::Right), 0);
-    Ok(())
-}
-
-#[test]
-fn the_root_has_key_0_and_value_0(rt: HostRuntime) -> Result<(), Fail> {
-    let (table, mut keys) = opened(rt.alloc())?;
-    let (Some(first), Some(second)) = (keys.pop(), keys.pop()) else {
-        panic!(rt; "a table of four passes has fewer keys")
-    };
-    assert_eq!(rt; pair_of_root(&table, first, second), (0, 0));
-    Ok(())
-}
-
-/// Whether the root is found marked.
-fn root_is_marked(table: &SharedTable, key: PassKey) -> bool
-    requires of { IsPassOf table.now key }
-{
-    let mut pass = table.attach(key);
-    pass.enter();
-    pass.load_mark(0)
-}
-
-#[test]
-fn the_root_is_not_marked(rt: HostRuntime) -> Result<(), Fail> {
-    let (table, mut keys) = opened(rt.alloc())?;
-    let Some(key) = keys.pop() else {
-        panic!(rt; "a table of four passes has no key")
-    };
-    assert_eq!(rt; root_is_marked(&table, key), false);
-    Ok(())
-}
-
-/// Two passes try the root's lock in turn.
-fn try_in_turn(table: &SharedTable, key: PassKey, other: PassKey) -> (bool, bool)
-    requires of { IsPassOf table.now key }
-    requires other_of { IsPassOf table.now other }
-{
-    let mut first = table.attach(key);
-    let mut second = table.attach(other);
-    first.enter();
-    second.enter();
-    (first.try_lock(0), second.try_lock(0))
-}
-
-#[test]
-fn a_lock_is_had_by_the_first_that_tries_it(rt: HostRuntime) -> Result<(), Fail> {
-    let (table, mut keys) = opened(rt.alloc())?;
-    let (Some(first), Some(second)) = (keys.pop(), keys.pop()) else {
-        panic!(rt; "a table of four passes has fewer keys")
-    };
-    assert_eq!(rt; try_in_turn(&table, first, second), (true, false));
+fn the_root_of_an_empty_table_has_only_zeros(rt: HostRuntime) -> Result<(), Fail> {
+    let (table, keys) = opened(rt.alloc(), 7)?;
+    let rows = [
+        (Load::Head(Side::Left), 0),
+        (Load::Head(Side::Right), 0),
+        (Load::Key, 0),
+        (Load::Val, 0),
+        (Load::Mark, 0),
+        (Load::Lock, 1),
+        (Load::Lock, 0),
+    ];
+    assert_eq!(rt; held(&table, keys, &rows), 7);
     Ok(())
 }

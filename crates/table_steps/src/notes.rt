@@ -1,7 +1,7 @@
 //! Notes: what a pass tells another one of the history.
 ghost use Rattle.std.specs.Prelude.{◌≡◌};
 ghost use Rattle.table_rule.specs.Seats.{Split as SplitHappened};
-ghost use Rattle.table_steps.specs.Notes.{HasHeard, IsNoteOf};
+ghost use Rattle.table_steps.specs.Notes.{HasHeard, IsNoteOf, KnowsOwn};
 ghost use Rattle.table_steps.specs.Passes.{IsSamePass};
 
 use crate::pass::TablePass;
@@ -44,11 +44,13 @@ impl<'t> TablePass<'t> {
         requires { IsNoteOf self.old note }
         ensures same { IsSamePass self.old self.new }
         ensures heard { HasHeard self.old.view note.view.history.seen self.new.view }
+        ensures own { KnowsOwn self.new }
     {
         let Note { seat } = note;
         seat.facts();
         self.seat.facts();
         let table = self.table;
         table.absorb(&mut self.seat, seat);
+        self.seat.facts();
     }
 }

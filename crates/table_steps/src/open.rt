@@ -6,7 +6,7 @@ ghost use Rattle.core_events.specs.Openings.{from_up, pass_view, pass_views};
 ghost use Rattle.table_rule.specs.Homes.{IsOf};
 ghost use Rattle.table_steps.specs.Closes.{AreAllKeys, number_of};
 ghost use Rattle.core_events.specs.Openings.{giving};
-ghost use Rattle.table_steps.specs.Opens.{view_of, numbers_from, IsFresh, IsSmall};
+ghost use Rattle.table_steps.specs.Opens.{view_of, numbers_from, HasLayout, IsFresh, IsSmall};
 ghost use Rattle.table_steps.specs.Passes.{IsPassOf};
 
 use crate::held_words::HeldWords;
@@ -137,7 +137,8 @@ impl SharedTable {
 
     /// Opens a table for passes of these sizes, and takes all memory that its calls use until it is closed. The keys
     /// are all keys of the table, each once, in the order of the sizes: key `i` has the number `i`, and that pass's
-    /// slots and calls. All words are 0.
+    /// slots and calls. The layout of the table and of each key has as many passes as there are sizes, and their nodes,
+    /// entries and calls together. All words are 0.
     pub fn open(
         alloc: Global,
         layout: &Layout,
@@ -146,6 +147,8 @@ impl SharedTable {
         requires fit { FitTable sizes.now }
         requires sums { layout.now ≡ layout_of sizes.now }
         ensures layout { IfOk result (λ t. t.0.layout ≡ layout.now) }
+        ensures sums { IfOk result (λ t. t.0.layout ≡ layout_of sizes.now) }
+        ensures layouts { IfOk result (λ t. Every (HasLayout (layout_of sizes.now)) t.1.items) }
         ensures of { IfOk result (λ t. All (IsPassOf t.0) t.1.items) }
         ensures all { IfOk result (λ t. AreAllKeys t.0 t.1.items) }
         ensures views { IfOk result (λ t. map view_of t.1.items ≡ pass_views layout.now 0 1 1 sizes.now) }

@@ -1,4 +1,5 @@
 ghost use Rattle.std.specs.Prelude.{◌≡◌, All, OnOk, IfOk};
+ghost use Rattle.table_steps.specs.Closes.{AreAllKeys};
 ghost use Rattle.table_steps.specs.Notes.{IsNoteOf};
 ghost use Rattle.table_steps.specs.Passes.{IsPassOf};
 
@@ -15,13 +16,14 @@ const SIZE: PassSize = PassSize {
     calls: 1,
 };
 
-/// A table of four passes.
-fn opened(alloc: Global) -> Result<(SharedTable, Vec<PassKey>), NoMemory>
+/// A table of so many passes.
+pub(crate) fn opened(alloc: Global, passes: usize) -> Result<(SharedTable, Vec<PassKey>), NoMemory>
     ensures of { IfOk result (λ t. All (IsPassOf t.0) t.1.items) }
+    ensures all { IfOk result (λ t. AreAllKeys t.0 t.1.items) }
 {
-    let sizes = [SIZE; 4];
-    match Layout::new(&sizes) {
-        Some(layout) => SharedTable::open(alloc, &layout, &sizes),
+    let sizes = vec![in alloc; SIZE; passes]?;
+    match Layout::new(sizes.as_slice()) {
+        Some(layout) => SharedTable::open(alloc, &layout, sizes.as_slice()),
         None => Err(NoMemory),
     }
 }
@@ -44,7 +46,7 @@ fn work(table: &SharedTable, key: PassKey, turns: u32) -> (PassKey, u32)
 
 #[test]
 fn four_passes_enter_and_leave_at_once(rt: HostRuntime) -> Result<(), Fail> {
-    let (table, keys) = opened(rt.alloc())?;
+    let (table, keys) = opened(rt.alloc(), 4)?;
     let done = map_vec(
         &rt,
         keys,
@@ -55,6 +57,17 @@ fn four_passes_enter_and_leave_at_once(rt: HostRuntime) -> Result<(), Fail> {
     for zeros in done.iter() {
         assert_eq!(rt; *zeros, 1000);
     }
+    Ok(())
+}
+
+/// `bench/steps` times it.
+#[test]
+fn a_pass_enters_and_leaves_ten_million_times(rt: HostRuntime) -> Result<(), Fail> {
+    let (table, mut keys) = opened(rt.alloc(), 2)?;
+    let Some(key) = keys.pop() else {
+        panic!(rt; "a table of two passes has no key")
+    };
+    assert_eq!(rt; work(&table, key, 10_000_000).1, 10_000_000);
     Ok(())
 }
 
@@ -108,7 +121,7 @@ fn exchange<R: Threads + Sync>(rt: &R, table: &SharedTable, first: PassKey, seco
 
 #[test]
 fn passes_hear_each_other_on_threads(rt: HostRuntime) -> Result<(), Fail> {
-    let (table, mut keys) = opened(rt.alloc())?;
+    let (table, mut keys) = opened(rt.alloc(), 4)?;
     let (Some(first), Some(second)) = (keys.pop(), keys.pop()) else {
         panic!(rt; "a table of four passes has fewer keys")
     };
@@ -120,31 +133,33 @@ fn passes_hear_each_other_on_threads(rt: HostRuntime) -> Result<(), Fail> {
 fn a_table_of_two_passes_without_updates_closes_to_the_empty_history(
     rt: HostRuntime,
 ) -> Result<(), Fail> {
-    let sizes = [SIZE; 2];
-    let Some(layout) = Layout::new(&sizes) else {
-        panic!(rt; "two passes are no table")
+    let (table, keys) = opened(rt.alloc(), 2)?;
+    let length = match table.close(rt.alloc(), keys) {
+        Ok(history) => history.len(),
+        Err(_) => 1,
     };
-    let (table, keys) = SharedTable::open(rt.alloc(), &layout, &sizes)?;
-    match table.close(rt.alloc(), keys) {
-        Ok(history) => assert_eq!(rt; history.len(), 0),
-        Err(_) => panic!(rt; "there was no memory for an empty history"),
-    }
+    assert_eq!(rt; length, 0);
     Ok(())
 }
 
-#[test]
-fn keeps_heads_and_nexts_of_locked_nodes(rt: HostRuntime) -> Result<(), Fail> {
-    let mut held = HeldWords::with_room(rt.alloc(), 2, 3)?;
-    assert!(rt; !held.has_any());
+/// What is kept of a locked node with two heads and a next: whether anything is, before and behind, and these three.
+fn kept(alloc: Global) -> Result<(bool, bool, [u32; 3]), NoMemory> {
+    let mut held = HeldWords::with_room(alloc, 2, 3)?;
+    let before = held.has_any();
     held.add_lock(true);
     held.record_head(2, Side::Left, 3);
     held.record_head(2, Side::Right, 1);
     held.record_next(3, 2);
-    assert!(rt; held.has_any());
-    assert_eq!(rt; held.head(2, Side::Left), 3);
-    assert_eq!(rt; held.head(2, Side::Right), 1);
-    assert_eq!(rt; held.next(3), 2);
-    held.clear();
-    assert!(rt; !held.has_any());
+    let words = [
+        held.head(2, Side::Left),
+        held.head(2, Side::Right),
+        held.next(3),
+    ];
+    Ok((before, held.has_any(), words))
+}
+
+#[test]
+fn keeps_heads_and_nexts_of_locked_nodes(rt: HostRuntime) -> Result<(), Fail> {
+    assert_eq!(rt; kept(rt.alloc())?, (false, true, [3, 1, 2]));
     Ok(())
 }

@@ -27,6 +27,8 @@ pub use settle::{Settling, try_settle};
 pub use trying::{Try, try_put};
 
 #[cfg(test)]
+mod settle_tests;
+#[cfg(test)]
 mod stopped_tests;
 #[cfg(test)]
 mod tests;

@@ -10,10 +10,10 @@ use std::sync::Wait;
 use std::test::Fail;
 use table_steps::{PassKey, SharedTable, TablePass};
 
-/// A table of two passes, of these sizes.
+/// A table of passes of these sizes.
 pub(crate) fn opened(
     alloc: Global,
-    sizes: &[PassSize; 2],
+    sizes: &[PassSize],
 ) -> Result<(SharedTable, Vec<PassKey>), NoMemory>
     ensures of { IfOk result (λ t. All (IsPassOf t.0) t.1.items) }
 {
@@ -45,13 +45,13 @@ const TWO_NODES: PassSize = PassSize {
 
 /// An update: the value to be put, or None for a removal, and the answer that it is to have.
 #[derive(Clone, Copy)]
-struct Row {
+pub(crate) struct Row {
     key: u64,
     val: Option<u64>,
     answer: Result<Done, PassError>,
 }
 
-fn put_row(key: u64, val: u64, answer: Result<Done, PassError>) -> Row {
+pub(crate) fn put_row(key: u64, val: u64, answer: Result<Done, PassError>) -> Row {
     Row {
         key,
         val: Some(val),
@@ -59,7 +59,7 @@ fn put_row(key: u64, val: u64, answer: Result<Done, PassError>) -> Row {
     }
 }
 
-fn remove_row(key: u64, answer: Result<Done, PassError>) -> Row {
+pub(crate) fn remove_row(key: u64, answer: Result<Done, PassError>) -> Row {
     Row {
         key,
         val: None,
@@ -72,7 +72,7 @@ pub(crate) fn done(at: u64, was: bool) -> Result<Done, PassError> {
 }
 
 /// Makes the row's update, and tells whether it has the row's answer.
-fn has_answer<R: Wait>(pass: &mut TablePass<'_>, rt: &R, row: &Row) -> bool
+pub(crate) fn has_answer<R: Wait>(pass: &mut TablePass<'_>, rt: &R, row: &Row) -> bool
     requires rest { AtRest pass.old.view }
     ensures rest { AtRest pass.new.view }
 {

@@ -11,8 +11,8 @@ use Rattle.bucketidx.proofs.writing.write_journal.Goals as goal
 pub loop-update-init : goal.loop-update-init
 loop-update-init g c = record { taken = taken_nothing _; quiet = refl; place = refl }
 
-pub returns-in_err-line-clause-start : goal.returns-in_err-line-clause-start
-returns-in_err-line-clause-start g c = λ stop is.
+pub returns-in_err-fill_with_update-clause-start : goal.returns-in_err-fill_with_update-clause-start
+returns-in_err-fill_with_update-clause-start g c = λ stop is.
     first_updates c.args.dir.now c.args.updates.now c.loop-update.update-index _ _ (all_started _ _ _ c.loop-update.invariant.taken)
 
 pub returns-in_err-write_all-clause-fault : goal.returns-in_err-write_all-clause-fault
@@ -20,15 +20,15 @@ returns-in_err-write_all-clause-fault g c = λ is. c.in_err-write_all.ensures.fa
 
 pub returns-in_err-write_all-clause-start : goal.returns-in_err-write_all-clause-start
 returns-in_err-write_all-clause-start g c = λ stop is.
-    journal_started c.args.dir.now c.args.updates.now c.loop-update.update-index _ (record { client = 0; line = 0; key = 0; change = Put 0 }) _ c.bytes.result.now _ _ _
-    c.loop-update-test.true refl (omega (arith, c.loop-update.invariant.place)) (c.bytes.ensures.value ∙ c.in_ok-line.ensures.text) c.loop-update.invariant.taken
+    journal_started c.args.dir.now c.args.updates.now c.loop-update.update-index _ (record { client = 0; line = 0; key = 0; change = Put 0 }) _ c.as_bytes.result.now _ _ _
+    c.loop-update-test.true refl (omega (arith, c.loop-update.invariant.place)) (c.as_bytes.ensures.value ∙ c.as_str.ensures.value ∙ c.in_ok-fill_with_update.ensures) c.loop-update.invariant.taken
     c.in_err-write_all.ensures.start
 
 pub loop-update-preserved : goal.loop-update-preserved
 loop-update-preserved g c = record {
   taken =
-      journal_taken c.args.dir.now c.args.updates.now c.loop-update.update-index _ (record { client = 0; line = 0; key = 0; change = Put 0 }) _ c.bytes.result.now _ _ _ c.loop-update-test.true
-      refl (omega (arith, c.loop-update.invariant.place)) (c.bytes.ensures.value ∙ c.in_ok-line.ensures.text) c.loop-update.invariant.taken c.in_ok-write_all.ensures.all;
+      journal_taken c.args.dir.now c.args.updates.now c.loop-update.update-index _ (record { client = 0; line = 0; key = 0; change = Put 0 }) _ c.as_bytes.result.now _ _ _ c.loop-update-test.true
+      refl (omega (arith, c.loop-update.invariant.place)) (c.as_bytes.ensures.value ∙ c.as_str.ensures.value ∙ c.in_ok-fill_with_update.ensures) c.loop-update.invariant.taken c.in_ok-write_all.ensures.all;
   quiet = c.in_ok-write_all.ensures.quiet ∙ c.loop-update.invariant.quiet;
   place = omega (arith, c.loop-update.invariant.place);
 }

@@ -10,8 +10,8 @@ use Rattle.bucketidx.proofs.writing.write_replies.Goals as goal
 pub loop-placed-init : goal.loop-placed-init
 loop-placed-init g c = record { taken = taken_nothing _; quiet = refl }
 
-pub returns-in_err-line-clause-start : goal.returns-in_err-line-clause-start
-returns-in_err-line-clause-start g c = λ stop is.
+pub returns-in_err-fill_with_reply-clause-start : goal.returns-in_err-fill_with_reply-clause-start
+returns-in_err-fill_with_reply-clause-start g c = λ stop is.
     first_replies c.args.dir.now c.args.records.now c.args.replies.now c.loop-placed.placed-index _ _ (all_started _ _ _ c.loop-placed.invariant.taken)
 
 pub returns-in_err-write_all-clause-fault : goal.returns-in_err-write_all-clause-fault
@@ -19,14 +19,14 @@ returns-in_err-write_all-clause-fault g c = λ is. c.in_err-write_all.ensures.fa
 
 pub returns-in_err-write_all-clause-start : goal.returns-in_err-write_all-clause-start
 returns-in_err-write_all-clause-start g c = λ stop is.
-    reply_started c.args.dir.now c.args.records.now c.args.replies.now c.loop-placed.placed-index c.placed-item.result c.bytes.result.now _ _ _ c.loop-placed-test.true
-    c.placed-item.is (c.bytes.ensures.value ∙ c.in_ok-line.ensures.text) c.loop-placed.invariant.taken c.in_err-write_all.ensures.start
+    reply_started c.args.dir.now c.args.records.now c.args.replies.now c.loop-placed.placed-index c.placed-item.result c.as_bytes.result.now _ _ _ c.loop-placed-test.true
+    c.placed-item.is (c.as_bytes.ensures.value ∙ c.as_str.ensures.value ∙ c.in_ok-fill_with_reply.ensures) c.loop-placed.invariant.taken c.in_err-write_all.ensures.start
 
 pub loop-placed-preserved : goal.loop-placed-preserved
 loop-placed-preserved g c = record {
   taken =
-      reply_taken c.args.dir.now c.args.records.now c.args.replies.now c.loop-placed.placed-index c.placed-item.result c.bytes.result.now _ _ _ c.loop-placed-test.true
-      c.placed-item.is (c.bytes.ensures.value ∙ c.in_ok-line.ensures.text) c.loop-placed.invariant.taken c.in_ok-write_all.ensures.all;
+      reply_taken c.args.dir.now c.args.records.now c.args.replies.now c.loop-placed.placed-index c.placed-item.result c.as_bytes.result.now _ _ _ c.loop-placed-test.true
+      c.placed-item.is (c.as_bytes.ensures.value ∙ c.as_str.ensures.value ∙ c.in_ok-fill_with_reply.ensures) c.loop-placed.invariant.taken c.in_ok-write_all.ensures.all;
   quiet = c.in_ok-write_all.ensures.quiet ∙ c.loop-placed.invariant.quiet;
 }
 

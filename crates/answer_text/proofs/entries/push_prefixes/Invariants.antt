@@ -1,0 +1,11 @@
+use Rattle.std.proofs.Common.{◌≡◌, ◌++◌, false, drop, string_bytes}
+use Rattle.std.specs.List.{filter_map}
+use Rattle.serde_json.specs.View.{items_of}
+use Rattle.serde_json.specs.Written.{items_text}
+use Rattle.answer_text.specs.Lines.{prefix_of}
+use Rattle.answer_text.proofs.entries.push_prefixes.Given as goal
+
+abbrev pub invariant-loop-entry : goal.invariant-loop-entry
+invariant-loop-entry l =
+    string_bytes l.out ++ items_text l.later (items_of (filter_map (prefix_of l.dir l.url) (drop l.entry-index l.entries)))
+    ≡ string_bytes l.fn.out ++ items_text false (items_of (filter_map (prefix_of l.dir l.url) l.entries))

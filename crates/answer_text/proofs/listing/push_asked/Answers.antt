@@ -1,0 +1,19 @@
+use Rattle.std.proofs.Common.{◌≡◌, ◌++◌, codes, string_bytes}
+use Rattle.std.proofs.lemmas.Result.{on_ok_weaker}
+use Rattle.answer_text.specs.Escaping.{shown}
+use Rattle.answer_text.specs.Lines.{is_given}
+use Rattle.answer_text.specs.Pieces as spec
+use Rattle.answer_text.proofs.Joined.{joined}
+use Rattle.answer_text.proofs.listing.push_asked.Goals as goal
+
+pub returns : goal.returns
+unfolding spec.asked_text
+returns c =
+    let q = c.args.query.now in
+    let token : string_bytes c.push_given.new.out ≡ string_bytes c.args.out.now ++ (spec.given_text (is_given q.token) (codes ",\"ContinuationToken\":") q.token) =
+    rw (c.is_given.ensures, c.as_str-2.ensures) at c.in_ok-push_given.ensures in
+    let delimiter : string_bytes c.push_given-2.new.out ≡ string_bytes c.push_given.new.out ++ (spec.given_text (is_given q.delimiter) (codes ",\"Delimiter\":") (shown q.url q.delimiter)) =
+    rw (c.is_given-2.ensures, c.as_str-3.ensures.value, c.in_ok-delimiter.ensures, c.as_str.ensures) at c.in_ok-push_given-2.ensures in
+    on_ok_weaker c.push_given-3.result
+    (λ url. joined (string_bytes c.args.out.now) (string_bytes c.push_given.new.out) (string_bytes c.push_given-3.new.out) ((spec.given_text (is_given q.token) (codes ",\"ContinuationToken\":") q.token)) (((spec.given_text (is_given q.delimiter) (codes ",\"Delimiter\":") (shown q.url q.delimiter)) ++ (spec.given_text q.url (codes ",\"EncodingType\":") (codes "url")))) token (joined (string_bytes c.push_given.new.out) (string_bytes c.push_given-2.new.out) (string_bytes c.push_given-3.new.out) ((spec.given_text (is_given q.delimiter) (codes ",\"Delimiter\":") (shown q.url q.delimiter))) ((spec.given_text q.url (codes ",\"EncodingType\":") (codes "url"))) delimiter url))
+    c.push_given-3.ensures

@@ -1,0 +1,151 @@
+-- What clap reads of the words of each form.
+use Rattle.std.proofs.Common.{◌≡◌, ℕ, ◌<◌, ◌≤◌, ◌^◌, true, Bool, List, [], ◌∷◌, codes, length, get_or, Option, Some, None, refl, subst, sym, ap, ◌∙◌, inl, inr, arith}
+use Rattle.std.specs.Fmt.{decimal}
+use Rattle.std.specs.Option.{option_map}
+use Rattle.std.specs.Char.{is_ascii_digit}
+use Rattle.std.specs.Str.{all_ascii_digits}
+use Rattle.std.specs.Prelude.{◌&&◌}
+use Rattle.std.specs.Str.Parse.{digits_value}
+use Rattle.std.proofs.lemmas.Bool.{cases_lt}
+use Rattle.std.proofs.lemmas.Bool.Decides.{nat_tests}
+use Rattle.std.proofs.lemmas.Fmt.{first_decimal, decimal_nonempty, digits_decimal}
+use Rattle.std.proofs.lemmas.Str.Parse.{IsNumeralModel, numerals_by_value, tells_all_ascii_digits}
+use Rattle.std.specs.Box.{box_value}
+use Rattle.clap.specs.Matches.{found_of}
+use Rattle.clap.specs.Walk.{rows_of}
+use Rattle.clap.specs.Words.{Row, Text, first_of, is_simple, subcommand_name_of, subcommand_of, subcommand_rows_of, takes}
+use Rattle.clap.specs.declared.parser.matches.ArgMatches.{ArgMatches}
+use Rattle.clap.specs.declared.parser.matches.ArgMatches.TheViews.{out-ArgMatches, out-SubCommand}
+use Rattle.clap.proofs.OnLiterals.{clap_on_literals}
+use Rattle.command_words.specs.declared.form.Form.{Form}
+use Rattle.command_words.specs.declared.form.Form.TheVariants.{Run, Sample}
+use Rattle.command_words.specs.Program.{program, read_of}
+use Rattle.command_words.specs.Words.{IsForm}
+
+pub program_simple : is_simple program ≡ true
+unfolding clap_on_literals
+program_simple = refl
+
+takes_run : takes program (codes "run" ∷ []) ≡ true
+unfolding clap_on_literals
+takes_run = refl
+
+pub reads_run : option_map (λ p. p.0) (read_of (subcommand_of program (codes "run" ∷ []))) ≡ Some (codes "run")
+unfolding clap_on_literals
+reads_run = refl
+
+-- ---- a number is one of nine digits and others behind it
+
+abbrev sample_words : List ℕ → List (List ℕ)
+sample_words number = codes "sample" ∷ number ∷ []
+
+-- one of nine digits
+nine : (P : ℕ → Type 0) → P 49 → P 50 → P 51 → P 52 → P 53 → P 54 → P 55 → P 56 → P 57 → (d : ℕ) → 48 < d → d < 58 → P d
+nine P p49 p50 p51 p52 p53 p54 p55 p56 p57 d low high =
+    elim (cases_lt d 50) [
+      | inl below ↦ let is : 49 ≡ d = omega arith in subst P is p49
+      | inr above ↦
+          elim (cases_lt d 51) [
+            | inl below ↦ let is : 50 ≡ d = omega arith in subst P is p50
+            | inr above ↦
+                elim (cases_lt d 52) [
+                  | inl below ↦ let is : 51 ≡ d = omega arith in subst P is p51
+                  | inr above ↦
+                      elim (cases_lt d 53) [
+                        | inl below ↦ let is : 52 ≡ d = omega arith in subst P is p52
+                        | inr above ↦
+                            elim (cases_lt d 54) [
+                              | inl below ↦ let is : 53 ≡ d = omega arith in subst P is p53
+                              | inr above ↦
+                                  elim (cases_lt d 55) [
+                                    | inl below ↦ let is : 54 ≡ d = omega arith in subst P is p54
+                                    | inr above ↦
+                                        elim (cases_lt d 56) [
+                                          | inl below ↦ let is : 55 ≡ d = omega arith in subst P is p55
+                                          | inr above ↦
+                                              elim (cases_lt d 57) [
+                                                | inl below ↦ let is : 56 ≡ d = omega arith in subst P is p56
+                                                | inr above ↦
+                                                    let is : 57 ≡ d = omega arith in subst P is p57
+                                              ]
+                                        ]
+                                  ]
+                            ]
+                      ]
+                ]
+          ]
+    ]
+
+takes_digits : (digits : List ℕ) (d : ℕ) → 48 < d → d < 58 → takes program (sample_words (d ∷ digits)) ≡ true
+unfolding clap_on_literals
+takes_digits digits = nine (λ d. takes program (sample_words (d ∷ digits)) ≡ true) refl refl refl refl refl refl refl refl refl
+
+reads_digits : (digits : List ℕ) (d : ℕ) → 48 < d → d < 58 → read_of (subcommand_of program (sample_words (d ∷ digits))) ≡ Some (codes "sample", Some (d ∷ digits))
+unfolding clap_on_literals
+reads_digits digits = nine (λ d. read_of (subcommand_of program (sample_words (d ∷ digits))) ≡ Some (codes "sample", Some (d ∷ digits))) refl refl refl refl refl refl refl refl refl
+
+numerals : IsNumeralModel (λ digits. all_ascii_digits digits ≡ true) (digits_value 10)
+numerals = numerals_by_value _ tells_all_ascii_digits
+
+-- the first digit of a number above 0
+record BeginsWithDigit (text : List ℕ) : Type 0 where
+  d : ℕ
+  digits : List ℕ
+  is : text ≡ d ∷ digits
+  low : 48 < d
+  high : d < 58
+
+first_digit : (text : List ℕ) → 0 < length text → 48 < get_or text 0 0 → all_ascii_digits text ≡ true → BeginsWithDigit text
+first_digit [] some first all = absurd (omega arith)
+first_digit (d ∷ digits) some first all = record { d = d; digits = digits; is = refl; low = first; high = below (all_ascii_digits digits) all }
+  where
+    below : (rest : Bool) → (is_ascii_digit d && rest) ≡ true → d < 58
+    below rest both = grind (arith, nat_tests)
+
+decimal_digit_first : (n : ℕ) → 0 < n → n < 2 ^ 64 → BeginsWithDigit (decimal n)
+decimal_digit_first n some small = first_digit (decimal n) (decimal_nonempty n small) (first_decimal n some small) (digits_decimal numerals n small)
+
+takes_number : (text : List ℕ) → BeginsWithDigit text → takes program (sample_words text) ≡ true
+takes_number text first = ap (λ (t : List ℕ). takes program (sample_words t)) first.is ∙ takes_digits first.digits first.d first.low first.high
+
+reads_number : (text : List ℕ) → BeginsWithDigit text → read_of (subcommand_of program (sample_words text)) ≡ Some (codes "sample", Some text)
+reads_number text first =
+    ap (λ (t : List ℕ). read_of (subcommand_of program (sample_words t))) first.is ∙ reads_digits first.digits first.d first.low first.high
+    ∙ ap (λ (t : List ℕ). Some (codes "sample", Some t)) (sym first.is)
+
+pub reads_sample : (n : ℕ) → 0 < n → n ≤ 40000 → read_of (subcommand_of program (sample_words (decimal n))) ≡ Some (codes "sample", Some (decimal n))
+reads_sample n some most = reads_number (decimal n) (decimal_digit_first n some (omega arith))
+
+-- clap takes the words of each form
+pub takes_form : (words : List (List ℕ)) (form : Form) → IsForm words form → takes program words ≡ true
+takes_form words Run is = ap (takes program) is ∙ takes_run
+takes_form words (Sample n) is = ap (takes program) is.spelled ∙ takes_number (decimal n) (decimal_digit_first n is.some (omega (arith, is.most)))
+
+-- ---- from the matches to what is read
+
+sub_read : {B : Type 0} (f : B → Text × List Row) (o : Option B) (name : Text) (inner : List Row) (word : Text) (number : Option Text)
+    → option_map (λ b. (f b).0) o ≡ Some name → option_map (λ p. p.1) (option_map f o) ≡ Some inner
+    → read_of (option_map f o) ≡ Some (word, number) → (name ≡ word) × (first_of (codes "number") inner ≡ number)
+sub_read f None name inner word number is_name is_inner is_read = absurd cc
+sub_read f (Some b) name inner word number is_name is_inner is_read =
+    let all : ◌≡◌ {A = Text × Option Text} ((f b).0, first_of (codes "number") (f b).1) (word, number) = cc in
+    let pair : (f b).0 ≡ word = ap (λ (p : Text × Option Text). p.0) all in
+    let value : first_of (codes "number") (f b).1 ≡ number = ap (λ (p : Text × Option Text). p.1) all in
+    let row : (f b).1 ≡ inner = cc in
+    (cc, ap (first_of (codes "number")) (sym row) ∙ value)
+
+pub rows_read : (m : ArgMatches) (name : Text) (inner : List Row) (word : Text) (number : Option Text)
+    → subcommand_name_of m ≡ Some name → option_map (λ p. p.1) (subcommand_rows_of m) ≡ Some inner
+    → read_of (subcommand_rows_of m) ≡ Some (word, number) → (name ≡ word) × (first_of (codes "number") inner ≡ number)
+rows_read m name inner word number =
+    sub_read (λ b. ((out-SubCommand (box_value b)).name.now, rows_of (found_of (out-SubCommand (box_value b)).matches))) (out-ArgMatches m).subcommand name inner word number
+
+-- the form of the words is read
+pub form_read : (words : List (List ℕ)) (m : ArgMatches) (result : Option Form) (form : Form) → subcommand_rows_of m ≡ subcommand_of program words
+    → (option_map (λ p. p.0) (read_of (subcommand_rows_of m)) ≡ Some (codes "run") → result ≡ Some Run)
+    → ((n : ℕ) → read_of (subcommand_rows_of m) ≡ Some (codes "sample", Some (decimal n)) → n ≤ 40000 → result ≡ Some (Sample n))
+    → IsForm words form → result ≡ Some form
+form_read words m result Run rows run sample is =
+    run (ap (λ r. option_map (λ p. p.0) (read_of r)) rows ∙ ap (λ (ws : List (List ℕ)). option_map (λ p. p.0) (read_of (subcommand_of program ws))) is ∙ reads_run)
+form_read words m result (Sample n) rows run sample is =
+    sample n (ap read_of rows ∙ ap (λ (ws : List (List ℕ)). read_of (subcommand_of program ws)) is.spelled ∙ reads_sample n is.some is.most) is.most

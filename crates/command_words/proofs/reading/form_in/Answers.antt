@@ -1,0 +1,13 @@
+use Rattle.std.proofs.Common.{◌≡◌, ◌∙◌, ℕ, sym, ap, codes, Some}
+use Rattle.std.specs.Fmt.{decimal}
+use Rattle.clap.specs.Matches.{found_of}
+use Rattle.clap.specs.Walk.{rows_of}
+use Rattle.clap.proofs.WalkLemmas.{first_value-rows}
+use Rattle.command_words.proofs.ClapReads.{rows_read}
+use Rattle.command_words.proofs.reading.form_in.Goals as goal
+
+pub returns-in-Some-clause-sample : goal.returns-in-Some-clause-sample
+returns-in-Some-clause-sample c = λ n is most.
+    let read = rows_read c.args.matches.now c.in-Some.name.now (rows_of (found_of c.in-Some.inner.now)) (codes "sample") (Some (decimal n))
+    (sym c.in-Some.ensures.name) (sym c.in-Some.ensures.rows) is in
+    c.form_named.ensures.sample n read.0 (c.get_str.ensures ∙ first_value-rows (found_of c.in-Some.inner.now) (codes "number") ∙ read.1) most

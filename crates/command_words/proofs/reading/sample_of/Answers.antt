@@ -1,0 +1,13 @@
+use Rattle.std.proofs.Common.{◌≡◌, ℕ, arith}
+use Rattle.std.proofs.lemmas.Fmt.{parse-decimal}
+use Rattle.command_words.proofs.reading.sample_of.Goals as goal
+
+pub returns-in-Ok : goal.returns-in-Ok
+returns-in-Ok c = λ n is most.
+    let read = parse-decimal 32 n c.args.number.now c.parse.result (omega arith) (omega arith) is c.parse.ensures.value.0 in
+    cc
+
+pub returns-in-Err : goal.returns-in-Err
+returns-in-Err c = λ n is most.
+    let read = parse-decimal 32 n c.args.number.now c.parse.result (omega arith) (omega arith) is c.parse.ensures.value.0 in
+    cc

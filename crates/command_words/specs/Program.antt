@@ -1,0 +1,26 @@
+-- Helper: the headline does not rest on this file.
+-- The command that `clap` is given, and what it reads of words.
+use Rattle.std.specs.Prelude.{◌≡◌, true, List, ℕ, [], ◌∷◌, codes, Option, Some, None}
+use Rattle.std.specs.Option.{option_map, option_and_then}
+use Rattle.clap.specs.Words.{App, Row, Rule, Text, first_of, new_app, new_rule, with_rule, with_subcommand}
+
+-- the number of `sample`, which is required
+abbrev pub number_rule : Rule
+number_rule = record (new_rule (codes "number")) { required = true }
+
+abbrev pub run_app : App
+run_app = new_app (codes "run")
+
+abbrev pub sample_app : App
+sample_app = with_rule (new_app (codes "sample")) number_rule
+
+-- no program's name stands in front of the words
+abbrev pub bare_app : App
+bare_app = record (new_app (codes "bucketidx")) { top = record (new_app (codes "bucketidx")).top { no_binary_name = true } }
+
+abbrev pub program : App
+program = with_subcommand (with_subcommand bare_app run_app.top) sample_app.top
+
+-- the word of a subcommand and the number behind it, where it has one
+abbrev pub read_of : Option (Text × List Row) → Option (Text × Option Text)
+read_of = option_map (λ p. (p.0, first_of (codes "number") p.1))

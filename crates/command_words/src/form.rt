@@ -1,0 +1,33 @@
+// The forms of the program.
+ghost use Rattle.std.specs.Prelude.{IfOk, MatchOption};
+ghost use Rattle.command_words.specs.declared.form.Form.{Form as TheForm};
+ghost use Rattle.command_words.specs.Words.{IsForm};
+
+use crate::reading::read_words;
+use crate::spelling::is_spelled;
+use key_names::{NoMemory, Text};
+use std::alloc::Global;
+
+/// What the program is asked to do.
+#[derive(Clone, Copy, Debug, PartialEq, Eq)]
+pub enum Form {
+    /// `run`: runs the session on standard input.
+    Run,
+    /// `sample N`: runs the generated session, with so many requests of each client.
+    Sample(u32),
+}
+
+/// The form of these words, which stand behind the program's name, or None where they are none.
+///
+/// ```
+/// let words = [Text::of(alloc, "sample")?, Text::of(alloc, "7")?];
+/// assert_eq!(rt; form_of(alloc, &words)?, Some(Form::Sample(7)));
+/// ```
+pub fn form_of(alloc: Global, words: &[Text]) -> Result<Option<Form>, NoMemory>
+    ensures form { IfOk result (λ found. MatchOption found ((form : TheForm) → ¬ (IsForm words.now form)) (IsForm words.now)) }
+{
+    match read_words(alloc, words)? {
+        Some(form) if is_spelled(alloc, words, form)? => Ok(Some(form)),
+        _ => Ok(None),
+    }
+}

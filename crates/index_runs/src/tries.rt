@@ -1,0 +1,81 @@
+// Passes that put by single tries, which wait for nobody, and count what they meet.
+ghost use Rattle.std.specs.Prelude.{◌≡◌, None};
+ghost use Rattle.shared_index.specs.Keys.{home_of_pass};
+ghost use Rattle.shared_index.specs.Shown.{shown};
+ghost use Rattle.index_runs.specs.Runs.{GoesOn};
+
+use crate::random::Random;
+use crate::work::{Event, Plan};
+use bucket_terms::KeyPass;
+use key_map::PassError;
+use shared_index::{IndexPass, Try};
+use std::alloc::{AllocError, Global};
+
+/// How many tries have met what another pass was doing.
+#[derive(Clone, Copy, Default, Drop)]
+pub(crate) struct Met {
+    pub(crate) busy: u32,
+    pub(crate) moved: u32,
+    pub(crate) pending: u32,
+}
+
+impl Met {
+    fn count(&mut self, tried: Try) {
+        let count = match tried {
+            Try::Done(_) => return,
+            Try::Busy => &mut self.busy,
+            Try::Moved => &mut self.moved,
+            Try::Pending => &mut self.pending,
+        };
+        *count = count.saturating_add(1);
+    }
+}
+
+/// Tries as many puts as the plan has requests. Answers those that were made, and what the others have met.
+pub(crate) fn try_puts(
+    alloc: Global,
+    pass: &mut IndexPass<'_>,
+    plan: &Plan,
+) -> Result<Vec<Event>, AllocError>
+    requires closed { (shown pass.old).opened ≡ None }
+    ensures goes { GoesOn (shown pass.old) (shown pass.new) }
+    ensures home { home_of_pass pass.new ≡ home_of_pass pass.old }
+{
+    let mut events = Vec::new(alloc);
+    let mut met = Met::default();
+    let mut random = Random::of(plan.seed.wrapping_add(u64::from(pass.client())));
+    'tries: for line in 1..=plan.requests {
+        let key = random.below(plan.keys);
+        let val = random.below(1_000_000);
+        match try_put(pass, line, key, val) {
+            Ok(Try::Done(done)) => events.push(Event::Put {
+                line,
+                key,
+                val,
+                done,
+            })?,
+            Ok(tried) => met.count(tried),
+            // No slot is free: those that were taken out may be.
+            Err(_) => {
+                pass.try_settle();
+            }
+        }
+    }
+    events.push(Event::Met(met))?;
+    Ok(events)
+}
+
+/// One try of a put, which leaves no snapshot open.
+fn try_put(pass: &mut IndexPass<'_>, line: u32, key: u64, val: u64) -> Result<Try, PassError>
+    requires closed { (shown pass.old).opened ≡ None }
+    ensures goes { GoesOn (shown pass.old) (shown pass.new) }
+    ensures home { home_of_pass pass.new ≡ home_of_pass pass.old }
+{
+    match pass.try_put(line, key, val) {
+        Ok(Try::Done(done)) => Ok(Try::Done(done)),
+        Ok(Try::Busy) => Ok(Try::Busy),
+        Ok(Try::Moved) => Ok(Try::Moved),
+        Ok(Try::Pending) => Ok(Try::Pending),
+        Err(error) => Err(error),
+    }
+}

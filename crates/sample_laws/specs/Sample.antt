@@ -1,0 +1,52 @@
+-- The summary of the generated session, as a function of the number of requests alone.
+use Rattle.std.specs.Prelude.{ℕ, zero, suc, ◌+◌, ◌*◌, ◌%◌, ◌==◌, cond, min, List, [], length, map, if◌then◌else◌}
+use Rattle.key_map.specs.declared.pair.Pair.{Pair}
+use Rattle.key_map.specs.Map.{map_has, map_put, map_remove}
+use Rattle.bucket_terms.specs.declared.summary.Summary.{Summary}
+use Rattle.bucket_terms.specs.LegalRun.{RequestLine}
+use Rattle.request_lines.specs.Sample.{sample_clients}
+use Rattle.request_lines.specs.SampleSession.{sample_session}
+use Rattle.request_lines.specs.Session.{request_lines}
+
+-- the requests of the four clients, with their lines
+abbrev pub sample_parts : ℕ → List (List RequestLine)
+sample_parts n = map request_lines (sample_session n).clients
+
+-- what a client has done: the map, whose keys are the numbers in its names, the entries that it was told, and its updates
+pub record Done : Type 0 where
+  pub pairs : List Pair
+  pub listed : ℕ
+  pub updates : ℕ
+
+-- the number in the name of a client's request
+abbrev pub sample_number : ℕ → ℕ
+sample_number i = 389 * i % 1001
+
+abbrev pub done_put : ℕ → Done → Done
+done_put i done = record { pairs = map_put (sample_number i) i done.pairs; listed = done.listed; updates = done.updates + 1 }
+
+-- a removal of an absent key is no update
+abbrev pub done_delete : ℕ → Done → Done
+done_delete i done = record {
+  pairs = map_remove (sample_number i) done.pairs;
+  listed = done.listed;
+  updates = done.updates + cond (map_has (sample_number i) done.pairs) 1 0;
+}
+
+abbrev pub done_list : Done → Done
+done_list done = record { pairs = done.pairs; listed = done.listed + min 100 (length done.pairs); updates = done.updates }
+
+-- after the first requests of one client alone, on an empty map
+unfoldable pub sample_done : ℕ → Done
+sample_done zero = record { pairs = []; listed = 0; updates = 0 }
+sample_done (suc i) =
+    if i % 4 == 2 then done_delete i (sample_done i) else if i % 4 == 3 then done_list (sample_done i) else done_put i (sample_done i)
+
+-- the sums over the clients, each of them alone: the four do the same, each on names of its own
+unfoldable pub sample_summary : ℕ → Summary
+sample_summary n = record {
+  keys = sample_clients * length (sample_done n).pairs;
+  listed = sample_clients * (sample_done n).listed;
+  requests = sample_clients * n;
+  updates = sample_clients * (sample_done n).updates;
+}

@@ -1,0 +1,52 @@
+-- Helper: the clauses of the crate's calls do not rest on this file.
+-- The first put of a table of two passes by single steps, as a test makes it: what the pass's view is at its stages.
+use Rattle.std.specs.Prelude.{◌≡◌, List, [], ◌∷◌, true, false}
+use Rattle.index_words.specs.declared.layout.Layout.{Layout}
+use Rattle.index_words.specs.declared.side.Side.TheVariants.{Left, Right}
+use Rattle.index_words.specs.declared.view.View.{View}
+use Rattle.index_words.specs.declared.word.Field.TheVariants.{Key, Val, Mark, Head}
+use Rattle.index_words.specs.declared.word.Part.TheVariants.{Child, Stamp as Number, Next}
+use Rattle.index_words.specs.declared.word.Word.{Word}
+use Rattle.index_words.specs.declared.word.Word.TheVariants.{Node, Entry}
+use Rattle.index_words.specs.Words.{is_there}
+use Rattle.key_map.specs.declared.pass.PassSize.{PassSize}
+use Rattle.core_events.specs.FillMoves.{filled_view}
+use Rattle.core_events.specs.LoadMoves.{stamp_loaded, head_loaded}
+use Rattle.core_events.specs.LockMoves.{locked_view, mark_loaded}
+use Rattle.core_events.specs.Moves.{entered}
+use Rattle.core_events.specs.Openings.{pass_view}
+use Rattle.core_laws.specs.ViewNeeds.{MayFill}
+
+-- one node, the entries of one update, and one call
+abbrev pub one_update : PassSize
+one_update = record { nodes = 1; entries = 4; calls = 1 }
+
+abbrev pub two_passes : Layout
+two_passes = record { passes = 2; nodes = 2; entries = 8; calls = 2 }
+
+abbrev pub at_start : View
+at_start = pass_view two_passes 0 1 1 one_update
+
+-- in its section the pass found no update, and no child at the root
+abbrev pub at_root : View
+at_root = head_loaded (stamp_loaded [] (entered 2 at_start 1) 0 false []) 0 Right 0 0
+
+-- it has filled node 1 with key 5 and value 7, and entry 1, which leads to it
+abbrev pub at_pair : View
+at_pair = filled_view (filled_view (filled_view at_root (Node Key 1) 5) (Node Val 1) 7) (Entry Child 1) 1
+
+-- and the other words of both with 0
+abbrev pub other_words : List Word
+other_words = Node Mark 1 ∷ Node (Head Left) 1 ∷ Node (Head Right) 1 ∷ Entry Number 1 ∷ Entry Next 1 ∷ []
+
+abbrev pub after_clears : List Word → View → View
+after_clears [] v = v
+after_clears (w ∷ ws) v = after_clears ws (filled_view v w 0)
+
+-- the pass may store to this word of the table
+abbrev pub MayStore : View → Word → Type 0
+MayStore v w = (is_there v.layout w ≡ true) × MayFill v w
+
+-- it has locked the root, and found it unmarked and still without a child
+abbrev pub at_locked_root : View
+at_locked_root = head_loaded (mark_loaded (locked_view (after_clears other_words at_pair) 0) 0 0) 0 Right 0 0

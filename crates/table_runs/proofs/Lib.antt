@@ -1,0 +1,2 @@
+-- The keys of passes over the table.
+pub mod Seats
