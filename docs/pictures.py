@@ -104,12 +104,12 @@ def history():
 
 def headline():
     p = Picture(800, 400, "From the headline down to the files of its definitions")
-    p.labelled(220, 12, 360, 46, [("clause headline of serve", "t b", 13), ("crates/bucketidx/src/serving.rt", "s m", 11)], "good")
+    p.labelled(220, 12, 360, 46, [("clause headline of serve", "t b", 13), ("crates/serve_session/src/serving.rt", "s m", 11)], "good")
     p.arrow(400, 58, 400, 92)
     p.labelled(170, 92, 460, 62, [
         ("HoldsOfInput", "t b", 13), ("some session and one legal run of it: the input is the one,", "t", 12),
         ("what was written is the text of the other", "t", 12)], "key")
-    p.text(645, 127, "bucketidx/specs/Served", "s m", 11, "start")
+    p.text(645, 127, "serve_session/specs/Served", "s m", 11, "start")
     columns = [
         (20, "IsSessionOf", ["the session that", "the input's text says"], "request_lines/specs", ["Input, Session", "Grammar, Queries", "Lines, Texts, Reads", "key_names: Names"]),
         (285, "IsLegal", ["one journal; each answer", "right at its place"], "bucket_terms/specs", ["LegalRun, Answer", "Page, Entries, Token", "key_map: Map, History", "key_names: Names"]),

@@ -1,12 +1,13 @@
 #!/usr/bin/env python3
-"""Tries each exit status of the program but that of want of memory, with its line on standard error.
+"""Tries each exit status of the program, with its line on standard error.
 
     tests/exit_statuses.py PROGRAM
 
-The input of one run is a folder, which cannot be read, and the output of another a full device. With words of no
-form nothing of the input is read.
+The input of one run is a folder, which cannot be read, and the output of another a full device. One run has less
+memory than its input has bytes. With words of no form nothing of the input is read.
 """
 import os
+import resource
 import subprocess
 import sys
 import tempfile
@@ -14,6 +15,8 @@ import tempfile
 SESSION = b"CLIENT\nPUT a 1 e1 1\nLIST\n"
 FAULTY = b"CLIENT\nPUT a 1 e1 1\nPUT b\n"
 TOO_LONG = b"\n" * (64 * 1024 * 1024 + 1)
+# As long as an input may be, and too long for half as much memory.
+LONG = b"\n" * (64 * 1024 * 1024)
 
 # the words, the input or a folder, where the output goes, the status, standard error, and whether anything is written
 ROWS = [
@@ -51,6 +54,16 @@ def run(program, words, source, target):
         return ran.returncode, ran.stderr.decode(), bool(ran.stdout), os.lseek(file.fileno(), 0, os.SEEK_CUR) > 0
 
 
+def without_memory(program):
+    """How a run ends that gets half as much memory as its input wants."""
+
+    def limited():
+        resource.setrlimit(resource.RLIMIT_AS, (len(LONG) // 2, len(LONG) // 2))
+
+    ran = subprocess.run([program, "run"], input=LONG, capture_output=True, preexec_fn=limited)
+    return ran.returncode, ran.stderr.decode(), ran.stdout
+
+
 def main():
     if len(sys.argv) != 2:
         sys.exit(__doc__)
@@ -61,7 +74,10 @@ def main():
             wanted, shown = (status, error, writes, reads), source[:40]
             print("words %r, input %r, output %s\n  got    %r\n  wanted %r" % (words, shown, target, got, wanted))
             sys.exit(1)
-    print("%d runs ended with the wanted status and line" % len(ROWS), file=sys.stderr)
+    got, wanted = without_memory(sys.argv[1]), (7, "bucketidx: no memory\n", b"")
+    if got != wanted:
+        sys.exit("a long input and little memory\n  got    %r\n  wanted %r" % (got, wanted))
+    print("%d runs ended with the wanted status and line" % (len(ROWS) + 1), file=sys.stderr)
 
 
 if __name__ == "__main__":

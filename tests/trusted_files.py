@@ -15,7 +15,7 @@ from pathlib import Path
 
 HERE = Path(__file__).resolve().parent.parent
 DOCUMENT = HERE / "docs" / "TRUSTED.md"
-ROOTS = ["bucketidx/src/serving.rt", "outside_io/src/source.rt", "outside_io/src/sink.rt"]
+ROOTS = ["serve_session/src/serving.rt", "outside_io/src/source.rt", "outside_io/src/sink.rt"]
 HELPER = "-- Helper: the headline does not rest on this file."
 IMPORT = re.compile(r"^\s*(?:pub |ghost )*use Rattle\.(\w+)\.specs\.([\w.]+)\.\{", re.MULTILINE)
 

@@ -1,39 +1,23 @@
-//! The program: reads a session on standard input, answers it, and writes the answers, the journal of
-//! updates and their number as lines of JSON; or runs a generated session, and writes a line of numbers. `serve` is the whole of it but for the real input and
-//! output and the runner of the clients, and its clauses say what a run has read and written.
+//! The program: reads a session on standard input, answers it, and writes the answers, the journal of updates and their
+//! number as lines of JSON; or runs a generated session, and writes a line of numbers. `serve` of `serve_session` is the
+//! whole of it, and its clauses say what a run has read and written; here stand the real input and output, the words of
+//! the command line, the runner of the clients, and the exit status.
 #![tactic(auto)]
 
-ghost use Rattle.std.specs.Prelude.{◌≡◌};
+ghost use Rattle.std.specs.Prelude.{◌≡◌, IfOk, map, drop, string_bytes};
 ghost use Rattle.std.specs.Process.{exit_status};
-ghost use Rattle.bucketidx.specs.Statuses.{exit_code};
-
-mod counting;
-mod naming;
-mod opening;
-mod runner;
-mod running;
-mod sample;
-mod serving;
-mod status;
-mod stop;
-mod summary;
-#[cfg(test)]
-mod tests;
-mod threaded;
-mod writing;
+ghost use Rattle.std.specs.Vec.Iter.{into_iter_items};
+ghost use Rattle.serve_session.specs.Statuses.{exit_code};
 
 use client_run::OpenGate;
-use key_names::Text;
+use client_threads::Threaded;
+use key_names::{NoMemory, Text};
 use outside_io::{StdSink, StdSource};
-pub use runner::Runner;
-pub use serving::serve;
-pub use status::Status;
+use serve_session::{Status, serve};
 use std::alloc::Global;
 use std::process::ExitCode;
 use std::rt::Env;
 use std::{env, io};
-pub use summary::summary_line;
-pub use threaded::Threaded;
 
 fn main(rt: HostRuntime) -> ExitCode {
     let mut source = StdSource::new(&rt);
@@ -73,11 +57,19 @@ fn words<R: Env + AllocGlobal>(rt: &R) -> Result<Vec<Text>, Status> {
         Err(e) if e.kind() == io::ErrorKind::InvalidData => return Err(Status::BadWords),
         Err(_) => return Err(Status::NoMemory),
     };
-    let mut words = Vec::new(rt.alloc());
-    for arg in args.skip(1) {
-        if words.push(Text::from_string(arg)).is_err() {
-            return Err(Status::NoMemory);
-        }
+    match behind_the_name(rt.alloc(), args) {
+        Ok(words) => Ok(words),
+        Err(_) => Err(Status::NoMemory),
     }
-    Ok(words)
+}
+
+// All words but the first, which is the program's name.
+fn behind_the_name(alloc: Global, args: env::Args) -> Result<Vec<Text>, NoMemory>
+    ensures { IfOk result (λ words. words.items ≡ map string_bytes (drop 1 (into_iter_items args))) }
+{
+    Ok(
+        args.skip(1)
+            .map(|arg| Text::from_string(arg))
+            .collect(alloc)?,
+    )
 }

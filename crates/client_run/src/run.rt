@@ -38,22 +38,25 @@ pub fn run_client<P: KeyPass, G: Gate, Rt: Wait>(
     let mut replies: Vec<Placed> = Vec::new(alloc);
     let mut last = None;
     for asked in part.requests.as_slice() {
+        let place = replies.len();
+        let hint = part.requests.rank(place);
         gate.before(client, asked.line);
-        let placed = answer(rt, alloc, pass, dir, asked, reply_at(&replies, last))?;
+        let placed = answer(rt, alloc, pass, dir, asked, hint, reply_at(&replies, last))?;
         gate.after(client, asked.line);
-        last = later_listing(last, &asked.request, replies.len());
+        last = later_listing(last, &asked.request, place);
         replies.push(placed)?;
     }
     Ok(replies)
 }
 
-// Answers one request; `last` is the reply of the client's last listing.
+// Answers one request; `hint` is where the directory may have its name, `last` the reply of the client's last listing.
 fn answer<P: KeyPass, Rt: Wait>(
     rt: &Rt,
     alloc: Global,
     pass: &mut P,
     dir: &Directory,
     asked: &Asked,
+    hint: usize,
     last: Option<&Reply>,
 ) -> Result<Placed, NoMemory>
     requires closed { (P.view pass.old).opened ≡ None }
@@ -67,9 +70,11 @@ fn answer<P: KeyPass, Rt: Wait>(
     ensures home { P.home pass.new ≡ P.home pass.old }
 {
     match &asked.request {
-        Request::Put { name, val } => Ok(updates::put(rt, pass, dir, asked.line, name, *val)),
-        Request::Delete { name } => Ok(updates::delete(rt, pass, dir, asked.line, name)),
-        Request::Head { name } => Ok(updates::head(rt, pass, dir, asked.line, name)),
+        Request::Put { name, val } => {
+            Ok(updates::put(rt, pass, dir, asked.line, name, hint, *val))
+        }
+        Request::Delete { name } => Ok(updates::delete(rt, pass, dir, asked.line, name, hint)),
+        Request::Head { name } => Ok(updates::head(rt, pass, dir, asked.line, name, hint)),
         Request::List(query) => pages::list_request(rt, alloc, pass, dir, asked.line, query),
         Request::Next => pages::next_request(rt, alloc, pass, dir, asked.line, last),
     }

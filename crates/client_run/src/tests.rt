@@ -96,7 +96,7 @@ fn run<G: Gate + Watch, Rt: Wait>(
         names,
         records: _,
     } = read_session(alloc, text.as_bytes())?;
-    let dir = Directory::new(alloc, names.into_vec())?;
+    let dir = names.into_directory(alloc)?;
     let Some(part) = clients.as_slice().first() else {
         return Err("no client".into());
     };

@@ -20,6 +20,7 @@ pub(crate) fn put<P: KeyPass, Rt: Wait>(
     dir: &Directory,
     line: u32,
     name: &Text,
+    hint: usize,
     val: u64,
 ) -> Placed
     requires closed { (P.view pass.old).opened ≡ None }
@@ -30,7 +31,7 @@ pub(crate) fn put<P: KeyPass, Rt: Wait>(
     ensures home { P.home pass.new ≡ P.home pass.old }
 {
     let client = pass.client();
-    let key = rank_of(dir, name);
+    let key = rank_of(dir, name, hint);
     match pass.put(rt, line, key, val) {
         Ok(done) => answer_at(client, line, done.at, Reply::Put { was: done.was }),
         Err(PassError::NoSlot) => refused(client, line, Reply::NoSlot),
@@ -45,6 +46,7 @@ pub(crate) fn delete<P: KeyPass, Rt: Wait>(
     dir: &Directory,
     line: u32,
     name: &Text,
+    hint: usize,
 ) -> Placed
     requires closed { (P.view pass.old).opened ≡ None }
     requires left { 0 < (P.view pass.old).left }
@@ -55,7 +57,7 @@ pub(crate) fn delete<P: KeyPass, Rt: Wait>(
     ensures home { P.home pass.new ≡ P.home pass.old }
 {
     let client = pass.client();
-    let key = rank_of(dir, name);
+    let key = rank_of(dir, name, hint);
     match pass.remove(rt, line, key) {
         Ok(done) => answer_at(client, line, done.at, Reply::Deleted),
         Err(PassError::NoSlot) => refused(client, line, Reply::NoSlot),
@@ -70,6 +72,7 @@ pub(crate) fn head<P: KeyPass, Rt: Wait>(
     dir: &Directory,
     line: u32,
     name: &Text,
+    hint: usize,
 ) -> Placed
     requires closed { (P.view pass.old).opened ≡ None }
     requires known { Contains dir.now name.now }
@@ -78,7 +81,7 @@ pub(crate) fn head<P: KeyPass, Rt: Wait>(
     ensures home { P.home pass.new ≡ P.home pass.old }
 {
     let client = pass.client();
-    let key = rank_of(dir, name);
+    let key = rank_of(dir, name, hint);
     let at = pass.begin();
     let first = pass.next_from(rt, key);
     pass.end();
@@ -95,11 +98,15 @@ fn head_reply(key: u64, first: Option<Pair>) -> Reply
     }
 }
 
-// The rank of a name that the directory has.
-fn rank_of(dir: &Directory, name: &Text) -> u64
+// The rank of a name that the directory has. It is searched for only where the hint is not the rank.
+fn rank_of(dir: &Directory, name: &Text, hint: usize) -> u64
     requires { Contains dir.now name.now }
     ensures { IsRank dir.now name.now result }
 {
+    let hint = hint as u64;
+    if hint < dir.len() && dir.name(hint).bytes() == name.bytes() {
+        return hint;
+    }
     match dir.rank(name.bytes()) {
         Some(rank) => rank,
         None => unreachable!(),

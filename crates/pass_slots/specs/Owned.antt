@@ -1,11 +1,12 @@
 -- What a pass keeps of its slots at run time, beside what its view says.
-use Rattle.std.specs.Prelude.{◌≡◌, ℕ, ◌+◌, ◌<◌, List, Bool, Option, Some, length}
+use Rattle.std.specs.Prelude.{◌≡◌, ℕ, ◌+◌, ◌<◌, List, Bool, Option, Some, length, ◌&&◌, true}
 use Rattle.std.specs.List.{slice_get}
 use Rattle.index_words.specs.declared.view.View.{View}
 use Rattle.index_words.specs.declared.view.slots.Looks.{Looks}
 use Rattle.index_words.specs.declared.view.slots.Slots.{Slots}
+use Rattle.index_words.specs.Views.{no_looks}
 use Rattle.key_map.specs.Lists.{has}
-use Rattle.core_grace.specs.Batches.{first_found}
+use Rattle.core_grace.specs.Batches.{first_found, is_empty}
 use Rattle.core_events.specs.UpdateMoves.{without_all}
 
 -- the slots of one kind: free, in the batch, retired; and how many there is room for
@@ -69,3 +70,8 @@ pub record KeepsSlots (v : View) (k : KeptSlots) : Type 0 where
 pub record HasRoomOf (old new : KeptSlots) : Type 0 where
   pub nodes : new.node_room ≡ old.node_room
   pub entries : new.entry_room ≡ old.entry_room
+
+-- no slot waits, and there is no look
+pub record IsIdle (k : KeptSlots) : Type 0 where
+  pub settled : (is_empty k.batch && is_empty k.retired) ≡ true
+  pub looks : KeepsLooks no_looks k.shown

@@ -5,6 +5,7 @@
 
 mod own_slots;
 mod pass_slots;
+mod slot_lists;
 mod waits;
 
 pub use own_slots::OwnSlots;

@@ -1,102 +1,102 @@
-ghost use Rattle.std.specs.Prelude.{◌≡◌, ◌≤◌, ◌<◌, ◌++◌, ◌∷◌, ◌⊎◌, [], length, Some, ◌&&◌, not, true};
+ghost use Rattle.std.specs.Prelude.{◌≡◌, ◌≤◌, ◌<◌, ◌++◌, ◌∷◌, ◌⊎◌, [], length, Some, IfOk, ◌&&◌, not, true};
 ghost use Rattle.std.specs.List.{slice_get};
 ghost use Rattle.index_words.specs.declared.view.View.{View};
 ghost use Rattle.index_words.specs.Views.{no_looks};
 ghost use Rattle.key_map.specs.Lists.{count, has};
 ghost use Rattle.core_events.specs.UpdateMoves.{without, without_all, listed_entry};
 ghost use Rattle.core_grace.specs.Batches.{batch_taken, settled, looked, is_empty};
-ghost use Rattle.pass_slots.specs.Owned.{KeepsSlots, KeepsLooks, HasRoomOf, Shown, kept_of, node_count, entry_count, taken_from};
+ghost use Rattle.pass_slots.specs.Owned.{KeepsSlots, KeepsLooks, HasRoomOf, IsIdle, Shown, kept_of, node_count, entry_count, taken_from};
 
 use crate::own_slots::OwnSlots;
+use crate::slot_lists::SlotLists;
 use crate::waits::Waits;
+use index_words::NoMemory;
+use std::alloc::Global;
 use std::marker::Model;
 
 /// The slots of a pass, and its looks at other sections. Contracts see the lists as a view has them.
+///
+/// The lists lie in memory of their own. So a call that is given them has no reference into what else a pass keeps, and
+/// the compiler may keep that in registers from one step to the next.
 #[derive(Drop)]
 pub struct PassSlots {
-    nodes: OwnSlots,
-    entries: OwnSlots,
-    waits: Waits,
+    lists: Box<SlotLists>,
+    /// Where it is true no slot waits, and no look was made since the last batch became free.
+    idle: bool,
 }
 
 impl Model for PassSlots {
-    ghost use Rattle.pass_slots.specs.Owned.{KeptSlots, kept_of};
+    ghost use Rattle.std.specs.Prelude.{◌≡◌, true};
+    ghost use Rattle.pass_slots.specs.Owned.{KeptSlots, IsIdle, kept_of};
 
     ghost Value = { KeptSlots };
 
-    ghost view = { λ s. kept_of s.nodes s.entries s.waits };
+    ghost view = { λ s. kept_of s.lists.value.nodes s.lists.value.entries s.lists.value.waits };
+
+    ghost invariant = { λ s. s.idle ≡ true → IsIdle (kept_of s.lists.value.nodes s.lists.value.entries s.lists.value.waits) };
 }
 
 impl PassSlots {
     /// The slots of these lists, with no looks.
-    pub fn new(nodes: OwnSlots, entries: OwnSlots) -> PassSlots
-        ensures { (w : Shown) × (result ≡ kept_of nodes entries w) × KeepsLooks no_looks w }
+    pub fn new(alloc: Global, nodes: OwnSlots, entries: OwnSlots) -> Result<PassSlots, NoMemory>
+        ensures { IfOk result (λ s. (w : Shown) × (s ≡ kept_of nodes entries w) × KeepsLooks no_looks w) }
     {
-        PassSlots {
+        let lists = SlotLists {
             nodes,
             entries,
             waits: Waits::none(),
-        }
+        };
+        let lists = Box::new(alloc, lists)?;
+        Ok(PassSlots { lists, idle: false })
     }
 
     /// Whether neither a batch waits nor a slot is retired.
     pub fn is_settled(&self) -> bool
         ensures { result ≡ (is_empty self.now.batch && is_empty self.now.retired) }
     {
-        self.nodes.is_batch_empty()
-            && self.entries.is_batch_empty()
-            && self.nodes.is_retired_empty()
-            && self.entries.is_retired_empty()
-    }
-
-    /// Whether no slot waits, and no look was made since the last batch became free.
-    fn is_idle(&self) -> bool
-        ensures settled { result ≡ true → (is_empty self.now.batch && is_empty self.now.retired) ≡ true }
-        ensures looks { result ≡ true → KeepsLooks no_looks self.now.shown }
-    {
-        self.waits.is_fresh() && self.is_settled()
+        self.lists.is_settled()
     }
 
     /// How many free nodes there are.
     pub fn free_nodes(&self) -> usize
         ensures { result ≡ length self.now.free.nodes }
     {
-        self.nodes.free_count()
+        self.lists.nodes.free_count()
     }
 
     /// How many free entries there are.
     pub fn free_entries(&self) -> usize
         ensures { result ≡ length self.now.free.entries }
     {
-        self.entries.free_count()
+        self.lists.entries.free_count()
     }
 
     /// How many nodes there are together: free ones, those of the batch, and retired ones.
     pub fn owned_nodes(&self) -> usize
         ensures { result ≡ node_count self.now }
     {
-        self.nodes.owned_count()
+        self.lists.nodes.owned_count()
     }
 
     /// How many entries there are together: free ones, those of the batch, and retired ones.
     pub fn owned_entries(&self) -> usize
         ensures { result ≡ entry_count self.now }
     {
-        self.entries.owned_count()
+        self.lists.entries.owned_count()
     }
 
     /// The free node at this place of the list. None behind the last one.
     pub fn free_node(&self, place: usize) -> Option<u32>
         ensures { result ≡ slice_get self.now.free.nodes place }
     {
-        self.nodes.free_at(place)
+        self.lists.nodes.free_at(place)
     }
 
     /// The free entry at this place of the list. None behind the last one.
     pub fn free_entry(&self, place: usize) -> Option<u32>
         ensures { result ≡ slice_get self.now.free.entries place }
     {
-        self.entries.free_at(place)
+        self.lists.entries.free_at(place)
     }
 
     /// Takes a node out of the free ones.
@@ -104,7 +104,7 @@ impl PassSlots {
         requires { count node self.old.free.nodes ≡ 1 }
         ensures { self.new ≡ record self.old { free = record self.old.free { nodes = without node self.old.free.nodes } } }
     {
-        self.nodes.take(node);
+        self.lists.nodes.take(node);
     }
 
     /// Takes a node out of the free ones, where it is not 0.
@@ -145,7 +145,7 @@ impl PassSlots {
         requires { count entry self.old.free.entries ≡ 1 }
         ensures { self.new ≡ record self.old { free = record self.old.free { entries = without entry self.old.free.entries } } }
     {
-        self.entries.take(entry);
+        self.lists.entries.take(entry);
     }
 
     /// Adds a retired node.
@@ -153,7 +153,8 @@ impl PassSlots {
         requires { node_count self.old < self.old.node_room }
         ensures { self.new ≡ record self.old { retired = record self.old.retired { nodes = self.old.retired.nodes ++ node ∷ [] } } }
     {
-        self.nodes.retire(node);
+        self.idle = false;
+        self.lists.nodes.retire(node);
     }
 
     /// Adds a retired entry.
@@ -161,39 +162,15 @@ impl PassSlots {
         requires { entry_count self.old < self.old.entry_room }
         ensures { self.new ≡ record self.old { retired = record self.old.retired { entries = self.old.retired.entries ++ entry ∷ [] } } }
     {
-        self.entries.retire(entry);
-    }
-
-    /// Where no batch waits, the retired slots become the batch, and no pass is passed.
-    fn take_batch(&mut self)
-        ensures keeps { (v : View) → KeepsSlots v self.old → KeepsSlots (batch_taken v) self.new }
-        ensures room { HasRoomOf self.old self.new }
-    {
-        if self.nodes.is_batch_empty() && self.entries.is_batch_empty() {
-            self.nodes.take_batch();
-            self.entries.take_batch();
-            self.waits.clear();
-        }
-    }
-
-    /// Where each of the first `passes` is this one or was passed, the batch becomes free.
-    fn settle(&mut self, passes: u32, number: u32)
-        requires { passes ≤ 32 }
-        ensures keeps { (v : View) → KeepsSlots v self.old → v.number ≡ Some number → KeepsSlots (settled passes v) self.new }
-        ensures room { HasRoomOf self.old self.new }
-    {
-        if self.waits.is_done(passes, number) {
-            self.nodes.free_batch();
-            self.entries.free_batch();
-            self.waits.clear();
-        }
+        self.idle = false;
+        self.lists.entries.retire(entry);
     }
 
     /// Whether a batch waits.
     pub fn has_batch(&self) -> bool
         ensures { result ≡ not (is_empty self.now.batch) }
     {
-        !(self.nodes.is_batch_empty() && self.entries.is_batch_empty())
+        !(self.lists.nodes.is_batch_empty() && self.lists.entries.is_batch_empty())
     }
 
     /// Whether the batch that waits has passed this pass. Where none waits, the one that would be taken now has passed
@@ -202,7 +179,7 @@ impl PassSlots {
         requires { pass < 32 }
         ensures { (v : View) → KeepsSlots v self.now → result ≡ has pass (batch_taken v).grace.passed }
     {
-        self.has_batch() && self.waits.was_passed(pass)
+        self.has_batch() && self.lists.waits.was_passed(pass)
     }
 
     /// What an enter does: the retired slots become the batch where none waits, and it becomes free where each other
@@ -212,11 +189,9 @@ impl PassSlots {
         ensures keeps { (v : View) → KeepsSlots v self.old → v.number ≡ Some number → KeepsSlots (settled passes (batch_taken v)) self.new }
         ensures room { HasRoomOf self.old self.new }
     {
-        if self.is_idle() {
-            return;
+        if !self.idle {
+            self.idle = self.lists.enter(passes, number);
         }
-        self.take_batch();
-        self.settle(passes, number);
     }
 
     /// What a look does that found `word` as the section word of `pass`.
@@ -226,8 +201,7 @@ impl PassSlots {
         ensures keeps { (v : View) → KeepsSlots v self.old → v.number ≡ Some number → KeepsSlots (looked passes v pass word) self.new }
         ensures room { HasRoomOf self.old self.new }
     {
-        self.take_batch();
-        self.waits.look_at(pass, word);
-        self.settle(passes, number);
+        self.idle = false;
+        self.lists.look(passes, number, pass, word);
     }
 }

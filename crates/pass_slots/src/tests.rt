@@ -32,7 +32,7 @@ fn has_no_batch_and_nothing_retired_at_first(rt: HostRuntime) -> Result<(), Fail
     let mut nodes = OwnSlots::with_room(rt.alloc(), 2)?;
     nodes.add_free(1);
     let entries = OwnSlots::with_room(rt.alloc(), 4)?;
-    let mut slots = PassSlots::new(nodes, entries);
+    let mut slots = PassSlots::new(rt.alloc(), nodes, entries)?;
     slots.enter(2, 0);
     slots.look(2, 0, 1, 1);
     assert!(rt; slots.is_settled());

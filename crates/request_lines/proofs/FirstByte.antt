@@ -1,5 +1,5 @@
 -- The first place of a byte, as `memchr` tells it, in the words of lists.
-use Rattle.std.proofs.Common.{◌≡◌, ℕ, zero, suc, ◌<◌, Bool, true, false, ◌||◌, List, [], ◌∷◌, Option, Some, None, is_some, length, get_or, refl, sym, ap, ◌∙◌, arith}
+use Rattle.std.proofs.Common.{◌≡◌, ℕ, zero, suc, ◌<◌, Bool, true, false, ◌||◌, ◌==◌, List, [], ◌∷◌, Option, Some, None, is_some, length, get_or, refl, sym, ap, ◌∙◌, arith}
 use Rattle.std.proofs.lemmas.Bool.Decides.{nat_tests}
 use Rattle.std.proofs.lemmas.List.Folds.{list_any_at}
 use Rattle.std.proofs.lemmas.List.Sums.{position_or_len_is}
@@ -27,3 +27,7 @@ any_fails p (x ∷ xs) h = ap (λ b. b || list_any p xs) (h zero (omega arith)) 
 pub first_any : (p : ℕ → Bool) (xs : List ℕ) (r : Option ℕ) → IsFirstByte p xs r → is_some r ≡ list_any p xs
 first_any p xs (Some k) h = sym (list_any_at p xs k 0 h.0.high h.1)
 first_any p xs None h = sym (any_fails p xs (λ k inside. fails _ (h k (omega arith) inside)))
+
+-- the byte that is found in a text is ASCII where the one looked for is
+pub byte_at : (at : ℕ) (text : List ℕ) (place : ℕ) → at < 128 → IsFirstByte (λ b. b == at) text (Some place) → get_or text place 0 < 128
+byte_at at text place ascii first = let is = first.1 in grind (arith, nat_tests)

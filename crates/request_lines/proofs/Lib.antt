@@ -2,9 +2,12 @@ pub mod FirstByte
 pub mod AskedAll
 pub mod QueryLaws
 pub mod TextLaws
+pub mod ShortNumbers
+pub mod TagBytes
 pub mod Fine
 pub mod CountedLines
 pub mod LineCounts
+pub mod Interned
 pub mod InputLaws
 pub mod Rising
 pub mod Sound

@@ -1,26 +1,24 @@
 -- What each line of the generated session says.
-use Rattle.std.proofs.Common.{◌≡◌, ℕ, ◌+◌, ◌-◌, ◌*◌, ◌/◌, ◌%◌, ◌<◌, ◌≤◌, ◌^◌, Bool, true, false, List, [], ◌∷◌, ◌++◌, length, map, codes, refl, ap, sym, ◌∙◌, ◌&&◌, Option, Some, None, Result, Ok, Err, arith, rules, append_assoc, zero, suc}
-use Rattle.std.specs.Prelude.{◌==◌, nat_lt, nat_le, not, All, slice_index}
-use Rattle.std.specs.List.{list_all, list_any, slice_split}
-use Rattle.std.specs.Str.{IsUtf8, IsAscii, all_ascii_digits, is_utf8}
+use Rattle.std.proofs.Common.{◌≡◌, ℕ, ◌-◌, ◌*◌, ◌/◌, ◌%◌, ◌<◌, ◌^◌, Bool, true, false, List, [], ◌∷◌, ◌++◌, length, codes, refl, ap, ◌∙◌, ◌&&◌, Ok, arith, zero, suc}
+use Rattle.std.specs.Prelude.{◌==◌, nat_lt, nat_le, not, All}
+use Rattle.std.specs.List.{list_all, list_any}
+use Rattle.std.specs.Str.{IsUtf8, IsAscii, all_ascii_digits}
 use Rattle.std.specs.Str.Lines.{strip_carriage_return}
 use Rattle.std.specs.Str.Parse.{digits_value}
 use Rattle.std.specs.Char.{is_ascii_digit}
 use Rattle.std.specs.Fmt.{decimal}
 use Rattle.std.proofs.lemmas.Bool.{and_from}
 use Rattle.std.proofs.lemmas.Bool.Decides.{nat_tests}
-use Rattle.std.proofs.lemmas.Fmt.{digits_decimal, digits_value-decimal, decimal_digit, decimal_nonempty, length-decimal-le}
+use Rattle.std.proofs.lemmas.Fmt.{digits_decimal, digits_value-decimal, decimal_digit, decimal_nonempty}
 use Rattle.std.proofs.lemmas.List.Elements.{All-nil, All-cons}
 use Rattle.std.proofs.lemmas.List.Folds.{list_all-append, list_any_none}
 use Rattle.std.proofs.lemmas.List.Splits.{slice_split_at, slice_split_none}
 use Rattle.std.proofs.lemmas.Str.{is_utf8-from_IsUtf8, IsUtf8-from_ascii}
 use Rattle.std.proofs.lemmas.Str.Parse.{IsNumeralModel, numerals_by_value, tells_all_ascii_digits}
-use Rattle.request_lines.specs.declared.command.Command.{Command}
 use Rattle.request_lines.specs.declared.command.Command.TheVariants as says
-use Rattle.request_lines.specs.declared.cause.Cause.{Cause}
-use Rattle.request_lines.specs.Lines.{texts_of, fields_of}
-use Rattle.request_lines.specs.Texts.{unescaped, name_of, key_read, is_number, is_small, numbers_read, etag_read, is_tag, is_tag_byte, unquoted}
-use Rattle.request_lines.specs.Grammar.{reading_of, read_line, read_fields, put_read, delete_read, list_read}
+use Rattle.request_lines.specs.Lines.{fields_of}
+use Rattle.request_lines.specs.Texts.{name_of, key_read, is_number, is_small, numbers_read, etag_read, is_tag, is_tag_byte, unquoted}
+use Rattle.request_lines.specs.Grammar.{reading_of, read_line, read_fields, put_read, delete_read}
 use Rattle.request_lines.specs.Sample.{four_digits, sample_name}
 use Rattle.request_lines.specs.SampleSession.{sample_record}
 use Rattle.request_lines.proofs.SampleQueries.{query_text, list_line}

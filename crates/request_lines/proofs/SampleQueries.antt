@@ -1,15 +1,12 @@
 -- What the listings of the generated session say.
-use Rattle.std.proofs.Common.{◌≡◌, ℕ, ◌<◌, List, [], ◌∷◌, ◌++◌, codes, refl, ap, ◌∙◌, Result, Ok, zero, suc, arith}
+use Rattle.std.proofs.Common.{◌≡◌, ℕ, ◌<◌, List, ◌∷◌, ◌++◌, codes, refl, Ok, zero, suc, arith}
 use Rattle.std.specs.Char.{encode_utf8}
 use Rattle.std.specs.Str.{is_utf8, chars}
 use Rattle.std.specs.Fmt.{decimal, digits}
 use Rattle.percent_encoding.specs.Percent.{percent_decode}
-use Rattle.bucket_terms.specs.declared.list_query.ListQuery.{ListQuery}
-use Rattle.request_lines.specs.declared.cause.Cause.{Cause}
 use Rattle.request_lines.specs.declared.command.Command.TheVariants as says
 use Rattle.request_lines.specs.Texts.{unescaped, escapes_are_whole, is_number}
 use Rattle.request_lines.specs.Queries.{query_read, pieces_of, without_mark, parameters_read, parameter_read, is_max_keys}
-use Rattle.request_lines.specs.Lines.{fields_of}
 use Rattle.request_lines.specs.Grammar.{reading_of, read_line, read_fields, list_read}
 use Rattle.request_lines.specs.SampleSession.{sample_query}
 

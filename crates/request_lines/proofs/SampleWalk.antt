@@ -1,7 +1,6 @@
 -- The generated input, read line by line: what is kept of its lines so far, and at its end its session.
-use Rattle.std.proofs.Common.{◌≡◌, ℕ, ◌+◌, ◌*◌, ◌/◌, ◌%◌, ◌<◌, ◌≤◌, ◌^◌, Bool, true, false, List, [], ◌∷◌, ◌++◌, length, map, codes, refl, ap, ap₂, sym, subst, ◌∙◌, ◌&&◌, Option, Some, None, Result, Ok, Err, arith, inl, inr, append_assoc, append-nil, length-append, zero, suc}
-use Rattle.std.specs.Prelude.{◌==◌, nat_lt, not, All, if◌then◌else◌}
-use Rattle.std.specs.Option.{option_to_list}
+use Rattle.std.proofs.Common.{◌≡◌, ℕ, ◌+◌, ◌*◌, ◌/◌, ◌%◌, ◌<◌, ◌≤◌, Bool, true, false, List, [], ◌∷◌, ◌++◌, length, map, codes, refl, ap, ap₂, sym, subst, ◌∙◌, ◌&&◌, Option, Some, None, Ok, arith, inl, inr, append_assoc, append-nil, length-append, zero, suc}
+use Rattle.std.specs.Prelude.{◌==◌, nat_lt, not, if◌then◌else◌}
 use Rattle.std.specs.Fmt.{decimal}
 use Rattle.std.specs.Str.Lines.{strip_carriage_return}
 use Rattle.std.proofs.lemmas.Bool.{cases_Bool}
@@ -16,13 +15,12 @@ use Rattle.request_lines.specs.declared.counts.Counts.{Counts}
 use Rattle.bucket_terms.specs.declared.record.Record.{Record}
 use Rattle.request_lines.specs.declared.session.Asked.{Asked}
 use Rattle.request_lines.specs.declared.session.ClientPart.{ClientPart}
-use Rattle.request_lines.specs.declared.session.Session.{Session}
 use Rattle.request_lines.specs.Lines.{texts_of}
 use Rattle.request_lines.specs.Grammar.{reading_of, read_line, read_fields, is_client}
 use Rattle.request_lines.specs.Counting.{counted, limit_by_counts}
 use Rattle.request_lines.specs.Reading.{Progress, no_progress, all_ended, kept, taken, error_of_text}
-use Rattle.request_lines.specs.Sample.{sample_name, sample_put, sample_delete, sample_list, sample_line, sample_lines, clients_text, sample_text}
-use Rattle.request_lines.specs.SampleSession.{sample_query, sample_record, one_if_put, sample_puts, sample_request, sample_asked, sample_requests, sample_part, sample_named, sample_recorded, sample_names, sample_records, sample_clients_parts, sample_clients_names, sample_clients_records, sample_session}
+use Rattle.request_lines.specs.Sample.{sample_name, sample_line, sample_lines, sample_text}
+use Rattle.request_lines.specs.SampleSession.{sample_query, sample_record, one_if_put, sample_puts, sample_request, sample_requests, sample_named, sample_recorded, sample_names, sample_records, sample_clients_parts, sample_clients_names, sample_clients_records, sample_session}
 use Rattle.request_lines.specs.Input.{IsSessionOf}
 use Rattle.request_lines.proofs.LineCounts.{session_is}
 use Rattle.request_lines.proofs.InputLaws.{IsHalfway, halfway_start, halfway_more, halfway_end}

@@ -1,5 +1,5 @@
 -- Texts that are cut, and texts that are UTF-8.
-use Rattle.std.proofs.Common.{◌≡◌, ◌≢◌, ℕ, ◌+◌, ◌<◌, ◌≤◌, ◌^◌, Bool, true, false, List, [], ◌∷◌, length, take, drop, map, refl, ◌&&◌, ap, sym, ◌∙◌, Option, inl, inr, Result, Ok, Err, zero, suc, ◌||◌, get_or, arith, rules}
+use Rattle.std.proofs.Common.{◌≡◌, ◌≢◌, ℕ, ◌+◌, ◌<◌, ◌≤◌, ◌^◌, Bool, true, false, List, [], ◌∷◌, length, take, drop, map, refl, ◌&&◌, ap, sym, ◌∙◌, Option, inl, inr, Result, Ok, Err, ◌||◌, get_or, arith, rules}
 use Rattle.std.specs.List.{slice_split, position, position_or_len, before_first, after_first, list_all, list_any}
 use Rattle.std.specs.Prelude.{◌==◌, MatchOption, nat_lt, nat_le, not}
 use Rattle.std.specs.Result.{result_ok}
@@ -7,7 +7,7 @@ use Rattle.std.proofs.lemmas.Bool.{cases_Bool, cases_lt}
 use Rattle.std.specs.Str.Lines.{strip_carriage_return}
 use Rattle.std.specs.Char.{is_ascii_digit}
 use Rattle.std.specs.Str.{IsUtf8, is_utf8, all_ascii_digits}
-use Rattle.std.proofs.lemmas.Str.{IsUtf8-from_is_utf8, is_utf8-from_IsUtf8, IsUtf8-from_ascii}
+use Rattle.std.proofs.lemmas.Str.{IsUtf8-from_is_utf8, is_utf8-from_IsUtf8, lead_after_ascii}
 use Rattle.std.proofs.lemmas.List.Splits.{slice_split_first, slice_split_none}
 use Rattle.std.proofs.lemmas.List.Sums.{fails_before_first, prefix_len-le-length}
 use Rattle.std.specs.Str.Parse.{ParsesUnsigned, digits_value}
@@ -15,7 +15,7 @@ use Rattle.std.proofs.lemmas.Str.Parse.{IsNumeralModel, numerals_by_value, tells
 use Rattle.std.proofs.lemmas.Bool.Decides.{nat_tests}
 use Rattle.request_lines.specs.Lines.{texts_of}
 use Rattle.request_lines.specs.declared.cause.Cause.TheVariants.{BadEscape}
-use Rattle.request_lines.specs.Texts.{escapes_are_whole, unescaped, is_number, is_small, is_tag, is_tag_byte}
+use Rattle.request_lines.specs.Texts.{escapes_are_whole, unescaped, is_number, is_small}
 use Rattle.request_lines.specs.Queries.{without_mark}
 use Rattle.percent_encoding.specs.Percent.{percent_decode}
 
@@ -121,19 +121,9 @@ decoded_none text whole none = rw (whole, is_utf8-none (percent_decode text) non
 
 -- ---- tags
 
-tag_small : (b : ℕ) → is_tag_byte b ≡ true → b < 128
-unfolding is_tag_byte
-tag_small b tag = grind (arith, nat_tests)
-
-tag_ascii : (text : List ℕ) → list_all is_tag_byte text ≡ true → (i : ℕ) → get_or text i 0 < 128
-tag_ascii [] tag i = omega arith
-tag_ascii (b ∷ text) tag zero = tag_small b (search rules)
-tag_ascii (b ∷ text) tag (suc i) = tag_ascii text (search rules) i
-
--- a tag is a text
-pub tag_utf8 : (text : List ℕ) → is_tag text ≡ true → IsUtf8 text
-unfolding is_tag
-tag_utf8 text tag = let all : list_all is_tag_byte text ≡ true = search rules in IsUtf8-from_ascii text (tag_ascii text all)
+-- behind a double quote the text may be cut
+pub lead_after_quote : (text : List ℕ) → IsUtf8 text → get_or text 0 0 ≡ 34 → 1 < length text → 128 ≤ get_or text 1 0 → 192 ≤ get_or text 1 0
+lead_after_quote text utf8 quote = lead_after_ascii text 0 utf8 (omega (arith, quote))
 
 -- ---- the mark of a query
 

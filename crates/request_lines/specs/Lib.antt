@@ -9,6 +9,7 @@ pub mod Grammar
 pub mod Counting
 pub mod Input
 pub mod Session
+pub mod Interned
 pub mod Left
 pub mod Pieces
 pub mod Reading

@@ -28,7 +28,7 @@ pub record Progress : Type 0 where
   pub records : List Record
 
 abbrev pub progress : Reader → Progress
-progress reader = record { counts = reader.counts; ended = reader.ended.items; current = reader.current.items; names = reader.names.items; records = reader.records.items }
+progress reader = record { counts = reader.counts; ended = reader.ended.items; current = reader.current; names = reader.names; records = reader.records.items }
 
 -- before the first line
 abbrev pub no_progress : Progress

@@ -7,14 +7,17 @@
 mod cause;
 mod command;
 mod counts;
+mod interner;
 mod limits;
 mod line_error;
+mod names;
 mod parameter;
 mod parts;
 mod put;
 mod query;
 mod read;
 mod reader;
+mod requests;
 mod sample;
 mod session;
 mod session_error;
@@ -23,7 +26,9 @@ mod verb;
 
 pub use cause::Cause;
 pub use limits::MAX_INPUT_BYTES;
+pub use names::Names;
 pub use read::read_session;
+pub use requests::Requests;
 pub use sample::sample_input;
 pub use session::{Asked, ClientPart, Session};
 pub use session_error::{InputError, SessionError};

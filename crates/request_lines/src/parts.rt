@@ -3,6 +3,8 @@ ghost use Rattle.std.specs.Prelude.{◌≡◌, ◌<◌, ◌≤◌, ◌==◌, [],
 ghost use Rattle.std.specs.List.{slice_split};
 ghost use Rattle.request_lines.specs.Left.{parts_left, size_left, IsNextPart};
 
+use memchr::memchr;
+
 /// The first part of a text that is cut at each of this ASCII character, and what is left behind it: None
 /// behind the last part.
 pub(crate) fn first_part(text: &str, at: char) -> (&str, Option<&str>)
@@ -10,8 +12,12 @@ pub(crate) fn first_part(text: &str, at: char) -> (&str, Option<&str>)
     ensures cut { slice_split (λ b. b == at) text.now ≡ result.0.now ∷ parts_left at result.1 }
     ensures shorter { size_left result.1 ≤ length text.now }
 {
-    match text.split_once(at) {
-        Some((part, rest)) => (part, Some(rest)),
+    match memchr(at as u8, text.as_bytes()) {
+        Some(place) => {
+            let (part, _) = text.split_at(place);
+            let (_, rest) = text.split_at(place + 1);
+            (part, Some(rest))
+        }
         None => (text, None),
     }
 }

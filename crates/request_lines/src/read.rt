@@ -18,7 +18,7 @@ use std::alloc::Global;
 /// ```
 /// let session = read_session(alloc, b"CLIENT\nPUT a 1 e1 10\nHEAD a\n")?;
 /// assert_eq!(rt; session.clients.as_slice().len(), 1);
-/// assert_eq!(rt; session.names.as_slice().len(), 2);
+/// assert_eq!(rt; session.names.len(), 2);
 /// ```
 pub fn read_session(alloc: Global, bytes: &[u8]) -> Result<Session, SessionError>
     requires { length bytes.now ≤ most_input_bytes }
@@ -41,7 +41,7 @@ pub fn read_session(alloc: Global, bytes: &[u8]) -> Result<Session, SessionError
         reader.take(alloc, number, text)?;
         left = rest;
     }
-    reader.finish()
+    reader.finish(alloc)
 }
 
 // The first line without its end, and what stands behind it: None behind the last line.

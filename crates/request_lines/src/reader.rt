@@ -7,11 +7,11 @@ ghost use Rattle.request_lines.specs.Reading.{progress, no_progress, all_ended, 
 
 use crate::command::{Command, command_of};
 use crate::counts::Counts;
+use crate::interner::Interner;
 use crate::line_error::LineError;
-use crate::{Asked, ClientPart, InputError, Session, SessionError};
+use crate::{Asked, ClientPart, InputError, Requests, Session, SessionError};
 use bucket_terms::{Record, Request};
 use key_map::Items;
-use key_names::Text;
 use std::alloc::Global;
 use std::mem;
 
@@ -22,8 +22,8 @@ pub(crate) struct Reader {
     /// The parts of all clients but the current one.
     pub(crate) ended: Vec<ClientPart>,
     /// What the current client has asked.
-    pub(crate) current: Vec<Asked>,
-    pub(crate) names: Vec<Text>,
+    pub(crate) current: Requests,
+    pub(crate) names: Interner,
     pub(crate) records: Vec<Record>,
 }
 
@@ -36,8 +36,8 @@ impl Reader {
         Reader {
             counts: Counts::none(),
             ended: Vec::new(alloc),
-            current: Vec::new(alloc),
-            names: Vec::new(alloc),
+            current: Requests::new(alloc),
+            names: Interner::new(alloc),
             records: Vec::new(alloc),
         }
     }
@@ -95,42 +95,41 @@ impl Reader {
         ensures memory { IsOkUnless result OutOfMemory }
     {
         match command {
-            Command::Client => self.begin_client(counts),
+            Command::Client => self.begin_client(alloc, counts),
             Command::Put { name, record } => {
                 let val = u64::from(self.counts.puts);
                 self.counts = counts;
-                self.name(alloc, &name)?;
+                let name_number = self.names.push(alloc, &name)?;
                 self.records.push(record)?;
-                self.ask(number, Request::Put { name, val })
+                self.ask(number, Request::Put { name, val }, name_number)
             }
             Command::Delete { name } => {
                 self.counts = counts;
-                self.name(alloc, &name)?;
-                self.ask(number, Request::Delete { name })
+                let name_number = self.names.push(alloc, &name)?;
+                self.ask(number, Request::Delete { name }, name_number)
             }
             Command::Head { name } => {
                 self.counts = counts;
-                self.name(alloc, &name)?;
-                self.ask(number, Request::Head { name })
+                let name_number = self.names.push(alloc, &name)?;
+                self.ask(number, Request::Head { name }, name_number)
             }
             Command::List(query) => {
                 self.counts = counts;
-                self.ask(number, Request::List(query))
+                self.ask(number, Request::List(query), 0)
             }
             Command::Next => {
                 self.counts = counts;
-                self.ask(number, Request::Next)
+                self.ask(number, Request::Next, 0)
             }
         }
     }
 
     // Begins the next client: the one before it has ended.
-    fn begin_client(&mut self, counts: Counts) -> Result<(), LineError>
+    fn begin_client(&mut self, alloc: Global, counts: Counts) -> Result<(), LineError>
         ensures begun { OnOk result (progress self.new ≡ record (progress self.old) { counts = counts; ended = all_ended (progress self.old); current = [] }) }
         ensures memory { IsOkUnless result OutOfMemory }
     {
-        let alloc = *self.current.allocator();
-        let requests = Items::from_vec(mem::replace(&mut self.current, Vec::new(alloc)));
+        let requests = mem::replace(&mut self.current, Requests::new(alloc));
         if 0 < self.counts.clients {
             self.ended.push(ClientPart { requests })?;
         }
@@ -138,26 +137,18 @@ impl Reader {
         Ok(())
     }
 
-    fn ask(&mut self, line: u32, request: Request) -> Result<(), LineError>
-        ensures asked { OnOk result (progress self.new ≡ record (progress self.old) { current = self.old.current.items ++ record { line = line; request = request } ∷ [] }) }
+    // Keeps a request about the name of this number, where it is about one.
+    fn ask(&mut self, line: u32, request: Request, name_number: usize) -> Result<(), LineError>
+        ensures asked { OnOk result (progress self.new ≡ record (progress self.old) { current = self.old.current ++ record { line = line; request = request } ∷ [] }) }
         ensures memory { IsOkUnless result OutOfMemory }
     {
-        self.current.push(Asked { line, request })?;
-        Ok(())
-    }
-
-    fn name(&mut self, alloc: Global, name: &Text) -> Result<(), LineError>
-        ensures named { OnOk result (progress self.new ≡ record (progress self.old) { names = self.old.names.items ++ name.now ∷ [] }) }
-        ensures memory { IsOkUnless result OutOfMemory }
-    {
-        self.names.push(name.copy(alloc)?)?;
-        Ok(())
+        self.current.push(Asked { line, request }, name_number)
     }
 
     /// The session of the lines so far, where no line is left.
-    pub(crate) fn finish(self) -> Result<Session, SessionError>
+    pub(crate) fn finish(self, alloc: Global) -> Result<Session, SessionError>
         ensures clients { IfOk result (λ s. s.clients ≡ all_ended (progress self)) }
-        ensures names { IfOk result (λ s. s.names ≡ self.names.items) }
+        ensures names { IfOk result (λ s. s.names ≡ self.names) }
         ensures records { IfOk result (λ s. s.records ≡ self.records.items) }
         ensures memory { IsOkUnless result NoSession }
     {
@@ -169,13 +160,23 @@ impl Reader {
             records,
         } = self;
         if 0 < counts.clients {
-            let requests = Items::from_vec(current);
-            ended.push(ClientPart { requests })?;
+            ended.push(ClientPart { requests: current })?;
         }
+        let (names, ranks) = names.ranked(alloc)?;
+        rank_names(&mut ended, &ranks);
         Ok(Session {
             clients: Items::from_vec(ended),
-            names: Items::from_vec(names),
+            names,
             records: Items::from_vec(records),
         })
+    }
+}
+
+// Puts the ranks of the names in place of their numbers.
+fn rank_names(parts: &mut [ClientPart], ranks: &[usize])
+    ensures { parts.new ≡ parts.old }
+{
+    for place in 0..parts.len() {
+        parts[place].requests.rank_names(ranks);
     }
 }

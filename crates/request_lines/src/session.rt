@@ -2,9 +2,9 @@
 ghost use Rattle.std.specs.Prelude.{◌≡◌, ◌<◌, ◌^◌, length};
 ghost use Rattle.bucket_terms.specs.LegalRun as spec;
 
+use crate::{Names, Requests};
 use bucket_terms::{Record, Request};
 use key_map::Items;
-use key_names::Text;
 
 /// One request and the number of its line, counted from 1.
 #[derive(Debug, Drop)]
@@ -16,7 +16,7 @@ pub struct Asked {
 /// What one client asks, in the order of its lines.
 #[derive(Debug, Drop)]
 pub struct ClientPart {
-    pub requests: Items<Asked>,
+    pub requests: Requests,
 }
 
 /// What a text asks, client by client.
@@ -25,7 +25,7 @@ pub struct Session {
     /// The place of a part, from 0, is the number of its client.
     pub clients: Items<ClientPart>,
     /// The names of all PUT, DELETE and HEAD lines, in the order of the lines.
-    pub names: Items<Text>,
+    pub names: Names,
     /// The records of all PUT lines, in the order of the lines. A `Put` names its record by the place, from 0.
     pub records: Items<Record>,
 }

@@ -1,5 +1,5 @@
 // What a field says: a key, a number, an entity tag.
-ghost use Rattle.std.specs.Prelude.{◌≡◌, ◌==◌, true, false, MatchOption};
+ghost use Rattle.std.specs.Prelude.{◌≡◌, ◌==◌, true, false, IfSome, MatchOption};
 ghost use Rattle.std.specs.Char.{is_ascii_digit};
 ghost use Rattle.std.specs.List.{list_all, list_any};
 ghost use Rattle.std.specs.Str.Parse.{digits_value};
@@ -12,7 +12,21 @@ use key_names::{MAX_NAME_BYTES, Text};
 use memchr::memchr;
 use percent_encoding::{DecodeError, percent_decode};
 use std::alloc::Global;
-use std::str;
+
+// The most digits of a number that has 64 bits whatever they are.
+const SHORT_NUMBER_DIGITS: usize = 19;
+
+// For each byte 1 where a tag may have it: an ASCII letter or digit, or `-`.
+const TAG_BYTES: [u8; 256] = [
+    0, 0, 0, 0, 0, 0, 0, 0, 0, 0, 0, 0, 0, 0, 0, 0, 0, 0, 0, 0, 0, 0, 0, 0, 0, 0, 0, 0, 0, 0, 0, 0,
+    0, 0, 0, 0, 0, 0, 0, 0, 0, 0, 0, 0, 0, 1, 0, 0, 1, 1, 1, 1, 1, 1, 1, 1, 1, 1, 0, 0, 0, 0, 0, 0,
+    0, 1, 1, 1, 1, 1, 1, 1, 1, 1, 1, 1, 1, 1, 1, 1, 1, 1, 1, 1, 1, 1, 1, 1, 1, 1, 1, 0, 0, 0, 0, 0,
+    0, 1, 1, 1, 1, 1, 1, 1, 1, 1, 1, 1, 1, 1, 1, 1, 1, 1, 1, 1, 1, 1, 1, 1, 1, 1, 1, 0, 0, 0, 0, 0,
+    0, 0, 0, 0, 0, 0, 0, 0, 0, 0, 0, 0, 0, 0, 0, 0, 0, 0, 0, 0, 0, 0, 0, 0, 0, 0, 0, 0, 0, 0, 0, 0,
+    0, 0, 0, 0, 0, 0, 0, 0, 0, 0, 0, 0, 0, 0, 0, 0, 0, 0, 0, 0, 0, 0, 0, 0, 0, 0, 0, 0, 0, 0, 0, 0,
+    0, 0, 0, 0, 0, 0, 0, 0, 0, 0, 0, 0, 0, 0, 0, 0, 0, 0, 0, 0, 0, 0, 0, 0, 0, 0, 0, 0, 0, 0, 0, 0,
+    0, 0, 0, 0, 0, 0, 0, 0, 0, 0, 0, 0, 0, 0, 0, 0, 0, 0, 0, 0, 0, 0, 0, 0, 0, 0, 0, 0, 0, 0, 0, 0,
+];
 
 /// The name of a key.
 #[tactic(auto, unfolding(crate::specs::Texts::key_read, crate::specs::Texts::name_of))]
@@ -91,6 +105,37 @@ fn begins_with_hex_digits(bytes: &[u8]) -> bool
 pub(crate) fn numbers_of(size: &str, modified: &str) -> Result<(u64, u64), LineError>
     ensures { Reads result (spec.numbers_read size.now modified.now) }
 {
+    match (
+        short_number(size.as_bytes()),
+        short_number(modified.as_bytes()),
+    ) {
+        (Some(size), Some(modified)) => Ok((size, modified)),
+        _ => long_numbers(size, modified),
+    }
+}
+
+// The number of a text of one to 19 digits, which are read once. None where the text is any other.
+fn short_number(text: &[u8]) -> Option<u64>
+    ensures { IfSome result (λ n. (spec.is_number text.now ≡ true) × (spec.is_small text.now ≡ true) × (n ≡ digits_value 10 text.now)) }
+{
+    if text.is_empty() || text.len() > SHORT_NUMBER_DIGITS {
+        return None;
+    }
+    let mut value: u64 = 0;
+    for byte in text {
+        if !byte.is_ascii_digit() {
+            return None;
+        }
+        value = value * 10 + u64::from(*byte - b'0');
+    }
+    Some(value)
+}
+
+// Size and time of any texts.
+#[tactic(auto, unfolding(crate::specs::Texts::numbers_read))]
+fn long_numbers(size: &str, modified: &str) -> Result<(u64, u64), LineError>
+    ensures { Reads result (spec.numbers_read size.now modified.now) }
+{
     if !is_number(size) || !is_number(modified) {
         return Err(LineError::Faulty(Cause::BadNumber));
     }
@@ -128,19 +173,19 @@ pub(crate) fn number(text: &str) -> Option<u64>
 pub(crate) fn etag_of(alloc: Global, text: &str) -> Result<Text, LineError>
     ensures { Reads result (spec.etag_read text.now) }
 {
-    let tag = unquoted(text.as_bytes());
-    if !is_tag(tag) {
+    let tag = unquoted(text);
+    if !is_tag(tag.as_bytes()) {
         return Err(LineError::Faulty(Cause::BadEtag));
     }
-    Ok(Text::of(alloc, ascii_text(tag))?)
+    Ok(Text::of(alloc, tag)?)
 }
 
-#[tactic(auto, unfolding(crate::specs::Texts::unquoted))]
-fn unquoted(text: &[u8]) -> &[u8]
+#[tactic(auto, using(crate::proofs::TextLaws::lead_after_quote), unfolding(crate::specs::Texts::unquoted))]
+fn unquoted(text: &str) -> &str
     ensures { result.now ≡ spec.unquoted text.now }
 {
-    match text {
-        [b'"', tag @ .., b'"'] => tag,
+    match text.as_bytes() {
+        [b'"', tag @ .., b'"'] => &text[1..tag.len() + 1],
         _ => text,
     }
 }
@@ -162,16 +207,5 @@ fn is_all_tag(text: &[u8]) -> bool
 fn is_tag_byte(b: u8) -> bool
     ensures { result ≡ spec.is_tag_byte b }
 {
-    b.is_ascii_alphanumeric() || b == b'-'
-}
-
-// The bytes of a tag, which are ASCII, as text.
-fn ascii_text(tag: &[u8]) -> &str
-    requires { spec.is_tag tag.now ≡ true }
-    ensures { result.now ≡ tag.now }
-{
-    match str::from_utf8(tag) {
-        Ok(text) => text,
-        Err(_) => unreachable!(),
-    }
+    TAG_BYTES[b as usize] == 1
 }

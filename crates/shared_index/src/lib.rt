@@ -16,8 +16,3 @@ pub use pass::IndexPass;
 pub use snapshot_read::Look;
 pub use table_steps::{Note, PassKey};
 pub use tree_update::{Settling, Try};
-
-#[cfg(test)]
-mod row_tests;
-#[cfg(test)]
-mod tests;

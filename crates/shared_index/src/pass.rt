@@ -8,7 +8,7 @@ ghost use Rattle.shared_index.specs.Keys.{home_of_pass, home_of_note};
 ghost use Rattle.shared_index.specs.Notes.{told_by, Hears};
 ghost use Rattle.shared_index.specs.Shown.{shown};
 ghost use Rattle.shared_index.specs.Tries.{SeesOn};
-ghost use Rattle.tree_update.specs.Outcomes.{HasRisen};
+ghost use Rattle.update_try.specs.Outcomes.{HasRisen};
 ghost use Rattle.tree_update.specs.Settles.{HasTried};
 ghost use Rattle.tree_update.specs.Trying.{IsOutOfFreeSlots, IfDone, IfBusy, IfMoved, IfPending, UnlessDone};
 

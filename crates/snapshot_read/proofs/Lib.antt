@@ -12,5 +12,3 @@ pub mod Ways
 pub mod Begins
 -- One level down the snapshot's tree.
 pub mod Levels
--- The first put of a table by single steps.
-pub mod FirstPut

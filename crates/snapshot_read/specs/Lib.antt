@@ -3,4 +3,3 @@ pub mod Links
 pub mod Children
 pub mod Ways
 pub mod Looks
-pub mod FirstPut

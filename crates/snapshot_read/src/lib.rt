@@ -15,8 +15,3 @@ pub use child::{Seen, child_at};
 pub use kept_way::Way;
 pub use looks::Look;
 pub use snapshot::{begin, end, next_from, next_on, try_next_from, try_next_on};
-
-#[cfg(test)]
-mod row_tests;
-#[cfg(test)]
-mod tests;

@@ -26,9 +26,7 @@ pub fn begin(pass: &mut TablePass<'_>) -> u64
     ensures begun { HasBegun pass.old.view pass.new.view result }
     ensures reads { ReadsAt pass.new.view result }
 {
-    pass.facts();
-    pass.enter();
-    pass.fix_stamp()
+    pass.open_snapshot()
 }
 
 /// Closes the snapshot.
@@ -38,7 +36,7 @@ pub fn end(pass: &mut TablePass<'_>)
     ensures view { pass.new.view ≡ left pass.old.view (left_word pass.old.view.section_word) }
     ensures rest { AtRest pass.new.view }
 {
-    pass.leave();
+    pass.close_section();
 }
 
 /// One look for the first pair of the open snapshot whose key is at least `key`. It does not wait: where an entry has no

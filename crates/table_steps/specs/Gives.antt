@@ -40,8 +40,12 @@ pub record HasLoadedStamp (v : View) (fixes n : ℕ) (w : View) : Type 0 where
   pub contents_are : contents tree ≡ after w.history.seen n
   pub view : w ≡ stamp_loaded w.history.seen v n (fixes == 1) (tree_nodes tree)
 
+-- the view of a pass that has entered a section
+abbrev pub within : View → View
+within v = entered v.layout.passes v (v.section_word + 1)
+
 -- a section was opened: from the view after the enter the stamp was loaded
 pub record HasOpened (v : View) (fixes n : ℕ) (w : View) : Type 0 where
   pub inside : View
-  pub entered : inside ≡ entered v.layout.passes v (v.section_word + 1)
+  pub entered : inside ≡ within v
   pub loaded : HasLoadedStamp inside fixes n w

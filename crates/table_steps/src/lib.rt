@@ -25,8 +25,3 @@ pub use notes::Note;
 pub use own_updates::OwnUpdate;
 pub use pass::{PassKey, TablePass};
 pub use table::SharedTable;
-
-#[cfg(test)]
-mod load_tests;
-#[cfg(test)]
-mod tests;

@@ -61,12 +61,13 @@ fn first_kept(
     let entries = slots_from(alloc, first.entry, size.entries, layout.entries)?;
     let updates = OwnUpdates::with_room(alloc, size.calls)?;
     let held = HeldWords::with_room(alloc, layout.nodes, layout.entries)?;
+    let slots = PassSlots::new(alloc, nodes, entries)?;
     Ok(Kept {
         number: first.number,
         section_word: 0,
         left: size.calls,
         opened: None,
-        slots: PassSlots::new(nodes, entries),
+        slots,
         updates,
         raised: 0,
         held,

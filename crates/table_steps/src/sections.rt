@@ -1,5 +1,5 @@
 //! The steps of read-side sections, of looks and of fills. Each is one move of one word.
-ghost use Rattle.std.specs.Prelude.{◌≡◌, ◌≢◌, ◌<◌, ◌+◌, ◌&&◌, true, false, Some};
+ghost use Rattle.std.specs.Prelude.{◌≡◌, ◌≢◌, ◌<◌, ◌+◌, ◌&&◌, true, false, Some, None};
 ghost use Rattle.index_words.specs.declared.word.Word.{Word as TableWord};
 ghost use Rattle.index_words.specs.Words.{is_there, word_at};
 ghost use Rattle.core_grace.specs.Batches.{is_empty, looked};
@@ -15,6 +15,16 @@ use crate::pass::TablePass;
 use core_grace::left_word as word_after_leaving;
 use index_words::Word;
 use std::marker::Brand;
+
+/// Forgets the number of the snapshot, where there is one. Where none is, nothing is stored: the next store of a word
+/// would wait for it.
+fn forget(opened: &mut Option<u64>)
+    ensures { opened.new ≡ None }
+{
+    if opened.is_some() {
+        *opened = None;
+    }
+}
 
 impl<'t> TablePass<'t> {
     /// Enters a section: the own section word becomes odd. Where no batch waits the retired slots become the batch.
@@ -49,7 +59,7 @@ impl<'t> TablePass<'t> {
             .ruled
             .store::<Brand>(&mut self.seat, Word::Section(self.kept.number), word);
         self.kept.section_word = word;
-        self.kept.opened = None;
+        forget(&mut self.kept.opened);
         self.kept.held.clear();
     }
 

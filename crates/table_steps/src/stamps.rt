@@ -1,10 +1,10 @@
-//! The loads of the stamp, and the two private calls that open and close a section.
+//! The loads of the stamp, and the calls that open and close a section in which a pass reads.
 ghost use Rattle.std.specs.Prelude.{◌≡◌, Some, None};
 ghost use Rattle.core_grace.specs.Sections.{left_word};
 ghost use Rattle.core_events.specs.Moves.{left};
 ghost use Rattle.table_rule.specs.Homes.{IsLiveView};
 ghost use Rattle.table_rule.specs.Running.{Happened, Stored};
-ghost use Rattle.table_steps.specs.Gives.{leaving, loading_stamp, HasLoadedStamp, HasOpened};
+ghost use Rattle.table_steps.specs.Gives.{leaving, loading_stamp, within, HasLoadedStamp, HasOpened};
 ghost use Rattle.table_steps.specs.Passes.{AtRest, Inside, IsSamePass};
 
 use crate::pass::TablePass;
@@ -22,9 +22,7 @@ impl<'t> TablePass<'t> {
         ensures inside { Inside self.new.view }
     {
         let table = self.table;
-        let number = table.ruled.load::<Brand>(&mut self.seat, Word::Stamp);
-        self.kept.opened = None;
-        number
+        table.ruled.load::<Brand>(&mut self.seat, Word::Stamp)
     }
 
     /// Loads the stamp and fixes a place: a snapshot is open then, at the number that the load answers.
@@ -65,11 +63,12 @@ impl<'t> TablePass<'t> {
         let _ = &self.kept;
     }
 
-    /// Opens a section in which the pass reads at the number that this answers. Announcing it belongs here, and
-    /// nowhere else.
-    pub(crate) fn open_section(&mut self) -> u64
+    /// Opens a section in which the pass reads at the number that this answers: an enter, and a load of the stamp. Who reads
+    /// a tree opens its section by this call or by `open_snapshot`, so that announcing belongs in them, and nowhere else.
+    pub fn open_section(&mut self) -> u64
         requires rest { AtRest self.old.view }
         ensures same { IsSamePass self.old self.new }
+        ensures event { Happened self.old.view.layout (loading_stamp self.old 0) (within self.old.view) result self.new.view }
         ensures gives { HasOpened self.old.view 0 result self.new.view }
         ensures inside { Inside self.new.view }
     {
@@ -79,9 +78,10 @@ impl<'t> TablePass<'t> {
     }
 
     /// The same, and a snapshot is open then at this number.
-    pub(crate) fn open_snapshot(&mut self) -> u64
+    pub fn open_snapshot(&mut self) -> u64
         requires rest { AtRest self.old.view }
         ensures same { IsSamePass self.old self.new }
+        ensures event { Happened self.old.view.layout (loading_stamp self.old 1) (within self.old.view) result self.new.view }
         ensures gives { HasOpened self.old.view 1 result self.new.view }
         ensures inside { Inside self.new.view }
     {
@@ -90,8 +90,8 @@ impl<'t> TablePass<'t> {
         self.fix_stamp()
     }
 
-    /// Closes the section. Taking an announcement back belongs here, and nowhere else.
-    pub(crate) fn close_section(&mut self)
+    /// Closes a section that one of these two has opened. Taking an announcement back belongs here, and nowhere else.
+    pub fn close_section(&mut self)
         requires inside { Inside self.old.view }
         ensures same { IsSamePass self.old self.new }
         ensures view { self.new.view ≡ left self.old.view (left_word self.old.view.section_word) }

@@ -17,7 +17,7 @@ use Rattle.table_steps.specs.Passes.{Extends}
 use Rattle.snapshot_read.specs.Snapshots.{HasRead}
 use Rattle.snapshot_read.proofs.Begins.{Owned, owned, entered_owned}
 use Rattle.tree_update.specs.Calls.{GoesOn, FixesNone, StaysOn, MakesChange, MovesNodes, FindsAbsent}
-use Rattle.tree_update.specs.Outcomes.{KeepsAll}
+use Rattle.update_try.specs.Outcomes.{KeepsAll}
 use Rattle.tree_update.specs.Settles.{KeepsAllElse, KeepsSlotCounts}
 
 -- one part after another

@@ -24,7 +24,7 @@ use Rattle.plan_steps.specs.Raises.{update_by}
 use Rattle.snapshot_read.specs.Snapshots.{HasBegun}
 use Rattle.tree_update.specs.Calls.{GoesOn, FixesNone, StaysOn, MakesChange, MovesNodes, FindsAbsent, HasMade, AnswersRemoval, IsOutOfSlots, IsRefusal}
 use Rattle.tree_update.proofs.CallSteps.{fixes_more, made_more, absent_more}
-use Rattle.tree_update.specs.Carried.{HasCarriedOut}
+use Rattle.update_try.specs.Carried.{HasCarriedOut}
 
 -- the nodes of a plan, by its change
 plan_nodes : (plan : Plan) (old new : ℕ) → PlanMovesNodes plan old new → MovesNodes (change_of plan) (was_there plan) old new

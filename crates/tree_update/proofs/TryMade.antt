@@ -13,10 +13,10 @@ use Rattle.core_updates.specs.declared.plan.PlanSlots.{PlanSlots}
 use Rattle.plan_steps.specs.Frames.{CountsGrow}
 use Rattle.table_steps.specs.Gives.{HasOpened}
 use Rattle.snapshot_read.specs.Snapshots.{HasRead}
-use Rattle.tree_update.specs.declared.outcome.Failed.{Failed}
-use Rattle.tree_update.specs.Outcomes.{HasRisen, IsCounted}
+use Rattle.update_try.specs.declared.outcome.Failed.{Failed}
+use Rattle.update_try.specs.Outcomes.{HasRisen, IsCounted}
 use Rattle.tree_update.specs.Trying.{OffersSlots}
-use Rattle.tree_update.proofs.Counted.{counted_through, rises}
+use Rattle.update_try.proofs.Counted.{counted_through, rises}
 
 -- an enter changes no count, and takes no free slot away
 taken_counts : (v : View) → (batch_taken v).counts ≡ v.counts

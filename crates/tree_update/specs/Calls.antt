@@ -11,7 +11,7 @@ use Rattle.key_map.specs.History.{after}
 use Rattle.key_map.specs.Map.{map_has}
 use Rattle.plan_steps.specs.Answers.{owned_nodes, owned_entries}
 use Rattle.table_steps.specs.Passes.{Extends}
-use Rattle.tree_update.specs.Outcomes.{HasRisen}
+use Rattle.update_try.specs.Outcomes.{HasRisen}
 
 -- the pass made no update: what it has seen goes on, its own updates, how many it may still make and how many slots it owns
 -- are as before, and no look is forgotten

@@ -1,14 +1,3 @@
-pub mod Searching
-pub mod Children
-pub mod Descents
-pub mod Successors
-pub mod Planned
-pub mod Found
-pub mod Holding
-pub mod Outcomes
-pub mod Preparing
-pub mod Walked
-pub mod Carried
 pub mod Settles
 pub mod Calls
 pub mod Trying

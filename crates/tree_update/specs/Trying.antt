@@ -1,5 +1,5 @@
 -- What one try of an update comes to.
-use Rattle.std.specs.Prelude.{◌≡◌, ◌<◌, ◌≤◌, ◌⊎◌, length}
+use Rattle.std.specs.Prelude.{◌≡◌, ◌<◌}
 use Rattle.index_words.specs.declared.view.View.{View}
 use Rattle.key_map.specs.declared.pass.Done.{Done}
 use Rattle.key_map.specs.declared.update.Change.{Change}
@@ -11,14 +11,8 @@ use Rattle.tree_update.specs.declared.trying.Missed.{Missed}
 use Rattle.tree_update.specs.declared.trying.Missed.TheVariants.{Absent, Failed}
 use Rattle.tree_update.specs.declared.trying.Try.{Try}
 use Rattle.tree_update.specs.declared.trying.Try.TheVariants.{Done as Made, Busy, Moved, Pending}
-use Rattle.tree_update.specs.Outcomes.{IsCounted}
-
--- the view has the free slots that an update may take: one node and four entries. Retired ones are not free
-abbrev pub HasFreeSlots : View → Type 0
-HasFreeSlots v = (1 ≤ length v.free.nodes) × (4 ≤ length v.free.entries)
-
-abbrev pub LacksFreeSlots : View → Type 0
-LacksFreeSlots v = (length v.free.nodes < 1) ⊎ (length v.free.entries < 4)
+use Rattle.update_try.specs.FreeSlots.{LacksFreeSlots}
+use Rattle.update_try.specs.Outcomes.{IsCounted}
 
 -- calls are left, but not the free slots that an update may take
 abbrev pub IsOutOfFreeSlots : View → Type 0

@@ -9,15 +9,28 @@ ghost use Rattle.tree_update.specs.Calls.{StaysOn, GoesOn, MakesPut, FindsAbsent
 ghost use Rattle.tree_update.specs.Trying.{OffersSlots};
 
 use crate::settle::try_settle;
-use crate::slots::plan_slots;
 use crate::trying::{Missed, try_update};
 use core_updates::PlanSlots;
 use index_words::{Change, Pair};
 use key_map::{Done, PassError};
 use snapshot_read::{begin, end, next_from};
+use std::hint::spin_loop;
 use std::sync::Wait;
 use std::thread::yield_now;
 use table_steps::TablePass;
+use update_try::plan_slots;
+
+/// How many pauses of the processor stand before the yield.
+const PAUSES: u32 = 32;
+
+/// What a wait does between two tries: a short spin, since another pass may be done soon where it runs on a processor of
+/// its own, and then a yield, which lets other threads run.
+fn pause() {
+    for _ in 0..PAUSES {
+        spin_loop();
+    }
+    yield_now();
+}
 
 /// Whether the pair is the key's.
 fn is_of_key(pair: Option<Pair>, key: u64) -> bool
@@ -59,7 +72,7 @@ fn wait_for_slots<R: Wait>(pass: &mut TablePass<'_>, rt: &R) -> PlanSlots
             return slots;
         }
         try_settle(pass);
-        yield_now();
+        pause();
     }
     unreachable!()
 }
@@ -120,7 +133,7 @@ fn make_put<R: Wait>(pass: &mut TablePass<'_>, rt: &R, line: u32, key: u64, val:
         if let Ok(done) = try_update(pass, line, key, Change::Put(val), &slots) {
             return done;
         }
-        yield_now();
+        pause();
     }
     unreachable!()
 }
@@ -138,7 +151,7 @@ fn make_removal<R: Wait>(pass: &mut TablePass<'_>, rt: &R, line: u32, key: u64) 
         if let Some(done) = try_removal(pass, rt, line, key, &slots) {
             return done;
         }
-        yield_now();
+        pause();
     }
     unreachable!()
 }

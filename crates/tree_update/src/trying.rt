@@ -5,20 +5,16 @@ ghost use Rattle.plan_steps.specs.Answers.{was_there as had_key};
 ghost use Rattle.plan_steps.specs.Tries.{IsSearched};
 ghost use Rattle.table_steps.specs.Passes.{AtRest, IsSamePass};
 ghost use Rattle.tree_update.specs.Calls.{StaysOn, HasMade, MakesPut};
-ghost use Rattle.tree_update.specs.Outcomes.{HasRisen, IsCounted};
+ghost use Rattle.update_try.specs.Outcomes.{HasRisen, IsCounted};
 ghost use Rattle.tree_update.specs.Trying.{IsMissed, IsOutOfFreeSlots, OffersSlots, IfDone, IfBusy, IfMoved, IfPending, UnlessDone};
 ghost use Rattle.snapshot_read.specs.Links.{InsideAt};
 
-use crate::carry::carry_out;
-use crate::opening::begin_search;
-use crate::outcome::Failed;
-use crate::plans::Planned;
-use crate::search::{Found, find_plan};
-use crate::slots::plan_slots;
 use core_updates::{Plan, PlanSlots};
 use index_words::Change;
 use key_map::{Done, PassError};
 use table_steps::TablePass;
+use update_search::{Found, Planned, begin_search, find_plan};
+use update_try::{Failed, carry_out, plan_slots};
 
 /// Why one try of an update was not made. It has changed nothing.
 #[derive(Clone, Copy, Debug, PartialEq, Eq)]
@@ -37,6 +33,11 @@ pub enum Try {
     /// A lock was found held: another pass is changing the tree there.
     Busy,
     /// What the search had found has changed since: a node is marked, or a bundle has another head.
+    ///
+    /// That takes a step of another pass between the search and the looks of this try. A pass that stands still in the
+    /// middle of an update, wherever it does, is met as `Busy` or `Pending`: the search reads at the number of all updates
+    /// so far, and ends where an entry has no number yet, so what it remembers are the heads of their bundles; and a node
+    /// is marked only once the entries that lead around it have numbers, so that the search does not come to it.
     Moved,
     /// An entry had no number yet: another pass has it pending.
     Pending,
@@ -62,7 +63,7 @@ fn give_up(pass: &mut TablePass<'_>, at: u64)
     ensures stays { StaysOn pass.old.view pass.new.view }
     ensures counts { pass.new.view.counts ≡ pass.old.view.counts }
 {
-    pass.leave();
+    pass.close_section();
 }
 
 /// Carries out a plan that a search has found, with these slots.

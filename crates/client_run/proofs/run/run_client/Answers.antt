@@ -72,7 +72,7 @@ loop-asked-preserved g c =
     let last = c.loop-asked.last in
     let last_is : option_copied c.reply_at.result ≡ last_listing (answered_lines (take i lines) replies) =
     c.reply_at.ensures ∙ ap (λ (rs : List Placed). reply_at rs last) c.deref.ensures.value ∙ before.listing in
-    let long : c.len.result ≡ length replies = omega arith in
+    let long : c.len-place.result ≡ length replies = omega arith in
     let later_is : c.later_listing-last.result ≡ (if is_listing (get_or lines i (request_line d)).request then Some (length replies) else last) =
     c.later_listing-last.ensures
     ∙ ap (λ (n : ℕ). if is_listing d.request then Some n else last) long

@@ -2,7 +2,7 @@ use Rattle.std.proofs.Common.{◌∙◌, ℕ, arith, sym, subst}
 use Rattle.plan_steps.specs.Tries.{IsSearched}
 use Rattle.tree_update.proofs.CallSteps.{search_stays, stays_more}
 use Rattle.tree_update.proofs.CallsMade.{made_as, has_made_more}
-use Rattle.tree_update.proofs.ReadTrees.{reader}
+use Rattle.update_search.proofs.ReadTrees.{reader}
 use Rattle.tree_update.proofs.TryMade.{offers_still, try_counted, search_waited}
 use Rattle.snapshot_read.proofs.ReadMoves.{inside_on}
 use Rattle.tree_update.proofs.trying.try_update.Goals as goal

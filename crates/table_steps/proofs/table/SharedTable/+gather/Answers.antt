@@ -3,9 +3,14 @@ use Rattle.index_words.specs.declared.view.View.{View}
 use Rattle.key_map.specs.Lists.{Every}
 use Rattle.table_rule.specs.Homes.{Sat}
 use Rattle.table_steps.specs.Closes.{EachPlace, IsRightAt, StaysRight}
-use Rattle.table_steps.specs.Passes.{Pass, Extends}
+use Rattle.table_steps.specs.Passes.{Pass, IsPassOf, Extends}
 use Rattle.table_steps.proofs.Closed.{extends_on, stays_filled, each_last, last_has, key_of}
 use Rattle.table_steps.proofs.table.SharedTable.+gather.Goals as goal
+
+pub take_in-requires-clause-of : goal.take_in-requires-clause-of
+take_in-requires-clause-of t c =
+    let key_is : key_of c.split-note.new.seat c.key.inside.kept.number ≡ c.in-Some.key = ap (λ (s : Sat). key_of s c.key.inside.kept.number) c.split-note.ensures.same ∙ c.key.view_is in
+    subst (IsPassOf c.args.self.now) (sym key_is) (last_has (IsPassOf c.args.self.now) c.args.keys.items c.pop.new.self.items c.in-Some.key c.in-Some.ensures.items c.requires.of)
 
 pub take_in-requires-clause-seen : goal.take_in-requires-clause-seen
 take_in-requires-clause-seen t c =

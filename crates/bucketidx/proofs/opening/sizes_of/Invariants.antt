@@ -1,6 +1,0 @@
-use Rattle.std.proofs.Common.{◌≡◌, take}
-use Rattle.bucketidx.specs.Sizes as spec
-use Rattle.bucketidx.proofs.opening.sizes_of.Given as goal
-
-abbrev pub invariant-loop-part : goal.invariant-loop-part
-invariant-loop-part l = l.sizes.items ≡ spec.sizes_of (take l.part-index l.clients)

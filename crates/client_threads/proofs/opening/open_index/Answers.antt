@@ -1,0 +1,13 @@
+use Rattle.std.proofs.Common.{sym, ap, ◌∙◌, subst, Err}
+use Rattle.index_words.specs.Sizes.{FitTable}
+use Rattle.request_lines.specs.Limits.{most_requests}
+use Rattle.client_threads.proofs.SizesFit.{part_few, fit}
+use Rattle.client_threads.proofs.opening.open_index.Goals as goal
+
+pub sizes_of-requires : goal.sizes_of-requires
+sizes_of-requires c = record { few = part_few most_requests c.args.clients.now c.requires.few.requests }
+
+pub unreachable-requires : goal.unreachable-requires
+unreachable-requires c =
+    let fits : FitTable c.deref.result.now = subst FitTable (sym (c.deref.ensures.value ∙ c.in_ok-sizes.ensures)) (fit c.args.clients.now c.requires.few) in
+    c.open.ensures.bad_sizes.0 (c.in-Err-BadSizes.is ∙ ap Err c.in-Err-BadSizes.field-0-is) fits

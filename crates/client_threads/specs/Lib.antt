@@ -1,0 +1,5 @@
+pub mod Slots
+pub mod Clients
+pub mod Runs
+pub mod Sizes
+pub mod Threads

@@ -1,0 +1,93 @@
+// The numbers of a run's summary.
+ghost use Rattle.std.specs.Prelude.{◌≡◌, ◌<◌, ◌^◌, length, sum_by, IfOk};
+ghost use Rattle.key_map.specs.History.{after};
+ghost use Rattle.sample_laws.specs.Totals as spec;
+ghost use Rattle.sample_laws.specs.Totals.{listed_by, listed_in};
+
+use crate::runner::Runner;
+use bucket_terms::{Placed, Reply, Summary};
+use client_run::Gate;
+use key_map::{PlainMap, Update};
+use key_names::NoMemory;
+use std::alloc::Global;
+
+/// The summary of a run: the runner's replies and the updates, which are all of the run.
+pub fn summary_of<G: Gate + Sync, R: Runner<G>>(
+    alloc: Global,
+    clients: u32,
+    runner: &R,
+    updates: &[Update],
+) -> Result<Summary, NoMemory>
+    requires clients { clients ≡ length (R.replied runner.now) }
+    requires listed { sum_by listed_by (R.replied runner.now) < 2 ^ 64 }
+    requires requests { sum_by length (R.replied runner.now) < 2 ^ 64 }
+    ensures { IfOk result (λ summary. summary ≡ spec.summary_of (record { updates = updates.now; replies = R.replied runner.now })) }
+{
+    let keys = keys_after(alloc, updates)?;
+    let listed = listed_by_all::<G, R>(clients, runner);
+    let requests = replies_of_all::<G, R>(clients, runner);
+    Ok(Summary {
+        keys,
+        listed,
+        requests,
+        updates: updates.len() as u64,
+    })
+}
+
+// How many keys the map has after all updates.
+fn keys_after(alloc: Global, updates: &[Update]) -> Result<u64, NoMemory>
+    ensures { IfOk result (λ keys. keys ≡ length (after updates.now (length updates.now))) }
+{
+    match PlainMap::replayed(alloc, updates) {
+        Ok(map) => Ok(map.pairs().len() as u64),
+        Err(_) => Err(NoMemory),
+    }
+}
+
+// How many entries the pages of all clients have.
+fn listed_by_all<G: Gate + Sync, R: Runner<G>>(clients: u32, runner: &R) -> u64
+    requires clients { clients ≡ length (R.replied runner.now) }
+    requires fits { sum_by listed_by (R.replied runner.now) < 2 ^ 64 }
+    ensures { result ≡ sum_by listed_by (R.replied runner.now) }
+{
+    let mut listed = 0;
+    for client in 0..clients {
+        listed += listed_by(runner.replies(client));
+    }
+    listed
+}
+
+// How many replies all clients have.
+fn replies_of_all<G: Gate + Sync, R: Runner<G>>(clients: u32, runner: &R) -> u64
+    requires clients { clients ≡ length (R.replied runner.now) }
+    requires fits { sum_by length (R.replied runner.now) < 2 ^ 64 }
+    ensures { result ≡ sum_by length (R.replied runner.now) }
+{
+    let mut replies = 0;
+    for client in 0..clients {
+        replies += runner.replies(client).len() as u64;
+    }
+    replies
+}
+
+// How many entries the pages of one client have.
+fn listed_by(replies: &[Placed]) -> u64
+    requires { listed_by replies.now < 2 ^ 64 }
+    ensures { result ≡ listed_by replies.now }
+{
+    let mut listed = 0;
+    for placed in replies {
+        listed += listed_in(&placed.reply);
+    }
+    listed
+}
+
+// How many entries the page of a listing has.
+fn listed_in(reply: &Reply) -> u64
+    ensures { result ≡ listed_in reply.now }
+{
+    match reply {
+        Reply::Listed { page, .. } => page.entries.len() as u64,
+        _ => 0,
+    }
+}

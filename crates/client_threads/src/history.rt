@@ -1,0 +1,38 @@
+// The history of a session: its clients over one shared index, which is then closed.
+ghost use Rattle.std.specs.Prelude.{◌≡◌, IfOk, OnOk};
+ghost use Rattle.outside_io.specs.Faults.{one_more};
+ghost use Rattle.client_threads.specs.Clients.{RanEach};
+ghost use Rattle.client_threads.specs.Runs.{parts_of};
+ghost use Rattle.client_threads.specs.Sizes.{CanServe};
+ghost use Rattle.client_threads.specs.Slots.{slots_of};
+
+use crate::opening::open_index;
+use crate::runner::Runner;
+use client_run::Gate;
+use key_map::Update;
+use key_names::{Directory, NoMemory};
+use request_lines::Session;
+use std::alloc::Global;
+use std::sync::Wait;
+use std::thread::Threads;
+
+/// Runs the clients over an index of their own, and closes it: the whole history of their updates.
+pub fn history_of<G: Gate + Sync, R: Runner<G>, Rt: Threads + Wait + Sync>(
+    rt: &Rt,
+    alloc: Global,
+    session: &Session,
+    dir: &Directory,
+    gate: &G,
+    runner: &mut R,
+) -> Result<Vec<Update>, NoMemory>
+    requires can { CanServe dir.now session.now }
+    ensures ran { IfOk result (λ updates. RanEach dir.now (parts_of session.now.clients) (slots_of (parts_of session.now.clients)) (record { updates = updates.items; replies = R.replied runner.new })) }
+    ensures runs { OnOk result (R.runs runner.new ≡ one_more (R.runs runner.old)) }
+{
+    let (index, keys) = open_index(alloc, session.clients.as_slice())?;
+    let keys = runner.run_all(rt, alloc, &index, keys, session, dir, gate)?;
+    match index.finish(alloc, keys) {
+        Ok(updates) => Ok(updates),
+        Err(_) => Err(NoMemory),
+    }
+}

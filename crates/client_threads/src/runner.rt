@@ -1,0 +1,60 @@
+// What runs the clients of a session.
+ghost use Rattle.std.specs.Prelude.{◌≡◌, ◌<◌, ◌≤◌, ℕ, List, [], length, IfOk, OnOk, slice_index_or};
+ghost use Rattle.bucket_terms.specs.declared.reply.Placed.{Placed as PlacedReply};
+ghost use Rattle.std.specs.Thread.{IsSync};
+ghost use Rattle.outside_io.specs.Faults.{one_more};
+ghost use Rattle.client_threads.specs.Runs.{CanRunEach, RanOverEach, parts_of};
+
+use bucket_terms::Placed;
+use client_run::Gate;
+use key_names::{Directory, NoMemory};
+use request_lines::Session;
+use shared_index::{PassKey, SharedIndex};
+use std::alloc::Global;
+use std::sync::Wait;
+use std::thread::Threads;
+
+/// Runs the clients of a session, each over a pass of its own, and keeps their replies.
+/// `G` is the gate that is told of each request. It stands at the trait, since a method cannot lend a value of a type
+/// parameter of its own to threads.
+///
+/// ```
+/// let keys = runner.run_all(rt, alloc, &index, keys, &session, &dir, &OpenGate)?;
+/// // the first client's, one for each of its request lines
+/// let replies = runner.replies(0);
+/// // the history of all updates, once all keys of the index are back
+/// let updates = index.finish(alloc, keys)?;
+/// ```
+pub trait Runner<G: Gate + Sync> {
+    /// How many runs were made: a count of 64 bits that stays at its last value.
+    ghost runs: { Self → ℕ };
+
+    /// The reply lists of the last run, one per client.
+    ghost replied: { Self → List (List PlacedReply) };
+
+    /// Answers the requests of all clients, and gives the keys back, each with its number. The passes may have been used
+    /// before, and the index may have further passes, which others use at the same time.
+    ///
+    /// # Errors
+    /// Want of memory ends the run. Updates may have been made then, and the keys are gone.
+    fn run_all<Rt: Threads + Wait + Sync>(
+        &mut self,
+        rt: &Rt,
+        alloc: Global,
+        index: &SharedIndex,
+        keys: Vec<PassKey>,
+        session: &Session,
+        dir: &Directory,
+        gate: &G,
+    ) -> Result<Vec<PassKey>, NoMemory>
+        requires sync { IsSync Rt.row }
+        requires can { CanRunEach dir.now index.now (parts_of session.now.clients) keys.items }
+        ensures ran { IfOk result (λ back. RanOverEach dir.now index.now (parts_of session.now.clients) keys.items back.items (replied self.new)) }
+        ensures runs { OnOk result (runs self.new ≡ one_more (runs self.old)) }
+        ensures never_fall { runs self.old ≤ runs self.new };
+
+    /// The replies of this client in the last run.
+    fn replies(&self, client: u32) -> &[Placed]
+        requires { client < length (replied self.now) }
+        ensures { result.now ≡ slice_index_or (replied self.now) client [] };
+}

@@ -1,0 +1,201 @@
+// The runner of the program: a thread for each client.
+ghost use Rattle.std.specs.Prelude.{◌≡◌, ◌<◌, ◌≤◌, [], length, IfOk, slice_index_or};
+ghost use Rattle.outside_io.specs.Faults.{one_more};
+ghost use Rattle.request_lines.specs.Session.{request_lines};
+ghost use Rattle.client_threads.specs.Runs.{CanRunEach, RanOver, RanOverEach, parts_of};
+ghost use Rattle.client_threads.specs.Threads.{CanRunOne, CameOf, AreParts};
+ghost use Rattle.bucket_terms.specs.LegalRun.{lines_of};
+
+use crate::runner::Runner;
+use bucket_terms::{KeyPass, Placed};
+use client_run::{Gate, OpenGate, run_client};
+use key_map::Items;
+use key_names::{Directory, NoMemory};
+use request_lines::{ClientPart, Session};
+use shared_index::{PassKey, SharedIndex};
+use std::alloc::Global;
+use std::marker::Model;
+use std::sync::Wait;
+use std::thread;
+use std::thread::Threads;
+
+/// Runs each client on a thread of its own. Where a thread cannot be started, its client is run by the thread that was to
+/// start it.
+///
+/// ```
+/// let mut runner = Threaded::new();
+/// let updates = history_of(&rt, alloc, &session, &dir, &OpenGate, &mut runner)?;
+/// // the first client's, one for each of its request lines
+/// let replies = runner.replies(0);
+/// ```
+#[derive(Drop)]
+pub struct Threaded {
+    runs: u64,
+    replies: Option<Items<Items<Placed>>>,
+}
+
+impl Model for Threaded {
+    ghost use Rattle.client_threads.specs.Threads.{Kept, replies_kept};
+
+    ghost Value = { Kept };
+
+    ghost view = { λ t. record { runs = t.runs; replied = replies_kept t.replies } };
+}
+
+impl Threaded {
+    /// A runner that has made no run.
+    pub fn new() -> Threaded
+        ensures runs { result.runs ≡ 0 }
+        ensures replied { result.replied ≡ [] }
+    {
+        Threaded {
+            runs: 0,
+            replies: None,
+        }
+    }
+}
+
+impl Threaded {
+    /// Runs the clients, for any gate, as `Runner::run_all` does it for each gate that the trait is implemented for. A
+    /// method of a trait cannot lend a value of a type parameter to threads.
+    pub fn run_on_threads<G: Gate + Sync, Rt: Threads + Wait + Sync>(
+        &mut self,
+        rt: &Rt,
+        alloc: Global,
+        index: &SharedIndex,
+        keys: Vec<PassKey>,
+        session: &Session,
+        dir: &Directory,
+        gate: &G,
+    ) -> Result<Vec<PassKey>, NoMemory>
+        requires { CanRunEach dir.now index.now (parts_of session.now.clients) keys.items }
+        ensures ran { IfOk result (λ back. RanOverEach dir.now index.now (parts_of session.now.clients) keys.items back.items self.new.replied) }
+        ensures runs { self.new.runs ≡ one_more self.old.runs }
+        ensures never_fall { self.old.runs ≤ self.new.runs }
+    {
+        self.runs = self.runs.saturating_add(1);
+        let results = run_each(
+            rt,
+            alloc,
+            index,
+            keys,
+            session.clients.as_slice(),
+            dir,
+            gate,
+        )?;
+        let (keys, replies) = take_apart(alloc, results)?;
+        self.replies = Some(Items::from_vec(replies));
+        Ok(keys)
+    }
+
+    /// The replies of this client in the last run.
+    pub fn replies_of(&self, client: u32) -> &[Placed]
+        requires { client < length self.now.replied }
+        ensures { result.now ≡ slice_index_or self.now.replied client [] }
+    {
+        match &self.replies {
+            Some(lists) => lists.as_slice()[client as usize].as_slice(),
+            None => &[],
+        }
+    }
+}
+
+impl Runner<OpenGate> for Threaded {
+    ghost runs = { λ t. t.runs };
+
+    ghost replied = { λ t. t.replied };
+
+    fn run_all<Rt: Threads + Wait + Sync>(
+        &mut self,
+        rt: &Rt,
+        alloc: Global,
+        index: &SharedIndex,
+        keys: Vec<PassKey>,
+        session: &Session,
+        dir: &Directory,
+        gate: &OpenGate,
+    ) -> Result<Vec<PassKey>, NoMemory> {
+        self.run_on_threads(rt, alloc, index, keys, session, dir, gate)
+    }
+
+    fn replies(&self, client: u32) -> &[Placed] {
+        self.replies_of(client)
+    }
+}
+
+/// The key of a client's pass behind its run, and the replies.
+#[derive(Drop)]
+struct RanPart {
+    key: PassKey,
+    replies: Items<Placed>,
+}
+
+impl Model for RanPart {
+    ghost use Rattle.client_threads.specs.Threads.{Ran};
+
+    ghost Value = { Ran };
+
+    ghost view = { λ r. record { key = r.key; replies = r.replies } };
+}
+
+// Runs the client of each key, each on a thread of its own.
+fn run_each<G: Gate + Sync, Rt: Threads + Wait + Sync>(
+    rt: &Rt,
+    alloc: Global,
+    index: &SharedIndex,
+    keys: Vec<PassKey>,
+    parts: &[ClientPart],
+    dir: &Directory,
+    gate: &G,
+) -> Result<Vec<Result<RanPart, NoMemory>>, NoMemory>
+    requires { CanRunEach dir.now index.now (parts_of parts.now) keys.items }
+    ensures { IfOk result (λ results. CameOf dir.now index.now (parts_of parts.now) keys.items results.items) }
+{
+    let run = |key: PassKey| -> Result<RanPart, NoMemory>
+        requires { CanRunOne dir.now index.now (parts_of parts.now) key }
+        ensures { IfOk result (λ r. RanOver dir.entry.now index.entry.now key.number (lines_of (parts_of parts.entry.now) key.number) key r.key r.replies) }
+    { run_key(rt, alloc, index, key, parts, dir, gate) };
+    Ok(thread::map_vec(rt, keys, &run)?)
+}
+
+// Runs the client of the key's number.
+fn run_key<G: Gate, Rt: Wait>(
+    rt: &Rt,
+    alloc: Global,
+    index: &SharedIndex,
+    key: PassKey,
+    parts: &[ClientPart],
+    dir: &Directory,
+    gate: &G,
+) -> Result<RanPart, NoMemory>
+    requires { CanRunOne dir.now index.now (parts_of parts.now) key }
+    ensures { IfOk result (λ r. RanOver dir.now index.now key.number (lines_of (parts_of parts.now) key.number) key r.key r.replies) }
+{
+    let mut pass = index.attach(key);
+    let part = &parts[pass.client() as usize];
+    let replies = run_client(rt, alloc, &mut pass, part, dir, gate)?;
+    Ok(RanPart {
+        key: pass.detach(),
+        replies: Items::from_vec(replies),
+    })
+}
+
+// The keys and the replies of all clients, where each was run to its end.
+fn take_apart(
+    alloc: Global,
+    mut results: Vec<Result<RanPart, NoMemory>>,
+) -> Result<(Vec<PassKey>, Vec<Items<Placed>>), NoMemory>
+    ensures { IfOk result (λ parts. AreParts results.items parts.0.items parts.1.items) }
+{
+    let Some(last) = results.pop() else {
+        return Ok((Vec::new(alloc), Vec::new(alloc)));
+    };
+    let (mut keys, mut replies) = take_apart(alloc, results)?;
+    let RanPart {
+        key,
+        replies: answered,
+    } = last?;
+    keys.push(key)?;
+    replies.push(answered)?;
+    Ok((keys, replies))
+}

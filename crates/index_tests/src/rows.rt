@@ -1,0 +1,166 @@
+// Calls of an index's passes as rows, each with the answer that it is to have, worked by hand.
+ghost use Rattle.std.specs.Prelude.{◌≡◌, None};
+ghost use Rattle.shared_index.specs.Shown.{shown};
+
+use crate::set_up::{done, opened, put, size};
+use bucket_terms::KeyPass;
+use index_words::Pair;
+use key_map::{Done, PassError};
+use shared_index::{IndexPass, Look, Settling, Try};
+use std::sync::Wait;
+use std::test::Fail;
+
+/// A call of a pass that has no snapshot open, and the answer that it is to have.
+#[derive(Clone, Copy)]
+enum Row {
+    Put(u64, u64, Result<Done, PassError>),
+    Remove(u64, Result<Done, PassError>),
+    TryPut(u64, u64, Result<Try, PassError>),
+    TrySettle(Settling),
+    /// One look, in a snapshot of its own.
+    TryNext(u64, Look),
+}
+
+/// A put that one try makes.
+const fn tried(at: u64, was: bool) -> Result<Try, PassError> {
+    Ok(Try::Done(Done { at, was }))
+}
+
+const fn found(key: u64, val: u64) -> Look {
+    Look::Found(Pair { key, val })
+}
+
+/// A removal, which leaves no snapshot open.
+fn remove<R: Wait>(pass: &mut IndexPass<'_>, rt: &R, key: u64) -> Result<Done, PassError>
+    requires closed { (shown pass.old).opened ≡ None }
+    ensures closed { (shown pass.new).opened ≡ None }
+{
+    match pass.remove(rt, 1, key) {
+        Ok(done) => Ok(done),
+        Err(error) => Err(error),
+    }
+}
+
+/// One try of a put, which leaves no snapshot open.
+fn try_put(pass: &mut IndexPass<'_>, key: u64, val: u64) -> Result<Try, PassError>
+    requires closed { (shown pass.old).opened ≡ None }
+    ensures closed { (shown pass.new).opened ≡ None }
+{
+    match pass.try_put(1, key, val) {
+        Ok(Try::Done(done)) => Ok(Try::Done(done)),
+        Ok(Try::Busy) => Ok(Try::Busy),
+        Ok(Try::Moved) => Ok(Try::Moved),
+        Ok(Try::Pending) => Ok(Try::Pending),
+        Err(error) => Err(error),
+    }
+}
+
+/// One look, in a snapshot of its own.
+fn look_once(pass: &mut IndexPass<'_>, key: u64) -> Look
+    requires closed { (shown pass.old).opened ≡ None }
+    ensures closed { (shown pass.new).opened ≡ None }
+{
+    pass.begin();
+    let look = pass.try_next_from(key);
+    pass.end();
+    look
+}
+
+/// Makes the row's call, and tells whether it has the row's answer.
+fn has_answer<R: Wait>(pass: &mut IndexPass<'_>, rt: &R, row: &Row) -> bool
+    requires closed { (shown pass.old).opened ≡ None }
+    ensures closed { (shown pass.new).opened ≡ None }
+{
+    match *row {
+        Row::Put(key, val, answer) => put(rt, pass, 1, key, val) == answer,
+        Row::Remove(key, answer) => remove(pass, rt, key) == answer,
+        Row::TryPut(key, val, answer) => try_put(pass, key, val) == answer,
+        Row::TrySettle(answer) => pass.try_settle() == answer,
+        Row::TryNext(key, answer) => look_once(pass, key) == answer,
+    }
+}
+
+/// How many rows, from the first one on, have their answers.
+fn answered<R: Wait>(pass: &mut IndexPass<'_>, rt: &R, rows: &[Row]) -> usize
+    requires closed { (shown pass.old).opened ≡ None }
+    ensures closed { (shown pass.new).opened ≡ None }
+{
+    'rows: for (place, row) in rows.iter().enumerate() {
+        if !has_answer(pass, rt, row) {
+            return place;
+        }
+    }
+    rows.len()
+}
+
+/// A key with two children goes out, whose successor is deep and has a right child; and a try is refused while the slots
+/// that the pass has taken out are not free again.
+#[test]
+fn a_pass_removes_a_key_with_two_children(rt: HostRuntime) -> Result<(), Fail> {
+    let Some((index, first, second)) = opened(rt.alloc(), &[size(8, 32, 16), size(2, 8, 8)]) else {
+        panic!(rt; "there is no index of two passes")
+    };
+    let rows = [
+        Row::Remove(4, done(0, false)),
+        Row::Put(4, 40, done(1, false)),
+        Row::Put(2, 20, done(2, false)),
+        Row::TryPut(7, 70, tried(3, false)),
+        Row::Put(5, 50, done(4, false)),
+        Row::TryNext(3, found(4, 40)),
+    ];
+    assert_eq!(rt; answered(&mut index.attach(first), &rt, &rows), 6);
+    let rows = [
+        Row::TryPut(6, 60, tried(5, false)),
+        Row::Remove(4, done(6, true)),
+        Row::TryPut(6, 61, Err(PassError::NoSlot)),
+        Row::Remove(4, done(6, false)),
+        Row::TryPut(6, 61, tried(7, true)),
+        Row::TryNext(0, found(2, 20)),
+        Row::TryNext(3, found(5, 50)),
+        Row::TryNext(6, found(6, 61)),
+        Row::TryNext(7, found(7, 70)),
+        Row::TryNext(8, Look::Nothing),
+    ];
+    assert_eq!(rt; answered(&mut index.attach(second), &rt, &rows), 10);
+    Ok(())
+}
+
+/// Another pass's snapshot holds what a removal has taken out. The successor of the second key that goes out is the
+/// right child itself.
+#[test]
+fn a_snapshot_holds_the_slots_of_a_removal(rt: HostRuntime) -> Result<(), Fail> {
+    let Some((index, first, second)) = opened(rt.alloc(), &[size(8, 32, 16), size(1, 4, 8)]) else {
+        panic!(rt; "there is no index of two passes")
+    };
+    let mut zero = index.attach(first);
+    let mut one = index.attach(second);
+    let rows = [
+        Row::Put(4, 40, done(1, false)),
+        Row::Put(2, 20, done(2, false)),
+        Row::Put(6, 60, done(3, false)),
+        Row::Put(5, 50, done(4, false)),
+    ];
+    assert_eq!(rt; answered(&mut zero, &rt, &rows), 4);
+    assert_eq!(rt; one.begin(), 4);
+    let rows = [
+        Row::Remove(4, done(5, true)),
+        Row::TrySettle(Settling::Held { seat: 1, word: 1 }),
+    ];
+    assert_eq!(rt; answered(&mut zero, &rt, &rows), 2);
+    assert_eq!(rt; one.try_next_from(3), found(4, 40));
+    one.end();
+    let rows = [
+        Row::TrySettle(Settling::Settled),
+        Row::Remove(5, done(6, true)),
+        Row::TryNext(3, found(6, 60)),
+        Row::TryNext(7, Look::Nothing),
+    ];
+    assert_eq!(rt; answered(&mut zero, &rt, &rows), 4);
+    let rows = [
+        Row::Put(8, 80, done(7, false)),
+        Row::Put(8, 81, Err(PassError::NoSlot)),
+        Row::Remove(8, Err(PassError::NoSlot)),
+    ];
+    assert_eq!(rt; answered(&mut one, &rt, &rows), 3);
+    Ok(())
+}

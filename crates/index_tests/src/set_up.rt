@@ -1,0 +1,68 @@
+// Indexes of two passes for the tests, and the calls that both files make.
+ghost use Rattle.std.specs.Prelude.{◌≡◌, ◌∷◌, [], None, IfSome};
+ghost use Rattle.shared_index.specs.Keys.{AreAllKeys};
+
+use bucket_terms::KeyPass;
+use index_words::PassSize;
+use key_map::{Done, PassError};
+use shared_index::{PassKey, SharedIndex};
+use std::alloc::Global;
+use std::sync::Wait;
+
+pub(crate) const fn size(nodes: u32, entries: u32, calls: u32) -> PassSize {
+    PassSize {
+        nodes,
+        entries,
+        calls,
+    }
+}
+
+pub(crate) const fn done(at: u64, was: bool) -> Result<Done, PassError> {
+    Ok(Done { at, was })
+}
+
+/// The keys of an index of two passes.
+fn both(keys: Vec<PassKey>) -> Option<(PassKey, PassKey)>
+    ensures { IfSome result (λ two. keys.items ≡ two.0 ∷ two.1 ∷ []) }
+{
+    let mut keys = keys;
+    let (Some(second), Some(first), None) = (keys.pop(), keys.pop(), keys.pop()) else {
+        return None;
+    };
+    Some((first, second))
+}
+
+/// An index of two passes, and its keys.
+pub(crate) fn opened(
+    alloc: Global,
+    sizes: &[PassSize; 2],
+) -> Option<(SharedIndex, PassKey, PassKey)>
+    ensures { IfSome result (λ o. AreAllKeys o.0 (o.1 ∷ o.2 ∷ [])) }
+{
+    let Ok((index, keys)) = SharedIndex::open(alloc, sizes) else {
+        return None;
+    };
+    match both(keys) {
+        Some((first, second)) => Some((index, first, second)),
+        None => None,
+    }
+}
+
+/// A put, which leaves no snapshot open.
+pub(crate) fn put<P: KeyPass, R: Wait>(
+    rt: &R,
+    pass: &mut P,
+    line: u32,
+    key: u64,
+    val: u64,
+) -> Result<Done, PassError>
+    requires closed { (P.view pass.old).opened ≡ None }
+    ensures closed { (P.view pass.new).opened ≡ None }
+    ensures number { (P.view pass.new).number ≡ (P.view pass.old).number }
+    ensures home { P.home pass.new ≡ P.home pass.old }
+{
+    match pass.put(rt, line, key, val) {
+        Ok(done) => Ok(done),
+        Err(error) => Err(error),
+    }
+}

@@ -1,0 +1,75 @@
+// A client's requests, and which name of the session each of them is about.
+ghost use Rattle.std.specs.Prelude.{◌≡◌, ◌++◌, ◌∷◌, [], length, OnOk, IsOkUnless};
+ghost use Rattle.request_lines.specs.declared.line_error.LineError.TheVariants.{NoMemory as OutOfMemory};
+
+use crate::Asked;
+use crate::line_error::LineError;
+use std::alloc::Global;
+use std::marker::Model;
+
+/// The requests of a client, in the order of their lines. Contracts see the list of them. It keeps beside each request
+/// the rank of its name among the session's names, so that no one has to search for it: see `rank`.
+#[derive(Debug, Drop)]
+pub struct Requests {
+    asked: Vec<Asked>,
+    // As long as `asked`, or 0 for a request without a name.
+    ranks: Vec<usize>,
+}
+
+impl Model for Requests {
+    ghost use Rattle.std.specs.Prelude.{List};
+    ghost use Rattle.request_lines.specs.declared.session.Asked.{Asked as AskedLine};
+
+    ghost Value = { List AskedLine };
+
+    ghost view = { λ r. r.asked.items };
+}
+
+impl Requests {
+    /// No requests.
+    pub fn new(alloc: Global) -> Requests
+        ensures { result ≡ [] }
+    {
+        Requests {
+            asked: Vec::new(alloc),
+            ranks: Vec::new(alloc),
+        }
+    }
+
+    pub fn len(&self) -> usize
+        ensures { result ≡ length self.now }
+    {
+        self.asked.len()
+    }
+
+    pub fn as_slice(&self) -> &[Asked]
+        ensures { result.now ≡ self.now }
+    {
+        self.asked.as_slice()
+    }
+
+    /// Where to look for the name of the request at this place: its rank in a directory of the session's names and of no
+    /// others. Another directory may have another name there, so that a caller has to compare.
+    pub fn rank(&self, place: usize) -> usize {
+        self.ranks.get(place).copied().unwrap_or(0)
+    }
+
+    /// Adds a request about the name of this number.
+    pub(crate) fn push(&mut self, asked: Asked, number: usize) -> Result<(), LineError>
+        ensures pushed { OnOk result (self.new ≡ self.old ++ asked ∷ []) }
+        ensures memory { IsOkUnless result OutOfMemory }
+    {
+        self.ranks.push(number)?;
+        self.asked.push(asked)?;
+        Ok(())
+    }
+
+    /// Puts the ranks of the names in place of their numbers.
+    pub(crate) fn rank_names(&mut self, ranks: &[usize])
+        ensures { self.new ≡ self.old }
+    {
+        for place in 0..self.ranks.len() {
+            self.ranks[place] = ranks.get(self.ranks[place]).copied().unwrap_or(0);
+        }
+    }
+}

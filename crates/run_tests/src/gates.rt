@@ -1,0 +1,133 @@
+// A gate that sees the requests of the clients, and can hold them.
+use bucket_terms::Placed;
+use client_run::Gate;
+use client_threads::{Runner, Threaded};
+use key_names::{Directory, NoMemory, Text};
+use outside_io::{MemSink, MemSource};
+use request_lines::Session;
+use serve_session::{Status, serve};
+use shared_index::{PassKey, SharedIndex};
+use std::alloc::Global;
+use std::sync::Wait;
+use std::sync::atomic::{AtomicBool, AtomicU32, Ordering};
+use std::test::Fail;
+use std::thread;
+use std::thread::Threads;
+
+// Which requests are held, and until when.
+#[derive(Clone, Copy)]
+pub(super) enum Holds {
+    Nothing,
+    // Those of client 0, until a request of another was answered.
+    FirstClient,
+    // Each, until so many have come.
+    UntilCome(u32),
+}
+
+// Counts the requests that come and those that are answered. A request that is held for too many turns goes on.
+#[derive(Drop)]
+pub(super) struct Watch {
+    pub(super) come: AtomicU32,
+    pub(super) answered: AtomicU32,
+    pub(super) given_up: AtomicBool,
+    holds: Holds,
+}
+
+const MOST_TURNS: u32 = 1_000_000;
+
+// Room for all that a session of these tests writes.
+const AMPLE: usize = 100_000;
+
+impl Watch {
+    fn is_held(&self, client: u32) -> bool {
+        match self.holds {
+            Holds::Nothing => false,
+            Holds::FirstClient => client == 0 && self.answered.load(Ordering::SeqCst) == 0,
+            Holds::UntilCome(count) => self.come.load(Ordering::SeqCst) < count,
+        }
+    }
+}
+
+impl Gate for Watch {
+    fn before(&self, client: u32, line: u32) {
+        self.come.fetch_add(1, Ordering::SeqCst);
+        for _ in 0..MOST_TURNS {
+            if !self.is_held(client) {
+                return;
+            }
+            thread::yield_now();
+        }
+        self.given_up.store(true, Ordering::SeqCst);
+    }
+
+    fn after(&self, client: u32, line: u32) {
+        self.answered.fetch_add(1, Ordering::SeqCst);
+    }
+}
+
+impl Runner<Watch> for Threaded {
+    ghost runs = { λ t. t.runs };
+
+    ghost replied = { λ t. t.replied };
+
+    fn run_all<Rt: Threads + Wait + Sync>(
+        &mut self,
+        rt: &Rt,
+        alloc: Global,
+        index: &SharedIndex,
+        keys: Vec<PassKey>,
+        session: &Session,
+        dir: &Directory,
+        gate: &Watch,
+    ) -> Result<Vec<PassKey>, NoMemory> {
+        self.run_on_threads(rt, alloc, index, keys, session, dir, gate)
+    }
+
+    fn replies(&self, client: u32) -> &[Placed] {
+        self.replies_of(client)
+    }
+}
+
+// How serving ended, and what was written.
+#[derive(Drop)]
+pub(super) struct Ended {
+    pub(super) status: Status,
+    pub(super) sink: MemSink,
+}
+
+// Serves these words over this input, with the program's runner, and with a gate that holds these requests.
+pub(super) fn watched<Rt: Threads + Wait + Sync>(
+    rt: &Rt,
+    alloc: Global,
+    words: &[&str],
+    input: Vec<u8>,
+    holds: Holds,
+) -> Result<(Ended, Watch), Fail> {
+    let words = texts(alloc, words)?;
+    let mut source = MemSource::new(input);
+    let mut sink = MemSink::with_room(alloc, AMPLE)?;
+    let gate = Watch {
+        come: AtomicU32::new(0),
+        answered: AtomicU32::new(0),
+        given_up: AtomicBool::new(false),
+        holds,
+    };
+    let status = serve(
+        rt,
+        alloc,
+        &words,
+        &mut source,
+        &mut sink,
+        &gate,
+        &mut Threaded::new(),
+    );
+    Ok((Ended { status, sink }, gate))
+}
+
+fn texts(alloc: Global, words: &[&str]) -> Result<Vec<Text>, Fail> {
+    let mut texts = Vec::new(alloc);
+    for word in words {
+        texts.push(Text::of(alloc, word)?)?;
+    }
+    Ok(texts)
+}

@@ -1,0 +1,97 @@
+// A run over an index that was used before, and that another pass uses too.
+ghost use Rattle.std.specs.Prelude.{◌≡◌, ◌∷◌, [], IfOk, IfSome};
+ghost use Rattle.bucket_terms.specs.PlainPass.{fresh};
+ghost use Rattle.shared_index.specs.Keys.{AreFresh, IsKeyOf};
+ghost use Rattle.shared_index.specs.Shown.{shown};
+ghost use Rattle.client_threads.specs.Sizes.{CanServe};
+
+use crate::sessions::session_of;
+use bucket_terms::{KeyPass, Reply};
+use client_run::OpenGate;
+use client_threads::{Runner, Threaded};
+use key_map::PassSize;
+use key_names::Directory;
+use request_lines::Session;
+use shared_index::{PassKey, SharedIndex};
+use std::alloc::Global;
+use std::sync::Wait;
+use std::test::Fail;
+use std::thread::Threads;
+
+// The keys of an index of two passes.
+fn both(keys: Vec<PassKey>) -> Option<(PassKey, PassKey)>
+    ensures { IfSome result (λ two. keys.items ≡ two.0 ∷ two.1 ∷ []) }
+{
+    let mut keys = keys;
+    let (Some(second), Some(first), None) = (keys.pop(), keys.pop(), keys.pop()) else {
+        return None;
+    };
+    Some((first, second))
+}
+
+// An index of two passes of this size, and their keys.
+fn two_passes(alloc: Global, size: PassSize) -> Result<(SharedIndex, PassKey, PassKey), Fail>
+    ensures first { IfOk result (λ two. IsKeyOf two.0 two.1 × (shown two.1 ≡ fresh 0 size)) }
+    ensures second { IfOk result (λ two. IsKeyOf two.0 two.2 × (shown two.2 ≡ fresh 1 size)) }
+{
+    let Ok((index, keys)) = SharedIndex::open(alloc, &[size, size]) else {
+        return Err("no index")?;
+    };
+    let Some((first, second)) = both(keys) else {
+        return Err("no two keys")?;
+    };
+    Ok((index, first, second))
+}
+
+// The place and the value of the one reply of the session's one client, which is run over the pass of this key.
+fn found_over<Rt: Threads + Wait + Sync, R: Runner<OpenGate>>(
+    rt: &Rt,
+    alloc: Global,
+    runner: &mut R,
+    index: &SharedIndex,
+    key: PassKey,
+    size: PassSize,
+    session: &Session,
+    dir: &Directory,
+) -> Result<(Option<u64>, u64), Fail>
+    requires can { CanServe dir.now session.now }
+    requires of { IsKeyOf index.now key }
+    requires fresh { shown key ≡ fresh 0 size }
+{
+    let [part] = session.clients.as_slice() else {
+        return Err("not one client")?;
+    };
+    if part.writes() > size.calls {
+        return Err("too many updates")?;
+    }
+    let mut keys = Vec::new(alloc);
+    keys.push(key)?;
+    runner.run_all(rt, alloc, index, keys, session, dir, &OpenGate)?;
+    let [placed] = runner.replies(0) else {
+        return Err("not one reply")?;
+    };
+    let Reply::Found { val } = placed.reply else {
+        return Err("no value")?;
+    };
+    Ok((placed.at, val))
+}
+
+// Pass 1 puts a value, and the runner has the key of pass 0 alone. A runner that answers from a replay of its own
+// session's updates finds nothing: no change of one line makes such a runner, so this test stands for the wrong body.
+#[test]
+fn an_index_that_others_use(rt: HostRuntime) -> Result<(), Fail> {
+    let alloc = rt.alloc();
+    let size = PassSize {
+        nodes: 4,
+        entries: 16,
+        calls: 8,
+    };
+    let (index, key, other) = two_passes(alloc, size)?;
+    let mut pass = index.attach(other);
+    assert!(rt; pass.put(&rt, 1, 0, 7).is_ok());
+    let (session, dir) = session_of(alloc, b"CLIENT\nHEAD a\n")?;
+    let mut runner = Threaded::new();
+    let found = found_over(&rt, alloc, &mut runner, &index, key, size, &session, &dir)?;
+    assert_eq!(rt; found, (Some(1), 7));
+    Ok(())
+}

@@ -1,0 +1,95 @@
+-- From the run of the clients to the run of the session and of the input, and the words.
+use Rattle.std.proofs.Common.{◌≡◌, ℕ, ◌<◌, ◌≤◌, ◌==◌, All, length, map, List, [], ◌∷◌, Option, Bool, true, false, refl, sym, ap, ◌∙◌, subst, arith, nat_eq}
+use Rattle.std.specs.List.{slice_index_or}
+use Rattle.std.specs.Cmp.Lexicographic.{pointwise, bytes_decides}
+use Rattle.std.proofs.lemmas.Bool.Decides.{nat_tests}
+use Rattle.std.proofs.lemmas.Option.{slice_get_within}
+use Rattle.key_names.specs.Names.{HoldsEachOnce}
+use Rattle.key_map.specs.declared.update.Update.{Update}
+use Rattle.bucket_terms.specs.declared.record.Record.{Record}
+use Rattle.bucket_terms.specs.declared.reply.Placed.{Placed}
+use Rattle.bucket_terms.specs.LegalRun.{IsLegal, Run, RequestLine}
+use Rattle.request_lines.specs.declared.session.ClientPart.{ClientPart}
+use Rattle.request_lines.specs.declared.session.Session.{Session}
+use Rattle.request_lines.specs.Session.{request_lines}
+use Rattle.answer_text.specs.Lines.{session_text}
+use Rattle.client_threads.specs.Clients.{RanEach}
+use Rattle.serve_session.specs.Served.{HoldsOfInput, HoldsOfSession, HoldsOfRun}
+use Rattle.client_threads.specs.Slots.{slots_of}
+use Rattle.serve_session.specs.Texts.{end_text}
+use Rattle.client_threads.proofs.Clients.{each_legal}
+use Rattle.serve_session.proofs.Lines.{text_parts}
+
+-- ---- the run of the session
+
+pub run_holds : (session : Session) (dir names : List (List ℕ)) (P : Run → List ℕ → Type 0) → HoldsEachOnce session.names dir
+    → HoldsOfRun dir session.records (map request_lines session.clients) (slots_of (map request_lines session.clients)) P → HoldsOfSession slots_of session P
+run_holds session dir names P holds text = record { dir = dir; names = holds; text = text }
+
+-- a run of the clients, with the parts of what is written as a call was given them
+pub written : (dir : List (List ℕ)) (records given : List Record) (clients : List ClientPart) (updates shown : List Update) (replies : List (List Placed)) (P : Run → List ℕ → Type 0)
+    → given ≡ records → shown ≡ updates → RanEach dir (map request_lines clients) (slots_of (map request_lines clients)) (record { updates = updates; replies = replies })
+    → P (record { updates = shown; replies = replies }) (session_text dir given (record { updates = shown; replies = replies }))
+    → HoldsOfRun dir records (map request_lines clients) (slots_of (map request_lines clients)) P
+written dir records given clients updates shown replies P same_records same_updates ran holds =
+    let run : Run = record { updates = shown; replies = replies } in
+    let parts = map request_lines clients in
+    record {
+      run = run;
+      legal =
+          each_legal dir parts (slots_of parts) run
+          (subst (λ (us : List Update). RanEach dir parts (slots_of parts) (record { updates = us; replies = replies })) (sym same_updates) ran);
+      holds = subst (λ (rs : List Record). P run (session_text dir rs run)) same_records holds;
+    }
+
+no_client : (clients : List ClientPart) → (length clients == 0) ≡ true → clients ≡ []
+no_client [] is = refl
+no_client (p ∷ ps) is = absurd (grind (arith, nat_tests))
+
+abbrev no_run : Run
+no_run = record { updates = []; replies = [] }
+
+legal_none : (dir : List (List ℕ)) → IsLegal dir [] (slots_of []) no_run
+legal_none dir = record {
+  clients = refl;
+  answered = λ c lt. absurd (omega (arith, lt));
+  made = λ i u is. let no : i < 0 = slice_get_within [] i u is in absurd (omega (arith, no));
+}
+
+pub none_holds : (session : Session) (dir : List (List ℕ)) (P : Run → List ℕ → Type 0) → (length session.clients == 0) ≡ true
+    → HoldsEachOnce session.names dir → P no_run (end_text dir []) → HoldsOfSession slots_of session P
+none_holds session dir P is names holds = record {
+  dir = dir;
+  names = names;
+  text = subst (λ (cs : List ClientPart). HoldsOfRun dir session.records (map request_lines cs) (slots_of (map request_lines cs)) P) (sym (no_client session.clients is))
+      (record { run = no_run; legal = legal_none dir; holds = subst (P no_run) (text_parts dir session.records [] []) holds });
+}
+
+-- what holds of a run and its text, and more, holds of it
+pub input_first : (slots : List (List RequestLine) → ℕ → ℕ) (before after : Option (List ℕ)) (P Q : Run → List ℕ → Type 0)
+    → HoldsOfInput slots before after (λ (run : Run) (text : List ℕ). P run text × Q run text) → HoldsOfInput slots before after P
+input_first slots before after P Q both = record {
+  input = both.input;
+  session = both.session;
+  has_read = both.has_read;
+  of_input = both.of_input;
+  text = record {
+    dir = both.text.dir;
+    names = both.text.names;
+    text = record { run = both.text.text.run; legal = both.text.text.legal; holds = both.text.text.holds.0 };
+  };
+}
+
+-- ---- the words
+
+one_word : (words : List (List ℕ)) (word : List ℕ) → 1 ≤ length words → length words < 2 → word ≡ slice_index_or words 0 word → words ≡ word ∷ []
+one_word [] word low high is = absurd (omega arith)
+one_word (w ∷ []) word low high is = ap (λ (v : List ℕ). v ∷ []) (sym is)
+one_word (w ∷ v ∷ vs) word low high is = absurd (omega arith)
+
+pub run_word : (words : List (List ℕ)) (word run : List ℕ) (same : Bool) → 1 ≤ length words → length words < 2 → word ≡ slice_index_or words 0 word
+    → same ≡ pointwise nat_eq word run → (same ≡ true → words ≡ run ∷ []) × (words ≡ run ∷ [] → same ≡ true)
+run_word words word run same low high is by = (
+  λ yes. one_word words word low high is ∙ ap (λ (v : List ℕ). v ∷ []) ((bytes_decides word run).0 (sym by ∙ yes)),
+  λ all. by ∙ (bytes_decides word run).1 (is ∙ ap (λ (vs : List (List ℕ)). slice_index_or vs 0 word) all),
+)

@@ -1,0 +1,31 @@
+use Rattle.std.proofs.Common.{◌≡◌, ℕ, subst}
+use Rattle.outside_io.specs.Faults.{one_more}
+use Rattle.outside_io.specs.Sink.{IsTaken, TakesStart}
+use Rattle.bucket_terms.specs.LegalRun.{Run}
+use Rattle.command_words.specs.declared.form.Form.TheVariants.{Sample}
+use Rattle.sample_laws.specs.Sample.{sample_summary}
+use Rattle.serve_session.specs.Sampled.{HoldsOfSample}
+use Rattle.serve_session.specs.Summaries.{summary_text}
+use Rattle.serve_session.proofs.Forms.{one_number, found_form, found_none}
+use Rattle.serve_session.proofs.serving.serve.Goals as goal
+
+pub returns-in-Ok-Some-Sample-clause-sample : goal.returns-in-Ok-Some-Sample-clause-sample
+returns-in-Ok-Some-Sample-clause-sample g c = λ n is done.
+    subst (λ (k : ℕ). IsTaken (g.K.Sink.taken c.args.sink.now) (g.K.Sink.taken c.serve_sample.new.sink) (summary_text (sample_summary k)))
+    (one_number c.args.words.now c.in-Ok-Some-Sample.n n
+    (found_form c.args.words.now c.in-Ok-Some-Sample.field-0 (Sample c.in-Ok-Some-Sample.n) (cc) c.in-Ok-Some-Sample.ensures.form) is) (c.serve_sample.ensures.done done)
+
+pub returns-in-Ok-Some-Sample-clause-sample_runner : goal.returns-in-Ok-Some-Sample-clause-sample_runner
+returns-in-Ok-Some-Sample-clause-sample_runner g c = λ n is done.
+    subst (λ (k : ℕ). HoldsOfSample k (λ (run : Run). (g.R.Runner.runs c.serve_sample.new.runner ≡ one_more (g.R.Runner.runs c.args.runner.now)) × (run.replies ≡ g.R.Runner.replied c.serve_sample.new.runner)))
+    (one_number c.args.words.now c.in-Ok-Some-Sample.n n
+    (found_form c.args.words.now c.in-Ok-Some-Sample.field-0 (Sample c.in-Ok-Some-Sample.n) (cc) c.in-Ok-Some-Sample.ensures.form) is) (c.serve_sample.ensures.runner done)
+
+pub returns-in-Ok-Some-Sample-clause-sample_write_fault : goal.returns-in-Ok-Some-Sample-clause-sample_write_fault
+returns-in-Ok-Some-Sample-clause-sample_write_fault g c = λ n is fault.
+    subst (λ (k : ℕ). TakesStart (g.K.Sink.taken c.args.sink.now) (g.K.Sink.taken c.serve_sample.new.sink) (summary_text (sample_summary k)))
+    (one_number c.args.words.now c.in-Ok-Some-Sample.n n
+    (found_form c.args.words.now c.in-Ok-Some-Sample.field-0 (Sample c.in-Ok-Some-Sample.n) (cc) c.in-Ok-Some-Sample.ensures.form) is) (c.serve_sample.ensures.write_fault fault)
+
+pub returns-in-Ok-None-clause-sample_ends : goal.returns-in-Ok-None-clause-sample_ends
+returns-in-Ok-None-clause-sample_ends g c = λ n is. absurd (found_none c.args.words.now c.in-Ok-None.field-0 (Sample n) (cc) c.in-Ok-None.ensures.form is)

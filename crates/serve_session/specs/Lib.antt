@@ -1,0 +1,6 @@
+pub mod Statuses
+pub mod Served
+pub mod Texts
+pub mod Sending
+pub mod Summaries
+pub mod Sampled

@@ -1,0 +1,61 @@
+-- What a call of `serve` has read and written, by how it ended.
+use Rattle.std.specs.Prelude.{◌≡◌, ℕ, ◌≤◌, ◌⊎◌, List, [], length, map, Option, Some}
+use Rattle.key_names.specs.Names.{HoldsEachOnce}
+use Rattle.outside_io.specs.Faults.{one_more}
+use Rattle.outside_io.specs.Source.{IsReadToEnd}
+use Rattle.bucket_terms.specs.declared.record.Record.{Record}
+use Rattle.bucket_terms.specs.declared.reply.Placed.{Placed}
+use Rattle.bucket_terms.specs.LegalRun.{RequestLine, Run, IsLegal}
+use Rattle.request_lines.specs.declared.session.Session.{Session}
+use Rattle.request_lines.specs.declared.session_error.InputError.{InputError}
+use Rattle.request_lines.specs.Input.{IsSessionOf, refusal_of}
+use Rattle.request_lines.specs.Limits.{most_input_bytes}
+use Rattle.request_lines.specs.Session.{request_lines}
+use Rattle.answer_text.specs.Lines.{session_text}
+use Rattle.serve_session.specs.declared.status.Status.{Status}
+use Rattle.serve_session.specs.declared.status.Status.TheVariants.{BadWords, BadInput, TooLong, ReadFault}
+
+-- these are all the bytes that were left to read, and no more than the limit
+pub record HasRead (before after : Option (List ℕ)) (input : List ℕ) : Type 0 where
+  pub all : IsReadToEnd before after input
+  pub within : length input ≤ most_input_bytes
+
+-- this is true of one legal run of these clients' lines, each client with so many node slots, and of its text
+pub record HoldsOfRun (dir : List (List ℕ)) (records : List Record) (parts : List (List RequestLine)) (slots : ℕ → ℕ) (P : Run → List ℕ → Type 0) : Type 0 where
+  pub run : Run
+  pub legal : IsLegal dir parts slots run
+  pub holds : P run (session_text dir records run)
+
+-- this is true of one legal run of the session and of its text. The session's names, each once and in byte
+-- order, are the directory; `slots` gives the node slots of each client by the lines of all.
+pub record HoldsOfSession (slots : List (List RequestLine) → ℕ → ℕ) (session : Session) (P : Run → List ℕ → Type 0) : Type 0 where
+  pub dir : List (List ℕ)
+  pub names : HoldsEachOnce session.names dir
+  pub text : HoldsOfRun dir session.records (map request_lines session.clients) (slots (map request_lines session.clients)) P
+
+-- the replies of the run are those that a runner has now, whose count of runs was `old` before and is one more; where
+-- there is no client there are none
+abbrev pub IsRunOf : (old new : ℕ) → List (List Placed) → Run → Type 0
+IsRunOf old new replied run = (run.replies ≡ []) ⊎ ((new ≡ one_more old) × (run.replies ≡ replied))
+
+-- an input was read, and this is true of one legal run of its session and of its text
+pub record HoldsOfInput (slots : List (List RequestLine) → ℕ → ℕ) (before after : Option (List ℕ)) (P : Run → List ℕ → Type 0) : Type 0 where
+  pub input : List ℕ
+  pub session : Session
+  pub has_read : HasRead before after input
+  pub of_input : IsSessionOf input session
+  pub text : HoldsOfSession slots session P
+
+-- the input was read and is refused: this is its first faulty line, with its first cause
+pub record RefusedInput (before after : Option (List ℕ)) (e : InputError) : Type 0 where
+  pub input : List ℕ
+  pub has_read : HasRead before after input
+  pub refused : refusal_of input ≡ Some e
+
+-- serving ended before there was anything to write
+abbrev pub EndsUnwritten : Status → Type 0
+EndsUnwritten BadWords = Unit {0}
+EndsUnwritten (BadInput e) = Unit {0}
+EndsUnwritten TooLong = Unit {0}
+EndsUnwritten ReadFault = Unit {0}
+EndsUnwritten status = ⊥

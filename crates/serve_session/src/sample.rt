@@ -1,0 +1,130 @@
+// The run of the generated session.
+ghost use Rattle.std.specs.Prelude.{◌≡◌, ◌<◌, ◌≤◌, ◌⊎◌, IfOk, OnOk, IsErrOf};
+ghost use Rattle.outside_io.specs.Faults.{one_more};
+ghost use Rattle.outside_io.specs.Sink.{IsTaken, TakesStart};
+ghost use Rattle.request_lines.specs.Sample.{most_sample_requests};
+ghost use Rattle.request_lines.specs.SampleSession as spec;
+ghost use Rattle.request_lines.specs.SessionLaws.{HasNames, HasRequests, HasLines, IsSmall};
+ghost use Rattle.sample_laws.specs.Sample.{sample_summary};
+ghost use Rattle.serve_session.specs.declared.status.Status.TheVariants.{Done as IsDone};
+ghost use Rattle.serve_session.specs.Sampled.{HoldsOfSample};
+ghost use Rattle.serve_session.specs.Summaries.{summary_text};
+
+use crate::Status;
+use crate::stop::Stop;
+use crate::summary::summary_line;
+use bucket_terms::Summary;
+use client_run::Gate;
+use client_threads::{Runner, directory_of, history_of, summary_of};
+use key_names::NoMemory;
+use outside_io::{Sink, write_all};
+use request_lines::{Names, Session, SessionError, read_session, sample_input};
+use std::alloc::Global;
+use std::sync::Wait;
+use std::thread::Threads;
+
+/// Runs the generated session with `n` requests of each client, and writes the line of its summary.
+pub(crate) fn serve_sample<K: Sink, G: Gate + Sync, R: Runner<G>, Rt: Threads + Wait + Sync>(
+    rt: &Rt,
+    alloc: Global,
+    n: u32,
+    sink: &mut K,
+    gate: &G,
+    runner: &mut R,
+) -> Status
+    requires some { 0 < n }
+    requires most { n ≤ most_sample_requests }
+    ensures done { result ≡ IsDone → IsTaken (K.taken sink.old) (K.taken sink.new) (summary_text (sample_summary n)) }
+    ensures runner { result ≡ IsDone → HoldsOfSample n (λ run. (R.runs runner.new ≡ one_more (R.runs runner.old)) × (run.replies ≡ R.replied runner.new)) }
+    ensures write_fault { result ≡ Status.WriteFault → TakesStart (K.taken sink.old) (K.taken sink.new) (summary_text (sample_summary n)) }
+    ensures write_fault_only_where_faulted { result ≡ Status.WriteFault → K.faults sink.new ≡ one_more (K.faults sink.old) }
+    ensures no_other_write_fault { ¬ (result ≡ Status.WriteFault) → K.faults sink.new ≡ K.faults sink.old }
+    ensures no_memory { result ≡ Status.NoMemory → sink.new ≡ sink.old }
+    ensures ends { (result ≡ IsDone) ⊎ ((result ≡ Status.WriteFault) ⊎ (result ≡ Status.NoMemory)) }
+{
+    match run_sample(rt, alloc, n, sink, gate, runner) {
+        Ok(()) => Status::Done,
+        Err(Stop::Fault) => Status::WriteFault,
+        Err(Stop::NoMemory) => Status::NoMemory,
+    }
+}
+
+// The same, and why it ended before its end.
+fn run_sample<K: Sink, G: Gate + Sync, R: Runner<G>, Rt: Threads + Wait + Sync>(
+    rt: &Rt,
+    alloc: Global,
+    n: u32,
+    sink: &mut K,
+    gate: &G,
+    runner: &mut R,
+) -> Result<(), Stop>
+    requires some { 0 < n }
+    requires most { n ≤ most_sample_requests }
+    ensures wrote { OnOk result (IsTaken (K.taken sink.old) (K.taken sink.new) (summary_text (sample_summary n))) }
+    ensures ran { OnOk result (HoldsOfSample n (λ run. (R.runs runner.new ≡ one_more (R.runs runner.old)) × (run.replies ≡ R.replied runner.new))) }
+    ensures start { IsErrOf result Stop.Fault → TakesStart (K.taken sink.old) (K.taken sink.new) (summary_text (sample_summary n)) }
+    ensures no_memory { IsErrOf result Stop.NoMemory → sink.new ≡ sink.old }
+    ensures fault { IsErrOf result Stop.Fault → K.faults sink.new ≡ one_more (K.faults sink.old) }
+    ensures quiet { ¬ (IsErrOf result Stop.Fault) → K.faults sink.new ≡ K.faults sink.old }
+{
+    let session = sample_session(alloc, n)?;
+    let summary = run_summed(rt, alloc, n, session, gate, runner)?;
+    let line = summary_line(alloc, &summary)?;
+    write_all(sink, line.bytes())?;
+    Ok(())
+}
+
+// Runs the session, which is the generated one: the summary of its run.
+fn run_summed<G: Gate + Sync, R: Runner<G>, Rt: Threads + Wait + Sync>(
+    rt: &Rt,
+    alloc: Global,
+    n: u32,
+    session: Session,
+    gate: &G,
+    runner: &mut R,
+) -> Result<Summary, NoMemory>
+    requires some { 0 < n }
+    requires most { n ≤ most_sample_requests }
+    requires session { session ≡ spec.sample_session n }
+    requires names { HasNames session }
+    requires requests { HasRequests session }
+    requires lines { HasLines session }
+    requires small { IsSmall session }
+    ensures summary { IfOk result (λ summary. summary ≡ sample_summary n) }
+    ensures ran { OnOk result (HoldsOfSample n (λ run. (R.runs runner.new ≡ one_more (R.runs runner.old)) × (run.replies ≡ R.replied runner.new))) }
+{
+    let Session {
+        clients,
+        names,
+        records,
+    } = session;
+    let dir = directory_of(alloc, names)?;
+    // The names are the directory's from here on.
+    let session = Session {
+        clients,
+        names: Names::new(alloc),
+        records,
+    };
+    let updates = history_of(rt, alloc, &session, &dir, gate, runner)?;
+    // The summary is the same in every schedule.
+    sample_laws::sample_session();
+    summary_of::<G, R>(alloc, session.clients.len() as u32, runner, &updates)
+}
+
+// The generated session. Its text has no faulty line.
+fn sample_session(alloc: Global, n: u32) -> Result<Session, NoMemory>
+    requires some { 0 < n }
+    requires most { n ≤ most_sample_requests }
+    ensures session { IfOk result (λ session. session ≡ spec.sample_session n) }
+    ensures names { IfOk result HasNames }
+    ensures requests { IfOk result HasRequests }
+    ensures lines { IfOk result HasLines }
+    ensures small { IfOk result IsSmall }
+{
+    let input = sample_input(alloc, n)?;
+    match read_session(alloc, &input) {
+        Ok(session) => Ok(session),
+        Err(SessionError::NoMemory) => Err(NoMemory),
+        Err(SessionError::Input(_)) => unreachable!(),
+    }
+}

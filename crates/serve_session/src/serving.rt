@@ -1,0 +1,125 @@
+// The whole of the program but for the real input and output.
+ghost use Rattle.std.specs.Prelude.{◌≡◌, ◌⊎◌, ◌≤◌, ℕ};
+ghost use Rattle.outside_io.specs.Faults.{one_more};
+ghost use Rattle.outside_io.specs.Reading.{Gave, IsOver};
+ghost use Rattle.outside_io.specs.Sink.{IsTaken, TakesStart};
+ghost use Rattle.command_words.specs.Words.{IsRun, IsSample, HasForm};
+ghost use Rattle.request_lines.specs.declared.session_error.InputError.{InputError};
+ghost use Rattle.serve_session.specs.declared.status.Status.TheVariants.{Done as IsDone, BadWords as HasBadWords};
+ghost use Rattle.request_lines.specs.Limits.{most_input_bytes};
+ghost use Rattle.sample_laws.specs.Sample.{sample_summary};
+ghost use Rattle.serve_session.specs.Sampled.{HoldsOfSample};
+ghost use Rattle.serve_session.specs.Served.{HoldsOfInput, RefusedInput, EndsUnwritten, IsRunOf};
+ghost use Rattle.client_threads.specs.Slots.{slots_of};
+ghost use Rattle.serve_session.specs.Summaries.{summary_text};
+
+use crate::Status;
+use crate::running::run_session;
+use crate::sample::serve_sample;
+use crate::stop::Stop;
+use client_run::Gate;
+use client_threads::Runner;
+use command_words::{Form, form_of};
+use key_names::Text;
+use outside_io::{ReadError, Sink, Source, read_all};
+use request_lines::{MAX_INPUT_BYTES, SessionError, read_session};
+use std::alloc::Global;
+use std::sync::Wait;
+use std::thread::Threads;
+
+/// Does what the words ask, which are those behind the program's name. The form `run` reads a session, runs its clients
+/// over one shared index and writes its text; the form `sample` runs the generated session and writes its summary. The
+/// runner runs the clients. The gate is told of each request before and after it is answered.
+/// After `Done` the text of one legal run of the input's session was written, or the line of the summary; after
+/// `WriteFault` a start of such a text or line; after `NoMemory` nothing or a start of one. Each other end comes before
+/// anything is written.
+///
+/// ```
+/// // with the one word `run`
+/// let mut source = MemSource::new(b"CLIENT\nHEAD a\n".to_vec(alloc)?);
+/// let mut sink = MemSink::with_room(alloc, 1000)?;
+/// let status = serve(&rt, alloc, &words, &mut source, &mut sink, &OpenGate, &mut Threaded::new());
+/// assert_eq!(rt; status, Status::Done);
+/// // the sink has taken the lines {"At":0,"Client":0,"Line":2,"Status":404} and {"Updates":0}
+/// ```
+pub fn serve<S: Source, K: Sink, G: Gate + Sync, R: Runner<G>, Rt: Threads + Wait + Sync>(
+    rt: &Rt,
+    alloc: Global,
+    words: &[Text],
+    source: &mut S,
+    sink: &mut K,
+    gate: &G,
+    runner: &mut R,
+) -> Status
+    ensures headline { IsRun words.now → result ≡ IsDone → HoldsOfInput slots_of (S.rest source.old) (S.rest source.new) (λ _ text. IsTaken (K.taken sink.old) (K.taken sink.new) text) }
+    ensures runner { IsRun words.now → result ≡ IsDone → HoldsOfInput slots_of (S.rest source.old) (S.rest source.new) (λ run text. IsTaken (K.taken sink.old) (K.taken sink.new) text × IsRunOf (R.runs runner.old) (R.runs runner.new) (R.replied runner.new) run) }
+    ensures sample { (n : ℕ) → IsSample words.now n → result ≡ IsDone → IsTaken (K.taken sink.old) (K.taken sink.new) (summary_text (sample_summary n)) }
+    ensures sample_runner { (n : ℕ) → IsSample words.now n → result ≡ IsDone → HoldsOfSample n (λ run. (R.runs runner.new ≡ one_more (R.runs runner.old)) × (run.replies ≡ R.replied runner.new)) }
+    ensures sample_ends { (n : ℕ) → IsSample words.now n → (result ≡ IsDone) ⊎ ((result ≡ Status.WriteFault) ⊎ (result ≡ Status.NoMemory)) }
+    ensures bad_words { result ≡ HasBadWords → ¬ (HasForm words.now) }
+    ensures no_form { ¬ (HasForm words.now) → (result ≡ HasBadWords) ⊎ (result ≡ Status.NoMemory) }
+    ensures nothing_read { ¬ (IsRun words.now) → source.new ≡ source.old }
+    ensures nothing_written { EndsUnwritten result → sink.new ≡ sink.old }
+    ensures nothing_written_without_form { ¬ (HasForm words.now) → sink.new ≡ sink.old }
+    ensures bad_input { (e : InputError) → result ≡ Status.BadInput e → RefusedInput (S.rest source.old) (S.rest source.new) e }
+    ensures too_long { result ≡ Status.TooLong → Gave (S.rest source.old) (S.rest source.new) (IsOver most_input_bytes) }
+    ensures read_fault { result ≡ Status.ReadFault → Gave (S.rest source.old) (S.rest source.new) (λ n. n ≤ most_input_bytes) }
+    ensures read_fault_only_where_faulted { result ≡ Status.ReadFault → S.faults source.new ≡ one_more (S.faults source.old) }
+    ensures no_other_read_fault { ¬ (result ≡ Status.ReadFault) → S.faults source.new ≡ S.faults source.old }
+    ensures write_fault { IsRun words.now → result ≡ Status.WriteFault → HoldsOfInput slots_of (S.rest source.old) (S.rest source.new) (λ _ text. TakesStart (K.taken sink.old) (K.taken sink.new) text) }
+    ensures sample_write_fault { (n : ℕ) → IsSample words.now n → result ≡ Status.WriteFault → TakesStart (K.taken sink.old) (K.taken sink.new) (summary_text (sample_summary n)) }
+    ensures write_fault_only_where_faulted { result ≡ Status.WriteFault → K.faults sink.new ≡ one_more (K.faults sink.old) }
+    ensures no_other_write_fault { ¬ (result ≡ Status.WriteFault) → K.faults sink.new ≡ K.faults sink.old }
+    ensures no_memory_source { result ≡ Status.NoMemory → Gave (S.rest source.old) (S.rest source.new) (λ n. n ≤ most_input_bytes) }
+    ensures no_memory { IsRun words.now → result ≡ Status.NoMemory → (sink.new ≡ sink.old) ⊎ HoldsOfInput slots_of (S.rest source.old) (S.rest source.new) (λ _ text. TakesStart (K.taken sink.old) (K.taken sink.new) text) }
+    ensures sample_no_memory { (n : ℕ) → IsSample words.now n → result ≡ Status.NoMemory → sink.new ≡ sink.old }
+{
+    match form_of(alloc, words) {
+        Ok(Some(Form::Run)) => serve_input(rt, alloc, source, sink, gate, runner),
+        Ok(Some(Form::Sample(n))) => serve_sample(rt, alloc, n, sink, gate, runner),
+        Ok(None) => Status::BadWords,
+        Err(_) => Status::NoMemory,
+    }
+}
+
+// Reads a session, runs its clients and writes its text.
+fn serve_input<S: Source, K: Sink, G: Gate + Sync, R: Runner<G>, Rt: Threads + Wait + Sync>(
+    rt: &Rt,
+    alloc: Global,
+    source: &mut S,
+    sink: &mut K,
+    gate: &G,
+    runner: &mut R,
+) -> Status
+    ensures headline { result ≡ IsDone → HoldsOfInput slots_of (S.rest source.old) (S.rest source.new) (λ _ text. IsTaken (K.taken sink.old) (K.taken sink.new) text) }
+    ensures runner { result ≡ IsDone → HoldsOfInput slots_of (S.rest source.old) (S.rest source.new) (λ run text. IsTaken (K.taken sink.old) (K.taken sink.new) text × IsRunOf (R.runs runner.old) (R.runs runner.new) (R.replied runner.new) run) }
+    ensures reads { ¬ (result ≡ HasBadWords) }
+    ensures nothing_written { EndsUnwritten result → sink.new ≡ sink.old }
+    ensures bad_input { (e : InputError) → result ≡ Status.BadInput e → RefusedInput (S.rest source.old) (S.rest source.new) e }
+    ensures too_long { result ≡ Status.TooLong → Gave (S.rest source.old) (S.rest source.new) (IsOver most_input_bytes) }
+    ensures read_fault { result ≡ Status.ReadFault → Gave (S.rest source.old) (S.rest source.new) (λ n. n ≤ most_input_bytes) }
+    ensures read_fault_only_where_faulted { result ≡ Status.ReadFault → S.faults source.new ≡ one_more (S.faults source.old) }
+    ensures no_other_read_fault { ¬ (result ≡ Status.ReadFault) → S.faults source.new ≡ S.faults source.old }
+    ensures write_fault { result ≡ Status.WriteFault → HoldsOfInput slots_of (S.rest source.old) (S.rest source.new) (λ _ text. TakesStart (K.taken sink.old) (K.taken sink.new) text) }
+    ensures write_fault_only_where_faulted { result ≡ Status.WriteFault → K.faults sink.new ≡ one_more (K.faults sink.old) }
+    ensures no_other_write_fault { ¬ (result ≡ Status.WriteFault) → K.faults sink.new ≡ K.faults sink.old }
+    ensures no_memory_source { result ≡ Status.NoMemory → Gave (S.rest source.old) (S.rest source.new) (λ n. n ≤ most_input_bytes) }
+    ensures no_memory { result ≡ Status.NoMemory → (sink.new ≡ sink.old) ⊎ HoldsOfInput slots_of (S.rest source.old) (S.rest source.new) (λ _ text. TakesStart (K.taken sink.old) (K.taken sink.new) text) }
+{
+    let input = match read_all(alloc, source, MAX_INPUT_BYTES) {
+        Ok(input) => input,
+        Err(ReadError::Fault) => return Status::ReadFault,
+        Err(ReadError::TooLong) => return Status::TooLong,
+        Err(ReadError::NoMemory) => return Status::NoMemory,
+    };
+    let session = match read_session(alloc, &input) {
+        Ok(session) => session,
+        Err(SessionError::Input(error)) => return Status::BadInput(error),
+        Err(SessionError::NoMemory) => return Status::NoMemory,
+    };
+    match run_session(rt, alloc, session, sink, gate, runner) {
+        Ok(()) => Status::Done,
+        Err(Stop::Fault) => Status::WriteFault,
+        Err(Stop::NoMemory) => Status::NoMemory,
+    }
+}

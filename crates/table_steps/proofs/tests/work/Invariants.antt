@@ -1,5 +1,0 @@
-use Rattle.table_steps.specs.Passes.{IsPassOf, AtRest}
-use Rattle.table_steps.proofs.tests.work.Given as goal
-
-abbrev pub invariant-loop : goal.invariant-loop
-invariant-loop l = AtRest l.pass.view × IsPassOf l.table l.pass

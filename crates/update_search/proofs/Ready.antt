@@ -1,0 +1,67 @@
+-- A pass that begins to search is fresh, and where it has found a plan it can try it.
+use Rattle.std.proofs.Common.{◌≡◌, ℕ, ◌≤◌, length, false, arith, refl, ap, ◌∙◌, sym, subst, Some}
+use Rattle.key_map.specs.declared.update.Change.{Change}
+use Rattle.index_words.specs.declared.layout.Layout.{Layout}
+use Rattle.index_words.specs.declared.view.View.{View}
+use Rattle.index_words.specs.declared.word.Word.TheVariants.{Stamp}
+use Rattle.core_events.specs.declared.event.Kind.TheVariants.{LoadStamp}
+use Rattle.core_laws.specs.ViewNeeds.{event_at}
+use Rattle.plan_steps.specs.Searches.{HasNoneRetired}
+use Rattle.plan_steps.specs.Tries.{IsSearched}
+use Rattle.plan_steps.proofs.Searches.{searched, none_retired}
+use Rattle.table_rule.specs.Homes.{IsLiveView}
+use Rattle.table_rule.specs.Running.{Happened, Stands, table}
+use Rattle.table_rule.proofs.Happens.{happened_view}
+use Rattle.table_rule.proofs.Lists.{item_at}
+use Rattle.table_steps.specs.Gives.{HasLoadedStamp}
+use Rattle.table_steps.specs.Passes.{Inside}
+use Rattle.snapshot_read.specs.Snapshots.{HasRead}
+use Rattle.snapshot_read.specs.Links.{HasSearched}
+use Rattle.snapshot_read.proofs.ReadMoves.{inside_on}
+use Rattle.update_search.specs.declared.search.Found.{Found}
+use Rattle.update_search.specs.declared.search.Found.TheVariants.{Plan, Absent, Pending}
+use Rattle.update_search.specs.declared.plans.Planned.{Planned}
+use Rattle.update_search.specs.Found.{IsFound, IsReadyToTry}
+use Rattle.update_search.specs.Planned.{IsPlanned}
+use Rattle.update_search.specs.Searching.{IsFresh}
+use Rattle.update_search.proofs.ReadTrees.{Reader, reader}
+use Rattle.update_search.proofs.SearchMoves.{tree_before}
+
+-- behind the load of the stamp
+pub stamp_fresh : (z : Layout) (seat n : ℕ) (v w : View) → Happened z (event_at z seat LoadStamp Stamp 0) v n w → HasLoadedStamp v 0 n w → Inside w → IsFresh w n
+stamp_fresh z seat n v w h gives inside = record {
+  reads = record { section = ap (λ (u : View). u.reading.section) gives.view; inside = inside };
+  whole = omega (arith, gives.whole);
+  none =
+      subst HasNoneRetired (sym (happened_view z (event_at z seat LoadStamp Stamp 0) v w n Stamp refl refl tt h))
+      (none_retired (table z h.words h.views) seat v false h.rule (item_at h.views seat v h.seat));
+}
+
+-- it stays so in the loads of a search
+pub fresh_on : (v w : View) (t : ℕ) → HasRead v w → IsFresh v t → IsFresh w t
+fresh_on v w t read fresh = record {
+  reads = inside_on v w t read fresh.reads;
+  whole = subst (λ (u : View). length u.history.seen ≤ t) (sym read.view) fresh.whole;
+  none = subst HasNoneRetired (sym read.view) fresh.none;
+}
+
+planned_ready : (v w : View) (t n : ℕ) (key : ℕ) (change : Change) (p : Planned) → HasRead v w → IsFresh v t → v.number ≡ Some n → IsLiveView w → IsPlanned v w key change p → IsSearched w n p.plan p.entries
+planned_ready v w t n key change p read fresh own live is =
+    let s : Stands w.layout w = live.stands in
+    let now = fresh_on v w t read fresh in
+    let known : Reader w t = reader w t live now.reads in
+    searched (table w.layout s.words s.views) s.seat n t w p.plan p.entries s.rule (item_at s.views s.seat w s.at)
+    record {
+      live = live.live;
+      own = ap (λ (u : View). u.number) read.view ∙ own;
+      inside = now.reads.inside.odd;
+      tree = known.tree;
+      read = known.is.nodes_are;
+      planned = (is.plan known.tree (tree_before v w known.tree read known.is)).tree_is;
+    }
+    now.reads.section now.whole now.reads.inside.unlocked now.none is.looks
+
+pub found_ready : (v w : View) (t n key : ℕ) (change : Change) (found : Found) → HasSearched v w → IsLiveView w → IsFound v w key change found → IsFresh v t → v.number ≡ Some n → IsReadyToTry w n found
+found_ready v w t n key change (Plan p) more live is fresh own = planned_ready v w t n key change p more.read fresh own live is
+found_ready v w t n key change Absent more live is fresh own = tt
+found_ready v w t n key change Pending more live is fresh own = tt

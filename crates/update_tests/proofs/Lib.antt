@@ -1,0 +1,2 @@
+-- The first put of a table by single steps.
+pub mod FirstPut

@@ -1,0 +1,18 @@
+//! Tests of the public calls of `snapshot_read`, `update_search`, `update_try` and `tree_update`, which are proved once so
+//! and not a second time with their tests.
+#![tactic(auto)]
+
+#[cfg(test)]
+mod first_put;
+#[cfg(test)]
+mod moved;
+#[cfg(test)]
+mod set_up;
+#[cfg(test)]
+mod settling;
+#[cfg(test)]
+mod snapshots;
+#[cfg(test)]
+mod stages;
+#[cfg(test)]
+mod updates;

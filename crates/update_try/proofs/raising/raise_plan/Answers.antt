@@ -1,0 +1,54 @@
+use Rattle.std.proofs.Common.{◌≡◌, ◌∙◌, ap, sym, subst}
+use Rattle.index_words.specs.declared.view.View.{View}
+use Rattle.key_map.specs.declared.update.Change.{Change}
+use Rattle.core_updates.specs.Held.{MayRaise, raise_of}
+use Rattle.core_updates.specs.Plans.{key_of, change_of, new_node_of}
+use Rattle.core_updates.specs.Ready.{update_of}
+use Rattle.plan_steps.specs.Raises.{HasFinalised, update_by}
+use Rattle.table_rule.specs.Running.{Happened}
+use Rattle.table_steps.specs.Raises.{slot_given, new_slot, nodes_out}
+use Rattle.update_try.specs.Preparing.{IsRaisedBy, new_slots_of}
+use Rattle.update_try.proofs.Raised.{may_raise, raised_now, answers_now}
+use Rattle.update_try.proofs.raising.raise_plan.Goals as goal
+
+pub raise-requires-clause-may : goal.raise-requires-clause-may
+raise-requires-clause-may c =
+    let p = c.args.pass.now in
+    let plan = c.args.plan.now in
+    let slots = c.args.slots.now in
+    let may = may_raise p plan slots c.args.heads.now c.requires.prepared c.requires.apart c.requires.node c.key_of.ensures.small c.requires.left c.args.line in
+    let new : c.new_slots-new.result ≡ new_slots_of (new_node_of plan slots) = c.new_slots-new.ensures ∙ ap new_slots_of c.new_node.ensures in
+    subst (λ k. MayRaise p.view.layout p.view (update_of p.number c.args.line k c.change.result) (slot_given (new_slot c.new_slots-new.result)) (nodes_out c.out_slots-out.result)) (sym c.key_of.ensures.key)
+    (subst (λ (x : Change). MayRaise p.view.layout p.view (update_of p.number c.args.line (key_of plan) x) (slot_given (new_slot c.new_slots-new.result)) (nodes_out c.out_slots-out.result)) (sym c.change.ensures)
+    (subst (λ xs. MayRaise p.view.layout p.view (update_of p.number c.args.line (key_of plan) (change_of plan)) (slot_given (new_slot xs)) (nodes_out c.out_slots-out.result)) (sym new)
+    (subst (λ xs. MayRaise p.view.layout p.view (update_of p.number c.args.line (key_of plan) (change_of plan)) (slot_given (new_slot (new_slots_of (new_node_of plan slots)))) (nodes_out xs)) (sym c.out_slots-out.ensures) may)))
+
+pub returns-clause-raised : goal.returns-clause-raised
+returns-clause-raised c =
+    let p = c.args.pass.now in
+    let q = c.raise.new.self in
+    let plan = c.args.plan.now in
+    let slots = c.args.slots.now in
+    let found = c.raise.ensures.event.0 in
+    let event : Happened p.view.layout (raise_of p.view.layout p.seat (update_by p.number c.args.line plan)) p.view found q.view
+    = subst (λ k. Happened p.view.layout (raise_of p.view.layout p.seat (update_of p.number c.args.line k (change_of plan))) p.view found q.view) c.key_of.ensures.key
+    (subst (λ (x : Change). Happened p.view.layout (raise_of p.view.layout p.seat (update_of p.number c.args.line c.key_of.result x)) p.view found q.view) c.change.ensures c.raise.ensures.event.2) in
+    let now = raised_now p plan slots c.args.heads.now c.requires.prepared c.requires.apart c.requires.node c.key_of.ensures.small c.requires.left c.args.line q found event in
+    subst (λ k. HasFinalised q.view k plan slots c.raise.result 0) (sym c.raise.ensures.same.number)
+    (subst (λ k. HasFinalised q.view p.number plan slots k 0) (sym c.raise.ensures.event.1) now)
+
+pub returns-clause-answers : goal.returns-clause-answers
+returns-clause-answers c =
+    let p = c.args.pass.now in
+    let q = c.raise.new.self in
+    let plan = c.args.plan.now in
+    let slots = c.args.slots.now in
+    let found = c.raise.ensures.event.0 in
+    let event : Happened p.view.layout (raise_of p.view.layout p.seat (update_by p.number c.args.line plan)) p.view found q.view
+    = subst (λ k. Happened p.view.layout (raise_of p.view.layout p.seat (update_of p.number c.args.line k (change_of plan))) p.view found q.view) c.key_of.ensures.key
+    (subst (λ (x : Change). Happened p.view.layout (raise_of p.view.layout p.seat (update_of p.number c.args.line c.key_of.result x)) p.view found q.view) c.change.ensures c.raise.ensures.event.2) in
+    subst (IsRaisedBy p q c.args.line plan slots) (sym c.raise.ensures.event.1)
+    (answers_now p plan slots c.args.heads.now c.requires.prepared c.requires.apart c.requires.node c.key_of.ensures.small c.requires.left c.args.line q found event)
+
+pub returns-clause-unannounced : goal.returns-clause-unannounced
+returns-clause-unannounced c = ap (λ (u : View). u.announced) c.raise.ensures.gives.view

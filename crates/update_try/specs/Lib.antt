@@ -1,0 +1,6 @@
+pub mod FreeSlots
+pub mod Holding
+pub mod Outcomes
+pub mod Preparing
+pub mod Walked
+pub mod Carried

@@ -1,0 +1,108 @@
+//! A try of an update: its plan is carried out, or given up.
+//!
+//! The order is that of the steps below. The nodes are locked in the plan's order, each by one try. The looks come under
+//! the locks, and what is filled and put in front of bundles comes behind the last look. Behind the raise the entries get
+//! their numbers before the nodes that went out are marked, and the marks come before the first unlock. The locks are
+//! given back on every way out, and the section is left.
+ghost use Rattle.std.specs.Prelude.{◌≡◌, ◌+◌, ◌<◌, ℕ, length, IfOk, IfErr};
+ghost use Rattle.core_updates.specs.PlanEvents.{HasSlots};
+ghost use Rattle.core_updates.specs.Plans.{fronts_of};
+ghost use Rattle.plan_steps.specs.Answers.{owned_entries};
+ghost use Rattle.plan_steps.specs.Fills.{AreApart, HasLookedAll};
+ghost use Rattle.plan_steps.specs.Frames.{KeepsOwned, KeepsPass, KeepsTry};
+ghost use Rattle.plan_steps.specs.Raises.{HasFinalised};
+ghost use Rattle.plan_steps.specs.Tries.{IsSearched};
+ghost use Rattle.table_steps.specs.Passes.{AtRest, IsSamePass};
+ghost use Rattle.update_try.specs.Carried.{HasCarriedOut};
+ghost use Rattle.update_try.specs.Outcomes.{HasGivenUp, IsCounted, KeepsAll};
+ghost use Rattle.update_try.specs.Preparing.{HasPreparedAll};
+ghost use Rattle.update_try.specs.Walked.{HasWalkedAll, HoldsOutHeads};
+
+use crate::fills::{fill_all, prepare_all};
+use crate::locking::lock_all;
+use crate::looking::look_all;
+use crate::outcome::Failed;
+use crate::raises::{finalise_all, mark_all};
+use crate::raising::raise_plan;
+use crate::release::{leave_section, unlock_all};
+use core_updates::{Plan, PlanSlots};
+use table_steps::TablePass;
+
+/// Locks the nodes of a plan, and looks at all that it asks for.
+pub fn validate(pass: &mut TablePass<'_>, plan: &Plan, heads: &[u32; 9]) -> Result<(), Failed>
+    requires searched { IsSearched pass.old.view pass.old.number plan.now heads.now }
+    ensures same { IsSamePass pass.old pass.new }
+    ensures looked { IfOk result (λ done. HasLookedAll pass.new.view pass.new.number plan.now heads.now) }
+    ensures walked { IfOk result (λ done. HasWalkedAll pass.new.view plan.now heads.now) }
+    ensures keeps { IfOk result (λ done. KeepsTry pass.old.view pass.new.view) }
+    ensures given_up { IfErr result (λ failed. HasGivenUp pass.old.view pass.old.number pass.new.view) }
+    ensures counted { IfErr result (λ failed. IsCounted failed pass.old.view pass.new.view) }
+{
+    if !lock_all(pass, plan, heads) {
+        return Err(Failed::Busy);
+    }
+    look_all(pass, plan, heads)
+}
+
+/// Fills the slots of a plan, and puts its entries in front of their bundles.
+pub fn make_ready(pass: &mut TablePass<'_>, plan: &Plan, slots: &PlanSlots, heads: &[u32; 9])
+    requires looked { HasLookedAll pass.old.view pass.old.number plan.now heads.now }
+    requires walked { HasWalkedAll pass.old.view plan.now heads.now }
+    requires free { HasSlots pass.old.view slots.now }
+    requires apart { AreApart slots.now }
+    ensures same { IsSamePass pass.old pass.new }
+    ensures prepared { HasPreparedAll pass.new.view pass.new.number plan.now slots.now heads.now }
+    ensures walked { HasWalkedAll pass.new.view plan.now heads.now }
+    ensures heads { HoldsOutHeads pass.new.view plan.now heads.now }
+    ensures keeps { KeepsPass pass.old.view pass.new.view }
+    ensures entries { owned_entries pass.new.view + length (fronts_of plan.now slots.now) ≡ owned_entries pass.old.view }
+{
+    fill_all(pass, plan, slots, heads);
+    prepare_all(pass, plan, slots, heads);
+}
+
+/// Ends an update behind its raise: the numbers, then the marks, then the locks, and then the section.
+fn end_update(pass: &mut TablePass<'_>, plan: &Plan, slots: &PlanSlots)
+    requires raised { (at : ℕ) × HasFinalised pass.old.view pass.old.number plan.now slots.now at 0 }
+    requires apart { AreApart slots.now }
+    requires unannounced { pass.old.view.announced ≡ 0 }
+    ensures same { IsSamePass pass.old pass.new }
+    ensures rest { AtRest pass.new.view }
+    ensures keeps { KeepsOwned pass.old.view pass.new.view }
+{
+    finalise_all(pass, plan, slots);
+    mark_all(pass, plan);
+    unlock_all(pass, plan);
+    leave_section(pass);
+}
+
+/// Carries a plan out by one try. `Ok` has the place of the update, which has taken effect. An error is the failure whose
+/// count has risen; then nothing has changed, and what the pass owns is as before. After both the pass is at rest.
+pub fn carry_out(
+    pass: &mut TablePass<'_>,
+    line: u32,
+    plan: &Plan,
+    slots: &PlanSlots,
+    heads: &[u32; 9],
+) -> Result<u64, Failed>
+    requires searched { IsSearched pass.old.view pass.old.number plan.now heads.now }
+    requires free { HasSlots pass.old.view slots.now }
+    requires apart { AreApart slots.now }
+    requires node { 0 < slots.now.node }
+    requires left { 0 < pass.old.view.history.left }
+    requires unannounced { pass.old.view.announced ≡ 0 }
+    ensures same { IsSamePass pass.old pass.new }
+    ensures rest { AtRest pass.new.view }
+    ensures done { IfOk result (HasCarriedOut pass.old.view pass.new.view pass.old.number line plan.now) }
+    ensures kept { IfErr result (λ failed. KeepsAll pass.old.view pass.new.view) }
+    ensures counted { IfErr result (λ failed. IsCounted failed pass.old.view pass.new.view) }
+{
+    if let Err(failed) = validate(pass, plan, heads) {
+        leave_section(pass);
+        return Err(failed);
+    }
+    make_ready(pass, plan, slots, heads);
+    let at = raise_plan(pass, line, plan, slots, heads);
+    end_update(pass, plan, slots);
+    Ok(at)
+}

@@ -1,0 +1,124 @@
+#!/usr/bin/env python3
+"""Gives the program an input in pieces, one that fails, and an output that fails: what it writes then, and how it ends.
+
+    tests/broken_streams.py PROGRAM
+
+The session is the first of rows.txt, whose whole text stands there, worked out by hand.
+
+- Pieces: the text does not depend on how many bytes a read gives.
+- Reads: the input fails behind each piece, also behind the last one. Nothing is written then.
+- Writes: the output takes so many bytes and no more, for each number of them. Just these were written.
+- Lines: each line is written at once.
+"""
+import fcntl
+import os
+import resource
+import signal
+import socket
+import subprocess
+import sys
+import tempfile
+import termios
+import time
+
+from rows import SESSIONS, sessions
+
+PIECES = [1, 7, 10, 1000]
+DONE = (0, "")
+READ_FAULT = (5, "bucketidx: read fault\n")
+WRITE_FAULT = (6, "bucketidx: write fault\n")
+
+
+def whole_session():
+    """The session, and its text as one piece of bytes."""
+    row = next(sessions(SESSIONS.read_text()))
+    places = sorted(row.lines)
+    if places != list(range(1, len(places) + 1)):
+        sys.exit("the first session of rows.txt lacks a line of its text")
+    return row.raw, "".join(row.lines[place] + "\n" for place in places).encode()
+
+
+def cut(raw, step):
+    return [raw[at : at + step] for at in range(0, len(raw), step)]
+
+
+def all_read(given):
+    """Waits until the program has read all that was sent."""
+    left = bytearray(4)
+    while True:
+        fcntl.ioctl(given, termios.TIOCOUTQ, left)
+        if not any(left):
+            return
+        time.sleep(0.0002)
+
+
+def from_pieces(program, pieces, fails):
+    """How a run ends whose reads give these pieces, and then fail or find the end; and what it has written."""
+    given, taken = socket.socketpair()
+    # A socket that is closed with bytes that were not read has the other one's reads fail.
+    if fails:
+        taken.send(b"!")
+    ran = subprocess.Popen([program, "run"], stdin=taken.fileno(), stdout=subprocess.PIPE, stderr=subprocess.PIPE)
+    taken.close()
+    for piece in pieces:
+        given.sendall(piece)
+        all_read(given)
+    given.close()
+    text, said = ran.communicate()
+    return (ran.returncode, said.decode()), text
+
+
+def into_room(program, raw, room):
+    """How a run ends whose output is a file that takes so many bytes; and what was written."""
+
+    def limited():
+        # Without the signal a write beyond the limit fails.
+        signal.signal(signal.SIGXFSZ, signal.SIG_IGN)
+        resource.setrlimit(resource.RLIMIT_FSIZE, (room, room))
+
+    with tempfile.TemporaryFile() as file:
+        ran = subprocess.run([program, "run"], input=raw, stdout=file, stderr=subprocess.PIPE, preexec_fn=limited)
+        file.seek(0)
+        return (ran.returncode, ran.stderr.decode()), file.read()
+
+
+def writes_of(program, raw):
+    """The bytes of each write of a run. Such a pipe keeps them apart."""
+    end, start = os.pipe2(os.O_DIRECT)
+    ran = subprocess.Popen([program, "run"], stdin=subprocess.PIPE, stdout=start)
+    os.close(start)
+    ran.stdin.write(raw)
+    ran.stdin.close()
+    writes = list(iter(lambda: os.read(end, 65536), b""))
+    os.close(end)
+    ran.wait()
+    return writes
+
+
+def compared(program):
+    """What was tried, what came of it, and what was wanted."""
+    raw, text = whole_session()
+    for step in PIECES:
+        yield "pieces of %d bytes" % step, from_pieces(program, cut(raw, step), False), (DONE, text)
+    pieces = cut(raw, 10)
+    for count in range(len(pieces) + 1):
+        yield "a read that fails behind %d pieces" % count, from_pieces(program, pieces[:count], True), (READ_FAULT, b"")
+    for room in range(len(text)):
+        yield "room for %d bytes" % room, into_room(program, raw, room), (WRITE_FAULT, text[:room])
+    yield "room for all bytes", into_room(program, raw, len(text)), (DONE, text)
+    yield "a write a line", writes_of(program, raw), text.splitlines(keepends=True)
+
+
+def main():
+    if len(sys.argv) != 2:
+        sys.exit(__doc__)
+    tried = 0
+    for what, got, wanted in compared(sys.argv[1]):
+        if got != wanted:
+            sys.exit("%s\n  got    %r\n  wanted %r" % (what, got, wanted))
+        tried += 1
+    print("broken streams: %d runs ended as wanted" % tried, file=sys.stderr)
+
+
+if __name__ == "__main__":
+    main()
