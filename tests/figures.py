@@ -33,7 +33,7 @@ def files(kind):
 
 
 def is_test(path):
-    return "tests" in path.parts or path.name == "tests.rt" or path.parts[-3] in ("core_tests", "path_tests", "table_tests", "update_tests", "index_tests", "run_tests", "core_runs")
+    return "tests" in path.parts or path.name == "tests.rt" or path.parts[-3].endswith("_tests") or path.parts[-3] == "core_runs"
 
 
 def hundreds(paths):

@@ -7,8 +7,8 @@
     tests/index_runs.py PROGRAM --tries [--runs N] [--passes P] [--keys K] [--requests R] [--nodes N] [--least-met N]
     tests/index_runs.py PROGRAM --sections TURNS [--runs N]
 
-PROGRAM is the built `crates/index_runs`, or with `--sections` the built `crates/table_runs`. Each run is a process of its own, with a bound on its seconds. Of what it
-prints this is checked, by a map of the script's own that the history is replayed on:
+PROGRAM is the built `crates/index_runs`. Each run is a process of its own, with a bound on its seconds. Of what it prints
+this is checked, by a map of the script's own that the history is replayed on:
 
 - each update stands in the history once, at the place that its pass was told, with the pass's number, its line, key and value,
   and nothing else stands there;
@@ -168,7 +168,7 @@ def run_of_tries(words, seed):
 def run_in_sections(words, _seed):
     """A run over the table itself: what is wrong, and how many looks it has."""
     turns, looks = words.sections, 0
-    lines = printed(words, turns)
+    lines = printed(words, "sections", turns)
     found = [line.split()[1:] for line in lines if line[0] == "S"]
     history = [line for line in lines if line[0] == "J"]
     # The puts were made one behind another: each pass's number as the key, with the values 1 and 2.

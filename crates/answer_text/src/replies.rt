@@ -64,7 +64,9 @@ fn push_reply(
         Reply::Deleted => push_short(out, placed, None, 204),
         Reply::Found { val } => push_found(out, placed, &records[*val as usize]),
         Reply::Missing => push_short(out, placed, None, 404),
-        Reply::Listed { query, page } => push_listing(out, dir, records, placed, query, page),
+        Reply::Listed { query, page } => {
+            push_listing(out, dir, records, placed, query.get(), page)
+        }
         Reply::BadToken => push_short(out, placed, None, 400),
         Reply::NoSlot => push_short(out, placed, None, 503),
     }

@@ -5,6 +5,7 @@
 //! one sorted list.
 #![tactic(auto)]
 
+mod boxed_query;
 mod key_pass;
 mod list_query;
 mod page;
@@ -15,6 +16,7 @@ mod request;
 mod summary;
 mod token_point;
 
+pub use boxed_query::BoxedQuery;
 pub use key_pass::KeyPass;
 pub use list_query::ListQuery;
 pub use page::{Page, PageEntry};

@@ -1,4 +1,4 @@
-use crate::{ListQuery, Page};
+use crate::{BoxedQuery, Page};
 
 /// The answer to a request.
 #[derive(Debug, Drop)]
@@ -12,7 +12,7 @@ pub enum Reply {
     /// 404.
     Missing,
     /// 200. The query that was answered, with the token that it went on from, and its page.
-    Listed { query: ListQuery, page: Page },
+    Listed { query: BoxedQuery, page: Page },
     /// 400. The continuation token is the text of no key and no common prefix, or there is no page to go
     /// on from.
     BadToken,

@@ -1,4 +1,4 @@
-use crate::ListQuery;
+use crate::BoxedQuery;
 use key_names::Text;
 
 /// What one line of a session asks.
@@ -8,7 +8,7 @@ pub enum Request {
     Put { name: Text, val: u64 },
     Delete { name: Text },
     Head { name: Text },
-    List(ListQuery),
+    List(BoxedQuery),
     /// The client's last listing again, from where its page ended.
     Next,
 }

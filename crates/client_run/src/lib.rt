@@ -13,6 +13,3 @@ pub use gate::{Gate, OpenGate};
 pub use listing::list;
 pub use pages::next_query;
 pub use run::run_client;
-
-#[cfg(test)]
-mod tests;

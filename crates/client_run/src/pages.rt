@@ -12,7 +12,7 @@ ghost use Rattle.client_run.specs.Starts.{IsStartOf, resumed};
 
 use crate::list;
 use crate::updates::{answer_at, refused};
-use bucket_terms::{KeyPass, ListQuery, Page, Placed, Reply, TokenPoint};
+use bucket_terms::{BoxedQuery, KeyPass, ListQuery, Page, Placed, Reply, TokenPoint};
 use key_names::{Directory, NoMemory};
 use page_token::TokenError;
 use std::alloc::Global;
@@ -68,7 +68,7 @@ fn behind_reply(
     ensures { IfOk result (λ next. option_map resumed next ≡ resumed_from dir.now reply.now) }
 {
     match reply {
-        Reply::Listed { query, page } => behind(alloc, dir, query, page),
+        Reply::Listed { query, page } => behind(alloc, dir, query.get(), page),
         _ => Ok(None),
     }
 }
@@ -179,6 +179,7 @@ fn listed<P: KeyPass, Rt: Wait>(
     ensures home { P.home pass.new ≡ P.home pass.old }
 {
     let client = pass.client();
-    let (at, page) = list(rt, alloc, pass, dir, &query, point.as_ref())?;
+    let query = BoxedQuery::new(alloc, query)?;
+    let (at, page) = list(rt, alloc, pass, dir, query.get(), point.as_ref())?;
     Ok(answer_at(client, line, at, Reply::Listed { query, page }))
 }

@@ -75,7 +75,9 @@ fn answer<P: KeyPass, Rt: Wait>(
         }
         Request::Delete { name } => Ok(updates::delete(rt, pass, dir, asked.line, name, hint)),
         Request::Head { name } => Ok(updates::head(rt, pass, dir, asked.line, name, hint)),
-        Request::List(query) => pages::list_request(rt, alloc, pass, dir, asked.line, query),
+        Request::List(query) => {
+            pages::list_request(rt, alloc, pass, dir, asked.line, query.get())
+        }
         Request::Next => pages::next_request(rt, alloc, pass, dir, asked.line, last),
     }
 }

@@ -9,6 +9,3 @@ mod reading;
 mod spelling;
 
 pub use form::{Form, form_of};
-
-#[cfg(test)]
-mod tests;

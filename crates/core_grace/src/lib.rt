@@ -8,6 +8,3 @@ mod section;
 
 pub use batch::{current_looks, is_own, look_at, settle};
 pub use section::{left_word, passed};
-
-#[cfg(test)]
-mod tests;

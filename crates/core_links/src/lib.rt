@@ -8,6 +8,3 @@ mod entry;
 
 pub use chain::is_chain;
 pub use entry::{Entry, select};
-
-#[cfg(test)]
-mod tests;

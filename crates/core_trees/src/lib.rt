@@ -15,6 +15,3 @@ mod tree;
 pub use link::{Link, ROOT};
 pub use nodes::{NodeLists, spells};
 pub use tree::{Tree, TreeError, TreeNode};
-
-#[cfg(test)]
-mod tests;

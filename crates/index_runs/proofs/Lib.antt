@@ -1,2 +1,3 @@
--- The keys of a run.
+-- The keys of a run, and the keys of passes over the table.
 pub mod Keys
+pub mod Seats

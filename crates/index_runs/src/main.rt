@@ -1,5 +1,6 @@
-// Passes at work on threads, over one shared index. The first word says what they do, and numbers follow it. Each request
-// is printed with its answer, pass by pass, and then the history: `tests/index_runs.py` checks both.
+// Passes at work on threads, over one shared index, or over its table. The first word says what they do, and numbers follow
+// it. Each request is printed with its answer, or what each pass has found, and then the history: `tests/index_runs.py`
+// checks both.
 //
 //     run     PASSES KEYS REQUESTS UPDATES LISTINGS PAGE SEED NODES ENTRIES
 //             each pass makes requests, of a hundred so many updates and so many listings of so many pairs at most
@@ -8,6 +9,9 @@
 //             the first pass makes updates, and so many more while the others are held inside snapshots
 //     tries   PASSES KEYS REQUESTS NODES SEED
 //             each request is a single try of a put
+//     sections TURNS
+//             four passes over the table enter, leave, fill words and look at each other, so many turns between two
+//             meetings, and take in each other's notes
 //
 // Without words a small run is made.
 #![tactic(auto)]
@@ -17,11 +21,14 @@ mod held;
 mod random;
 mod report;
 mod run;
+mod sections;
 mod tries;
+mod turns;
 mod work;
 
-use report::{print_events, print_history};
+use report::{print_events, print_found, print_history};
 use run::{Run, make_run};
+use sections::make_sections;
 use std::sync::Wait;
 use std::thread::Threads;
 use std::{env, io};
@@ -63,6 +70,7 @@ fn main(rt: HostRuntime) -> io::Result<()> {
     match word.as_str() {
         "held" => print_run(&rt, &rt, &held_run(&numbers), true),
         "tries" => print_run(&rt, &rt, &tries_run(&numbers), true),
+        "sections" => print_sections(&rt, &rt, numbers[0]),
         "time" => print_run(&rt, &rt, &run_of(&numbers, false), false),
         _ => print_run(&rt, &rt, &run_of(&numbers, true), true),
     }
@@ -163,4 +171,20 @@ fn print_run<R: Threads + Wait + Sync>(
         print_events(rt, number, events.as_slice())?;
     }
     print_history(rt, ran.history.as_slice())
+}
+
+/// Makes a run over the table and prints it.
+fn print_sections<R: Threads + Wait + Sync>(
+    rt: &HostRuntime,
+    threads: &R,
+    turns: u32,
+) -> io::Result<()> {
+    let ended = match make_sections(threads, rt.alloc(), turns) {
+        Ok(ended) => ended,
+        Err(stopped) => return println!(rt; "{stopped:?}"),
+    };
+    for (number, found) in ended.found.iter().enumerate() {
+        print_found(rt, number, found)?;
+    }
+    print_history(rt, ended.history.as_slice())
 }

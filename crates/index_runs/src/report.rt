@@ -1,4 +1,5 @@
 // What is printed of a run, a line each.
+use crate::turns::Found;
 use crate::work::Event;
 use index_words::{Change, Update};
 use shared_index::Settling;
@@ -59,4 +60,17 @@ pub(crate) fn print_history(rt: &HostRuntime, history: &[Update]) -> io::Result<
         }
     }
     Ok(())
+}
+
+/// What a pass over the table has found: its meetings, its looks and those that found a word fallen, and of each pass the
+/// first and the last word.
+pub(crate) fn print_found(rt: &HostRuntime, number: usize, found: &Found) -> io::Result<()> {
+    print!(rt;
+        "S {number} {} {} {}",
+        found.meetings, found.looks, found.falls
+    )?;
+    for (first, last) in found.first.iter().zip(found.last.iter()) {
+        print!(rt; " {first}:{last}")?;
+    }
+    println!(rt; "")
 }

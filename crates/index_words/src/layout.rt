@@ -87,6 +87,3 @@ impl Layout {
         })
     }
 }
-
-#[cfg(test)]
-mod tests;

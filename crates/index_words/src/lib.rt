@@ -19,6 +19,3 @@ pub use view::{
     UnsetLink, Updating, View,
 };
 pub use word::{Field, Part, Word};
-
-#[cfg(test)]
-mod tests;

@@ -17,6 +17,3 @@ pub use pair::Pair;
 pub use pass::{Done, PassError, PassSize};
 pub use plain_map::{PlainMap, first_from};
 pub use update::{Change, Update};
-
-#[cfg(test)]
-mod tests;

@@ -1,3 +1,4 @@
 pub mod Names
 pub mod Refusal
 pub mod Ranks
+pub mod Kept

@@ -1,30 +1,44 @@
 // A text that owns its bytes. Contracts see it as the list of these bytes.
-ghost use Rattle.std.specs.Prelude.{◌≡◌, Some, IfOk, refl, nat_eq};
+ghost use Rattle.std.specs.Prelude.{◌≡◌, ◌≤◌, length, Some, IfOk, refl, nat_eq};
 ghost use Rattle.std.specs.Ordering.{nat_cmp};
 ghost use Rattle.std.specs.Str.{IsUtf8};
 ghost use Rattle.std.specs.String.{string_bytes};
 ghost use Rattle.std.specs.Cmp.{partial_equiv_from_equiv};
-ghost use Rattle.std.specs.Cmp.Lexicographic.{pointwise, slice_cmp, nat_list_eq_equiv, nat_list_cmp_total, texts_po, texts_ties};
+ghost use Rattle.std.specs.Cmp.Lexicographic.{pointwise, slice_cmp, nat_list_eq_equiv, nat_list_cmp_total, texts_po, texts_ties, bytes_decides};
+ghost use Rattle.std.specs.Hash as fed;
 
 use crate::NoMemory;
+use arrayvec::ArrayString;
 use std::alloc::Global;
 use std::cmp::Ordering;
+use std::hash::{Hash, Hasher};
 use std::marker::Model;
 
+/// The most bytes of a text that lies in the value itself. A usual name and a tag have fewer.
+const SHORT_BYTES: usize = 64;
+
 /// A text: a name, a prefix, a tag. Texts are compared byte by byte, as unsigned numbers, and a text
-/// stands before its own continuations. It is the order in which Amazon S3 lists keys.
+/// stands before its own continuations. It is the order in which Amazon S3 lists keys. A text of at most 64 bytes
+/// takes no allocation.
 #[derive(Debug, Drop)]
 pub struct Text {
-    text: String,
+    kept: Kept,
+}
+
+// Where the bytes lie.
+#[derive(Debug, Drop)]
+enum Kept {
+    Short(ArrayString<SHORT_BYTES>),
+    Long(String),
 }
 
 impl Model for Text {
     ghost use Rattle.std.specs.Prelude.{List, ℕ};
-    ghost use Rattle.std.specs.String.{string_bytes};
+    ghost use Rattle.key_names.specs.Kept.{kept_bytes};
 
     ghost Value = { List ℕ };
 
-    ghost view = { λ t. string_bytes t.text };
+    ghost view = { λ t. kept_bytes t.kept };
 }
 
 impl Text {
@@ -37,34 +51,59 @@ impl Text {
     pub fn of(alloc: Global, text: &str) -> Result<Text, NoMemory>
         ensures { IfOk result (λ made. made ≡ text.now) }
     {
+        if text.len() <= SHORT_BYTES {
+            return Ok(Text::short(text));
+        }
         Ok(Text::from_string(String::from_str(alloc, text)?))
+    }
+
+    // The text with these bytes, in the value itself.
+    fn short(text: &str) -> Text
+        requires { length text.now ≤ 64 }
+        ensures { result ≡ text.now }
+    {
+        let mut bytes = ArrayString::new();
+        bytes.push_str(text);
+        Text {
+            kept: Kept::Short(bytes),
+        }
     }
 
     /// The text of a string, which is not copied.
     pub fn from_string(text: String) -> Text
         ensures { result ≡ string_bytes text }
     {
-        Text { text }
+        Text {
+            kept: Kept::Long(text),
+        }
     }
 
     /// An equal text with bytes of its own.
     pub fn copy(&self, alloc: Global) -> Result<Text, NoMemory>
         ensures { IfOk result (λ copied. copied ≡ self.now) }
     {
-        Text::of(alloc, self.as_str())
+        match &self.kept {
+            Kept::Short(text) => Ok(Text {
+                kept: Kept::Short(*text),
+            }),
+            Kept::Long(text) => Text::of(alloc, text.as_str()),
+        }
     }
 
     pub fn bytes(&self) -> &[u8]
         ensures value { result.now ≡ self.now }
         ensures utf8 { IsUtf8 result.now }
     {
-        self.text.as_str().as_bytes()
+        self.as_str().as_bytes()
     }
 
     pub fn as_str(&self) -> &str
         ensures { result.now ≡ self.now }
     {
-        self.text.as_str()
+        match &self.kept {
+            Kept::Short(text) => text.as_str(),
+            Kept::Long(text) => text.as_str(),
+        }
     }
 }
 
@@ -80,6 +119,16 @@ impl PartialEq for Text {
 
 impl Eq for Text {
     ghost laws = { nat_list_eq_equiv };
+}
+
+impl Hash for Text {
+    ghost hash_input = { fed.str };
+
+    ghost respects_eq = { (fed.same_Alike fed.str bytes_decides).fed };
+
+    fn hash<H: Hasher>(&self, state: &mut H) {
+        self.as_str().hash(state);
+    }
 }
 
 impl PartialOrd for Text {

@@ -7,7 +7,7 @@ use crate::Failed;
 use std::io::{Read, Write};
 
 /// Reads once. A failure of the reader is counted, and is no end of its bytes.
-pub(crate) fn read_counted<R: Read>(
+pub fn read_counted<R: Read>(
     input: &mut R,
     faults: &mut u64,
     buf: &mut [u8],
@@ -27,7 +27,7 @@ pub(crate) fn read_counted<R: Read>(
 }
 
 /// Writes once. A failure of the writer is counted; to take none of a piece that has some is one.
-pub(crate) fn write_counted<W: Write>(
+pub fn write_counted<W: Write>(
     output: &mut W,
     faults: &mut u64,
     bytes: &[u8],

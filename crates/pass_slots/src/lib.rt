@@ -11,6 +11,3 @@ mod waits;
 pub use own_slots::OwnSlots;
 pub use pass_slots::PassSlots;
 pub use waits::Waits;
-
-#[cfg(test)]
-mod tests;

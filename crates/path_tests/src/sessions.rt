@@ -25,7 +25,7 @@ fn reads_one_client(rt: HostRuntime) -> Result<(), Fail> {
     let Request::List(query) = &last.request else {
         panic!(rt; "line 5 is no listing")
     };
-    assert_eq!(rt; query.max_keys, 1000);
+    assert_eq!(rt; query.get().max_keys, 1000);
     let names = session.names;
     assert_eq!(rt; names.len(), 3);
     if names.len() == 3 {

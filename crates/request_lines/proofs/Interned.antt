@@ -1,21 +1,20 @@
 -- Names that are kept once: what a name more changes, and what holds behind the sort.
 use Rattle.std.proofs.Common.{◌≡◌, ◌≢◌, ℕ, ◌+◌, ◌<◌, ◌≤◌, List, [], ◌∷◌, ◌++◌, length, map, get_or, set, replicate, refl, sym, ap, ap₂, ◌∙◌, subst, arith, inl, inr, get_or-set_same, get_or-set_other, length-set}
-use Rattle.std.specs.Prelude.{◌⊎◌, Bool, true, false, if◌then◌else◌, All, Contains, Some, String, position, slice_get, slice_index}
+use Rattle.std.specs.Prelude.{◌⊎◌, Bool, true, false, if◌then◌else◌, All, Contains, Some, position, slice_get, slice_index}
 use Rattle.std.specs.List.{range_with_len}
 use Rattle.std.specs.List.Sorted.{IsPermutation}
-use Rattle.std.specs.String.{string_bytes}
 use Rattle.std.specs.Str.{bytes_eq}
 use Rattle.std.specs.Cmp.Lexicographic.{bytes_decides}
-use Rattle.std.proofs.lemmas.Option.{none-some, get_or_from_slice_get}
+use Rattle.std.proofs.lemmas.Option.{get_or_from_slice_get}
 use Rattle.std.proofs.lemmas.List.Quantifiers.{position-Some}
-use Rattle.std.proofs.lemmas.List.{get_or-map, length-map, length_push, get_or_append_left, get_or_default, get_or-replicate, length-replicate, map-append, map-id, append_assoc}
+use Rattle.std.proofs.lemmas.List.{get_or-map, length-map, length_push, get_or_append_left, get_or_default, get_or-replicate, length-replicate, map-append, map-id}
 use Rattle.std.proofs.lemmas.List.FromFn.{get_or-range_with_len, length-range_with_len, map-range_with_len_more}
 use Rattle.std.proofs.lemmas.List.Elements.{All-head, All-tail, All-push, All-weaker, All-map, Contains-get_or, Contains-push, Contains-push_cases, Contains-append_left}
-use Rattle.std.proofs.lemmas.List.Sorted.{All-permutation, Contains-permutation, IsPermutation-map, IsPermutation-sym, length_permutation}
+use Rattle.std.proofs.lemmas.List.Sorted.{All-permutation, Contains-permutation, IsPermutation-map, length_permutation}
 use Rattle.std.proofs.lemmas.Bool.Decides.{eqb_tells}
 use Rattle.key_names.specs.Names.{HoldsEachOnce, name_at}
-use Rattle.request_lines.specs.declared.interner.Numbered.{Numbered}
-use Rattle.request_lines.specs.Interned.{named, IsInterned, IsKnownAs, HaveNumbers, AreNumbered, AreRanks, number_in, name_in, distinct_names}
+use Rattle.request_lines.specs.declared.leads.Numbered.{Numbered}
+use Rattle.request_lines.specs.Interned.{named, IsInterned, IsKnownAs, HaveNumbers, AreNumbered, AreRanks, number_in, name_of}
 
 -- ---- one name more
 
@@ -63,30 +62,26 @@ interned_more ks new order name number interned is_known = record {
 
 -- ---- the number of a name
 
-pub known_at : {A : Type 0} (keys : List (String A)) (name : List ℕ) (number : ℕ) → position (λ (k : String A). bytes_eq name (string_bytes k)) keys ≡ Some number
-    → IsKnownAs (distinct_names keys) (distinct_names keys) name number
-known_at [] name number is = absurd (none-some number is)
-known_at {A} (k ∷ keys) name number is =
-    let found = position-Some (λ (t : String A). bytes_eq name (string_bytes t)) (k ∷ keys) number k is in
+pub known_at : (keys : List (List ℕ)) (name : List ℕ) (number : ℕ) → position (bytes_eq name) keys ≡ Some number → IsKnownAs keys keys name number
+known_at keys name number is =
+    let found = position-Some (bytes_eq name) keys number [] is in
     record {
       known = inl refl;
-      below = omega (arith, found.0, length-map (k ∷ keys) string_bytes);
-      is = get_or-map string_bytes (k ∷ keys) number k [] found.0 ∙ sym ((bytes_decides name (string_bytes (get_or (k ∷ keys) number k))).0 found.1);
+      below = found.0;
+      is = sym ((bytes_decides name (get_or keys number [])).0 found.1);
     }
 
-joined : {A : Type 0} (had : Bool) (keys new : List (String A)) (text : String A) (name : List ℕ) → new ≡ (if had then keys else keys ++ text ∷ []) → string_bytes text ≡ name
-    → (distinct_names new ≡ distinct_names keys) ⊎ (distinct_names new ≡ distinct_names keys ++ name ∷ [])
-joined true keys new text name is same = inl (ap distinct_names is)
-joined false keys new text name is same = inr (ap distinct_names is ∙ map-append string_bytes keys (text ∷ []) ∙ ap (λ (n : List ℕ). distinct_names keys ++ n ∷ []) same)
+joined : (had : Bool) (keys new : List (List ℕ)) (text name : List ℕ) → new ≡ (if had then keys else keys ++ text ∷ []) → text ≡ name
+    → (new ≡ keys) ⊎ (new ≡ keys ++ name ∷ [])
+joined true keys new text name is same = inl is
+joined false keys new text name is same = inr (is ∙ ap (λ (n : List ℕ). keys ++ n ∷ []) same)
 
-pub joined_at : {A : Type 0} (had : Bool) (keys new : List (String A)) (text stored : String A) (name : List ℕ) (number : ℕ) → new ≡ (if had then keys else keys ++ text ∷ [])
-    → string_bytes text ≡ name → number < length new → slice_get new number ≡ Some stored → bytes_eq (string_bytes text) (string_bytes stored) ≡ true
-    → IsKnownAs (distinct_names keys) (distinct_names new) name number
+pub joined_at : (had : Bool) (keys new : List (List ℕ)) (text stored name : List ℕ) (number : ℕ) → new ≡ (if had then keys else keys ++ text ∷ [])
+    → text ≡ name → number < length new → slice_get new number ≡ Some stored → bytes_eq text stored ≡ true → IsKnownAs keys new name number
 joined_at had keys new text stored name number is same within at equal = record {
   known = joined had keys new text name is same;
-  below = omega (arith, within, length-map new string_bytes);
-  is = get_or-map string_bytes new number stored [] within ∙ ap string_bytes (get_or_from_slice_get new number stored stored at)
-      ∙ sym ((bytes_decides (string_bytes text) (string_bytes stored)).0 equal) ∙ same;
+  below = within;
+  is = get_or_from_slice_get new number stored [] at ∙ sym ((bytes_decides text stored).0 equal) ∙ same;
 }
 
 -- ---- the names of the list
@@ -105,56 +100,49 @@ held_once ks order held interned holds = record {
 
 -- ---- the numbers
 
-range_more : (a n : ℕ) → range_with_len a (n + 1) ≡ range_with_len a n ++ (a + n) ∷ []
-range_more a n = sym (map-id (range_with_len a (n + 1))) ∙ map-range_with_len_more (λ (k : ℕ). k) a n (a + n) refl ∙ ap (λ (ks : List ℕ). ks ++ (a + n) ∷ []) (map-id (range_with_len a n))
+range_below : (n : ℕ) → All (λ (i : ℕ). i < n) (range_with_len 0 n)
+range_below n k d within =
+    let low : k < n = omega (arith, within, length-range_with_len 0 n) in
+    omega (arith, get_or-range_with_len 0 n k d low, low)
+
+range_more : (n : ℕ) → range_with_len 0 (n + 1) ≡ range_with_len 0 n ++ n ∷ []
+range_more n = sym (map-id (range_with_len 0 (n + 1))) ∙ map-range_with_len_more (λ (k : ℕ). k) 0 n n (omega arith) ∙ ap (λ (ks : List ℕ). ks ++ n ∷ []) (map-id (range_with_len 0 n))
 
 -- a further name gets the next number
-pub one_number_more : (all left rest : List (List ℕ)) (name : List ℕ) (number : ℕ) (entries : List Numbered) → left ≡ name ∷ rest → number ≡ length entries
-    → (all ≡ map name_in entries ++ left) × (map number_in entries ≡ range_with_len 0 (length entries))
-    → let longer : List Numbered = entries ++ record { number = number; name = name } ∷ [] in
-    (all ≡ map name_in longer ++ rest) × (map number_in longer ≡ range_with_len 0 (length longer))
-one_number_more all left rest name number entries is last so_far =
-    let e : Numbered = record { number = number; name = name } in
-    let count : length (entries ++ e ∷ []) ≡ length entries + 1 = length_push entries e in (
-      so_far.0 ∙ ap (λ (ns : List (List ℕ)). map name_in entries ++ ns) is ∙ sym (append_assoc (map name_in entries) (name ∷ []) rest)
-          ∙ ap (λ (ns : List (List ℕ)). ns ++ rest) (sym (map-append name_in entries (e ∷ []))),
-      map-append number_in entries (e ∷ []) ∙ ap₂ (λ (ns : List ℕ) (n : ℕ). ns ++ n ∷ []) so_far.1 (omega (arith, last)) ∙ sym (range_more 0 (length entries))
-          ∙ ap (range_with_len 0) (sym count),
-    )
+pub one_number_more : (entries : List Numbered) (e : Numbered) (n : ℕ) → map number_in entries ≡ range_with_len 0 n → e.number ≡ n
+    → map number_in (entries ++ e ∷ []) ≡ range_with_len 0 (n + 1)
+one_number_more entries e n so_far is =
+    map-append number_in entries (e ∷ []) ∙ ap₂ (λ (ns : List ℕ) (k : ℕ). ns ++ k ∷ []) so_far is ∙ sym (range_more n)
 
--- ---- the sort
+-- numbers in their order, moved
+pub numbers_moved : (n : ℕ) (entries sorted : List Numbered) → map number_in entries ≡ range_with_len 0 n → IsPermutation entries sorted
+    → IsPermutation (range_with_len 0 n) (map number_in sorted)
+numbers_moved n entries sorted are moved = subst (λ (ns : List ℕ). IsPermutation ns (map number_in sorted)) are (IsPermutation-map number_in entries sorted moved)
 
-abbrev none : Numbered
-none = record { number = 0; name = [] }
+same_count : (ks : List (List ℕ)) (entries : List Numbered) → AreNumbered ks entries → length ks ≡ length entries
+same_count ks entries are =
+    sym (length-range_with_len 0 (length ks)) ∙ sym (length_permutation _ _ are) ∙ length-map entries number_in
 
--- each entry has the name of its number
-own_names : (ks : List (List ℕ)) (entries : List Numbered) → AreNumbered ks entries → All (λ (e : Numbered). e.name ≡ name_at ks e.number) entries
-own_names ks entries are k d within =
-    let count : length ks ≡ length entries = sym (ap length are.names_in) ∙ length-map entries name_in in
-    let number : (get_or entries k d).number ≡ k =
-    omega (arith, sym (get_or-map number_in entries k d 0 within) ∙ ap (λ (ns : List ℕ). get_or ns k 0) are.numbers_in, get_or-range_with_len 0 (length ks) k 0 (omega (arith, within, count))) in
-    sym (get_or-map name_in entries k d [] within) ∙ ap (λ (ns : List (List ℕ)). name_at ns k) are.names_in ∙ ap (name_at ks) (sym number)
+pub numbers_below : (ks : List (List ℕ)) (entries : List Numbered) → AreNumbered ks entries → All (λ (e : Numbered). e.number < length ks) entries
+numbers_below ks entries are k d within =
+    let all : All (λ (i : ℕ). i < length ks) (map number_in entries) = All-permutation (λ (i : ℕ). i < length ks) _ _ are (range_below (length ks)) in
+    let low : get_or (map number_in entries) k 0 < length ks = all k 0 (omega (arith, within, length-map entries number_in)) in
+    omega (arith, low, get_or-map number_in entries k d 0 within)
 
-own_numbers : (ks : List (List ℕ)) (entries : List Numbered) → AreNumbered ks entries → All (λ (e : Numbered). e.number < length entries) entries
-own_numbers ks entries are k d within =
-    let count : length ks ≡ length entries = sym (ap length are.names_in) ∙ length-map entries name_in in
-    let number : (get_or entries k d).number ≡ k =
-    omega (arith, sym (get_or-map number_in entries k d 0 within) ∙ ap (λ (ns : List ℕ). get_or ns k 0) are.numbers_in, get_or-range_with_len 0 (length ks) k 0 (omega (arith, within, count))) in
-    omega (arith, number, within)
-
-pub have_numbers : (ks : List (List ℕ)) (entries sorted : List Numbered) → AreNumbered ks entries → IsPermutation entries sorted → HaveNumbers sorted
-have_numbers ks entries sorted are moved = record {
-  below = subst (λ (n : ℕ). All (λ (e : Numbered). e.number < n) sorted) (sym same) (All-permutation (λ (e : Numbered). e.number < length entries) entries sorted moved (own_numbers ks entries are));
+pub have_numbers : (ks : List (List ℕ)) (entries : List Numbered) → AreNumbered ks entries → HaveNumbers entries
+have_numbers ks entries are = record {
+  below = subst (λ (n : ℕ). All (λ (e : Numbered). e.number < n) entries) (same_count ks entries are) (numbers_below ks entries are);
   all = λ number within.
-      let count : length ks ≡ length entries = sym (ap length are.names_in) ∙ length-map entries name_in in
-      let low : number < length ks = omega (arith, within, same, count) in
+      let low : number < length ks = omega (arith, within, same_count ks entries are) in
       let at : get_or (range_with_len 0 (length ks)) number 0 ≡ number = omega (arith, get_or-range_with_len 0 (length ks) number 0 low) in
       let has : Contains (range_with_len 0 (length ks)) number = subst (Contains (range_with_len 0 (length ks))) at (Contains-get_or (range_with_len 0 (length ks)) number 0 (omega (arith, low, length-range_with_len 0 (length ks)))) in
-      Contains-permutation _ _ number (IsPermutation-map number_in entries sorted moved) (subst (λ (ns : List ℕ). Contains ns number) (sym are.numbers_in) has);
+      Contains-permutation _ _ number are has;
 }
-  where
-    same : length sorted ≡ length entries
-    same = length_permutation entries sorted moved
+
+-- ---- the ranks of the names
+
+abbrev none : Numbered
+none = record { lead = 0; number = 0 }
 
 -- the names of the lines, by ranks
 named_agree : (ks sorted : List (List ℕ)) (rank : ℕ → ℕ) (order : List ℕ) → All (λ i. i < length ks) order
@@ -165,31 +153,32 @@ named_agree ks sorted rank (i ∷ order) below same =
     (same i (All-head (λ (j : ℕ). j < length ks) i order below))
     (named_agree ks sorted rank order (All-tail (λ (j : ℕ). j < length ks) i order below) same)
 
-module _ (ks : List (List ℕ)) (order : List ℕ) (entries sorted : List Numbered) (ranks : List ℕ) (interned : IsInterned ks order) (are : AreNumbered ks entries) (moved : IsPermutation entries sorted) (ranked : AreRanks sorted ranks) where
-  count : length ks ≡ length sorted
-  count = sym (ap length are.names_in) ∙ length-map entries name_in ∙ sym (length_permutation entries sorted moved)
+module _ (ks : List (List ℕ)) (order : List ℕ) (entries : List Numbered) (ranks : List ℕ) (interned : IsInterned ks order) (are : AreNumbered ks entries) (ranked : AreRanks entries ranks) where
+  pub all_have_ranks : All (λ (i : ℕ). i < length ranks) order
+  all_have_ranks = All-weaker (λ (i : ℕ). i < length ks) (λ (i : ℕ). i < length ranks)
+      (λ i below. omega (arith, below, same_count ks entries are, ranked.same_length)) order interned.below
 
-  at_rank : (i : ℕ) → i < length ks → name_at (map name_in sorted) (slice_index ranks i) ≡ name_at ks i
+  at_rank : (i : ℕ) → i < length ks → name_at (map (name_of ks) entries) (slice_index ranks i) ≡ name_at ks i
   at_rank i within =
-      let low : i < length sorted = omega (arith, within, count) in
+      let low : i < length entries = omega (arith, within, same_count ks entries are) in
       let rank = slice_index ranks i in
-      let there : rank < length sorted = ranked.below i low in
-      let entry = get_or sorted rank none in
-      let number : entry.number ≡ i = sym (get_or-map number_in sorted rank none 0 there) ∙ ranked.is i low in
-      get_or-map name_in sorted rank none [] there
-      ∙ All-permutation (λ (e : Numbered). e.name ≡ name_at ks e.number) entries sorted moved (own_names ks entries are) rank none there
-      ∙ ap (name_at ks) number
+      let there : rank < length entries = ranked.below i low in
+      let number : (get_or entries rank none).number ≡ i = sym (get_or-map number_in entries rank none 0 there) ∙ ranked.is i low in
+      get_or-map (name_of ks) entries rank none [] there ∙ ap (name_at ks) number
 
-  pub same_named : named (map name_in sorted) (map (slice_index ranks) order) ≡ named ks order
-  same_named = named_agree ks (map name_in sorted) (slice_index ranks) order interned.below at_rank
+  pub same_named : named (map (name_of ks) entries) (map (slice_index ranks) order) ≡ named ks order
+  same_named = named_agree ks (map (name_of ks) entries) (slice_index ranks) order interned.below at_rank
 
-  pub interned_sorted : IsInterned (map name_in sorted) (map (slice_index ranks) order)
+  pub interned_sorted : IsInterned (map (name_of ks) entries) (map (slice_index ranks) order)
   interned_sorted = record {
-    below = All-map (λ (j : ℕ). j < length (map name_in sorted)) (slice_index ranks) order
-        (All-weaker (λ (i : ℕ). i < length ks) (λ (i : ℕ). slice_index ranks i < length (map name_in sorted)) (λ i below. omega (arith, ranked.below i (omega (arith, below, count)), length-map sorted name_in)) order interned.below);
+    below = All-map (λ (j : ℕ). j < length (map (name_of ks) entries)) (slice_index ranks) order
+        (All-weaker (λ (i : ℕ). i < length ks) (λ (i : ℕ). slice_index ranks i < length (map (name_of ks) entries))
+        (λ i below. omega (arith, ranked.below i (omega (arith, below, same_count ks entries are)), length-map entries (name_of ks))) order interned.below);
     used = λ other has. subst (λ (ns : List (List ℕ)). Contains ns other) (sym same_named)
-        (interned.used other (subst (λ (ns : List (List ℕ)). Contains ns other) are.names_in
-        (Contains-permutation _ _ other (IsPermutation-sym _ _ (IsPermutation-map name_in entries sorted moved)) has)));
+        (let k : ℕ = has.0 in
+        let within : k < length entries = omega (arith, has.1, length-map entries (name_of ks)) in
+        let is : name_of ks (get_or entries k none) ≡ other = sym (get_or-map (name_of ks) entries k none other within) ∙ has.2 in
+        interned.used other (subst (Contains ks) is (Contains-get_or ks (get_or entries k none).number [] (numbers_below ks entries are k none within))));
   }
 
 -- ---- the ranks, one after another

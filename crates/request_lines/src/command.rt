@@ -1,5 +1,6 @@
 // One line: what it says, or its own first cause.
-ghost use Rattle.std.specs.Prelude.{◌≡◌, [], ◌∷◌, IfOk, MatchOption};
+ghost use Rattle.std.specs.Prelude.{◌≡◌, [], ◌∷◌, Ok, IfOk, MatchOption};
+ghost use Rattle.request_lines.specs.declared.command.Command.TheVariants as says;
 ghost use Rattle.request_lines.specs.declared.verb.Verb.TheVariants as verbs;
 ghost use Rattle.request_lines.specs.Grammar.{read_fields, read_line, reading_of, list_read};
 ghost use Rattle.request_lines.specs.Fine.{IsFineCommand};
@@ -14,7 +15,7 @@ use crate::put::{put_fields, put_of};
 use crate::query::{plain_query, query_of};
 use crate::texts::key_of;
 use crate::verb::Verb;
-use bucket_terms::{ListQuery, Record};
+use bucket_terms::{BoxedQuery, ListQuery, Record};
 use key_names::Text;
 use std::alloc::Global;
 use std::str;
@@ -27,7 +28,7 @@ pub(crate) enum Command {
     Put { name: Text, record: Record },
     Delete { name: Text },
     Head { name: Text },
-    List(ListQuery),
+    List(BoxedQuery),
     /// The next page of the client's last listing.
     Next,
 }
@@ -138,7 +139,7 @@ fn list(alloc: Global, left: Option<&str>) -> Result<Command, LineError>
     ensures { Reads result (read_fields verbs.List (parts_left 32 left.entry)) }
 {
     let Some((text, left)) = next_part(left, ' ') else {
-        return Ok(Command::List(plain_query(alloc)));
+        return boxed(alloc, plain_query(alloc));
     };
     match next_part(left, ' ') {
         None => list_of(alloc, text),
@@ -152,5 +153,11 @@ fn list_of(alloc: Global, text: &str) -> Result<Command, LineError>
     ensures { Reads result (list_read text.now) }
 {
     let query = query_of(alloc, text)?;
-    Ok(Command::List(query))
+    boxed(alloc, query)
+}
+
+fn boxed(alloc: Global, query: ListQuery) -> Result<Command, LineError>
+    ensures { Reads result (Ok (says.List query)) }
+{
+    Ok(Command::List(BoxedQuery::new(alloc, query)?))
 }

@@ -80,8 +80,9 @@ impl Counts {
             Command::Put { .. } => so_far.puts += 1,
             Command::Delete { .. } | Command::Head { .. } => {}
             Command::List(query) => {
-                so_far.entries += query.max_keys;
-                so_far.last = query.max_keys;
+                let most = query.get().max_keys;
+                so_far.entries += most;
+                so_far.last = most;
             }
             Command::Next => so_far.entries += so_far.last,
         }

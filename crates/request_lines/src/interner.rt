@@ -1,39 +1,33 @@
 // Names as they are read: each is kept once, and has a number from its first line on.
 ghost use Rattle.std.specs.Prelude.{◌≡◌, ◌<◌, ◌++◌, ◌∷◌, [], length, map, All, IfOk, OnOk, OnErr, IsOkUnless, replicate, slice_index};
 ghost use Rattle.request_lines.specs.declared.line_error.LineError.TheVariants.{NoMemory as OutOfMemory};
-ghost use Rattle.request_lines.specs.Interned.{AreNumbered, AreRanks, HaveNumbers, IsKnownAs, distinct_names, name_in};
+ghost use Rattle.request_lines.specs.Interned.{AreRanks, HaveNumbers, IsKnownAs, name_of};
 
+use crate::leads::{Numbered, sorted};
 use crate::line_error::LineError;
 use crate::names::Names;
 use indexmap::IndexSet;
-use key_names::Text;
+use key_names::{NoMemory, Text};
 use std::alloc::{AllocError, Global};
 use std::marker::Model;
 
 /// The names of the lines so far. A name's number is its place among the distinct names, in the order in which they came.
 #[derive(Debug, Drop)]
 pub(crate) struct Interner {
-    known: IndexSet<String>,
+    known: IndexSet<Text>,
     // For each line the number of its name.
     order: Vec<usize>,
 }
 
 impl Model for Interner {
     ghost use Rattle.std.specs.Prelude.{List, ℕ};
-    ghost use Rattle.request_lines.specs.Interned.{IsInterned, distinct_names, named};
+    ghost use Rattle.request_lines.specs.Interned.{IsInterned, named};
 
     ghost Value = { List (List ℕ) };
 
-    ghost view = { λ i. named (distinct_names i.known.keys) i.order.items };
+    ghost view = { λ i. named i.known.keys i.order.items };
 
-    ghost invariant = { λ i. IsInterned (distinct_names i.known.keys) i.order.items };
-}
-
-// A distinct name and its number.
-#[derive(Debug, Drop)]
-pub(crate) struct Numbered {
-    number: usize,
-    name: Text,
+    ghost invariant = { λ i. IsInterned i.known.keys i.order.items };
 }
 
 impl Interner {
@@ -52,52 +46,36 @@ impl Interner {
         ensures memory { IsOkUnless result OutOfMemory }
     {
         self.order.reserve(1)?;
-        let number = number_of(alloc, &mut self.known, name.as_str())?;
+        let number = number_of(alloc, &mut self.known, name)?;
         self.order.push_reserved(number);
         Ok(number)
     }
 
     /// The names of all lines, with the distinct ones in byte order, and the rank of each number.
-    pub(crate) fn ranked(self, alloc: Global) -> Result<(Names, Vec<usize>), AllocError>
+    pub(crate) fn ranked(self, alloc: Global) -> Result<(Names, Vec<usize>), NoMemory>
         ensures { IfOk result (λ names. names.0 ≡ self) }
     {
         let Interner { known, order } = self;
-        let mut entries = with_numbers(alloc, known)?;
-        entries.sort_unstable_by(|first, second| first.name.cmp(&second.name));
+        let names = known.as_slice();
+        let entries = sorted(alloc, names)?;
         let ranks = ranks_of(alloc, &entries)?;
         let order = at_ranks(alloc, &order, &ranks)?;
-        let distinct = names_of(alloc, entries)?;
+        let distinct = names_of(alloc, names, &entries)?;
         Ok((Names::of(distinct, order), ranks))
     }
 }
 
 // The number of a name among the known ones, which it joins where it is new.
-fn number_of(alloc: Global, known: &mut IndexSet<String>, name: &str) -> Result<usize, LineError>
-    ensures number { IfOk result (λ number. IsKnownAs (distinct_names known.old.keys) (distinct_names known.new.keys) name.now number) }
+fn number_of(alloc: Global, known: &mut IndexSet<Text>, name: &Text) -> Result<usize, LineError>
+    ensures number { IfOk result (λ number. IsKnownAs known.old.keys known.new.keys name.now number) }
     ensures kept { OnErr result (known.new.keys ≡ known.old.keys) }
     ensures memory { IsOkUnless result OutOfMemory }
 {
     if let Some(number) = known.get_index_of(name) {
         return Ok(number);
     }
-    let (number, _) = known.insert_full(String::from_str(alloc, name)?)?;
+    let (number, _) = known.insert_full(name.copy(alloc)?)?;
     Ok(number)
-}
-
-// The names with their numbers.
-fn with_numbers(alloc: Global, known: IndexSet<String>) -> Result<Vec<Numbered>, AllocError>
-    ensures { IfOk result (λ entries. AreNumbered (distinct_names known.keys) entries.items) }
-{
-    let mut entries = Vec::with_capacity(alloc, known.len())?;
-    let mut left = known.into_iter();
-    while let Some(name) = left.next() {
-        let number = entries.len();
-        entries.push(Numbered {
-            number,
-            name: Text::from_string(name),
-        })?;
-    }
-    Ok(entries)
 }
 
 // For each number the place at which it stands.
@@ -132,14 +110,14 @@ fn at_ranks(alloc: Global, numbers: &[usize], ranks: &[usize]) -> Result<Vec<usi
     Ok(order)
 }
 
-// The names without their numbers.
-fn names_of(alloc: Global, entries: Vec<Numbered>) -> Result<Vec<Text>, AllocError>
-    ensures { IfOk result (λ names. names.items ≡ map name_in entries.items) }
+// The names of these numbers.
+fn names_of(alloc: Global, names: &[Text], entries: &[Numbered]) -> Result<Vec<Text>, NoMemory>
+    requires { All (λ (e : Numbered). e.number < length names.now) entries.now }
+    ensures { IfOk result (λ sorted. sorted.items ≡ map (name_of names.now) entries.now) }
 {
-    let mut names = Vec::with_capacity(alloc, entries.len())?;
+    let mut sorted = Vec::with_capacity(alloc, entries.len())?;
     for entry in entries {
-        let Numbered { number: _, name } = entry;
-        names.push(name)?;
+        sorted.push(names[entry.number].copy(alloc)?)?;
     }
-    Ok(names)
+    Ok(sorted)
 }

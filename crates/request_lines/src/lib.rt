@@ -8,6 +8,7 @@ mod cause;
 mod command;
 mod counts;
 mod interner;
+mod leads;
 mod limits;
 mod line_error;
 mod names;

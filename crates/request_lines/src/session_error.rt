@@ -27,6 +27,14 @@ impl From<AllocError> for SessionError {
     }
 }
 
+impl From<key_names::NoMemory> for SessionError {
+    ghost from_gives = { λ _ e. e ≡ NoMemory };
+
+    fn from(_: key_names::NoMemory) -> Self {
+        SessionError::NoMemory
+    }
+}
+
 impl<T: Drop> From<AllocFailed<T>> for SessionError {
     ghost from_gives = { λ _ e. e ≡ NoMemory };
 

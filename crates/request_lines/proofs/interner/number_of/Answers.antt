@@ -8,5 +8,5 @@ returns-in-Some-clause-number c = known_at c.args.known.now.keys c.args.name.now
 pub returns-clause-number : goal.returns-clause-number
 returns-clause-number c =
     let stored = c.in_ok-number.ensures.stored in
-    joined_at _ c.args.known.now.keys c.insert_full.new.self.keys c.in_ok-from_str.field-0 stored.0 c.args.name.now c.in_ok-number.number
-    c.in_ok-number.ensures.keys c.in_ok-from_str.ensures.ok c.in_ok-number.ensures.within stored.1 stored.2
+    joined_at _ c.args.known.now.keys c.insert_full.new.self.keys c.in_ok-copy.field-0 stored.0 c.args.name.now c.in_ok-number.number
+    c.in_ok-number.ensures.keys c.in_ok-copy.ensures c.in_ok-number.ensures.within stored.1 stored.2

@@ -1,4 +1,4 @@
-use Rattle.std.proofs.Common.{◌≡◌, ℕ, List, length, sym, ap, ◌∙◌, subst, arith}
+use Rattle.std.proofs.Common.{◌≡◌, ℕ, List, length, sym, subst, arith}
 use Rattle.std.proofs.lemmas.List.{get_or-map}
 use Rattle.request_lines.specs.Interned.{number_in}
 use Rattle.request_lines.proofs.Interned.{AreRanksUpto, none_ranked, one_rank_more, all_ranks}
@@ -9,8 +9,8 @@ loop-rank-init c = subst (λ (ranks : List ℕ). AreRanksUpto c.args.entries.now
 
 pub loop-rank-preserved : goal.loop-rank-preserved
 loop-rank-preserved c =
-    one_rank_more c.args.entries.now c.loop-rank.ranks.items c.loop-rank.rank c.index-entries-rank.result.number c.requires c.loop-rank.invariant c.loop-rank-test.true
-    (get_or-map number_in c.args.entries.now c.loop-rank.rank c.index-entries-rank.result 0 c.loop-rank-test.true ∙ ap number_in (sym c.index-entries-rank.is))
+    one_rank_more c.args.entries.now c.loop-rank.ranks.items c.loop-rank.rank _ c.requires c.loop-rank.invariant c.loop-rank-test.true
+    (get_or-map number_in c.args.entries.now c.loop-rank.rank _ 0 c.loop-rank-test.true)
 
 pub returns : goal.returns
 returns c =

@@ -1,0 +1,39 @@
+use command_words::{Form, form_of};
+use key_names::{NoMemory, Text};
+use std::alloc::Global;
+
+fn form(alloc: Global, texts: &[&str]) -> Result<Option<Form>, NoMemory> {
+    let mut words = Vec::new(alloc);
+    for text in texts {
+        words.push(Text::of(alloc, text)?)?;
+    }
+    form_of(alloc, &words)
+}
+
+#[test]
+fn forms_are_read(rt: HostRuntime) {
+    let alloc = rt.alloc();
+    assert_eq!(rt; form(alloc, &["run"]), Ok(Some(Form::Run)));
+    assert_eq!(rt; form(alloc, &["sample", "1"]), Ok(Some(Form::Sample(1))));
+    assert_eq!(rt;
+        form(alloc, &["sample", "40000"]),
+        Ok(Some(Form::Sample(40000)))
+    );
+}
+
+#[test]
+fn other_words_are_none(rt: HostRuntime) {
+    let alloc = rt.alloc();
+    let others: [&[&str]; 7] = [
+        &[],
+        &["--help"],
+        &["run", "--"],
+        &["run", "--slots=1"],
+        &["sample", "01"],
+        &["sample", "40001"],
+        &["help", "sample"],
+    ];
+    for words in others {
+        assert_eq!(rt; form(alloc, words), Ok(None));
+    }
+}

@@ -1,0 +1,95 @@
+// The sort of the names, which is fast where many names begin alike: the bytes behind what all have in common are
+// compared first, as one number.
+ghost use Rattle.std.specs.Prelude.{◌≡◌, length, map, IfOk};
+ghost use Rattle.std.specs.List.{range_with_len};
+ghost use Rattle.request_lines.specs.Interned.{AreNumbered, number_in};
+
+use key_names::Text;
+use std::alloc::{AllocError, Global};
+use std::cmp::Ordering;
+
+// How many bytes are compared as one number.
+const LEAD_BYTES: usize = 16;
+
+/// The number of a name, and its bytes behind what all names begin with, as a number.
+#[derive(Debug, Drop)]
+pub(crate) struct Numbered {
+    pub(crate) lead: u128,
+    pub(crate) number: usize,
+}
+
+/// The names' numbers, in the byte order of the names.
+pub(crate) fn sorted(alloc: Global, names: &[Text]) -> Result<Vec<Numbered>, AllocError>
+    ensures { IfOk result (λ entries. AreNumbered names.now entries.items) }
+{
+    let mut entries = with_numbers(alloc, names)?;
+    entries.sort_unstable_by(|first, second| order_of(names, first, second));
+    Ok(entries)
+}
+
+// The names' numbers, in the order of the names.
+fn with_numbers(alloc: Global, names: &[Text]) -> Result<Vec<Numbered>, AllocError>
+    ensures { IfOk result (λ entries. map number_in entries.items ≡ range_with_len 0 (length names.now)) }
+{
+    let begin = common_len(names);
+    let mut entries = Vec::with_capacity(alloc, names.len())?;
+    for (number, name) in names.iter().enumerate() {
+        let lead = lead_of(name.bytes(), begin);
+        entries.push(Numbered { lead, number })?;
+    }
+    Ok(entries)
+}
+
+// The order of the names of these numbers.
+fn order_of(names: &[Text], first: &Numbered, second: &Numbered) -> Ordering {
+    match first.lead.cmp(&second.lead) {
+        Ordering::Equal => names.get(first.number).cmp(&names.get(second.number)),
+        unequal => unequal,
+    }
+}
+
+// With how many bytes all names begin.
+fn common_len(names: &[Text]) -> usize {
+    let mut common = match names.first() {
+        Some(first) => first.bytes(),
+        None => return 0,
+    };
+    for name in names {
+        common = common_front(common, name.bytes());
+    }
+    common.len()
+}
+
+// The longest front of these bytes with which the name begins.
+fn common_front<'a>(bytes: &'a [u8], name: &[u8]) -> &'a [u8] {
+    let mut front = bytes;
+    while !name.starts_with(front) {
+        match front.split_last() {
+            Some((_, shorter)) => front = shorter,
+            None => return front,
+        }
+    }
+    front
+}
+
+// The bytes of a name from this place on as a number, with zeros behind its end. Where names begin alike up to the
+// place and the numbers differ, they are in the order of the numbers.
+fn lead_of(name: &[u8], begin: usize) -> u128 {
+    match name.split_at_checked(begin) {
+        Some((_, rest)) => lead(rest),
+        None => 0,
+    }
+}
+
+fn lead(bytes: &[u8]) -> u128 {
+    if let Some(front) = bytes.first_chunk::<LEAD_BYTES>() {
+        return u128::from_be_bytes(*front);
+    }
+    let mut padded = [0; LEAD_BYTES];
+    for (place, byte) in bytes.iter().enumerate() {
+        if place < LEAD_BYTES {
+            padded[place] = *byte;
+        }
+    }
+    u128::from_be_bytes(padded)
+}

@@ -1,2 +1,0 @@
--- The keys of passes over the table.
-pub mod Seats
