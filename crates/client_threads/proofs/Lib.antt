@@ -4,3 +4,4 @@ pub mod Keys
 pub mod Sessions
 pub mod Threads
 pub mod Sums
+pub mod SlotsSuffice

@@ -1,4 +1,5 @@
 pub mod Slots
+pub mod SlotsSuffice
 pub mod Clients
 pub mod Runs
 pub mod Sizes

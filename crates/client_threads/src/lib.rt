@@ -9,6 +9,7 @@ mod history;
 mod naming;
 mod opening;
 mod runner;
+mod slots;
 mod threaded;
 
 pub use counting::summary_of;
@@ -16,4 +17,5 @@ pub use history::history_of;
 pub use naming::directory_of;
 pub use opening::open_index;
 pub use runner::Runner;
+pub use slots::slots_suffice;
 pub use threaded::Threaded;

@@ -6,6 +6,30 @@ use index_words::{Change, PassSize, Update};
 use std::alloc::Global;
 use std::str::Split;
 
+/// The kinds by their names.
+const KINDS: [(&str, Kind); 20] = [
+    ("MakeSeat", Kind::MakeSeat),
+    ("SplitSeat", Kind::SplitSeat),
+    ("JoinSeat", Kind::JoinSeat),
+    ("Enter", Kind::Enter),
+    ("Leave", Kind::Leave),
+    ("LookSec", Kind::LookSec),
+    ("Fill", Kind::Fill),
+    ("LoadStamp", Kind::LoadStamp),
+    ("LoadHead", Kind::LoadHead),
+    ("LoadTs", Kind::LoadTs),
+    ("LoadPtr", Kind::LoadPtr),
+    ("LoadNext", Kind::LoadNext),
+    ("Prepare", Kind::Prepare),
+    ("Raise", Kind::Raise),
+    ("Finalise", Kind::Finalise),
+    ("TryLock", Kind::TryLock),
+    ("Unlock", Kind::Unlock),
+    ("LoadMark", Kind::LoadMark),
+    ("Mark", Kind::Mark),
+    ("LoadKeyOrVal", Kind::LoadKeyOrVal),
+];
+
 /// A run that was read.
 #[derive(Drop)]
 pub(crate) struct Run {
@@ -16,10 +40,7 @@ pub(crate) struct Run {
 /// The run of a text. None where the text is none, or memory ran out.
 pub(crate) fn run_of_text(alloc: Global, text: &str) -> Option<Run> {
     let mut lines = text.lines();
-    let mut sizes = Vec::new(alloc);
-    for size in lines.next()?.split(' ') {
-        sizes.push(size_of(size)?).ok()?;
-    }
+    let sizes = sizes_of(alloc, lines.next()?)?;
     let mut events = Vec::new(alloc);
     for line in lines {
         events.push(event_of(line)?).ok()?;
@@ -27,61 +48,68 @@ pub(crate) fn run_of_text(alloc: Global, text: &str) -> Option<Run> {
     Some(Run { sizes, events })
 }
 
-pub(crate) fn size_of(text: &str) -> Option<PassSize> {
+/// The sizes of passes, between single spaces. None where one is none, or memory ran out.
+pub(crate) fn sizes_of(alloc: Global, text: &str) -> Option<Vec<PassSize>> {
+    let mut sizes = Vec::new(alloc);
+    for size in text.split(' ') {
+        sizes.push(size_of(size)?).ok()?;
+    }
+    Some(sizes)
+}
+
+fn size_of(text: &str) -> Option<PassSize> {
     let mut fields = text.split(',');
     Some(PassSize {
-        nodes: fields.next()?.parse::<u32>().ok()?,
-        entries: fields.next()?.parse::<u32>().ok()?,
-        calls: fields.next()?.parse::<u32>().ok()?,
+        nodes: next_u32(&mut fields)?,
+        entries: next_u32(&mut fields)?,
+        calls: next_u32(&mut fields)?,
     })
+}
+
+/// The number in the next field. None where there is no field, or it is no such number.
+pub(crate) fn next_u32(fields: &mut Split<'_, char>) -> Option<u32> {
+    fields.next()?.parse::<u32>().ok()
+}
+
+/// The number in the next field. None where there is no field, or it is no such number.
+pub(crate) fn next_u64(fields: &mut Split<'_, char>) -> Option<u64> {
+    fields.next()?.parse::<u64>().ok()
 }
 
 fn event_of(line: &str) -> Option<Event> {
     let mut fields = line.split(' ');
     Some(Event {
-        seat: fields.next()?.parse::<u32>().ok()?,
+        seat: next_u32(&mut fields)?,
         kind: kind_of(fields.next()?)?,
-        word: fields.next()?.parse::<u64>().ok()?,
-        value: fields.next()?.parse::<u64>().ok()?,
+        word: next_u64(&mut fields)?,
+        value: next_u64(&mut fields)?,
         update: update_of(&mut fields),
     })
 }
 
 pub(crate) fn update_of(fields: &mut Split<'_, char>) -> Option<Update> {
     Some(Update {
-        client: fields.next()?.parse::<u32>().ok()?,
-        line: fields.next()?.parse::<u32>().ok()?,
-        key: fields.next()?.parse::<u64>().ok()?,
-        change: match fields.next()? {
-            "Put" => Change::Put(fields.next()?.parse::<u64>().ok()?),
-            "Remove" => Change::Remove,
-            _ => return None,
-        },
+        client: next_u32(fields)?,
+        line: next_u32(fields)?,
+        key: next_u64(fields)?,
+        change: change_of(fields)?,
     })
 }
 
+pub(crate) fn change_of(fields: &mut Split<'_, char>) -> Option<Change> {
+    match fields.next()? {
+        "Put" => Some(Change::Put(next_u64(fields)?)),
+        "Remove" => Some(Change::Remove),
+        _ => None,
+    }
+}
+
+/// The kind with this name.
 pub(crate) fn kind_of(name: &str) -> Option<Kind> {
-    Some(match name {
-        "MakeSeat" => Kind::MakeSeat,
-        "SplitSeat" => Kind::SplitSeat,
-        "JoinSeat" => Kind::JoinSeat,
-        "Enter" => Kind::Enter,
-        "Leave" => Kind::Leave,
-        "LookSec" => Kind::LookSec,
-        "Fill" => Kind::Fill,
-        "LoadStamp" => Kind::LoadStamp,
-        "LoadHead" => Kind::LoadHead,
-        "LoadTs" => Kind::LoadTs,
-        "LoadPtr" => Kind::LoadPtr,
-        "LoadNext" => Kind::LoadNext,
-        "Prepare" => Kind::Prepare,
-        "Raise" => Kind::Raise,
-        "Finalise" => Kind::Finalise,
-        "TryLock" => Kind::TryLock,
-        "Unlock" => Kind::Unlock,
-        "LoadMark" => Kind::LoadMark,
-        "Mark" => Kind::Mark,
-        "LoadKeyOrVal" => Kind::LoadKeyOrVal,
-        _ => return None,
-    })
+    for (kind_name, kind) in KINDS {
+        if kind_name == name {
+            return Some(kind);
+        }
+    }
+    None
 }

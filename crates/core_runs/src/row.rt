@@ -1,9 +1,9 @@
 // What a seat does in a row of a test, read from its text: words between single spaces.
-use crate::reading::{kind_of, size_of, update_of};
+use crate::reading::{change_of, kind_of, next_u32, next_u64, update_of};
 use crate::table::{NewLink, NewNode, Turn};
 use crate::words::{LinkName, address_of, link_named};
 use core_rule::{Event, Kind};
-use index_words::{Change, Layout, PassSize, TreeNode};
+use index_words::{Change, Layout, TreeNode};
 use std::alloc::Global;
 use std::str::Split;
 
@@ -33,14 +33,6 @@ pub(crate) enum Doing {
     Act(Act),
 }
 
-pub(crate) fn sizes_of(alloc: Global, text: &str) -> Option<Vec<PassSize>> {
-    let mut sizes = Vec::new(alloc);
-    for size in text.split(' ') {
-        sizes.push(size_of(size)?).ok()?;
-    }
-    Some(sizes)
-}
-
 /// The nodes of a tree, each as `slot,key,val,left,right`.
 pub(crate) fn nodes_of(alloc: Global, texts: Split<'_, char>) -> Option<Vec<TreeNode>> {
     let mut nodes = Vec::new(alloc);
@@ -53,11 +45,11 @@ pub(crate) fn nodes_of(alloc: Global, texts: Split<'_, char>) -> Option<Vec<Tree
 fn node_of(text: &str) -> Option<TreeNode> {
     let mut fields = text.split(',');
     Some(TreeNode {
-        slot: fields.next()?.parse::<u32>().ok()?,
-        key: fields.next()?.parse::<u64>().ok()?,
-        val: fields.next()?.parse::<u64>().ok()?,
-        left: fields.next()?.parse::<u32>().ok()?,
-        right: fields.next()?.parse::<u32>().ok()?,
+        slot: next_u32(&mut fields)?,
+        key: next_u64(&mut fields)?,
+        val: next_u64(&mut fields)?,
+        left: next_u32(&mut fields)?,
+        right: next_u32(&mut fields)?,
     })
 }
 
@@ -86,7 +78,7 @@ pub(crate) fn doing_of(layout: &Layout, seat: u32, text: &str) -> Option<Doing> 
 fn event_of(layout: &Layout, seat: u32, kind: Kind, rest: &str) -> Option<Doing> {
     let mut words = rest.split(' ');
     let word = address_of(layout, words.next()?)?;
-    let value = words.next()?.parse::<u64>().ok()?;
+    let value = next_u64(&mut words)?;
     let update = match rest.split(' ').count() {
         2 => None,
         _ => Some(update_of(&mut words)?),
@@ -105,12 +97,8 @@ fn event_of(layout: &Layout, seat: u32, kind: Kind, rest: &str) -> Option<Doing>
 
 fn raise_of(words: &mut Split<'_, char>) -> Option<Doing> {
     Some(Doing::Raise {
-        key: number_of(words)?,
-        change: match words.next()? {
-            "Put" => Change::Put(number_of(words)?),
-            "Remove" => Change::Remove,
-            _ => return None,
-        },
+        key: next_u64(words)?,
+        change: change_of(words)?,
     })
 }
 
@@ -127,55 +115,47 @@ fn simple_act(name: &str, rest: &str) -> Option<Doing> {
 
 fn act_of(name: &str, words: &mut Split<'_, char>) -> Option<Act> {
     Some(match name {
-        "lock" => Act::Lock(slot_of(words)?),
-        "unlock" => Act::Unlock(slot_of(words)?),
-        "finalise" => Act::Finalise(slot_of(words)?),
-        "mark" => Act::Mark(slot_of(words)?),
+        "lock" => Act::Lock(next_u32(words)?),
+        "unlock" => Act::Unlock(next_u32(words)?),
+        "finalise" => Act::Finalise(next_u32(words)?),
+        "mark" => Act::Mark(next_u32(words)?),
         "head" => Act::LoadHead(link_named(words.next()?)?),
         "entry" => Act::FillEntry {
-            entry: slot_of(words)?,
-            child: slot_of(words)?,
-            next: number_of(words)?,
+            entry: next_u32(words)?,
+            child: next_u32(words)?,
+            next: next_u64(words)?,
         },
         "fill" => Act::Fill(new_node_of(words)?),
         "prepare" => Act::Prepare(turn_of(words)?),
         "put" => Act::Put {
             at: turn_of(words)?,
-            key: number_of(words)?,
-            val: number_of(words)?,
+            key: next_u64(words)?,
+            val: next_u64(words)?,
         },
         "remove" => Act::Remove {
             at: turn_of(words)?,
-            old: slot_of(words)?,
-            key: number_of(words)?,
+            old: next_u32(words)?,
+            key: next_u64(words)?,
         },
         _ => return None,
     })
-}
-
-fn slot_of(words: &mut Split<'_, char>) -> Option<u32> {
-    words.next()?.parse::<u32>().ok()
-}
-
-fn number_of(words: &mut Split<'_, char>) -> Option<u64> {
-    words.next()?.parse::<u64>().ok()
 }
 
 /// A link, the entry that is to be put in front there, and its child.
 fn turn_of(words: &mut Split<'_, char>) -> Option<Turn> {
     Some(Turn {
         link: link_named(words.next()?)?,
-        entry: slot_of(words)?,
-        child: slot_of(words)?,
+        entry: next_u32(words)?,
+        child: next_u32(words)?,
     })
 }
 
 /// A new node: its slot, its key, its value, and its left and right link.
 fn new_node_of(words: &mut Split<'_, char>) -> Option<NewNode> {
     Some(NewNode {
-        slot: slot_of(words)?,
-        key: number_of(words)?,
-        val: number_of(words)?,
+        slot: next_u32(words)?,
+        key: next_u64(words)?,
+        val: next_u64(words)?,
         left: new_link_of(words.next()?)?,
         right: new_link_of(words.next()?)?,
     })

@@ -14,7 +14,8 @@
 //     no word NUMBER                      there is no such word
 //     tree TOP NODES                      the tree that the newest entries must spell
 //     reads SEAT NODES                    the tree that the seat must have read
-use crate::row::{Act, Doing, doing_of, nodes_of, sizes_of};
+use crate::reading::sizes_of;
+use crate::row::{Act, Doing, doing_of, nodes_of};
 use crate::shown::{part_of, push_parts};
 use crate::table::Table;
 use crate::words::address_of;
@@ -151,10 +152,18 @@ fn has_word(alloc: Global, table: &Table, rest: &str) -> Result<(), Fault> {
 fn has_part(alloc: Global, table: &Table, rest: &str) -> Result<(), Fault> {
     let (seat, rest) = rest.split_once(' ').ok_or(Fault::NoRow)?;
     let (name, wanted) = rest.split_once(' ').ok_or(Fault::NoRow)?;
-    let seat = seat.parse::<u32>().map_err(|_| Fault::NoRow)?;
+    let seat = seat_of(seat)?;
     let view = table.view(seat).ok_or(Fault::NoRow)?;
     let found = part_of(alloc, view, name)?.ok_or(Fault::NoRow)?;
     is_wanted(found, wanted)
+}
+
+fn seat_of(text: &str) -> Result<u32, Fault> {
+    text.parse::<u32>().ok().ok_or(Fault::NoRow)
+}
+
+fn number_of(text: &str) -> Result<u64, Fault> {
+    text.parse::<u64>().ok().ok_or(Fault::NoRow)
 }
 
 fn is_wanted(found: String, wanted: &str) -> Result<(), Fault> {
@@ -168,14 +177,8 @@ fn is_wanted(found: String, wanted: &str) -> Result<(), Fault> {
 fn has_none(table: &Table, rest: &str) -> Result<(), Fault> {
     let (kind, number) = rest.split_once(' ').ok_or(Fault::NoRow)?;
     let is_none = match kind {
-        "view" => {
-            let seat = number.parse::<u32>().map_err(|_| Fault::NoRow)?;
-            table.view(seat).is_none()
-        }
-        "word" => {
-            let word = number.parse::<u64>().map_err(|_| Fault::NoRow)?;
-            table.word(word).is_none()
-        }
+        "view" => table.view(seat_of(number)?).is_none(),
+        "word" => table.word(number_of(number)?).is_none(),
         _ => return Err(Fault::NoRow),
     };
     if is_none { Ok(()) } else { Err(Fault::Allowed) }
@@ -184,7 +187,7 @@ fn has_none(table: &Table, rest: &str) -> Result<(), Fault> {
 fn spells(alloc: Global, table: &Table, rest: &str) -> Result<(), Fault> {
     let mut words = rest.split(' ');
     let top = words.next().ok_or(Fault::NoRow)?;
-    let top = top.parse::<u64>().map_err(|_| Fault::NoRow)?;
+    let top = number_of(top)?;
     let nodes = nodes_of(alloc, words).ok_or(Fault::NoRow)?;
     if table.spells(top, nodes.as_slice()) {
         Ok(())
@@ -196,7 +199,7 @@ fn spells(alloc: Global, table: &Table, rest: &str) -> Result<(), Fault> {
 fn reads(alloc: Global, table: &Table, rest: &str) -> Result<(), Fault> {
     let mut words = rest.split(' ');
     let seat = words.next().ok_or(Fault::NoRow)?;
-    let seat = seat.parse::<u32>().map_err(|_| Fault::NoRow)?;
+    let seat = seat_of(seat)?;
     let nodes = nodes_of(alloc, words).ok_or(Fault::NoRow)?;
     if table.reads(seat, nodes.as_slice()) {
         return Ok(());

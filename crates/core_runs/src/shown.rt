@@ -1,6 +1,7 @@
 // The parts of a view as text, by their names, as Rust's `{:?}` prints them.
 use index_words::View;
 use std::alloc::{AllocError, Global};
+use std::fmt::Debug;
 
 /// The names of all parts.
 const PARTS: [&str; 34] = [
@@ -46,19 +47,20 @@ pub(crate) fn part_of(
     view: &View,
     name: &str,
 ) -> Result<Option<String>, AllocError> {
-    if let Some(text) = own_part(alloc, view, name)? {
-        return Ok(Some(text));
+    if let Some(number) = number_named(view, name) {
+        return Ok(Some(text_of(alloc, &number)?));
     }
-    if let Some(text) = history_part(alloc, view, name)? {
-        return Ok(Some(text));
+    if let Some(maybe) = maybe_named(view, name) {
+        return Ok(Some(text_of(alloc, &maybe)?));
     }
-    if let Some(text) = reading_part(alloc, view, name)? {
-        return Ok(Some(text));
+    if let Some(list) = list_named(view, name) {
+        return Ok(Some(text_of(alloc, &list)?));
     }
-    if let Some(text) = update_part(alloc, view, name)? {
-        return Ok(Some(text));
-    }
-    slots_part(alloc, view, name)
+    other_part(alloc, view, name)
+}
+
+fn text_of<T: Debug>(alloc: Global, part: &T) -> Result<String, AllocError> {
+    format!(in alloc; "{part:?}")
 }
 
 /// All parts, each on a line of its own.
@@ -72,71 +74,64 @@ pub(crate) fn push_parts(alloc: Global, view: &View, text: &mut String) -> Resul
     Ok(())
 }
 
-fn own_part(alloc: Global, view: &View, name: &str) -> Result<Option<String>, AllocError> {
-    Ok(Some(match name {
-        "number" => format!(in alloc; "{:?}", view.number)?,
-        "joined" => format!(in alloc; "{:?}", view.joined)?,
-        "to_give" => format!(in alloc; "{:?}", view.to_give.as_slice())?,
-        "section_word" => format!(in alloc; "{:?}", view.section_word)?,
-        "announced" => format!(in alloc; "{:?}", view.announced)?,
-        "counts" => format!(in alloc; "{:?}", view.counts)?,
-        "busy" => format!(in alloc; "{:?}", view.counts.busy)?,
-        "waits" => format!(in alloc; "{:?}", view.counts.waits)?,
-        "moves" => format!(in alloc; "{:?}", view.counts.moves)?,
-        _ => return Ok(None),
-    }))
+fn number_named(view: &View, name: &str) -> Option<u64> {
+    Some(match name {
+        "section_word" => view.section_word,
+        "announced" => view.announced,
+        "busy" => view.counts.busy,
+        "waits" => view.counts.waits,
+        "moves" => view.counts.moves,
+        "seen" => view.history.seen.len() as u64,
+        "told" => view.history.told.len() as u64,
+        "left" => u64::from(view.history.left),
+        "found" => view.history.found,
+        "looks" => view.history.looks,
+        _ => return None,
+    })
 }
 
-fn history_part(alloc: Global, view: &View, name: &str) -> Result<Option<String>, AllocError> {
-    let history = &view.history;
-    Ok(Some(match name {
-        "updates" => format!(in alloc; "{:?}", history.seen.as_slice())?,
-        "seen" => format!(in alloc; "{:?}", history.seen.len())?,
-        "told" => format!(in alloc; "{:?}", history.told.len())?,
-        "mine" => format!(in alloc; "{:?}", history.mine.as_slice())?,
-        "ended" => format!(in alloc; "{:?}", history.ended.as_slice())?,
-        "left" => format!(in alloc; "{:?}", history.left)?,
-        "found" => format!(in alloc; "{:?}", history.found)?,
-        "looks" => format!(in alloc; "{:?}", history.looks)?,
-        _ => return Ok(None),
-    }))
+fn maybe_named(view: &View, name: &str) -> Option<Option<u64>> {
+    Some(match name {
+        "number" => view.number.map(u64::from),
+        "section" => view.reading.section,
+        "opened" => view.reading.opened,
+        "raised" => view.update.raised,
+        "added" => view.update.added.map(u64::from),
+        _ => return None,
+    })
 }
 
-fn reading_part(alloc: Global, view: &View, name: &str) -> Result<Option<String>, AllocError> {
-    let reading = &view.reading;
-    Ok(Some(match name {
-        "section" => format!(in alloc; "{:?}", reading.section)?,
-        "opened" => format!(in alloc; "{:?}", reading.opened)?,
-        "tree" => format!(in alloc; "{:?}", reading.tree.as_slice())?,
-        "place" => format!(in alloc; "{:?}", reading.place)?,
-        "links" => format!(in alloc; "{:?}", reading.links.as_slice())?,
-        "filled" => format!(in alloc; "{:?}", reading.filled.as_slice())?,
-        _ => return Ok(None),
-    }))
+fn list_named<'v>(view: &'v View, name: &str) -> Option<&'v [u32]> {
+    Some(match name {
+        "to_give" => view.to_give.as_slice(),
+        "ended" => view.history.ended.as_slice(),
+        "taken" => view.update.taken.as_slice(),
+        "pending" => view.update.pending.as_slice(),
+        "free_nodes" => view.free.nodes.as_slice(),
+        "free_entries" => view.free.entries.as_slice(),
+        "retired_nodes" => view.retired.nodes.as_slice(),
+        "retired_entries" => view.retired.entries.as_slice(),
+        "batch_nodes" => view.batch.nodes.as_slice(),
+        "batch_entries" => view.batch.entries.as_slice(),
+        "passed" => view.grace.passed.as_slice(),
+        _ => return None,
+    })
 }
 
-fn update_part(alloc: Global, view: &View, name: &str) -> Result<Option<String>, AllocError> {
-    Ok(Some(match name {
-        "held_nodes" => format!(in alloc; "{:?}", view.held.nodes.as_slice())?,
-        "held_nexts" => format!(in alloc; "{:?}", view.held.nexts.as_slice())?,
-        "raised" => format!(in alloc; "{:?}", view.update.raised)?,
-        "added" => format!(in alloc; "{:?}", view.update.added)?,
-        "taken" => format!(in alloc; "{:?}", view.update.taken.as_slice())?,
-        "pending" => format!(in alloc; "{:?}", view.update.pending.as_slice())?,
+fn other_part(alloc: Global, view: &View, name: &str) -> Result<Option<String>, AllocError> {
+    let text = match name {
+        "joined" => text_of(alloc, &view.joined),
+        "updates" => text_of(alloc, &view.history.seen.as_slice()),
+        "mine" => text_of(alloc, &view.history.mine.as_slice()),
+        "counts" => text_of(alloc, &view.counts),
+        "tree" => text_of(alloc, &view.reading.tree.as_slice()),
+        "place" => text_of(alloc, &view.reading.place),
+        "links" => text_of(alloc, &view.reading.links.as_slice()),
+        "filled" => text_of(alloc, &view.reading.filled.as_slice()),
+        "held_nodes" => text_of(alloc, &view.held.nodes.as_slice()),
+        "held_nexts" => text_of(alloc, &view.held.nexts.as_slice()),
+        "found_sections" => text_of(alloc, &view.grace.found.as_slice()),
         _ => return Ok(None),
-    }))
-}
-
-fn slots_part(alloc: Global, view: &View, name: &str) -> Result<Option<String>, AllocError> {
-    Ok(Some(match name {
-        "free_nodes" => format!(in alloc; "{:?}", view.free.nodes.as_slice())?,
-        "free_entries" => format!(in alloc; "{:?}", view.free.entries.as_slice())?,
-        "retired_nodes" => format!(in alloc; "{:?}", view.retired.nodes.as_slice())?,
-        "retired_entries" => format!(in alloc; "{:?}", view.retired.entries.as_slice())?,
-        "batch_nodes" => format!(in alloc; "{:?}", view.batch.nodes.as_slice())?,
-        "batch_entries" => format!(in alloc; "{:?}", view.batch.entries.as_slice())?,
-        "found_sections" => format!(in alloc; "{:?}", view.grace.found.as_slice())?,
-        "passed" => format!(in alloc; "{:?}", view.grace.passed.as_slice())?,
-        _ => return Ok(None),
-    }))
+    };
+    Ok(Some(text?))
 }

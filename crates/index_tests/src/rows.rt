@@ -125,6 +125,25 @@ fn a_pass_removes_a_key_with_two_children(rt: HostRuntime) -> Result<(), Fail> {
     Ok(())
 }
 
+/// A removal while another pass has a snapshot open, and then a try to settle: the snapshot's number, how many of both
+/// calls had their answers, and what the snapshot then still finds.
+fn held<R: Wait>(rt: &R, zero: &mut IndexPass<'_>, one: &mut IndexPass<'_>) -> (u64, usize, Look)
+    requires zero { (shown zero.old).opened ≡ None }
+    requires one { (shown one.old).opened ≡ None }
+    ensures zero { (shown zero.new).opened ≡ None }
+    ensures one { (shown one.new).opened ≡ None }
+{
+    let at = one.begin();
+    let rows = [
+        Row::Remove(4, done(5, true)),
+        Row::TrySettle(Settling::Held { seat: 1, word: 1 }),
+    ];
+    let right = answered(zero, rt, &rows);
+    let look = one.try_next_from(3);
+    one.end();
+    (at, right, look)
+}
+
 /// Another pass's snapshot holds what a removal has taken out. The successor of the second key that goes out is the
 /// right child itself.
 #[test]
@@ -141,14 +160,7 @@ fn a_snapshot_holds_the_slots_of_a_removal(rt: HostRuntime) -> Result<(), Fail> 
         Row::Put(5, 50, done(4, false)),
     ];
     assert_eq!(rt; answered(&mut zero, &rt, &rows), 4);
-    assert_eq!(rt; one.begin(), 4);
-    let rows = [
-        Row::Remove(4, done(5, true)),
-        Row::TrySettle(Settling::Held { seat: 1, word: 1 }),
-    ];
-    assert_eq!(rt; answered(&mut zero, &rt, &rows), 2);
-    assert_eq!(rt; one.try_next_from(3), found(4, 40));
-    one.end();
+    assert_eq!(rt; held(&rt, &mut zero, &mut one), (4, 2, found(4, 40)));
     let rows = [
         Row::TrySettle(Settling::Settled),
         Row::Remove(5, done(6, true)),

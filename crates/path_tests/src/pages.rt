@@ -41,14 +41,19 @@ fn text(alloc: Global, text: &str) -> Result<Text, NamesError> {
 
 // A listing of one entry with the delimiter `/`.
 fn one_entry(alloc: Global) -> Result<ListQuery, NoMemory> {
+    let delimiter = Text::of(alloc, "/")?;
     Ok(ListQuery {
-        prefix: Text::of(alloc, "")?,
-        delimiter: Text::of(alloc, "/")?,
-        start_after: Text::of(alloc, "")?,
-        token: Text::of(alloc, "")?,
+        prefix: empty(alloc),
+        delimiter,
+        start_after: empty(alloc),
+        token: empty(alloc),
         max_keys: 1,
         url: false,
     })
+}
+
+fn empty(alloc: Global) -> Text {
+    Text::from_string(String::new(alloc))
 }
 
 const fn key(rank: u64, val: u64) -> PageEntry {
@@ -103,28 +108,40 @@ fn point_text(point: &Option<TokenPoint>) -> Option<(bool, &str)> {
     }
 }
 
+const PAIRS: [Pair; 3] = [
+    Pair { key: 0, val: 9 },
+    Pair { key: 1, val: 8 },
+    Pair { key: 2, val: 7 },
+];
+
+// The page of a cursor that is given the first and the last of the pairs, since it asks for none in between.
+fn jumped(
+    rt: &impl Abort,
+    alloc: Global,
+    dir: &Directory,
+    query: &ListQuery,
+) -> Result<Page, NoMemory>
+    ensures { IfOk result (IsInRange dir.now) }
+{
+    let mut cursor = PageCursor::new(alloc, dir, query, None);
+    assert_eq!(rt; cursor.next_rank(), Some(0));
+    cursor.take(alloc, PAIRS[0])?;
+    assert_eq!(rt; cursor.next_rank(), Some(2));
+    cursor.take(alloc, PAIRS[2])?;
+    assert_eq!(rt; cursor.next_rank(), None);
+    Ok(cursor.finish())
+}
+
 #[test]
 fn leaves_a_group_with_one_jump(rt: HostRuntime) -> Result<(), Fail> {
     let alloc = rt.alloc();
-    let (dir, _map) = bucket(alloc, &["b", "a/1", "b", "a/2"])?;
+    let (dir, _) = bucket(alloc, &["b", "a/1", "b", "a/2"])?;
     assert_eq!(rt; dir.len(), 3);
     let query = one_entry(alloc)?;
-    let pairs = [
-        Pair { key: 0, val: 9 },
-        Pair { key: 1, val: 8 },
-        Pair { key: 2, val: 7 },
-    ];
-    let plain = page_of_list(alloc, &dir, &pairs, &query, None)?;
+    let plain = page_of_list(alloc, &dir, &PAIRS, &query, None)?;
     assert_eq!(rt; plain.entries.as_slice(), [group(0, 2)].as_slice());
     assert!(rt; plain.truncated);
-
-    let mut cursor = PageCursor::new(alloc, &dir, &query, None);
-    assert_eq!(rt; cursor.next_rank(), Some(0));
-    cursor.take(alloc, pairs[0])?;
-    assert_eq!(rt; cursor.next_rank(), Some(2));
-    cursor.take(alloc, pairs[2])?;
-    assert_eq!(rt; cursor.next_rank(), None);
-    let page = cursor.finish();
+    let page = jumped(&rt, alloc, &dir, &query)?;
     assert_eq!(rt; page.entries.as_slice(), plain.entries.as_slice());
     assert!(rt; page.truncated);
     assert_eq!(rt; point_text(&page.point(alloc, &dir)?), Some((false, "a/")));

@@ -79,15 +79,23 @@ fn wants_a_node_slot_for_every_update(rt: HostRuntime) -> Result<(), Fail> {
 }
 
 #[test]
-fn wants_four_entry_slots_and_a_call(rt: HostRuntime) -> Result<(), Fail> {
+fn wants_four_entry_slots(rt: HostRuntime) -> Result<(), Fail> {
     let mut short = PlainPass::new(rt.alloc(), 0, size(1, 3, 1))?;
     assert_eq!(rt; put(&rt, &mut short, 1, 5, 50), Err(PassError::NoSlot));
     assert_eq!(rt; snapshot(&rt, &mut short, 0), (0, None));
+    Ok(())
+}
 
+#[test]
+fn wants_a_call(rt: HostRuntime) -> Result<(), Fail> {
     let mut spent = PlainPass::new(rt.alloc(), 0, size(0, 0, 0))?;
     assert_eq!(rt; put(&rt, &mut spent, 1, 5, 50), Err(PassError::Spent));
     assert_eq!(rt; remove(&rt, &mut spent, 2, 5), Err(PassError::Spent));
+    Ok(())
+}
 
+#[test]
+fn takes_its_last_call_for_an_update(rt: HostRuntime) -> Result<(), Fail> {
     let mut last = PlainPass::new(rt.alloc(), 0, size(2, 4, 1))?;
     assert_eq!(rt; remove(&rt, &mut last, 1, 5), done(0, false));
     assert_eq!(rt; put(&rt, &mut last, 2, 5, 50), done(1, false));

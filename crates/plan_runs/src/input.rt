@@ -25,44 +25,65 @@ const NO_SLOTS: PlanSlots = PlanSlots {
 /// The run of a text. None where the text is none, or memory ran out.
 pub(crate) fn input_of(alloc: Global, text: &str) -> Option<Input> {
     let mut lines = text.lines();
-    let mut sizes = Vec::new(alloc);
-    let mut seats = Vec::new(alloc);
+    let mut input = Input {
+        sizes: Vec::new(alloc),
+        seats: Vec::new(alloc),
+        turns: Vec::new(alloc),
+    };
+    add_passes(alloc, &mut input, lines.next()?)?;
+    for line in lines {
+        add_line(&mut input, line)?;
+    }
+    Some(input)
+}
+
+fn add_passes(alloc: Global, input: &mut Input, line: &str) -> Option<()> {
     let mut number = 0u32;
-    for size in lines.next()?.split(' ') {
-        sizes.push(size_of(size)?).ok()?;
-        seats.push(seat_of(alloc, number)).ok()?;
+    for size in line.split(' ') {
+        input.sizes.push(size_of(size)?).ok()?;
+        input.seats.push(seat_of(alloc, number)).ok()?;
         number = number.checked_add(1)?;
     }
-    let mut turns = Vec::new(alloc);
-    for line in lines {
-        let mut fields = line.split(' ');
-        match fields.next()? {
-            "ask" => {
-                let seat = fields.next()?.parse::<usize>().ok()?;
-                let request = request_of(fields)?;
-                seats.get_mut(seat)?.requests.push(request).ok()?;
-            }
-            "turns" => {
-                for field in fields {
-                    turns.push(field.parse::<usize>().ok()?).ok()?;
-                }
-            }
-            _ => return None,
+    Some(())
+}
+
+fn add_line(input: &mut Input, line: &str) -> Option<()> {
+    let mut fields = line.split(' ');
+    match fields.next()? {
+        "ask" => {
+            let seat = fields.next()?.parse::<usize>().ok()?;
+            add_request(input.seats.get_mut(seat)?, fields)
         }
+        "turns" => add_turns(&mut input.turns, fields),
+        _ => None,
     }
-    Some(Input {
-        sizes,
-        seats,
-        turns,
-    })
+}
+
+fn add_request(seat: &mut Seat, fields: Split<'_, char>) -> Option<()> {
+    seat.requests.push(request_of(fields)?).ok()
+}
+
+fn add_turns(turns: &mut Vec<usize>, fields: Split<'_, char>) -> Option<()> {
+    for field in fields {
+        turns.push(field.parse::<usize>().ok()?).ok()?;
+    }
+    Some(())
+}
+
+fn next_u32(fields: &mut Split<'_, char>) -> Option<u32> {
+    fields.next()?.parse::<u32>().ok()
+}
+
+fn next_u64(fields: &mut Split<'_, char>) -> Option<u64> {
+    fields.next()?.parse::<u64>().ok()
 }
 
 fn size_of(text: &str) -> Option<PassSize> {
     let mut fields = text.split(',');
     Some(PassSize {
-        nodes: fields.next()?.parse::<u32>().ok()?,
-        entries: fields.next()?.parse::<u32>().ok()?,
-        calls: fields.next()?.parse::<u32>().ok()?,
+        nodes: next_u32(&mut fields)?,
+        entries: next_u32(&mut fields)?,
+        calls: next_u32(&mut fields)?,
     })
 }
 
@@ -81,15 +102,15 @@ fn seat_of(alloc: Global, number: u32) -> Seat {
 fn request_of(mut fields: Split<'_, char>) -> Option<Request> {
     Some(match fields.next()? {
         "put" => Request::Put {
-            key: fields.next()?.parse::<u64>().ok()?,
-            val: fields.next()?.parse::<u64>().ok()?,
+            key: next_u64(&mut fields)?,
+            val: next_u64(&mut fields)?,
         },
         "remove" => Request::Remove {
-            key: fields.next()?.parse::<u64>().ok()?,
+            key: next_u64(&mut fields)?,
         },
         "open" => Request::Open,
         "get" => Request::Get {
-            key: fields.next()?.parse::<u64>().ok()?,
+            key: next_u64(&mut fields)?,
         },
         "close" => Request::Close,
         _ => return None,

@@ -15,7 +15,7 @@ pub(crate) struct Machine {
 }
 
 /// Why a run ends early.
-#[derive(Clone, Copy, Debug)]
+#[derive(Clone, Copy)]
 pub(crate) enum Stop {
     NoMemory,
     /// An event of this kind was not allowed.

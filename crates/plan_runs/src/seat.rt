@@ -4,7 +4,7 @@ use core_trees::Link;
 use core_updates::{Plan, PlanSlots};
 use index_words::{Counts, Side, Update, Word};
 
-#[derive(Clone, Copy, Debug)]
+#[derive(Clone, Copy)]
 pub(crate) enum Request {
     Put { key: u64, val: u64 },
     Remove { key: u64 },
@@ -17,7 +17,7 @@ pub(crate) enum Request {
 
 /// A step of a pass. Most make one event; a step that has more to do puts the rest in front of the steps that are
 /// left.
-#[derive(Clone, Copy, Debug)]
+#[derive(Clone, Copy)]
 pub(crate) enum Step {
     /// Looks at the section of a pass, until there are free slots enough, for so many rounds.
     Settle { pass: u32, rounds: u32 },
@@ -34,7 +34,7 @@ pub(crate) enum Step {
 }
 
 /// A step along a link's bundle, or down the tree.
-#[derive(Clone, Copy, Debug)]
+#[derive(Clone, Copy)]
 pub(crate) enum WalkStep {
     Head(Link),
     Number,
@@ -47,7 +47,7 @@ pub(crate) enum WalkStep {
 }
 
 /// A step of an update, at a place of a list of its plan.
-#[derive(Clone, Copy, Debug)]
+#[derive(Clone, Copy)]
 pub(crate) enum UpdateStep {
     /// Walks along the bundle of each link that the plan looks at.
     Remember(usize),
@@ -85,7 +85,7 @@ pub(crate) enum Outcome {
     NoSlot,
 }
 
-#[derive(Clone, Copy, Debug)]
+#[derive(Clone, Copy)]
 pub(crate) enum Report {
     Raised {
         at: u64,

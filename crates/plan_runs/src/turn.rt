@@ -84,13 +84,18 @@ fn begin_try(machine: &Machine, seat: &mut Seat) -> Result<(), Stop> {
 /// The first free node and the first four free entries of a pass. None where there are fewer.
 fn slots(machine: &Machine, number: u32) -> Option<PlanSlots> {
     let free = &machine.view(number)?.free;
-    let entries = free.entries.as_slice();
+    let [node, ..] = free.nodes.as_slice() else {
+        return None;
+    };
+    let [at, left, right, next, ..] = free.entries.as_slice() else {
+        return None;
+    };
     Some(PlanSlots {
-        node: free.nodes.as_slice().first().copied()?,
-        at: entries.get(0).copied()?,
-        left: entries.get(1).copied()?,
-        right: entries.get(2).copied()?,
-        next: entries.get(3).copied()?,
+        node: *node,
+        at: *at,
+        left: *left,
+        right: *right,
+        next: *next,
     })
 }
 
@@ -101,28 +106,31 @@ fn one_step(
     step: Step,
 ) -> Result<Option<Report>, Stop> {
     let number = seat.number;
-    let own = Word::Section(number);
-    match step {
+    let done = match step {
         Step::Settle { pass, rounds } => settle(alloc, machine, seat, pass, rounds),
-        Step::Enter => {
-            let word = machine.word(own).saturating_add(1);
-            machine.step(alloc, number, Kind::Enter, own, word)?;
-            Ok(None)
-        }
-        Step::Leave => {
-            let word = machine.word(own).saturating_add(1);
-            machine.step(alloc, number, Kind::Leave, own, word)?;
-            Ok(None)
-        }
+        Step::Enter => store_section(alloc, machine, number, Kind::Enter),
+        Step::Leave => store_section(alloc, machine, number, Kind::Leave),
         Step::LoadStamp { fix } => {
-            machine.step(alloc, number, Kind::LoadStamp, Word::Stamp, u64::from(fix))?;
-            Ok(None)
+            machine.step(alloc, number, Kind::LoadStamp, Word::Stamp, u64::from(fix))
         }
         Step::Plan => make_plan(machine, seat),
-        Step::Walk(step) => walk_step(alloc, machine, seat, step),
-        Step::Update(step) => update_step(alloc, machine, seat, step),
-        Step::Tell(outcome) => tell(machine, seat, outcome),
-    }
+        Step::Walk(step) => return walk_step(alloc, machine, seat, step),
+        Step::Update(step) => return update_step(alloc, machine, seat, step),
+        Step::Tell(outcome) => return tell(machine, seat, outcome),
+    };
+    done?;
+    Ok(None)
+}
+
+fn store_section(
+    alloc: Global,
+    machine: &mut Machine,
+    number: u32,
+    kind: Kind,
+) -> Result<(), Stop> {
+    let own = Word::Section(number);
+    let word = machine.word(own).saturating_add(1);
+    machine.step(alloc, number, kind, own, word)
 }
 
 fn tell(machine: &Machine, seat: &mut Seat, outcome: Outcome) -> Result<Option<Report>, Stop> {
@@ -150,36 +158,32 @@ fn settle(
     seat: &mut Seat,
     pass: u32,
     rounds: u32,
-) -> Result<Option<Report>, Stop> {
+) -> Result<(), Stop> {
     let number = seat.number;
     if slots(machine, number).is_some() {
-        begin_try(machine, seat)?;
-        return Ok(None);
+        return begin_try(machine, seat);
     }
     if rounds == 0 {
-        seat.then(&[Step::Tell(Outcome::NoSlot)])?;
-        return Ok(None);
+        return seat.then(&[Step::Tell(Outcome::NoSlot)]);
     }
     let passes = machine.layout.passes;
-    let waits = machine.view(number).is_some_and(has_waiting);
     if pass >= passes {
         let again = Step::Settle {
             pass: 0,
             rounds: rounds - 1,
         };
         if passes == 1 {
-            seat.then(&[Step::Enter, Step::Leave, again])?;
-        } else {
-            seat.then(&[again])?;
+            return seat.then(&[Step::Enter, Step::Leave, again]);
         }
-        return Ok(None);
+        return seat.then(&[again]);
     }
+    let waits = machine.view(number).is_some_and(has_waiting);
     seat.then(&[Step::Settle {
         pass: pass.saturating_add(1),
         rounds,
     }])?;
-    if pass != number && waits {
-        machine.step(alloc, number, Kind::LookSec, Word::Section(pass), 0)?;
+    if pass == number || !waits {
+        return Ok(());
     }
-    Ok(None)
+    machine.step(alloc, number, Kind::LookSec, Word::Section(pass), 0)
 }

@@ -9,18 +9,17 @@ use index_words::{Change, Field, Filled, Part, Place, Side, Word};
 use std::alloc::Global;
 
 /// Makes the plan of the update from the tree that the view reads.
-pub(crate) fn make_plan(machine: &Machine, seat: &mut Seat) -> Result<Option<Report>, Stop> {
+pub(crate) fn make_plan(machine: &Machine, seat: &mut Seat) -> Result<(), Stop> {
     let (Some(view), Some(update)) = (machine.view(seat.number), seat.update) else {
-        return Ok(None);
+        return Ok(());
     };
     match Plan::of_key(view.reading.tree.as_slice(), update.key, update.change) {
         Some(plan) => {
             seat.plan = Some(plan);
-            seat.then(&[Step::Update(UpdateStep::Remember(0))])?;
+            seat.then(&[Step::Update(UpdateStep::Remember(0))])
         }
-        None => seat.give_up(Outcome::Absent)?,
+        None => seat.give_up(Outcome::Absent),
     }
-    Ok(None)
 }
 
 pub(crate) fn update_step(
@@ -36,42 +35,42 @@ pub(crate) fn update_step(
     let Some(plan) = seat.plan else {
         return Ok(None);
     };
-    match step {
-        UpdateStep::Remember(place) => remember(seat, &plan, place)?,
-        UpdateStep::Remembered { at, child } => {
-            let link = machine
-                .view(seat.number)
-                .and_then(|view| remembered_link(view, at))
-                .ok_or(Stop::Wrong)?;
-            if link.child != u64::from(child) {
-                return Err(Stop::Wrong);
-            }
-        }
-        UpdateStep::Lock(place) => lock(alloc, machine, seat, &plan, place)?,
-        UpdateStep::Look(place) => look(seat, &plan, place)?,
-        UpdateStep::LookMark(node) => look_mark(alloc, machine, seat, node)?,
-        UpdateStep::LookHead(at) => look_head(alloc, machine, seat, at)?,
-        UpdateStep::LookNumber => look_number(alloc, machine, seat)?,
-        UpdateStep::LookPair { word, value } => {
-            machine.step(alloc, seat.number, Kind::LoadKeyOrVal, word, 0)?;
-            if machine.word(word) != value {
-                return Err(Stop::Wrong);
-            }
-        }
-        UpdateStep::FillNode(place) => fill_node(alloc, machine, seat, &plan, place)?,
+    let done = match step {
+        UpdateStep::Remember(place) => remember(seat, &plan, place),
+        UpdateStep::Remembered { at, child } => remembered(machine, seat, at, child),
+        UpdateStep::Lock(place) => lock(alloc, machine, seat, &plan, place),
+        UpdateStep::Look(place) => look(seat, &plan, place),
+        UpdateStep::LookMark(node) => look_mark(alloc, machine, seat, node),
+        UpdateStep::LookHead(at) => look_head(alloc, machine, seat, at),
+        UpdateStep::LookNumber => look_number(alloc, machine, seat),
+        UpdateStep::LookPair { word, value } => look_pair(alloc, machine, seat, word, value),
+        UpdateStep::FillNode(place) => fill_node(alloc, machine, seat, &plan, place),
         UpdateStep::FillFresh { side, place } => {
-            fill_fresh(alloc, machine, seat, &plan, side, place)?
+            fill_fresh(alloc, machine, seat, &plan, side, place)
         }
         UpdateStep::FillFront { front, place } => {
-            fill_front(alloc, machine, seat, &plan, front, place)?
+            fill_front(alloc, machine, seat, &plan, front, place)
         }
-        UpdateStep::Prepare(place) => prepare(alloc, machine, seat, &plan, place)?,
+        UpdateStep::Prepare(place) => prepare(alloc, machine, seat, &plan, place),
         UpdateStep::Raise => return raise(alloc, machine, seat, &plan),
-        UpdateStep::Finalise => finalise(alloc, machine, seat)?,
-        UpdateStep::Mark(place) => mark(alloc, machine, seat, &plan, place)?,
-        UpdateStep::Unlock => {}
-    }
+        UpdateStep::Finalise => finalise(alloc, machine, seat),
+        UpdateStep::Mark(place) => mark(alloc, machine, seat, &plan, place),
+        UpdateStep::Unlock => Ok(()),
+    };
+    done?;
     Ok(None)
+}
+
+fn remembered(machine: &Machine, seat: &Seat, at: Link, child: u32) -> Result<(), Stop> {
+    let link = machine
+        .view(seat.number)
+        .and_then(|view| remembered_link(view, at))
+        .ok_or(Stop::Wrong)?;
+    if link.child == u64::from(child) {
+        Ok(())
+    } else {
+        Err(Stop::Wrong)
+    }
 }
 
 fn remember(seat: &mut Seat, plan: &Plan, place: usize) -> Result<(), Stop> {
@@ -155,6 +154,21 @@ fn look_mark(alloc: Global, machine: &mut Machine, seat: &mut Seat, node: u32) -
         Ok(())
     } else {
         seat.give_up(Outcome::Moved)
+    }
+}
+
+fn look_pair(
+    alloc: Global,
+    machine: &mut Machine,
+    seat: &Seat,
+    word: Word,
+    value: u64,
+) -> Result<(), Stop> {
+    machine.step(alloc, seat.number, Kind::LoadKeyOrVal, word, 0)?;
+    if machine.word(word) == value {
+        Ok(())
+    } else {
+        Err(Stop::Wrong)
     }
 }
 

@@ -7,7 +7,7 @@ use index_words::{Field, LinkSource, Part, Place, Side, View, Word};
 use std::alloc::Global;
 
 /// A link as a view remembers it: the entry that selected it, and the child.
-#[derive(Clone, Copy, Debug, PartialEq, Eq)]
+#[derive(Clone, Copy)]
 pub(crate) struct Known {
     pub(crate) entry: u64,
     pub(crate) child: u64,
@@ -46,54 +46,31 @@ pub(crate) fn walk_step(
 ) -> Result<Option<Report>, Stop> {
     let number = seat.number;
     let entry = machine.view(number).map_or(0, entry_at);
-    match step {
-        WalkStep::Head(at) => {
-            let word = Word::Node(Field::Head(at.side), at.node);
-            machine.step(alloc, number, Kind::LoadHead, word, 0)?;
-            go_on(machine, seat)?;
-        }
-        WalkStep::Number => {
-            machine.step(
-                alloc,
-                number,
-                Kind::LoadTs,
-                Word::Entry(Part::Stamp, entry),
-                0,
-            )?;
-            compare(machine, seat, machine.word(Word::Entry(Part::Stamp, entry)))?;
-        }
-        WalkStep::Next => {
-            machine.step(
-                alloc,
-                number,
-                Kind::LoadNext,
-                Word::Entry(Part::Next, entry),
-                0,
-            )?;
-            go_on(machine, seat)?;
-        }
-        WalkStep::Child => {
-            machine.step(
-                alloc,
-                number,
-                Kind::LoadPtr,
-                Word::Entry(Part::Child, entry),
-                0,
-            )?;
-        }
+    let (kind, word) = match step {
+        WalkStep::Head(at) => (Kind::LoadHead, Word::Node(Field::Head(at.side), at.node)),
+        WalkStep::Number => (Kind::LoadTs, Word::Entry(Part::Stamp, entry)),
+        WalkStep::Next => (Kind::LoadNext, Word::Entry(Part::Next, entry)),
+        WalkStep::Child => (Kind::LoadPtr, Word::Entry(Part::Child, entry)),
         WalkStep::Arrive { at, key } => return arrive(machine, seat, at, key),
-        WalkStep::Key { node, key } => {
-            let word = Word::Node(Field::Key, node);
-            machine.step(alloc, number, Kind::LoadKeyOrVal, word, 0)?;
-            descend(seat, node, key, machine.word(word))?;
-        }
-        WalkStep::Val { node, key } => {
-            let word = Word::Node(Field::Val, node);
-            machine.step(alloc, number, Kind::LoadKeyOrVal, word, 0)?;
-            return Ok(found(machine, seat, key, Some(machine.word(word))));
-        }
+        WalkStep::Key { node, .. } => (Kind::LoadKeyOrVal, Word::Node(Field::Key, node)),
+        WalkStep::Val { node, .. } => (Kind::LoadKeyOrVal, Word::Node(Field::Val, node)),
+    };
+    machine.step(alloc, number, kind, word, 0)?;
+    if let WalkStep::Val { key, .. } = step {
+        return Ok(found(machine, seat, key, Some(machine.word(word))));
     }
+    loaded(machine, seat, step, machine.word(word))?;
     Ok(None)
+}
+
+// What follows the load of a word, which held this value.
+fn loaded(machine: &Machine, seat: &mut Seat, step: WalkStep, value: u64) -> Result<(), Stop> {
+    match step {
+        WalkStep::Head(_) | WalkStep::Next => go_on(machine, seat),
+        WalkStep::Number => compare(machine, seat, value),
+        WalkStep::Key { node, key } => descend(seat, node, key, value),
+        WalkStep::Child | WalkStep::Arrive { .. } | WalkStep::Val { .. } => Ok(()),
+    }
 }
 
 // At an entry its number is loaded next; where there is none the link is null.

@@ -1,7 +1,22 @@
-//! Tests of the public calls of `table_steps`, which are proved once so and not a second time with their tests.
+//! Tests of the public calls of the running table: of `table_steps`, `snapshot_read`, `update_search`, `update_try` and
+//! `tree_update`, which are proved once so and not a second time with their tests.
 #![tactic(auto)]
 
 #[cfg(test)]
+mod first_put;
+#[cfg(test)]
 mod loads;
 #[cfg(test)]
+mod moved;
+#[cfg(test)]
 mod passes;
+#[cfg(test)]
+mod set_up;
+#[cfg(test)]
+mod settling;
+#[cfg(test)]
+mod snapshots;
+#[cfg(test)]
+mod stages;
+#[cfg(test)]
+mod updates;

@@ -2,7 +2,7 @@
 ghost use Rattle.key_map.specs.Lists.{Every};
 ghost use Rattle.table_steps.specs.Passes.{IsPassOf};
 
-use crate::passes::opened;
+use crate::passes::{SIZE, opened};
 use index_words::Side;
 use std::test::Fail;
 use table_steps::{PassKey, SharedTable};
@@ -51,7 +51,7 @@ fn held(table: &SharedTable, mut keys: Vec<PassKey>, rows: &[(Load, u64)]) -> us
 /// A lock is had by the first pass that tries it.
 #[test]
 fn the_root_of_an_empty_table_has_only_zeros(rt: HostRuntime) -> Result<(), Fail> {
-    let (table, keys) = opened(rt.alloc(), 7)?;
+    let (table, keys) = opened(rt.alloc(), &[SIZE; 7])?;
     let rows = [
         (Load::Head(Side::Left), 0),
         (Load::Head(Side::Right), 0),

@@ -10,20 +10,22 @@ use std::test::Fail;
 use std::thread::{Threads, join, map_vec};
 use table_steps::{Note, PassKey, SharedTable, TablePass};
 
-const SIZE: PassSize = PassSize {
+pub(crate) const SIZE: PassSize = PassSize {
     nodes: 1,
     entries: 4,
     calls: 1,
 };
 
-/// A table of so many passes.
-pub(crate) fn opened(alloc: Global, passes: usize) -> Result<(SharedTable, Vec<PassKey>), NoMemory>
+/// A table of passes of these sizes.
+pub(crate) fn opened(
+    alloc: Global,
+    sizes: &[PassSize],
+) -> Result<(SharedTable, Vec<PassKey>), NoMemory>
     ensures of { IfOk result (λ t. All (IsPassOf t.0) t.1.items) }
     ensures all { IfOk result (λ t. AreAllKeys t.0 t.1.items) }
 {
-    let sizes = vec![in alloc; SIZE; passes]?;
-    match Layout::new(sizes.as_slice()) {
-        Some(layout) => SharedTable::open(alloc, &layout, sizes.as_slice()),
+    match Layout::new(sizes) {
+        Some(layout) => SharedTable::open(alloc, &layout, sizes),
         None => Err(NoMemory),
     }
 }
@@ -57,7 +59,7 @@ fn work(table: &SharedTable, key: PassKey, turns: u32) -> (PassKey, u32)
 
 #[test]
 fn four_passes_enter_and_leave_at_once(rt: HostRuntime) -> Result<(), Fail> {
-    let (table, keys) = opened(rt.alloc(), 4)?;
+    let (table, keys) = opened(rt.alloc(), &[SIZE; 4])?;
     let done = map_vec(
         &rt,
         keys,
@@ -74,7 +76,7 @@ fn four_passes_enter_and_leave_at_once(rt: HostRuntime) -> Result<(), Fail> {
 /// `bench/steps` times it.
 #[test]
 fn a_pass_enters_and_leaves_ten_million_times(rt: HostRuntime) -> Result<(), Fail> {
-    let (table, mut keys) = opened(rt.alloc(), 2)?;
+    let (table, mut keys) = opened(rt.alloc(), &[SIZE; 2])?;
     let Some(key) = keys.pop() else {
         panic!(rt; "a table of two passes has no key")
     };
@@ -132,9 +134,12 @@ fn exchange<R: Threads + Sync>(rt: &R, table: &SharedTable, first: PassKey, seco
 
 #[test]
 fn passes_hear_each_other_on_threads(rt: HostRuntime) -> Result<(), Fail> {
-    let (table, mut keys) = opened(rt.alloc(), 4)?;
-    let (Some(first), Some(second)) = (keys.pop(), keys.pop()) else {
-        panic!(rt; "a table of four passes has fewer keys")
+    let (table, mut keys) = opened(rt.alloc(), &[SIZE; 4])?;
+    let Some(first) = keys.pop() else {
+        panic!(rt; "a table of four passes has no key")
+    };
+    let Some(second) = keys.pop() else {
+        panic!(rt; "a table of four passes has one key")
     };
     assert_eq!(rt; exchange(&rt, &table, first, second), 200);
     Ok(())
@@ -144,7 +149,7 @@ fn passes_hear_each_other_on_threads(rt: HostRuntime) -> Result<(), Fail> {
 fn a_table_of_two_passes_without_updates_closes_to_the_empty_history(
     rt: HostRuntime,
 ) -> Result<(), Fail> {
-    let (table, keys) = opened(rt.alloc(), 2)?;
+    let (table, keys) = opened(rt.alloc(), &[SIZE; 2])?;
     let length = match table.close(rt.alloc(), keys) {
         Ok(history) => history.len(),
         Err(_) => 1,

@@ -1,0 +1,13 @@
+use Rattle.std.proofs.Common.{List, ℕ, sym, ap, ◌∙◌, subst, length}
+use Rattle.std.specs.List.{slice_get}
+use Rattle.key_names.specs.Names.{HoldsEachOnce}
+use Rattle.request_lines.specs.declared.session.ClientPart.{ClientPart}
+use Rattle.client_run.proofs.Sessions.{askable, served_first}
+use Rattle.path_tests.proofs.clients.run.Goals as goal
+
+pub run_part-requires-clause-askable : goal.run_part-requires-clause-askable
+run_part-requires-clause-askable g c =
+    let names = c.in_ok-clients.field-0.names in
+    let count = length c.in_ok-clients.field-0.records in
+    askable c.in_ok-dir.dir names count c.in-Some.part.now.requests c.in_ok-dir.ensures
+    (served_first names count c.in_ok-clients.field-0.clients c.in-Some.part.now (ap (λ (cs : List ClientPart). slice_get cs 0) (sym c.as_slice.ensures) ∙ sym c.in-Some.ensures.value) c.in_ok-clients.ensures.requests.served)

@@ -1,0 +1,187 @@
+-- The first put of a table by single steps: each step may be made at its stage.
+use Rattle.std.proofs.Common.{◌≡◌, ℕ, ◌<◌, List, [], ◌∷◌, length, false, arith, refl, ap, ◌∙◌, sym, subst, inl, inr, Some, None}
+use Rattle.std.specs.List.{slice_get}
+use Rattle.std.proofs.lemmas.List.{length-append}
+use Rattle.index_words.specs.declared.side.Side.TheVariants.{Left, Right}
+use Rattle.index_words.specs.declared.view.View.{View}
+use Rattle.index_words.specs.declared.view.reading.TreeNode.{TreeNode}
+use Rattle.index_words.specs.declared.view.update.HeldNode.{HeldNode}
+use Rattle.index_words.specs.declared.view.update.LoadedHead.{LoadedHead}
+use Rattle.index_words.specs.declared.word.Field.TheVariants.{Key, Val, Mark, Head}
+use Rattle.index_words.specs.declared.word.Part.TheVariants.{Child, Stamp as Number, Next}
+use Rattle.index_words.specs.declared.word.Word.{Word}
+use Rattle.index_words.specs.declared.word.Word.TheVariants.{Node, Entry}
+use Rattle.index_words.specs.Words.{word_at}
+use Rattle.key_map.specs.declared.update.Update.{Update}
+use Rattle.key_map.specs.declared.update.Change.TheVariants.{Put}
+use Rattle.key_map.specs.History.{after}
+use Rattle.key_map.specs.Map.{pair}
+use Rattle.core_invariant.proofs.TreeReads.{after_length}
+use Rattle.core_events.specs.FillMoves.{filled_view}
+use Rattle.core_events.specs.LoadMoves.{bundle_link, stamp_loaded, head_loaded}
+use Rattle.core_events.specs.LockMoves.{nothing_loaded}
+use Rattle.core_events.specs.Moves.{entered}
+use Rattle.core_events.specs.UpdateMoves.{prepared}
+use Rattle.core_laws.specs.ViewNeeds.{HasFilled, MayFill, MayPrepare}
+use Rattle.core_events.specs.Versions.{tree_nodes}
+use Rattle.core_trees.specs.NamedTree.{NamedTree, Null, Branch, contents}
+use Rattle.core_updates.specs.Held.{HoldsGrow, HoldsHead, CanRaise, MayRaise}
+use Rattle.core_updates.specs.Ready.{update_of}
+use Rattle.core_updates.proofs.HeldReady.{grow_from_view}
+use Rattle.table_rule.proofs.Lists.{item_at, some_same}
+use Rattle.table_steps.specs.Gives.{HasLoadedStamp}
+use Rattle.table_steps.specs.Loads.{HasLoadedHead}
+use Rattle.table_steps.specs.Raises.{HasNew}
+use Rattle.table_tests.specs.FirstPut.{at_start, at_root, at_locked_root}
+
+pub one_above : 0 < 1
+one_above = omega arith
+
+-- a section in which there is no update yet, and the root has no child
+no_items : {X : Type 0} (xs : List X) → length xs ≡ 0 → xs ≡ []
+no_items [] none = refl
+no_items (x ∷ xs) none = absurd (omega (arith, none))
+
+no_nodes : (tree : NamedTree) → contents tree ≡ [] → tree_nodes tree ≡ []
+no_nodes Null none = refl
+no_nodes (Branch slot key val left right) none = absurd (omega (arith, ap length none, length-append (contents left) (pair key val ∷ contents right)))
+
+none_after : (us : List Update) → after us 0 ≡ []
+none_after us = no_items (after us 0) (omega (arith, after_length us 0))
+
+module _ (e s h : View) (n head : ℕ) (is : e ≡ entered 2 at_start 1) (loaded : HasLoadedStamp e 0 n s) (found : HasLoadedHead s 0 Right head h) (none : n ≡ 0) (null : head ≡ 0) where
+  abbrev inside : View
+  inside = entered 2 at_start 1
+
+  stamp_is : s ≡ stamp_loaded [] inside 0 false []
+  stamp_is =
+      let seen : s.history.seen ≡ [] = no_items s.history.seen (loaded.whole ∙ none) in
+      let map : contents loaded.tree ≡ [] = loaded.contents_are ∙ ap (after s.history.seen) none ∙ none_after s.history.seen in
+      loaded.view ∙ ap (λ (us : List Update). stamp_loaded us e n false (tree_nodes loaded.tree)) seen
+      ∙ ap (λ (v : View). stamp_loaded [] v n false (tree_nodes loaded.tree)) is
+      ∙ ap (λ k. stamp_loaded [] inside k false (tree_nodes loaded.tree)) none
+      ∙ ap (λ (ns : List TreeNode). stamp_loaded [] inside 0 false ns) (no_nodes loaded.tree map)
+
+  pub found_root : h ≡ at_root
+  found_root =
+      found.view ∙ ap (λ (v : View). head_loaded v 0 Right head found.number) stamp_is
+      ∙ ap (λ k. head_loaded (stamp_loaded [] inside 0 false []) 0 Right k found.number) null
+
+-- with the key filled, and with the value too
+abbrev pub at_key : View
+at_key = filled_view at_root (Node Key 1) 5
+
+abbrev pub at_value : View
+at_value = filled_view at_key (Node Val 1) 7
+
+-- a word by its number, which the pass may fill at its stage
+pub number_free : (v r : View) (number : ℕ) (w : Word) → v ≡ r → word_at r.layout number ≡ Some w → MayFill r w → (x : Word) × (word_at v.layout number ≡ Some x) × MayFill v x
+number_free v r number w is at may = subst (λ (u : View). (x : Word) × (word_at u.layout number ≡ Some x) × MayFill u x) (sym is) (w, at, may)
+
+pub number_filled : (v r w : View) (number value : ℕ) (word x : Word) → v ≡ r → word_at r.layout number ≡ Some word → word_at v.layout number ≡ Some x → w ≡ filled_view v x value
+    → w ≡ filled_view r word value
+number_filled v r w number value word x is at found view =
+    let same : x ≡ word = some_same x word (sym found ∙ ap (λ (u : View). word_at u.layout number) is ∙ at) in
+    view ∙ ap (λ (u : View). filled_view u x value) is ∙ ap (λ (y : Word). filled_view r y value) same
+
+-- with its entry in front of the root's bundle
+abbrev pub at_prepared : View
+at_prepared = prepared at_locked_root Right 0 1
+
+filled_at : (v : View) (place : ℕ) (w : Word) (x : ℕ) → slice_get v.reading.filled place ≡ Some (record { word = w; value = x }) → HasFilled v w x
+filled_at v place w x is = record { place = place; is = item_at v.reading.filled place (record { word = w; value = x }) is }
+
+abbrev locked_root : LoadedHead → HeldNode
+locked_root head = record { node = 0; key = None; val = None; mark = Some 0; left = nothing_loaded; right = record { head = Some head; link = None; tag = None } }
+
+abbrev head_found : LoadedHead
+head_found = record { entry = 0; stamp = None }
+
+abbrev head_stored : LoadedHead
+head_stored = record { entry = 1; stamp = None }
+
+pub may_prepare : MayPrepare at_locked_root 0 Right 1
+may_prepare = record {
+  unraised = refl;
+  node = locked_root head_found;
+  locked = refl;
+  unmarked = refl;
+  head = head_found;
+  loaded = refl;
+  old = inl refl;
+  free = one_above;
+  small = omega arith;
+  next = filled_at at_locked_root 7 (Entry Next 1) 0 refl;
+  unnumbered = filled_at at_locked_root 6 (Entry Number 1) 0 refl;
+}
+
+abbrev holds_head : HoldsHead at_prepared 0 Right 1
+holds_head = record {
+  place = 0;
+  held = locked_root head_stored;
+  at = item_at at_prepared.held.nodes 0 (locked_root head_stored) refl;
+  node_is = refl;
+  loaded = head_stored;
+  head = refl;
+  entry_is = refl;
+}
+
+abbrev holds_grow : HoldsGrow at_prepared 5 7
+holds_grow = record {
+  node = 0;
+  side = Right;
+  at = record {
+    root = λ _. refl;
+    link = bundle_link 0 Right 0 0;
+    node_is = refl;
+    side_is = refl;
+    child_is = refl;
+    entry = 0;
+    known = record { unraised = refl; place = 0; link = item_at at_prepared.reading.links 0 (bundle_link 0 Right 0 0) refl; source = refl };
+    now = 1;
+    head = holds_head;
+    unmarked = refl;
+    still = inr (one_above, filled_at at_prepared 7 (Entry Next 1) 0 refl);
+  };
+  tree = Null;
+  read = refl;
+  gap = (refl, refl);
+  small = omega arith;
+  slot = 1;
+  new = record {
+    free = one_above;
+    unmarked = filled_at at_prepared 3 (Node Mark 1) 0 refl;
+    key_is = filled_at at_prepared 0 (Node Key 1) 5 refl;
+    val_is = filled_at at_prepared 1 (Node Val 1) 7 refl;
+    left_head = 0;
+    left_link = (filled_at at_prepared 4 (Node (Head Left) 1) 0 refl, inl (refl, refl));
+    right_head = 0;
+    right_link = (filled_at at_prepared 5 (Node (Head Right) 1) 0 refl, inl (refl, refl));
+    apart = λ _. refl;
+  };
+  entry = 1;
+  pending = refl;
+  prepared = record { some = one_above; head = holds_head; pending = one_above; leads = filled_at at_prepared 2 (Entry Child 1) 1 refl };
+}
+
+pub has_new : HasNew at_prepared (1 ∷ 0 ∷ 0 ∷ [])
+has_new = inr (
+  one_above,
+  record {
+    free = one_above;
+    left_head = filled_at at_prepared 4 (Node (Head Left) 1) 0 refl;
+    right_head = filled_at at_prepared 5 (Node (Head Right) 1) 0 refl;
+    left_free = inl refl;
+    right_free = inl refl;
+    apart = λ _. refl;
+  },
+)
+
+can_raise : (n : ℕ) → at_prepared.number ≡ Some n → CanRaise at_prepared n
+can_raise n own = record { live = refl; own = own; unraised = refl; left = one_above }
+
+pub may_raise : (v : View) (n : ℕ) → v ≡ at_prepared → v.number ≡ Some n → MayRaise v.layout v (update_of n 2 5 (Put 7)) (Some 1) []
+may_raise v n is own =
+    let number : at_prepared.number ≡ Some n = sym (ap (λ (u : View). u.number) is) ∙ own in
+    subst (λ (u : View). MayRaise u.layout u (update_of n 2 5 (Put 7)) (Some 1) []) (sym is)
+    (grow_from_view at_prepared.layout at_prepared n 2 5 7 (can_raise n number) holds_grow)

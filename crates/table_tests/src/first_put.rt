@@ -1,0 +1,153 @@
+// The first put of a table by single steps, and what another pass reads at its stages. All numbers were worked by hand.
+ghost use Rattle.std.specs.Prelude.{◌≡◌, true, IfOk};
+ghost use Rattle.key_map.specs.Lists.{Every};
+ghost use Rattle.table_tests.specs.FirstPut.{at_start, at_root, at_pair, at_locked_root, other_words, after_clears, MayStore};
+ghost use Rattle.snapshot_read.specs.Snapshots.{IsReading};
+ghost use Rattle.table_steps.specs.Passes.{AtRest, IsPassOf};
+
+use crate::set_up::both;
+use index_words::{Change, Field, Layout, NoMemory, Pair, Part, PassSize, Side, Word};
+use snapshot_read::{Look, begin, end, try_next_from};
+use std::alloc::Global;
+use std::test::Fail;
+use table_steps::{PassKey, SharedTable, TablePass};
+
+const SIZE: PassSize = PassSize {
+    nodes: 1,
+    entries: 4,
+    calls: 1,
+};
+
+/// A table of two passes with the keys of both.
+fn opened(alloc: Global) -> Result<(SharedTable, PassKey, PassKey), NoMemory>
+    ensures one { IfOk result (λ t. IsPassOf t.0 t.1) }
+    ensures two { IfOk result (λ t. IsPassOf t.0 t.2) }
+    ensures start { IfOk result (λ t. t.1.view ≡ at_start) }
+{
+    let sizes = [SIZE; 2];
+    let Some(layout) = Layout::new(&sizes) else {
+        return Err(NoMemory);
+    };
+    let (table, keys) = SharedTable::open(alloc, &layout, &sizes)?;
+    match both(keys) {
+        Some((one, two)) => Ok((table, one, two)),
+        None => Err(NoMemory),
+    }
+}
+
+/// Enters a section, and tells whether there is no update and no child at the root.
+fn finds_nothing(pass: &mut TablePass<'_>) -> bool
+    requires start { pass.old.view ≡ at_start }
+    ensures { result ≡ true → pass.new.view ≡ at_root }
+{
+    pass.enter();
+    pass.load_stamp() == 0 && pass.load_head(0, Side::Right) == 0
+}
+
+/// Fills node 1 with key 5 and value 7, and entry 1, which leads to it.
+fn fill_pair(pass: &mut TablePass<'_>)
+    requires root { pass.old.view ≡ at_root }
+    ensures { pass.new.view ≡ at_pair }
+{
+    pass.fill(15, 5);
+    pass.fill(16, 7);
+    pass.fill(35, 1);
+}
+
+/// The other words of both.
+const OTHERS: [Word; 5] = [
+    Word::Node(Field::Mark, 1),
+    Word::Node(Field::Head(Side::Left), 1),
+    Word::Node(Field::Head(Side::Right), 1),
+    Word::Entry(Part::Stamp, 1),
+    Word::Entry(Part::Next, 1),
+];
+
+/// Stores 0 to these words. They hold it from the start, but a pass knows only what it has stored in its section.
+fn clear(pass: &mut TablePass<'_>, words: &[Word])
+    requires free { Every (MayStore pass.old.view) words.now }
+    ensures { pass.new.view ≡ after_clears words.now pass.old.view }
+{
+    let [word, rest @ ..] = words else {
+        return;
+    };
+    pass.fill_word(*word, 0);
+    clear(pass, rest);
+}
+
+/// Fills all words of the new node and of its entry.
+fn fill(pass: &mut TablePass<'_>)
+    requires root { pass.old.view ≡ at_root }
+    ensures { pass.new.view ≡ after_clears other_words at_pair }
+{
+    fill_pair(pass);
+    clear(pass, &OTHERS);
+}
+
+/// Locks the root, and tells whether it is unmarked and still without a child.
+fn locks_root(pass: &mut TablePass<'_>) -> bool
+    requires filled { pass.old.view ≡ after_clears other_words at_pair }
+    ensures { result ≡ true → pass.new.view ≡ at_locked_root }
+{
+    pass.try_lock(0) && !pass.load_mark(0) && pass.load_head(0, Side::Right) == 0
+}
+
+/// What a pass reads at the stages of another one's put.
+#[derive(Clone, Copy, Debug, PartialEq, Eq)]
+struct Read {
+    prepared: (u64, Look),
+    place: u64,
+    raised: (u64, Look),
+    ended: [Look; 2],
+}
+
+/// A snapshot's number and the first pair in it.
+fn look(pass: &mut TablePass<'_>) -> (u64, Look)
+    requires rest { AtRest pass.old.view }
+    ensures reads { IsReading pass.new.view }
+{
+    let at = begin(pass);
+    (at, try_next_from(pass, 0))
+}
+
+/// Raises the put that is ready, and ends it. The other pass reads in between.
+fn put_by_steps(pass: &mut TablePass<'_>, other: &mut TablePass<'_>) -> Read
+    requires locked { pass.old.view ≡ at_locked_root }
+    requires rest { AtRest other.old.view }
+{
+    pass.number_fact();
+    pass.prepare(0, Side::Right, 1);
+    let prepared = look(other);
+    end(other);
+    let place = pass.raise(2, 5, Change::Put(7), [1, 0, 0], [0, 0]);
+    let raised = look(other);
+    pass.finalise(1);
+    pass.unlock(0);
+    pass.leave();
+    let ended = [try_next_from(other, 0), try_next_from(other, 6)];
+    end(other);
+    Read {
+        prepared,
+        place,
+        raised,
+        ended,
+    }
+}
+
+#[test]
+fn a_reader_waits_at_an_entry_until_it_has_its_number(rt: HostRuntime) -> Result<(), Fail> {
+    let (table, one, two) = opened(rt.alloc())?;
+    let mut pass = table.attach(one);
+    let mut other = table.attach(two);
+    assert!(rt; finds_nothing(&mut pass));
+    fill(&mut pass);
+    assert!(rt; locks_root(&mut pass));
+    let read = Read {
+        prepared: (0, Look::Pending),
+        place: 1,
+        raised: (1, Look::Pending),
+        ended: [Look::Found(Pair { key: 5, val: 7 }), Look::Nothing],
+    };
+    assert_eq!(rt; put_by_steps(&mut pass, &mut other), read);
+    Ok(())
+}
