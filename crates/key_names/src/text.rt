@@ -6,6 +6,7 @@ ghost use Rattle.std.specs.String.{string_bytes};
 ghost use Rattle.std.specs.Cmp.{partial_equiv_from_equiv};
 ghost use Rattle.std.specs.Cmp.Lexicographic.{pointwise, slice_cmp, nat_list_eq_equiv, nat_list_cmp_total, texts_po, texts_ties, bytes_decides};
 ghost use Rattle.std.specs.Hash as fed;
+ghost use Rattle.key_names.specs.Kept.{short_bytes};
 
 use crate::NoMemory;
 use arrayvec::ArrayString;
@@ -18,8 +19,8 @@ use std::marker::Model;
 const SHORT_BYTES: usize = 64;
 
 /// A text: a name, a prefix, a tag. Texts are compared byte by byte, as unsigned numbers, and a text
-/// stands before its own continuations. It is the order in which Amazon S3 lists keys. A text of at most 64 bytes
-/// takes no allocation.
+/// stands before its own continuations. It is the order in which Amazon S3 lists keys. `Text::of` makes a text of at most
+/// 64 bytes without an allocation; `Text::from_string` keeps what the string has.
 #[derive(Debug, Drop)]
 pub struct Text {
     kept: Kept,
@@ -59,7 +60,7 @@ impl Text {
 
     // The text with these bytes, in the value itself.
     fn short(text: &str) -> Text
-        requires { length text.now ≤ 64 }
+        requires { length text.now ≤ short_bytes }
         ensures { result ≡ text.now }
     {
         let mut bytes = ArrayString::new();
