@@ -1,6 +1,6 @@
 -- Helper: the headline does not rest on this file.
 -- The pieces of text that a line is put together from.
-use Rattle.std.specs.Prelude.{ℕ, Bool, true, false, List, [], ◌∷◌, ◌++◌, codes, decimal, Option, Some, None}
+use Rattle.std.specs.Prelude.{ℕ, Bool, true, false, List, [], ◌++◌, codes, decimal, Option, Some, None}
 use Rattle.json.specs.Print.{quoted}
 use Rattle.serde_json.specs.Written.{comma_if, items_text}
 use Rattle.serde_json.specs.View.{items_of}

@@ -1,7 +1,7 @@
 -- Helper: the headline does not rest on this file.
 -- The command that `clap` is given, and what it reads of words.
-use Rattle.std.specs.Prelude.{◌≡◌, true, List, ℕ, [], ◌∷◌, codes, Option, Some, None}
-use Rattle.std.specs.Option.{option_map, option_and_then}
+use Rattle.std.specs.Prelude.{true, List, codes, Option}
+use Rattle.std.specs.Option.{option_map}
 use Rattle.clap.specs.Words.{App, Row, Rule, Text, first_of, new_app, new_rule, with_rule, with_subcommand}
 
 -- the number of `sample`, which is required

@@ -1,6 +1,5 @@
 -- The keys that passes lay down are all keys of the index again.
-use Rattle.std.proofs.Common.{◌≡◌, ℕ, zero, suc, ◌<◌, List, [], ◌∷◌, ◌++◌, length, get_or, map, refl, sym, ap, ◌∙◌, arith}
-use Rattle.std.proofs.lemmas.List.{length-map, get_or-map, map-append}
+use Rattle.std.proofs.Common.{◌≡◌, ℕ, suc, ◌<◌, List, [], ◌∷◌, length, get_or, map, refl, ap, ◌∙◌, arith}
 use Rattle.key_map.specs.Lists.{Every}
 use Rattle.table_rule.specs.Homes.{Home}
 use Rattle.table_steps.specs.Closes.{number_of}

@@ -11,7 +11,7 @@ use Rattle.bucket_terms.specs.declared.page.PageEntry.{PageEntry}
 use Rattle.bucket_terms.specs.declared.page.Page.{Page}
 use Rattle.bucket_terms.specs.Entries.{begins_with, is_above, group_len, entry_by, entry_of, group_text, entries_of}
 use Rattle.bucket_terms.specs.Page.{entry_point, last_point, page_point, cut_at, page_of}
-use Rattle.page_rules.specs.PageLaw.{LeavesTheRest, AreChained, all_entries, AreAllEntries, BeginsAll, entry_text, RiseByText}
+use Rattle.page_rules.specs.PageLaw.{LeavesTheRest, AreChained, all_entries, BeginsAll, entry_text, RiseByText}
 use Rattle.page_rules.proofs.NameOrder.{not_above_back, begins_between, begins_own, begins_trans}
 use Rattle.page_rules.proofs.Groups.{group_same}
 use Rattle.page_rules.proofs.Listing.{is_behind, in_group}

@@ -1,7 +1,7 @@
 -- What a run of the generated session is.
 use Rattle.std.specs.Prelude.{ℕ, List, map}
 use Rattle.key_names.specs.Names.{HoldsEachOnce}
-use Rattle.bucket_terms.specs.LegalRun.{Run, RequestLine, IsLegal}
+use Rattle.bucket_terms.specs.LegalRun.{Run, IsLegal}
 use Rattle.request_lines.specs.declared.session.Session.{Session}
 use Rattle.request_lines.specs.SampleSession.{sample_session}
 use Rattle.request_lines.specs.Session.{request_lines}

@@ -1,7 +1,7 @@
-use Rattle.std.proofs.Common.{[], arith}
+use Rattle.std.proofs.Common.{arith}
 use Rattle.bucket_terms.specs.declared.reply.Placed.{Placed}
 use Rattle.sample_laws.specs.Totals.{listed_in}
-use Rattle.client_threads.proofs.Sums.{next_fits, next_counted, all_counted}
+use Rattle.client_threads.proofs.Sums.{all_counted}
 use Rattle.client_threads.proofs.counting.listed_by.Goals as goal
 
 pub returns : goal.returns

@@ -1,6 +1,6 @@
-use Rattle.std.proofs.Common.{[], refl, arith}
+use Rattle.std.proofs.Common.{[], arith}
 use Rattle.sample_laws.specs.Totals.{listed_by}
-use Rattle.client_threads.proofs.Sums.{one_fits, next_fits, next_counted, all_counted}
+use Rattle.client_threads.proofs.Sums.{one_fits, all_counted}
 use Rattle.client_threads.proofs.counting.listed_by_all.Goals as goal
 
 pub listed_by-listed-requires : goal.listed_by-listed-requires

@@ -1,5 +1,5 @@
-use Rattle.std.proofs.Common.{[], length, arith}
-use Rattle.client_threads.proofs.Sums.{next_fits, next_counted, all_counted}
+use Rattle.std.proofs.Common.{length, arith}
+use Rattle.client_threads.proofs.Sums.{all_counted}
 use Rattle.client_threads.proofs.counting.replies_of_all.Goals as goal
 
 pub returns : goal.returns

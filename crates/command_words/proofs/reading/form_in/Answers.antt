@@ -1,4 +1,4 @@
-use Rattle.std.proofs.Common.{◌≡◌, ◌∙◌, ℕ, sym, ap, codes, Some}
+use Rattle.std.proofs.Common.{◌∙◌, sym, codes, Some}
 use Rattle.std.specs.Fmt.{decimal}
 use Rattle.clap.specs.Matches.{found_of}
 use Rattle.clap.specs.Walk.{rows_of}

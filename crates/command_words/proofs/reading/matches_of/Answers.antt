@@ -1,4 +1,4 @@
-use Rattle.std.proofs.Common.{◌≡◌, ◌∙◌, List, ℕ, map, ap}
+use Rattle.std.proofs.Common.{◌∙◌, map, ap}
 use Rattle.clap.specs.Words.{App, is_simple, subcommand_of, takes}
 use Rattle.command_words.proofs.ClapReads.{program_simple}
 use Rattle.command_words.proofs.reading.matches_of.Goals as goal

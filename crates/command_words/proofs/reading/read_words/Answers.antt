@@ -1,4 +1,4 @@
-use Rattle.std.proofs.Common.{◌≡◌, ◌∙◌, List, ℕ, Bor, map, true, ap, sym}
+use Rattle.std.proofs.Common.{◌≡◌, ◌∙◌, List, ℕ, Bor, map, ap}
 use Rattle.clap.specs.Words.{subcommand_of, takes}
 use Rattle.command_words.specs.Program.{program}
 use Rattle.command_words.proofs.ClapReads.{takes_form, form_read}

@@ -1,4 +1,4 @@
-use Rattle.std.proofs.Common.{◌≡◌, ℕ, List, map, take}
+use Rattle.std.proofs.Common.{◌≡◌, map, take}
 use Rattle.command_words.proofs.reading.texts_of.Given as goal
 
 abbrev pub invariant-loop-word : goal.invariant-loop-word

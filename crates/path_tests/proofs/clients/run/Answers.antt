@@ -1,6 +1,5 @@
-use Rattle.std.proofs.Common.{List, ℕ, sym, ap, ◌∙◌, subst, length}
+use Rattle.std.proofs.Common.{List, sym, ap, ◌∙◌, length}
 use Rattle.std.specs.List.{slice_get}
-use Rattle.key_names.specs.Names.{HoldsEachOnce}
 use Rattle.request_lines.specs.declared.session.ClientPart.{ClientPart}
 use Rattle.client_run.proofs.Sessions.{askable, served_first}
 use Rattle.path_tests.proofs.clients.run.Goals as goal
