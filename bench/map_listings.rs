@@ -1,4 +1,4 @@
-// The listings of `crates/read_times`, of a map of Rust's standard library. The first word is `iterator`, `range`, `beside` or
+// The listings of `crates/listing_times`, of a map of Rust's standard library. The first word is `iterator`, `range`, `beside` or
 // `beside_each`; then how many keys, and how many listings. It prints for each thread how much it made, and in how many
 // nanoseconds. `iterator` goes through the map; `range` looks for each key anew. With `beside` three threads list under
 // a lock that they hold for a whole listing, and another one puts all keys anew so many times; with `beside_each` the lock is held
@@ -12,7 +12,7 @@ use std::time::Instant;
 
 type Map = BTreeMap<u64, u64>;
 
-/// The keys of `read_times`, each with its line.
+/// The keys of `listing_times`, each with its line.
 fn keys(count: u64) -> impl Iterator<Item = (u64, u64)> {
     let mut key = 0x9E37_79B9_7F4A_7C15u64;
     (0..count).map(move |line| {

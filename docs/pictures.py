@@ -4,7 +4,7 @@
     docs/pictures.py            draws them
     docs/pictures.py --check    says whether they are as drawn here
 
-The picture of the crates is made from crates.txt. Colours follow the reader's light or dark scheme.
+The picture of the floors is made from crates.txt. Colours follow the reader's light or dark scheme.
 """
 import re
 import sys
@@ -187,60 +187,44 @@ def session():
     return p
 
 
-def crate_lines():
-    """Each crate with the crates of this repository that it stands on."""
-    lines = [line for line in (DOCS.parent / "crates.txt").read_text().splitlines() if line.strip() and line[0] != "#"]
-    heads = [(line.split(":")[0].split()[0], line.split(":")[1].split()) for line in lines]
-    names = [name for name, _ in heads]
-    return {name: [dep for dep in deps if dep in names] for name, deps in heads}
+def floors():
+    """The headings of crates.txt, from the ground up, each with the crates below it."""
+    found = []
+    for part in (DOCS.parent / "crates.txt").read_text().split("\n\n"):
+        heading, *lines = part.strip().splitlines()
+        if lines and not lines[0].startswith("#"):
+            found.append((heading.lstrip("# ").split(":")[0], [re.split(r"[\s:]", line)[0] for line in lines]))
+    return found
 
 
 def layers():
-    """The crates, each above all that it stands on; lines lead to those that no other crate between stands on."""
-    below = crate_lines()
+    """The floors, one above the other, with the crates of each. The program rests on the first five."""
+    house = floors()
+    top = next(at for at, (_, names) in enumerate(house) if "bucketidx" in names)
+    inside, beside = house[: top + 1], house[top + 1 :]
+    columns, width, gap, row, head = 3, 132, 10, 40, 30
+    span = columns * (width + gap) + gap
+    height_of = lambda names: head + -(-len(names) // columns) * row + 8
+    total = sum(height_of(names) + 12 for _, names in inside)
+    p = Picture(2 * span + 44, total + 48, "The floors of the house")
 
-    def all_below(name):
-        return set().union(*[{dep} | all_below(dep) for dep in below[name]])
+    def floor(x, bottom, name, names, kind):
+        y = bottom - height_of(names)
+        p.box(x, y, span, height_of(names), "dash")
+        p.text(x + 12, y + 20, name, "t b", 13, "start")
+        for at, crate in enumerate(names):
+            place = (x + gap + at % columns * (width + gap), y + head + at // columns * row)
+            p.labelled(*place, width, row - 10, [(crate, "t m", 12)], "good" if crate == "bucketidx" else kind)
+        return y - 12
 
-    def level(name):
-        return max([level(dep) + 1 for dep in below[name]], default=0)
-
-    is_core = lambda name: name.startswith(("core_", "kept_")) or name == "index_words"
-    rows = {}
-    for name in below:
-        rows.setdefault(level(name), []).append(name)
-    tracks = [max(sum(is_core(n) is core for n in row) for row in rows.values()) for core in (False, True)]
-    width, height, gap = 124, 34, 34
-    split = 30 + tracks[0] * (width + 14)
-    p = Picture(split + 20 + tracks[1] * (width + 14), 64 + len(rows) * (height + gap), "The crates in layers")
-    # Those that a crate of the other track stands on come last in their row, beside it.
-    crossed = {dep for name in below for dep in below[name] if is_core(name) and not is_core(dep)}
-    places, crossings = {}, 0
-    for at, row in rows.items():
-        y = 44 + (max(rows) - at) * (height + gap)
-        for core, start, count in ((False, 16, tracks[0]), (True, split + 14, tracks[1])):
-            own = sorted((name for name in row if is_core(name) is core), key=lambda name: (name in crossed, name))
-            free = (count - len(own)) * (width + 14) / 2
-            for i, name in enumerate(own):
-                places[name] = (start + free + i * (width + 14), y)
-    for name, deps in below.items():
-        for dep in deps:
-            if not any(dep in all_below(other) for other in deps if other != dep):
-                (x, y), (to_x, to_y) = places[name], places[dep]
-                if is_core(name) and not is_core(dep):
-                    crossings += 1
-                    bend, end = split - 4 - 8 * crossings, to_y + height / 2 + 6 - 4 * crossings
-                    p.line(x, y + height / 2, bend, y + height / 2)
-                    p.line(bend, y + height / 2, bend, end)
-                    p.line(bend, end, to_x + width, end)
-                    continue
-                p.line(x + width / 2, y + height, to_x + width / 2, to_y)
-    for name, (x, y) in places.items():
-        kind = "good" if name == "bucketidx" else "key" if is_core(name) else "box"
-        p.labelled(x, y, width, height, [(name, "t m", 12)], kind)
-    p.text(16, 24, "from bytes to bytes: the program", "s", 12, "start")
-    p.text(split + 14, 24, "the core of the shared tree", "s", 12, "start")
-    p.line(split, 14, split, p.height - 20, "dash")
+    p.text(16, 26, "the program, and what it rests on", "s", 12, "start")
+    p.text(span + 28, 26, "beside it, and not in the program", "s", 12, "start")
+    bottom = p.height - 10
+    for name, names in inside:
+        bottom = floor(16, bottom, name, names, "key" if "core" in name else "box")
+    bottom = p.height - 10
+    for name, names in beside:
+        bottom = floor(span + 28, bottom, name, names, "warn" if name == "Tests" else "key" if "machine" in name else "box")
     return p
 
 

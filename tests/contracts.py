@@ -1,15 +1,12 @@
 #!/usr/bin/env python3
-"""Compares the clauses that the documents name with those of the source.
+"""Makes docs/CONTRACTS.md from the source, and compares the clauses that the documents name with it.
 
-    tests/contracts.py --check    says where they differ, and ends with status 1 then
-    tests/contracts.py --mend     makes the tables of docs/CONTRACTS.md those of the source
+    tests/contracts.py --write    makes docs/CONTRACTS.md
+    tests/contracts.py --check    says where the documents differ from the source, and ends with status 1 then
 
-`--mend` takes rows out whose clause is gone, puts a changed text in, and adds a row for each new clause,
-with the remark TO BE SAID, which `--check` refuses: say there in one line what the clause says.
-
-A clause is public where its function is: named by `pub use` in the crate's root file, or a method of a type
-or trait that is. In docs/PROVED.md, and wherever README or a page of docs/ says "clause `c` of `f`", each
-function has a clause of that name.
+A function is public where it is named by `pub use` in the crate's root file, or is a method of a type or trait
+that is. The page has each of them with its comment and its clauses. In docs/PROVED.md, and wherever README or
+a page of docs/ says "clause `c` of `f`", each function has a clause of that name.
 """
 import re
 import sys
@@ -17,7 +14,6 @@ from pathlib import Path
 
 TOP = Path(__file__).resolve().parent.parent
 CONTRACTS = TOP / "docs" / "CONTRACTS.md"
-UNSAID = "TO BE SAID"
 NAMELESS = "–"
 
 
@@ -63,8 +59,18 @@ def clauses_from(lines, start, indent):
     return found
 
 
+def comment_before(lines, at):
+    """The doc comment that ends just before a line, as one paragraph."""
+    said = []
+    while at > 0 and re.match(r"\s*(///|#\[)", lines[at - 1]):
+        at -= 1
+        if lines[at].lstrip().startswith("///"):
+            said.insert(0, lines[at].strip()[3:].strip())
+    return one_line(" ".join(said))
+
+
 def functions_of(path):
-    """Each function of the file that may be public, as (owner, name, clauses); the owner is a type or a trait."""
+    """Each function of the file that may be public, as (owner, name, clauses, comment); the owner is a type or a trait."""
     lines = path.read_text().splitlines()
     owner, is_trait = None, False
     for at, line in enumerate(lines):
@@ -82,7 +88,7 @@ def functions_of(path):
             owner = words.split(" for ")[-1].split(":")[0].split()[0].split("::")[-1]
         begun = re.match(r"( *)(pub )?(?:const |unsafe )*fn (\w+)", line)
         if begun and (begun.group(2) or (is_trait and owner)) and len(begun.group(1)) == (4 if owner else 0):
-            yield owner, begun.group(3), clauses_from(lines, at, begun.group(1))
+            yield owner, begun.group(3), clauses_from(lines, at, begun.group(1)), comment_before(lines, at)
 
 
 def exports(src):
@@ -105,144 +111,67 @@ def files_of(src, module):
     return [src / (module + ".rt")] + sorted((src / module).rglob("*.rt"))
 
 
-def public_functions(crate):
-    """The functions of the crate that others can call: `Owner::name` or `name`, with their clauses."""
+def documented_functions(crate):
+    """The functions of the crate that others can call: `Owner::name` or `name`, with their clauses and comments."""
     src = TOP / "crates" / crate / "src"
+    public = exports(src)
     found = {}
-    for name, module in exports(src).items():
+
+    def add(name, clauses, comment):
+        known, said = found.get(name, ([], ""))
+        found[name] = (known + clauses, said or comment)
+
+    for name, module in public.items():
         for path in files_of(src, module):
-            if not path.exists() or path.name == "tests.rt":
-                continue
-            for owner, function, clauses in functions_of(path):
-                if owner is None and function == name:
-                    found.setdefault(function, []).extend(clauses)
+            if path.exists():
+                for owner, function, clauses, comment in functions_of(path):
+                    if owner is None and function == name:
+                        add(function, clauses, comment)
     # The methods of a public type may stand in any file of the crate.
     for path in sorted(src.rglob("*.rt")):
-        if "tests" in path.parts or path.name == "tests.rt":
-            continue
-        for owner, function, clauses in functions_of(path):
-            if owner in exports(src):
-                found.setdefault(owner + "::" + function, []).extend(clauses)
+        for owner, function, clauses, comment in functions_of(path):
+            if owner in public:
+                add(owner + "::" + function, clauses, comment)
     return found
+
+
+def public_functions(crate):
+    """The same with their clauses alone."""
+    return {name: clauses for name, (clauses, _) in documented_functions(crate).items()}
 
 
 # ---- docs/CONTRACTS.md
 
+HEAD = """# The contracts
 
-ROW = re.compile(r"^\| `([\w:]+)` \| ([\w–-]+): `(.*?)` \|(?: (.*) \|)?$")
+For each crate, its public functions: the comment and the clauses of each as they stand in the source. `tests/contracts.py` makes this page from it. A clause that begins with *needs* has to hold before the call, each other one holds after it. A dash stands for a clause without a name.
 
+In a clause, `result` is the answer. `x.old` and `x.new` are a borrowed value before and after the call; `x.now` is a value that is only read. `x.entry` is the value of a parameter when the call begins. `IfOk result P` says P of the value of a success. `OnOk result P` says P where the call succeeds. `IfErr` and `OnErr` are the same for an error. `IfSome result P` says P of the value where there is one. `MatchOption result P Q` says P where there is no value, and Q of the value where there is one. `IsErrOf result e` says that the error is `e`.
 
-def row_of(line):
-    found = ROW.match(line)
-    if not found:
-        return None
-    function, name, text, remark = found.groups()
-    name = NAMELESS if name in ("-", "–", "—") else name
-    kind = "requires" if remark is None else "ensures"
-    return function, (kind, name, one_line(text.replace("\\|", "|"))), remark
+A method of a trait has the clauses of the trait; an implementation is listed where it has a comment or states a clause of its own."""
 
 
-def written(function, clause, remark):
+def written(clause):
     kind, name, text = clause
-    row = "| `%s` | %s: `%s` |" % (function, name, text.replace("|", "\\|"))
-    return row if kind == "requires" else row + " %s |" % remark
+    return "- %s%s: `%s`" % ("*needs* " if kind == "requires" else "", name, text)
 
 
-def sections(text):
-    """The document as (name, lines); the lines before the first heading have the name ''."""
-    parts = [("", [])]
-    for line in text.splitlines():
-        if line.startswith("## "):
-            parts.append((line[3:].strip(), []))
-        parts[-1][1].append(line)
-    return parts
+def page():
+    """The whole of docs/CONTRACTS.md."""
+    parts = [HEAD]
+    for crate in crates():
+        functions = {name: told for name, told in documented_functions(crate).items() if any(told)}
+        if functions:
+            parts.append("## " + crate)
+        for name, (clauses, comment) in functions.items():
+            needed_first = sorted(clauses, key=lambda clause: clause[0] != "requires")
+            parts.append("\n".join(["### `%s`" % name, ""] + [comment] * bool(comment) + [""] * bool(comment and clauses) + list(map(written, needed_first))))
+    return "\n\n".join(parts) + "\n"
 
 
 def differences():
-    told = dict(sections(CONTRACTS.read_text()))
-    for crate in crates():
-        rows = [row for row in map(row_of, told.get(crate, [])) if row]
-        listed = [(function, clause) for function, clause, _ in rows]
-        there = [(f, clause) for f, clauses in public_functions(crate).items() for clause in clauses]
-        for place, row in enumerate(listed):
-            if row in listed[:place]:
-                yield "%s: stands twice in CONTRACTS.md: %s" % (crate, shown(row))
-            if row not in there:
-                yield "%s: not in the source: %s" % (crate, shown(row))
-        for row in there:
-            if row not in listed:
-                yield "%s: not in CONTRACTS.md: %s" % (crate, shown(row))
-        for function, clause, remark in rows:
-            if remark and UNSAID in remark:
-                yield "%s: nothing is said of %s" % (crate, shown((function, clause)))
-
-
-def shown(row):
-    function, (kind, name, text) = row
-    return "`%s` %s %s: `%s`" % (function, kind, name, text)
-
-
-def mended(crate, lines, remarks):
-    """The section of a crate, with the rows of the source. A row that moved keeps what was said of it."""
-    there = public_functions(crate)
-    wanted = [(f, clause) for f, clauses in there.items() for clause in clauses]
-    out, used = [], []
-    for line in lines:
-        row = row_of(line)
-        if row is None:
-            out.append(line)
-            continue
-        function, clause, remark = row
-        if (function, clause) not in wanted:
-            same = [c for c in there.get(function, []) if c[:2] == clause[:2] and c not in [u[1] for u in used]]
-            if len(same) != 1 or clause[1] == NAMELESS and remark is None:
-                continue
-            clause = same[0]
-        if (function, clause) in used:
-            continue
-        used.append((function, clause))
-        out.append(written(function, clause, remark))
-    empty = "What it needs:\n\n| Function | Clause |\n|---|---|"
-    if not any(row_of(line) and row_of(line)[1][0] == "requires" for line in out):
-        out = "\n".join(out).replace("\n" + empty + "\n", "").split("\n")
-    for function, clause in wanted:
-        if (function, clause) not in used:
-            used.append((function, clause))
-            out.insert(place_for(out, function, clause[0]), written(function, clause, remarks.get((function, clause), UNSAID)))
-    return out
-
-
-def place_for(out, function, kind):
-    """Behind the last row of the function, or else of the table; a table is begun where there is none."""
-    same = [at for at, line in enumerate(out) if row_of(line) and row_of(line)[1][0] == kind]
-    own = [at for at in same if row_of(out[at])[0] == function]
-    if own or same:
-        return (own or same)[-1] + 1
-    if kind == "ensures":
-        out[1:1] = ["", "| Function | Clause | What it says |", "|---|---|---|"]
-        return 4
-    rows = [at for at, line in enumerate(out) if row_of(line)]
-    at = rows[-1] + 1 if rows else 1
-    out[at:at] = ["", "What it needs:", "", "| Function | Clause |", "|---|---|"]
-    return at + 5
-
-
-def mend():
-    parts = sections(CONTRACTS.read_text())
-    for crate in crates():
-        if crate not in [name for name, _ in parts] and any(public_functions(crate).values()):
-            before = crates()[: crates().index(crate)]
-            at = max([0] + [at for at, (name, _) in enumerate(parts) if name in before])
-            parts.insert(at + 1, (crate, ["## " + crate, ""]))
-    rows = [row for _, body in parts for row in map(row_of, body) if row]
-    remarks = {(function, clause): remark for function, clause, remark in rows}
-    lines = []
-    for name, body in parts:
-        section = mended(name, body, remarks) if name in crates() else body
-        if lines and lines[-1]:
-            lines.append("")
-        lines.extend(section)
-    CONTRACTS.write_text("\n".join(lines).rstrip() + "\n")
+    if not CONTRACTS.exists() or CONTRACTS.read_text() != page():
+        yield "docs/CONTRACTS.md is not that of the source; tests/contracts.py --write makes it"
 
 
 # ---- the clauses that other pages name
@@ -285,14 +214,14 @@ def wrong_names():
 
 
 def main():
-    if sys.argv[1:] == ["--mend"]:
-        mend()
+    if sys.argv[1:] == ["--write"]:
+        CONTRACTS.write_text(page())
     elif sys.argv[1:] != ["--check"]:
         sys.exit(__doc__)
     wrong = list(differences()) + list(wrong_names())
     print("\n".join(wrong), end="\n" if wrong else "")
     if wrong:
-        sys.exit("%d differences; where it is CONTRACTS.md that differs, tests/contracts.py --mend writes its rows" % len(wrong))
+        sys.exit("%d differences" % len(wrong))
     clauses = sum(len(c) for crate in crates() for c in public_functions(crate).values())
     print("CONTRACTS.md has the %d clauses of the public functions" % clauses)
 

@@ -1,9 +1,12 @@
 #!/usr/bin/env python3
-"""Tries each link of the documents, and each file of the repository that they name.
+"""Tries each link of the documents, and each file of the repository that they name; and compares the floor plan
+of crates/README.md with crates.txt.
 
     tests/links.py
 
-A link leads to a file, or to a heading of one, as GitHub names headings. Addresses on the network are not tried.
+A link leads to a file, or to a heading of one, as GitHub names headings. Addresses on the network are not tried. The
+floor plan has the headings of crates.txt and the crates below each, in the same order, and the file of each crate that
+it says to open first is there.
 """
 import re
 import sys
@@ -14,7 +17,7 @@ FOLDERS = ("crates", "docs", "tests", "examples", "bench", ".ci")
 
 
 def pages():
-    found = [TOP / "README.md"]
+    found = [TOP / "README.md", TOP / "crates" / "README.md"]
     for folder in ("docs", "examples", "bench"):
         found += sorted((TOP / folder).glob("*.md"))
     return found
@@ -56,8 +59,31 @@ def wrong_files(page):
             yield "there is no file %s in crates/" % name
 
 
+def floors():
+    """The headings of crates.txt, each with the crates below it. A comment of more than one line is no heading."""
+    found = []
+    for part in (TOP / "crates.txt").read_text().split("\n\n"):
+        heading, *lines = part.strip().splitlines()
+        if lines and not lines[0].startswith("#"):
+            found.append((heading.lstrip("# "), [re.split(r"[\s:]", line)[0] for line in lines]))
+    return found
+
+
+def wrong_floors():
+    plan = TOP / "crates" / "README.md"
+    found = []
+    for part in plan.read_text().split("\n## ")[1:]:
+        rows = re.findall(r"^\| `(\w+)` \|.*\| `([\w/.]+)` \|$", part, re.M)
+        found.append((part.splitlines()[0], [name for name, _ in rows]))
+        for name, file in rows:
+            if not (TOP / "crates" / name / file).exists():
+                yield "crates/%s has no file %s" % (name, file)
+    if found != floors():
+        yield "the headings or the crates are not those of crates.txt"
+
+
 def main():
-    wrong = []
+    wrong = ["crates/README.md: " + fault for fault in wrong_floors()]
     for page in pages():
         for fault in [*wrong_links(page), *wrong_files(page)]:
             wrong.append("%s: %s" % (page.relative_to(TOP), fault))

@@ -1,8 +1,7 @@
 //! The lines that a run is told in: one JSON object for each reply, for each update of the history, and for
-//! the number of updates. Each call's contract is the exact text. It stands on `bucket_terms` and
-//! `page_token`; `serde_json` says what JSON is, and writes the texts that have escapes. A line is put together
-//! in a buffer of the caller, who uses it again for the next line. The layers above use the calls, and
-//! `session_text` of `specs/Lines.antt`, the text of a whole run.
+//! the number of updates. Each call's contract is the exact text. A line is put together in a buffer of the caller, who
+//! uses it again for the next line; `serde_json` says what JSON is, and writes the texts that have escapes. The layers
+//! above use the calls, and `session_text` of `specs/Lines.antt`, the text of a whole run.
 #![tactic(auto)]
 
 mod entries;

@@ -1,8 +1,6 @@
 //! The terms in which a bucket answers: requests, replies, pages, what a legal run is, and the trait of a
-//! pass, the one way in which a caller reaches the map. It stands on `key_map`, `key_names` and the
-//! crate `base64`, whose encoding tokens have.
-//! The layers above use the definitions of `specs/`, the clauses of `KeyPass`, and `PlainPass`, a pass over
-//! one sorted list.
+//! pass, the one way in which a caller reaches the map. The layers above use the definitions of `specs/`, the clauses
+//! of `KeyPass`, and `PlainPass`, a pass over one sorted list.
 #![tactic(auto)]
 
 mod boxed_query;

@@ -1,6 +1,6 @@
-//! The run of one client: its requests, in order, over any pass that keeps the clauses of `KeyPass`.
-//! It stands on `bucket_terms`. The layer above uses `run_client`, whose clause says that the replies are
-//! those of a legal run over the history that the pass knows in the end.
+//! The run of one client: its requests, in order, over any pass that keeps the clauses of `KeyPass`. The layer above
+//! uses `run_client`, whose clause says that the replies are those of a legal run over the history that the pass knows in
+//! the end.
 #![tactic(auto)]
 
 mod gate;

@@ -1,7 +1,6 @@
 //! Runs the clients of a session over one shared index, each over a pass of its own and on a thread of its own, and gives
 //! the whole history of their updates, with the numbers of the run. What runs the clients is a `Runner`; `Threaded` is
-//! the one of the program. It stands on `shared_index` and `client_run`. The layer above reads the session, and writes
-//! the replies and the history.
+//! the one of the program. The layer above reads the session, and writes the replies and the history.
 #![tactic(auto)]
 
 mod counting;

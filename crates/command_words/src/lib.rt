@@ -1,7 +1,6 @@
 //! The words of the command line. `clap` reads them, and what was read is compared with its spelling, so that words
 //! which `clap` takes by itself, such as `--help`, `--` or a number with a leading zero, are no form of the program.
-//! It stands on `key_names` for texts, and on `clap`. The layer above uses `form_of`, and `IsForm` of
-//! `specs/Words.antt`.
+//! The layer above uses `form_of`, and `IsForm` of `specs/Words.antt`.
 #![tactic(auto)]
 
 mod form;

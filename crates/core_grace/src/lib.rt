@@ -1,6 +1,5 @@
-// Read-side sections and grace periods, and the rule on slots: when a retired slot may be used again.
-// It stands on `index_words`. The layers above use `passed`, the moves of a view's batch, and the rule of
-// `specs/Slots.antt`, which the moves keep.
+//! Read-side sections and grace periods, and the rule on slots: when a retired slot may be used again. The layers above
+//! use `passed`, the moves of a view's batch, and the rule of `specs/Slots.antt`, which the moves keep.
 #![tactic(auto)]
 
 mod batch;

@@ -17,9 +17,9 @@ use Rattle.core_invariant.specs.LinkLaw.{KeepsSelections, entry_number}
 use Rattle.core_invariant.specs.Rule.{IsRight}
 use Rattle.core_links.specs.Bundle.{select}
 use Rattle.core_links.proofs.Chains.{chain-same}
-use Rattle.core_needs.specs.declared.step.Step.{Step}
-use Rattle.core_needs.specs.StepParts.{Parts, parts_of}
-use Rattle.core_steps.specs.Changes.{IsMet, IsStepped}
+use Rattle.machine_needs.specs.declared.step.Step.{Step}
+use Rattle.machine_needs.specs.StepParts.{Parts, parts_of}
+use Rattle.machine_steps.specs.Changes.{IsMet, IsStepped}
 
 -- an event whose word has this name
 pub allowed_word : (t : Table) (e : Event) (w : Word) → word_at t.layout e.word ≡ Some w → allowed t e ≡ allowed_at t e (slice_get t.views e.seat) (Some w)

@@ -1,7 +1,7 @@
-//! The pure machine: a table as plain data, the events that change it, and the rule that every event keeps. Its parts
-//! stand in crates below it, whose public names it gives as its own: the events in `core_events`, the code of a
-//! step in `core_steps`, the rule in `core_invariant`, why each kind keeps it in the crates `kept_..`, and the laws that
-//! callers cite in `core_laws`.
+//! The pure machine: a table as plain data, and the events that change it, one at a time. The rule that every event keeps
+//! stands in `core_invariant`, and why each event keeps it in `core_kept`. The machine is for tests: the program has none of
+//! its code. The layer above uses `State`, `run_of`, and the names of `core_events`, `core_kept` and `core_laws` that the
+//! machine gives as its own.
 #![tactic(auto)]
 
 mod opening;
@@ -9,7 +9,7 @@ mod run;
 mod state;
 
 pub use core_events::{Event, Kind, TreeMove};
+pub use core_kept::how_seats_are_made;
 pub use core_laws::{needs_of_views, what_loads_find, where_counts_rise, who_writes_what};
-pub use kept_seats::how_seats_are_made;
 pub use run::{RunError, run_of};
 pub use state::{State, StepError};

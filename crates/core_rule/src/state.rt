@@ -6,8 +6,8 @@ ghost use Rattle.index_words.specs.Words.{word_count};
 ghost use Rattle.core_events.specs.Steps.{allowed, after};
 ghost use Rattle.core_invariant.specs.Rule.{IsRight};
 ghost use Rattle.core_invariant.specs.LinkLaw.{KeepsSelections};
-ghost use Rattle.kept_views.specs.KeepsSeen.{KeepsSeen};
-ghost use Rattle.kept_views.specs.SectionMoves.{MovesSections};
+ghost use Rattle.core_kept.specs.KeepsSeen.{KeepsSeen};
+ghost use Rattle.core_kept.specs.SectionMoves.{MovesSections};
 ghost use Rattle.core_invariant.specs.OwnPlaces.{KnowsPlaces};
 ghost use Rattle.core_laws.specs.TreeLaw.{SpellsMap};
 ghost use Rattle.core_laws.specs.Remembered.{KeepsRemembered, RemembersSelected};
@@ -17,9 +17,9 @@ ghost use Rattle.core_events.specs.Openings.{opening};
 
 use crate::opening::{opening_views, zeros};
 use core_events::Event;
-use core_needs::needs::allowed_step;
-use core_steps::step::{change, store};
 use index_words::{Layout, NoMemory, PassSize, View};
+use machine_needs::needs::allowed_step;
+use machine_steps::step::{change, store};
 use std::alloc::Global;
 use std::marker::Model;
 

@@ -8,7 +8,7 @@ use Rattle.index_words.specs.declared.view.View.{View}
 use Rattle.index_words.specs.declared.word.Part.{Part}
 use Rattle.index_words.specs.declared.word.Word.TheVariants.{Entry}
 use Rattle.index_words.specs.Words.{is_there}
-use Rattle.plan_steps.proofs.Items.{got-counts}
+use Rattle.plan_laws.proofs.Items.{got-counts}
 use Rattle.table_rule.specs.Homes.{Home, IsLiveView}
 use Rattle.table_steps.proofs.There.{free_entry_there}
 use Rattle.table_steps.specs.Closes.{number_of, AreAllKeys}

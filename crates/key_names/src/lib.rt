@@ -1,6 +1,6 @@
 //! Names of objects: texts as their UTF-8 bytes, and the directory, the sorted list of a session's names.
-//! It stands on nothing of this repository. The layers above put the rank of a name in the directory in
-//! place of the name; they use `Text`, `Directory` and the definitions of `specs/`.
+//! The layers above put the rank of a name in the directory in place of the name; they use `Text`, `Directory` and the
+//! definitions of `specs/`.
 #![tactic(auto)]
 
 mod directory;

@@ -1,7 +1,7 @@
 //! What is outside the program: bytes that come in and bytes that go out, behind two traits whose clauses
-//! say which bytes, where that can be told, and count the faults. It stands on `key_names`. The layers
-//! above read all input with `read_all` and write each line with `write_all`; `main` alone makes the
-//! standard streams, and the tests take sources and sinks in memory.
+//! say which bytes, where that can be told, and count the faults. The layers above read all input with `read_all` and
+//! write each line with `write_all`; `main` alone makes the standard streams, and the tests take sources and sinks in
+//! memory.
 #![tactic(auto)]
 
 mod failed;

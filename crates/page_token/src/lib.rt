@@ -1,6 +1,5 @@
-//! Continuation tokens: the text under which a listing goes on, and the point that a text stands for.
-//! It stands on `bucket_terms`, whose specs say what the text of a point is. The layers above write a
-//! token into the answer of a truncated page, and read the one that a request hands back.
+//! Continuation tokens: the text under which a listing goes on, and the point that a text stands for. The layers above
+//! write a token into the answer of a truncated page, and read the one that a request hands back.
 #![tactic(auto)]
 
 mod reading;

@@ -1,6 +1,5 @@
 //! A session's text, read line by line: which clients there are, what each of them asks, and the first fault.
-//! It stands on `key_names` for texts, on `bucket_terms` for requests, and on `percent_encoding`. The layers
-//! above use `read_session`, what `specs/Session.antt` says of every session, and the grammar of
+//! The layers above use `read_session`, what `specs/Session.antt` says of every session, and the grammar of
 //! `specs/Grammar.antt`.
 #![tactic(auto)]
 

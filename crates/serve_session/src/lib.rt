@@ -1,8 +1,7 @@
 //! The whole of the program but for the real input and output: reads the words and the input, has the clients of the
 //! session run over one shared index, and writes the answers, the journal of updates and their number as lines of JSON;
 //! or runs a generated session, and writes a line of numbers. The call is `serve`, and its clauses say what a run has read
-//! and written. It stands on `client_threads`, and the layer above hands it the input, the output and what runs the
-//! clients.
+//! and written. The layer above hands it the input, the output and what runs the clients.
 #![tactic(auto)]
 
 mod running;

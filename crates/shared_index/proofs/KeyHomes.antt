@@ -7,7 +7,7 @@ use Rattle.key_map.specs.Lists.{count, Every}
 use Rattle.bucket_terms.specs.PlainPass.{fresh}
 use Rattle.core_events.specs.Openings.{from_up, pass_view, pass_views}
 use Rattle.core_grace.proofs.RuleMoves.{every_weaker}
-use Rattle.kept_seats.proofs.MadeSeats.{from_length}
+use Rattle.core_kept.proofs.MadeSeats.{from_length}
 use Rattle.atomic_table.specs.Seated.{TableId}
 use Rattle.table_rule.specs.Homes.{Home, Sat}
 use Rattle.table_steps.specs.Closes.{number_of, AreAllKeys as AreAllTableKeys}

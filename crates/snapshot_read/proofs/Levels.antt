@@ -19,8 +19,9 @@ use Rattle.table_rule.proofs.Happens.{happened_word}
 use Rattle.table_steps.specs.Loads.{IsTreeLink}
 use Rattle.table_steps.specs.Passes.{Pass, IsSamePass}
 use Rattle.core_updates.specs.Plans.{link_of}
-use Rattle.snapshot_read.specs.Links.{LeadsThere}
-use Rattle.snapshot_read.specs.Snapshots.{ReadsAt, IsSnapshotTree, HasRead}
+use Rattle.bundle_reads.specs.Links.{LeadsThere}
+use Rattle.bundle_reads.specs.Reads.{HasRead}
+use Rattle.snapshot_read.specs.Snapshots.{ReadsAt, IsSnapshotTree}
 use Rattle.snapshot_read.specs.Ways.{keys_left, OnWay, IsOnWay, right_of}
 use Rattle.snapshot_read.specs.declared.kept_way.Search.{Search}
 use Rattle.snapshot_read.proofs.SnapshotTrees.{finds}

@@ -14,10 +14,10 @@ use Rattle.core_laws.specs.Found.{ReadsTree}
 use Rattle.table_rule.specs.Homes.{IsLiveView}
 use Rattle.table_rule.specs.Running.{Stands, table}
 use Rattle.table_rule.proofs.Lists.{item_at}
-use Rattle.snapshot_read.specs.Links.{InsideAt}
+use Rattle.bundle_reads.specs.Links.{InsideAt}
 use Rattle.snapshot_read.specs.Snapshots.{ReadsAt, IsSnapshotTree}
-use Rattle.snapshot_read.proofs.ReadTrees.{seat, no_root}
-use Rattle.snapshot_read.proofs.ReadTrees as reads_of
+use Rattle.bundle_reads.proofs.ReadTrees.{seat, no_root}
+use Rattle.bundle_reads.proofs.ReadTrees as reads_of
 
 -- in a table that meets the rule, with this view at a seat
 module _ (z : Layout) (words : List ℕ) (vs : List View) (rule : InRule z words vs) (i : ℕ) (v : View) (at : slice_get vs i ≡ Some v) (t : ℕ) (reads : ReadsAt v t) where

@@ -18,11 +18,12 @@ use Rattle.core_trees.specs.Search.{search_from}
 use Rattle.core_trees.proofs.StepLaws.{search_contents}
 use Rattle.core_trees.proofs.Updates.{search_from-left, search_from-right}
 use Rattle.core_updates.specs.Plans.{link_of}
-use Rattle.snapshot_read.specs.Links.{LeadsThere}
-use Rattle.snapshot_read.specs.Snapshots.{ReadsAt, IsSnapshotTree, HasRead}
+use Rattle.bundle_reads.specs.Links.{LeadsThere}
+use Rattle.bundle_reads.specs.Reads.{HasRead}
+use Rattle.snapshot_read.specs.Snapshots.{ReadsAt, IsSnapshotTree}
 use Rattle.snapshot_read.specs.Ways.{high_of, keys_left, Covers, OnWay, IsOnWay, root, right_of, IsKeptWay}
 use Rattle.snapshot_read.specs.declared.kept_way.Search.{Search}
-use Rattle.snapshot_read.proofs.ReadMoves.{tree_before, tree_after, reads_on}
+use Rattle.snapshot_read.proofs.SnapshotMoves.{tree_before, tree_after, reads_on}
 
 -- where a search goes on to the left of a node with this slot and pair
 abbrev pub left_of : ℕ → ℕ → ℕ → ℕ → Search

@@ -1,5 +1,3 @@
 pub mod Snapshots
-pub mod Links
-pub mod Children
 pub mod Ways
 pub mod Looks

@@ -1,7 +1,7 @@
 -- The answers of the calls that read.
 use Rattle.std.specs.Prelude.{◌≡◌, ℕ, Option, Some, None, IfSome}
 use Rattle.key_map.specs.declared.pair.Pair.{Pair}
-use Rattle.snapshot_read.specs.Children.{waits_after as counted_after}
+use Rattle.bundle_reads.specs.Children.{waits_after as counted_after}
 use Rattle.snapshot_read.specs.declared.looks.Look.{Look}
 use Rattle.snapshot_read.specs.declared.looks.Look.TheVariants.{Found, Nothing, Pending}
 

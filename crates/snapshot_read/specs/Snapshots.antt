@@ -1,17 +1,14 @@
--- A pass with an open snapshot, the tree that it reads, and what reading leaves of the pass's view.
+-- A pass with an open snapshot, and the tree that it reads.
 use Rattle.std.specs.Prelude.{◌≡◌, ℕ, ◌<◌, ◌≤◌, List, length, Option, Some}
 use Rattle.key_map.specs.declared.pair.Pair.{Pair}
 use Rattle.key_map.specs.History.{after}
 use Rattle.key_map.specs.Lists.{count}
 use Rattle.index_words.specs.declared.view.View.{View}
-use Rattle.index_words.specs.declared.view.reading.Link.{Link}
-use Rattle.index_words.specs.declared.view.reading.Place.{Place}
 use Rattle.index_words.specs.declared.view.reading.TreeNode.{TreeNode}
 use Rattle.core_trees.specs.NamedTree.{NamedTree, IsLawful, contents}
 use Rattle.core_events.specs.LoadMoves.{risen}
 use Rattle.core_events.specs.Versions.{slots_of, tree_nodes}
-use Rattle.plan_steps.specs.Frames.{CountsGrow}
-pub use Rattle.plan_steps.specs.Answers.{owned_nodes, owned_entries}
+pub use Rattle.plan_laws.specs.Answers.{owned_nodes, owned_entries}
 use Rattle.table_steps.specs.Passes.{Extends, Inside}
 
 -- a snapshot is open at this number: the pass is inside a section, with no lock held
@@ -34,25 +31,6 @@ pub record IsTreeOf (slots : ℕ) (nodes : List TreeNode) (pairs : List Pair) (t
 -- the snapshot's tree: the view has its nodes, and its pairs are the map after the first `t` updates
 abbrev pub IsSnapshotTree : View → ℕ → NamedTree → Type 0
 IsSnapshotTree v t tree = IsTreeOf v.layout.nodes v.reading.tree (after v.history.seen t) tree
-
--- the view with another place, another number left behind for it, other remembered links, and other counts of entries
--- without a stamp and of changed heads
-abbrev pub read_on : View → Place → Option ℕ → List Link → ℕ → ℕ → View
-read_on v place above links waits moves = record v {
-  reading = record v.reading { place = place; above = above; links = links };
-  counts = record v.counts { waits = waits; moves = moves };
-}
-
--- some loads of the snapshot were made: but for where the pass stands and what it left behind, the links that it remembers,
--- and these two counts, the view is as before. No count has fallen
-pub record HasRead (v w : View) : Type 0 where
-  pub place : Place
-  pub above : Option ℕ
-  pub links : List Link
-  pub waits : ℕ
-  pub moves : ℕ
-  pub view : w ≡ read_on v place above links waits moves
-  pub grown : CountsGrow v w
 
 -- a snapshot was opened at this number: that of all updates that the pass has seen then, which go on from what it had
 -- seen. A look is counted; its own updates, how many it may still make, and how many slots it owns are as before

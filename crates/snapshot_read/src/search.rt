@@ -4,14 +4,15 @@ ghost use Rattle.key_map.specs.History.{after};
 ghost use Rattle.key_map.specs.Lists.{Every};
 ghost use Rattle.key_map.specs.Map.{first_from};
 ghost use Rattle.table_steps.specs.Passes.{IsSamePass};
-ghost use Rattle.snapshot_read.specs.Links.{LeadsThere};
-ghost use Rattle.snapshot_read.specs.Snapshots.{ReadsAt, HasRead};
+ghost use Rattle.bundle_reads.specs.Links.{LeadsThere};
+ghost use Rattle.bundle_reads.specs.Reads.{HasRead};
+ghost use Rattle.snapshot_read.specs.Snapshots.{ReadsAt};
 ghost use Rattle.snapshot_read.specs.Looks.{IsAnswer, waits_after};
 ghost use Rattle.snapshot_read.specs.Ways.{Covers, IsOnWay, IsKeptWay, keys_left};
 
-use crate::child::child_at;
 use crate::kept_way::{Search, Way};
 use crate::looks::Look;
+use bundle_reads::child_at;
 use core_trees::Link;
 use index_words::{Pair, Side};
 use table_steps::TablePass;

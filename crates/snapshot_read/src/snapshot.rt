@@ -6,7 +6,8 @@ ghost use Rattle.core_events.specs.Moves.{left};
 ghost use Rattle.core_grace.specs.Sections.{left_word};
 ghost use Rattle.table_steps.specs.Gives.{HasOpened};
 ghost use Rattle.table_steps.specs.Passes.{AtRest, IsSamePass};
-ghost use Rattle.snapshot_read.specs.Snapshots.{ReadsAt, IsReading, HasBegun, HasRead};
+ghost use Rattle.bundle_reads.specs.Reads.{HasRead};
+ghost use Rattle.snapshot_read.specs.Snapshots.{ReadsAt, IsReading, HasBegun};
 ghost use Rattle.snapshot_read.specs.Looks.{IsAnswer, waits_after};
 ghost use Rattle.snapshot_read.specs.Ways.{IsKeptWay};
 

@@ -18,7 +18,7 @@ use Rattle.core_events.specs.Steps.{allowed, after, after_at, words_after, views
 use Rattle.core_events.specs.Tables.{Table}
 use Rattle.core_laws.specs.ViewNeeds.{May}
 use Rattle.core_invariant.proofs.KeptViews.{joined_kept, layout_kept}
-use Rattle.kept_rule.proofs.StepLaw.{keeps}
+use Rattle.core_kept.proofs.StepLaw.{keeps}
 use Rattle.core_laws.proofs.ViewTests.{word_named}
 use Rattle.table_rule.specs.Homes.{IsLiveView}
 use Rattle.table_rule.specs.Running.{table, Stands, Happened, IsLoad, IsStore}

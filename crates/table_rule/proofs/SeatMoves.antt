@@ -20,8 +20,8 @@ use Rattle.core_invariant.specs.Rule.{InRule}
 use Rattle.core_events.specs.Steps.{after, join_found}
 use Rattle.core_events.specs.Tables.{Table}
 use Rattle.core_laws.specs.ViewNeeds.{event_at, May, MayJoin}
-use Rattle.kept_seats.proofs.SeatLaws.{make_law, first_law}
-use Rattle.kept_rule.proofs.StepLaw.{keeps}
+use Rattle.core_kept.proofs.SeatLaws.{make_law, first_law}
+use Rattle.core_kept.proofs.StepLaw.{keeps}
 use Rattle.core_laws.proofs.ViewNeeds.{may_split_law, may_join_law}
 use Rattle.table_rule.specs.Homes.{IsLiveView}
 use Rattle.table_rule.specs.Running.{table, Stands}

@@ -1,9 +1,9 @@
 // What one pass meets at the stages of an update of another pass, which stops at each of them.
 ghost use Rattle.std.specs.Prelude.{◌≡◌, ◌<◌, ℕ};
 ghost use Rattle.core_updates.specs.PlanEvents.{HasSlots};
-ghost use Rattle.plan_steps.specs.Fills.{AreApart};
-ghost use Rattle.plan_steps.specs.Raises.{HasFinalised};
-ghost use Rattle.plan_steps.specs.Tries.{IsSearched};
+ghost use Rattle.plan_laws.specs.Fills.{AreApart};
+ghost use Rattle.plan_laws.specs.Raises.{HasFinalised};
+ghost use Rattle.plan_laws.specs.Tries.{IsSearched};
 ghost use Rattle.table_steps.specs.Passes.{AtRest};
 ghost use Rattle.tree_update.specs.Trying.{OffersSlots};
 

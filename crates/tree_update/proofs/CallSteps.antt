@@ -11,10 +11,10 @@ use Rattle.key_map.specs.declared.pass.Done.{Done}
 use Rattle.core_events.specs.LoadMoves.{risen}
 use Rattle.core_events.specs.Moves.{left}
 use Rattle.core_invariant.proofs.KeptViews.{SeatPart, entered_part}
-use Rattle.plan_steps.specs.Answers.{owned_nodes, owned_entries}
+use Rattle.plan_laws.specs.Answers.{owned_nodes, owned_entries}
 use Rattle.table_steps.specs.Gives.{HasOpened}
 use Rattle.table_steps.specs.Passes.{Extends}
-use Rattle.snapshot_read.specs.Snapshots.{HasRead}
+use Rattle.bundle_reads.specs.Reads.{HasRead}
 use Rattle.snapshot_read.proofs.Begins.{Owned, owned, entered_owned}
 use Rattle.tree_update.specs.Calls.{GoesOn, FixesNone, StaysOn, MakesChange, MovesNodes, FindsAbsent}
 use Rattle.update_try.specs.Outcomes.{KeepsAll}

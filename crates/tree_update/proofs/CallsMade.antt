@@ -19,8 +19,8 @@ use Rattle.core_events.specs.LoadMoves.{risen}
 use Rattle.core_updates.specs.declared.plan.Plan.{Plan}
 use Rattle.core_updates.specs.declared.plan.Plan.TheVariants.{Grow, Replace, Lift, Join}
 use Rattle.core_updates.specs.Plans.{key_of, change_of}
-use Rattle.plan_steps.specs.Answers.{owned_nodes, owned_entries, was_there, MovesNodes as PlanMovesNodes}
-use Rattle.plan_steps.specs.Raises.{update_by}
+use Rattle.plan_laws.specs.Answers.{owned_nodes, owned_entries, was_there, MovesNodes as PlanMovesNodes}
+use Rattle.plan_laws.specs.Raises.{update_by}
 use Rattle.snapshot_read.specs.Snapshots.{HasBegun}
 use Rattle.tree_update.specs.Calls.{GoesOn, FixesNone, StaysOn, MakesChange, MovesNodes, FindsAbsent, HasMade, AnswersRemoval, IsOutOfSlots, IsRefusal}
 use Rattle.tree_update.proofs.CallSteps.{fixes_more, made_more, absent_more}

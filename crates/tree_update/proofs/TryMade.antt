@@ -10,9 +10,9 @@ use Rattle.core_events.specs.LoadMoves.{risen}
 use Rattle.core_events.specs.Moves.{in_section}
 use Rattle.core_grace.specs.Batches.{all_passed, batch_freed, batch_taken, is_empty, settled}
 use Rattle.core_updates.specs.declared.plan.PlanSlots.{PlanSlots}
-use Rattle.plan_steps.specs.Frames.{CountsGrow}
+use Rattle.plan_laws.specs.Frames.{CountsGrow}
 use Rattle.table_steps.specs.Gives.{HasOpened}
-use Rattle.snapshot_read.specs.Snapshots.{HasRead}
+use Rattle.bundle_reads.specs.Reads.{HasRead}
 use Rattle.update_try.specs.declared.outcome.Failed.{Failed}
 use Rattle.update_try.specs.Outcomes.{HasRisen, IsCounted}
 use Rattle.tree_update.specs.Trying.{OffersSlots}

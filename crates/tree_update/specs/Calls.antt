@@ -9,7 +9,7 @@ use Rattle.key_map.specs.declared.pass.PassError.{PassError}
 use Rattle.key_map.specs.declared.pass.PassError.TheVariants.{NoSlot, Spent}
 use Rattle.key_map.specs.History.{after}
 use Rattle.key_map.specs.Map.{map_has}
-use Rattle.plan_steps.specs.Answers.{owned_nodes, owned_entries}
+use Rattle.plan_laws.specs.Answers.{owned_nodes, owned_entries}
 use Rattle.table_steps.specs.Passes.{Extends}
 use Rattle.update_try.specs.Outcomes.{HasRisen}
 

@@ -6,7 +6,7 @@ use Rattle.key_map.specs.declared.update.Change.{Change}
 use Rattle.key_map.specs.declared.update.Change.TheVariants.{Remove}
 use Rattle.core_updates.specs.declared.plan.PlanSlots.{PlanSlots}
 use Rattle.core_updates.specs.PlanEvents.{HasSlots}
-use Rattle.plan_steps.specs.Fills.{AreApart}
+use Rattle.plan_laws.specs.Fills.{AreApart}
 use Rattle.tree_update.specs.declared.trying.Missed.{Missed}
 use Rattle.tree_update.specs.declared.trying.Missed.TheVariants.{Absent, Failed}
 use Rattle.tree_update.specs.declared.trying.Try.{Try}

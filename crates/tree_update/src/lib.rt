@@ -1,5 +1,5 @@
-//! Updates on the running table: the calls that put and remove, one try of a put, and how slots become free. It stands on
-//! `update_search`, which finds the plan of an update, and on `update_try`, which carries one out.
+//! Updates on the running table: the calls that put and remove, one try of a put, and how slots become free. A try is a
+//! search, which finds the plan of an update, and then carries the plan out.
 #![tactic(auto)]
 
 mod calls;

@@ -1,13 +1,13 @@
 //! One try of an update: a search, and the try of the plan that it has found, in one section. It never waits.
 ghost use Rattle.std.specs.Prelude.{◌≡◌, ◌↔◌, ◌<◌, None, IfOk, IfErr, IsErrOf, OnErr};
 ghost use Rattle.core_updates.specs.Plans.{key_of, change_of};
-ghost use Rattle.plan_steps.specs.Answers.{was_there as had_key};
-ghost use Rattle.plan_steps.specs.Tries.{IsSearched};
+ghost use Rattle.plan_laws.specs.Answers.{was_there as had_key};
+ghost use Rattle.plan_laws.specs.Tries.{IsSearched};
 ghost use Rattle.table_steps.specs.Passes.{AtRest, IsSamePass};
 ghost use Rattle.tree_update.specs.Calls.{StaysOn, HasMade, MakesPut};
 ghost use Rattle.update_try.specs.Outcomes.{HasRisen, IsCounted};
 ghost use Rattle.tree_update.specs.Trying.{IsMissed, IsOutOfFreeSlots, OffersSlots, IfDone, IfBusy, IfMoved, IfPending, UnlessDone};
-ghost use Rattle.snapshot_read.specs.Links.{InsideAt};
+ghost use Rattle.bundle_reads.specs.Links.{InsideAt};
 
 use core_updates::{Plan, PlanSlots};
 use index_words::Change;

@@ -3,11 +3,11 @@ use Rattle.std.proofs.Common.{ℕ, Option, Some, None}
 use Rattle.std.specs.Prelude.{IfSome}
 use Rattle.index_words.specs.declared.view.View.{View}
 use Rattle.core_trees.specs.declared.link.Link.{Link}
-use Rattle.snapshot_read.specs.declared.child.Seen.{Seen}
-use Rattle.snapshot_read.specs.Snapshots.{HasRead}
-use Rattle.snapshot_read.specs.Links.{HasSearched}
-use Rattle.snapshot_read.specs.Children.{IsSeen}
-use Rattle.snapshot_read.proofs.ReadMoves.{leads_after, seen_later}
+use Rattle.bundle_reads.specs.declared.child.Seen.{Seen}
+use Rattle.bundle_reads.specs.Reads.{HasRead}
+use Rattle.bundle_reads.specs.Links.{HasSearched}
+use Rattle.bundle_reads.specs.Children.{IsSeen}
+use Rattle.bundle_reads.proofs.ReadMoves.{leads_after, seen_later}
 use Rattle.update_search.specs.declared.children.Children.{Children}
 use Rattle.update_search.specs.declared.descent.Search.{Search}
 use Rattle.update_search.specs.declared.successor.Walk.{Walk}

@@ -8,10 +8,10 @@ use Rattle.core_trees.specs.declared.link.Link.{Link}
 use Rattle.core_trees.specs.NamedTree.{NamedTree, Null, Branch}
 use Rattle.core_events.specs.Versions.{top_slot}
 use Rattle.core_updates.specs.Plans.{link_of}
-use Rattle.plan_steps.specs.Walks.{StandsAt, IsNodeOf}
-use Rattle.plan_steps.proofs.Walks.{walk_start, walk_child, walk_node, walk_left, walk_right, walk_missing}
+use Rattle.plan_laws.specs.Walks.{StandsAt, IsNodeOf}
+use Rattle.plan_laws.proofs.Walks.{walk_start, walk_child, walk_node, walk_left, walk_right, walk_missing}
 use Rattle.table_steps.specs.Loads.{IsTreeLink}
-use Rattle.snapshot_read.specs.Links.{LeadsThere}
+use Rattle.bundle_reads.specs.Links.{LeadsThere}
 use Rattle.update_search.specs.declared.descent.Search.{Search}
 use Rattle.update_search.specs.Searching.{IsReadTree, IsInTree, IsKeyThere, IsValThere}
 use Rattle.update_search.specs.Descents.{OnWay, IsOnWay, KeyNode, IsMissingThere}

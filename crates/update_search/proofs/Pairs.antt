@@ -9,10 +9,10 @@ use Rattle.core_laws.specs.ViewNeeds.{event_at}
 use Rattle.table_rule.specs.Homes.{IsLiveView}
 use Rattle.table_rule.specs.Running.{Happened}
 use Rattle.table_rule.proofs.Happens.{happened_word}
-use Rattle.snapshot_read.specs.Links.{InsideAt}
-use Rattle.snapshot_read.proofs.Bundles.{node_there}
+use Rattle.bundle_reads.specs.Links.{InsideAt}
+use Rattle.bundle_reads.proofs.Bundles.{node_there}
 use Rattle.update_search.specs.Searching.{IsInTree, IsKeyThere, IsValThere}
-use Rattle.snapshot_read.proofs.ReadTrees.{finds, section_reader}
+use Rattle.bundle_reads.proofs.ReadTrees.{finds, section_reader}
 
 module _ (v : View) (t : ℕ) (reads : InsideAt v t) (live : IsLiveView v) (node : ℕ) (there : IsInTree v node) (seat x : ℕ) (w : View) where
   pub key_there : Happened v.layout (event_at v.layout seat LoadKeyOrVal (Node Key node) 0) v x w → IsKeyThere v node x

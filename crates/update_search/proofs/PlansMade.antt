@@ -16,10 +16,10 @@ use Rattle.core_updates.specs.declared.plan.Look.{Look}
 use Rattle.core_updates.specs.declared.plan.Look.TheVariants.{Link as LinkLook}
 use Rattle.core_updates.specs.PlanOf.{IsFoundAt}
 use Rattle.core_updates.specs.Plans.{link_of, looks_of, next_look}
-use Rattle.plan_steps.specs.Tries.{RemembersLook, RemembersLink}
-use Rattle.plan_steps.proofs.Walks.{walk_child, walk_left, walk_right}
-use Rattle.snapshot_read.specs.declared.child.Seen.{Seen}
-use Rattle.snapshot_read.specs.Links.{LeadsThere}
+use Rattle.plan_laws.specs.Tries.{RemembersLook, RemembersLink}
+use Rattle.plan_laws.proofs.Walks.{walk_child, walk_left, walk_right}
+use Rattle.bundle_reads.specs.declared.child.Seen.{Seen}
+use Rattle.bundle_reads.specs.Links.{LeadsThere}
 use Rattle.update_search.specs.declared.children.Children.{Children}
 use Rattle.update_search.specs.declared.successor.NextFound.{NextFound}
 use Rattle.update_search.specs.Searching.{IsReadTree}

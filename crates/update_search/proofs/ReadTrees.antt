@@ -7,12 +7,12 @@ use Rattle.index_words.specs.declared.view.reading.TreeNode.{TreeNode}
 use Rattle.core_grace.specs.Holds.{tree_slots}
 use Rattle.core_trees.specs.NamedTree.{NamedTree}
 use Rattle.core_laws.specs.Found.{ReadsTree}
-use Rattle.plan_steps.proofs.SeenTree.{seen_tree}
+use Rattle.plan_laws.proofs.SeenTree.{seen_tree}
 use Rattle.table_rule.specs.Homes.{IsLiveView}
 use Rattle.table_rule.specs.Running.{table, Stands}
 use Rattle.table_rule.proofs.Lists.{item_at}
-use Rattle.snapshot_read.specs.Links.{InsideAt}
-use Rattle.snapshot_read.proofs.ReadTrees.{finds, section_reader}
+use Rattle.bundle_reads.specs.Links.{InsideAt}
+use Rattle.bundle_reads.proofs.ReadTrees.{finds, section_reader}
 use Rattle.update_search.specs.Searching.{IsReadTree, IsInTree}
 
 -- what a pass that reads at a number knows before its first load

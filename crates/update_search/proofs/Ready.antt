@@ -6,18 +6,18 @@ use Rattle.index_words.specs.declared.view.View.{View}
 use Rattle.index_words.specs.declared.word.Word.TheVariants.{Stamp}
 use Rattle.core_events.specs.declared.event.Kind.TheVariants.{LoadStamp}
 use Rattle.core_laws.specs.ViewNeeds.{event_at}
-use Rattle.plan_steps.specs.Searches.{HasNoneRetired}
-use Rattle.plan_steps.specs.Tries.{IsSearched}
-use Rattle.plan_steps.proofs.Searches.{searched, none_retired}
+use Rattle.plan_laws.specs.Searches.{HasNoneRetired}
+use Rattle.plan_laws.specs.Tries.{IsSearched}
+use Rattle.plan_laws.proofs.Searches.{searched, none_retired}
 use Rattle.table_rule.specs.Homes.{IsLiveView}
 use Rattle.table_rule.specs.Running.{Happened, Stands, table}
 use Rattle.table_rule.proofs.Happens.{happened_view}
 use Rattle.table_rule.proofs.Lists.{item_at}
 use Rattle.table_steps.specs.Gives.{HasLoadedStamp}
 use Rattle.table_steps.specs.Passes.{Inside}
-use Rattle.snapshot_read.specs.Snapshots.{HasRead}
-use Rattle.snapshot_read.specs.Links.{HasSearched}
-use Rattle.snapshot_read.proofs.ReadMoves.{inside_on}
+use Rattle.bundle_reads.specs.Reads.{HasRead}
+use Rattle.bundle_reads.specs.Links.{HasSearched}
+use Rattle.bundle_reads.proofs.ReadMoves.{inside_on}
 use Rattle.update_search.specs.declared.search.Found.{Found}
 use Rattle.update_search.specs.declared.search.Found.TheVariants.{Plan, Absent, Pending}
 use Rattle.update_search.specs.declared.plans.Planned.{Planned}

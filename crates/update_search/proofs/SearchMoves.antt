@@ -2,8 +2,8 @@
 use Rattle.std.proofs.Common.{◌∙◌, sym}
 use Rattle.index_words.specs.declared.view.View.{View}
 use Rattle.core_trees.specs.NamedTree.{NamedTree}
-use Rattle.snapshot_read.specs.Snapshots.{HasRead}
-use Rattle.snapshot_read.proofs.ReadMoves.{tree_same}
+use Rattle.bundle_reads.specs.Reads.{HasRead}
+use Rattle.bundle_reads.proofs.ReadMoves.{tree_same}
 use Rattle.update_search.specs.Searching.{IsReadTree}
 
 pub tree_after : (v w : View) (tree : NamedTree) → HasRead v w → IsReadTree v tree → IsReadTree w tree

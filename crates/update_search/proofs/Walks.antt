@@ -8,9 +8,9 @@ use Rattle.core_trees.specs.NamedTree.{NamedTree, Null, Branch}
 use Rattle.core_events.specs.Versions.{top_slot}
 use Rattle.core_updates.specs.PlanOf.{IsSuccessor}
 use Rattle.core_updates.specs.Plans.{link_of}
-use Rattle.plan_steps.specs.Walks.{StandsAt, GoesToFirst}
-use Rattle.plan_steps.proofs.Walks.{walk_child, walk_left, walk_right, successor_start, successor_step, successor_end}
-use Rattle.snapshot_read.specs.Links.{LeadsThere}
+use Rattle.plan_laws.specs.Walks.{StandsAt, GoesToFirst}
+use Rattle.plan_laws.proofs.Walks.{walk_child, walk_left, walk_right, successor_start, successor_step, successor_end}
+use Rattle.bundle_reads.specs.Links.{LeadsThere}
 use Rattle.update_search.specs.declared.successor.Walk.{Walk}
 use Rattle.update_search.specs.Searching.{IsReadTree, IsInTree, IsKeyThere, IsValThere}
 use Rattle.update_search.specs.Descents.{KeyNode}

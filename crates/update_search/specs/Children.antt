@@ -3,7 +3,7 @@ use Rattle.std.specs.Prelude.{ℕ}
 use Rattle.index_words.specs.declared.side.Side.TheVariants.{Left, Right}
 use Rattle.index_words.specs.declared.view.View.{View}
 use Rattle.core_updates.specs.Plans.{link_of}
-use Rattle.snapshot_read.specs.Children.{IsSeen}
+use Rattle.bundle_reads.specs.Children.{IsSeen}
 use Rattle.update_search.specs.declared.children.Children.{Children}
 
 -- the links of the node lead to them in the tree that the view `v` reads, and are remembered so in the view `w`

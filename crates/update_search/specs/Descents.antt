@@ -4,9 +4,9 @@ use Rattle.index_words.specs.declared.view.View.{View}
 use Rattle.core_trees.specs.declared.link.Link.{Link}
 use Rattle.core_trees.specs.NamedTree.{NamedTree, Branch}
 use Rattle.core_updates.specs.PlanOf.{IsMissing}
-use Rattle.plan_steps.specs.Walks.{StandsAt}
-use Rattle.snapshot_read.specs.declared.child.Seen.{Seen}
-use Rattle.snapshot_read.specs.Children.{IsSeen}
+use Rattle.plan_laws.specs.Walks.{StandsAt}
+use Rattle.bundle_reads.specs.declared.child.Seen.{Seen}
+use Rattle.bundle_reads.specs.Children.{IsSeen}
 use Rattle.update_search.specs.declared.descent.Search.{Search}
 use Rattle.update_search.specs.declared.descent.End.{End}
 use Rattle.update_search.specs.declared.descent.End.TheVariants.{Missing, Found}

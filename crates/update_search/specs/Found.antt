@@ -5,7 +5,7 @@ use Rattle.key_map.specs.declared.update.Change.{Change}
 use Rattle.core_events.specs.LoadMoves.{risen}
 use Rattle.core_trees.specs.NamedTree.{NamedTree}
 use Rattle.core_updates.specs.PlanOf.{HasNoPlan}
-use Rattle.plan_steps.specs.Tries.{IsSearched}
+use Rattle.plan_laws.specs.Tries.{IsSearched}
 use Rattle.update_search.specs.declared.search.Found.{Found}
 use Rattle.update_search.specs.declared.search.Found.TheVariants.{Plan, Absent, Pending}
 use Rattle.update_search.specs.Searching.{IsReadTree}

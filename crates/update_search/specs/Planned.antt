@@ -4,7 +4,7 @@ use Rattle.index_words.specs.declared.view.View.{View}
 use Rattle.key_map.specs.declared.update.Change.{Change}
 use Rattle.core_trees.specs.NamedTree.{NamedTree}
 use Rattle.core_updates.specs.PlanOf.{IsPlanOf}
-use Rattle.plan_steps.specs.Tries.{RemembersLooks}
+use Rattle.plan_laws.specs.Tries.{RemembersLooks}
 use Rattle.update_search.specs.declared.plans.Planned.{Planned}
 use Rattle.update_search.specs.Searching.{IsReadTree}
 

@@ -7,8 +7,8 @@ use Rattle.core_grace.specs.Holds.{tree_slots}
 use Rattle.core_trees.specs.NamedTree.{NamedTree, IsLawful}
 use Rattle.core_trees.specs.Slots.{NamesOnce}
 use Rattle.core_events.specs.Versions.{tree_nodes}
-use Rattle.plan_steps.specs.Searches.{HasNoneRetired}
-use Rattle.snapshot_read.specs.Links.{InsideAt}
+use Rattle.plan_laws.specs.Searches.{HasNoneRetired}
+use Rattle.bundle_reads.specs.Links.{InsideAt}
 
 -- the pass reads at the number of all updates that it has seen, and it has taken out none of the nodes that it reads
 pub record IsFresh (v : View) (t : ℕ) : Type 0 where

@@ -6,8 +6,8 @@ use Rattle.core_trees.specs.declared.link.Link.{Link}
 use Rattle.core_trees.specs.NamedTree.{NamedTree, Branch}
 use Rattle.core_updates.specs.PlanOf.{IsSuccessor}
 use Rattle.core_updates.specs.Plans.{link_of}
-use Rattle.plan_steps.specs.Tries.{RemembersLink}
-use Rattle.plan_steps.specs.Walks.{GoesToFirst}
+use Rattle.plan_laws.specs.Tries.{RemembersLink}
+use Rattle.plan_laws.specs.Walks.{GoesToFirst}
 use Rattle.update_search.specs.declared.successor.Walk.{Walk}
 use Rattle.update_search.specs.declared.successor.NextFound.{NextFound}
 use Rattle.update_search.specs.Searching.{IsReadTree}

@@ -1,14 +1,14 @@
 //! The two children of a node of the tree that a pass reads.
 ghost use Rattle.std.specs.Prelude.{◌≡◌, IfSome};
 ghost use Rattle.table_steps.specs.Passes.{IsSamePass};
-ghost use Rattle.snapshot_read.specs.Links.{InsideAt, HasSearched};
-ghost use Rattle.snapshot_read.specs.Children.{waits_after};
+ghost use Rattle.bundle_reads.specs.Links.{InsideAt, HasSearched};
+ghost use Rattle.bundle_reads.specs.Children.{waits_after};
 ghost use Rattle.update_search.specs.Searching.{IsInTree};
 ghost use Rattle.update_search.specs.Children.{AreChildren};
 
+use bundle_reads::{Seen, child_at};
 use core_trees::Link;
 use index_words::Side;
-use snapshot_read::{Seen, child_at};
 use table_steps::TablePass;
 
 /// The children of a node.

@@ -1,14 +1,14 @@
 //! The search for a key, down the tree that a pass reads.
 ghost use Rattle.std.specs.Prelude.{◌≡◌, ◌<◌, IfSome, MatchOption};
 ghost use Rattle.table_steps.specs.Passes.{IsSamePass};
-ghost use Rattle.snapshot_read.specs.Links.{InsideAt, LeadsThere, HasSearched};
-ghost use Rattle.snapshot_read.specs.Children.{waits_after};
+ghost use Rattle.bundle_reads.specs.Links.{InsideAt, LeadsThere, HasSearched};
+ghost use Rattle.bundle_reads.specs.Children.{waits_after};
 ghost use Rattle.update_search.specs.Searching.{IsInTree, IsKeyThere, IsValThere};
 ghost use Rattle.update_search.specs.Descents.{keys_left, IsOnWay, IsAtKey, IsEnd};
 
+use bundle_reads::{Seen, child_at};
 use core_trees::Link;
 use index_words::Side;
-use snapshot_read::{Seen, child_at};
 use table_steps::TablePass;
 
 /// How far a search has come.

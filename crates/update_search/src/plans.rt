@@ -3,7 +3,7 @@ ghost use Rattle.std.specs.Prelude.{◌≡◌, ◌<◌};
 ghost use Rattle.index_words.specs.declared.view.View.{View};
 ghost use Rattle.key_map.specs.declared.update.Change.TheVariants.{Put, Remove};
 ghost use Rattle.core_updates.specs.Plans.{link_of, other_side};
-ghost use Rattle.snapshot_read.specs.Children.{IsSeen};
+ghost use Rattle.bundle_reads.specs.Children.{IsSeen};
 ghost use Rattle.update_search.specs.Children.{AreChildren};
 ghost use Rattle.update_search.specs.Descents.{EndsMissing, EndsFound};
 ghost use Rattle.update_search.specs.Successors.{IsNext};
@@ -11,10 +11,10 @@ ghost use Rattle.update_search.specs.Planned.{IsPlanned};
 
 use crate::children::Children;
 use crate::successor::NextFound;
+use bundle_reads::Seen;
 use core_trees::Link;
 use core_updates::{GrowPlan, JoinPlan, LiftPlan, Plan, ReplacePlan};
 use index_words::{Pair, Side};
-use snapshot_read::Seen;
 
 /// A plan, and the entries with which the pass remembers the links that the plan looks at: each at the place of its
 /// look, 0 at the other places.

@@ -2,8 +2,8 @@
 ghost use Rattle.std.specs.Prelude.{◌≡◌, IfSome, Some};
 ghost use Rattle.key_map.specs.declared.update.Change.TheVariants.{Remove};
 ghost use Rattle.table_steps.specs.Passes.{IsSamePass};
-ghost use Rattle.snapshot_read.specs.Links.{InsideAt, HasSearched};
-ghost use Rattle.snapshot_read.specs.Children.{waits_after};
+ghost use Rattle.bundle_reads.specs.Links.{InsideAt, HasSearched};
+ghost use Rattle.bundle_reads.specs.Children.{waits_after};
 ghost use Rattle.update_search.specs.Searching.{IsFresh};
 ghost use Rattle.update_search.specs.Children.{AreChildren};
 ghost use Rattle.update_search.specs.Descents.{EndsFound};
@@ -14,9 +14,9 @@ use crate::children::{Children, children_of};
 use crate::descent::{End, find_end};
 use crate::plans::{Planned, grow, join, lift_left, lift_right, replace};
 use crate::successor::find_next;
+use bundle_reads::Seen;
 use core_trees::Link;
 use index_words::Change;
-use snapshot_read::Seen;
 use table_steps::TablePass;
 
 /// What a search for a plan comes to.

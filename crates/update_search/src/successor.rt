@@ -3,15 +3,15 @@ ghost use Rattle.std.specs.Prelude.{◌≡◌, ◌<◌, IfSome};
 ghost use Rattle.table_steps.specs.Passes.{IsSamePass};
 ghost use Rattle.index_words.specs.declared.side.Side.TheVariants.{Left, Right};
 ghost use Rattle.core_updates.specs.Plans.{link_of};
-ghost use Rattle.snapshot_read.specs.Links.{InsideAt, LeadsThere, HasSearched};
-ghost use Rattle.snapshot_read.specs.Children.{IsSeen, waits_after};
+ghost use Rattle.bundle_reads.specs.Links.{InsideAt, LeadsThere, HasSearched};
+ghost use Rattle.bundle_reads.specs.Children.{IsSeen, waits_after};
 ghost use Rattle.update_search.specs.Successors.{HasKey, IsOnWalk, IsNext};
 
 use crate::descent::{key_at, val_at};
+use bundle_reads::{Seen, child_at};
 use core_trees::Link;
 use core_updates::NextNode;
 use index_words::{Pair, Side};
-use snapshot_read::{Seen, child_at};
 use table_steps::TablePass;
 
 /// How far the walk has come: to a link that leads to a node, which has this key.

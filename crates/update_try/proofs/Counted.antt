@@ -4,7 +4,7 @@ use Rattle.std.proofs.lemmas.Bool.Decides.{nat_tests}
 use Rattle.core_events.specs.LoadMoves.{risen}
 use Rattle.index_words.specs.declared.view.View.{View}
 use Rattle.index_words.specs.declared.view.history.Counts.{Counts}
-use Rattle.plan_steps.specs.Frames.{CountsGrow}
+use Rattle.plan_laws.specs.Frames.{CountsGrow}
 use Rattle.update_try.specs.declared.outcome.Failed.{Failed}
 use Rattle.update_try.specs.declared.outcome.Failed.TheVariants.{Busy, Moved, Pending}
 use Rattle.update_try.specs.Outcomes.{HasRisen, IsCounted}

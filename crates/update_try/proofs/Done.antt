@@ -13,10 +13,10 @@ use Rattle.core_events.specs.Tables.{held_by}
 use Rattle.core_updates.specs.declared.plan.Plan.{Plan}
 use Rattle.core_updates.specs.declared.plan.PlanSlots.{PlanSlots}
 use Rattle.core_updates.specs.Plans.{key_of, fronts_of}
-use Rattle.plan_steps.specs.Answers.{owned_nodes, owned_entries, was_there, MovesNodes}
-use Rattle.plan_steps.specs.Frames.{KeepsOwned, KeepsPass}
-use Rattle.plan_steps.specs.Raises.{update_by}
-use Rattle.plan_steps.proofs.Answered.{four_entries}
+use Rattle.plan_laws.specs.Answers.{owned_nodes, owned_entries, was_there, MovesNodes}
+use Rattle.plan_laws.specs.Frames.{KeepsOwned, KeepsPass}
+use Rattle.plan_laws.specs.Raises.{update_by}
+use Rattle.plan_laws.proofs.Answered.{four_entries}
 use Rattle.table_steps.specs.Passes.{Pass}
 use Rattle.update_try.specs.Carried.{HasCarriedOut}
 use Rattle.update_try.specs.Preparing.{IsRaisedBy}

@@ -23,11 +23,11 @@ use Rattle.core_updates.specs.declared.plan.Fresh.{Fresh}
 use Rattle.core_updates.specs.declared.plan.NewNode.{NewNode}
 use Rattle.core_updates.specs.PlanEvents.{HasSlots}
 use Rattle.core_updates.specs.Plans.{fresh_to, node_fills, entry_fills, new_node_of, fronts_of}
-use Rattle.plan_steps.specs.Fills.{AreApart, IsFilling, fresh_fills, new_fills, front_fills, fills_of}
-use Rattle.plan_steps.specs.Frames.{KeepsTry}
-use Rattle.plan_steps.proofs.Fills.{fill_step}
-use Rattle.plan_steps.proofs.Frames.{steps_keep}
-use Rattle.plan_steps.proofs.Items.{every-both, got-every}
+use Rattle.plan_laws.specs.Fills.{AreApart, IsFilling, fresh_fills, new_fills, front_fills, fills_of}
+use Rattle.plan_laws.specs.Frames.{KeepsTry}
+use Rattle.plan_laws.proofs.Fills.{fill_step}
+use Rattle.plan_laws.proofs.Frames.{steps_keep}
+use Rattle.plan_laws.proofs.Items.{every-both, got-every}
 use Rattle.table_rule.specs.Homes.{IsLiveView}
 use Rattle.table_rule.proofs.Lists.{item_at}
 use Rattle.table_steps.proofs.There.{free_entry_there}

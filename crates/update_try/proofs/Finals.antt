@@ -19,13 +19,13 @@ use Rattle.core_updates.specs.declared.plan.NewNode.{NewNode}
 use Rattle.core_updates.specs.Plans.{out_of, fronts_of, entries_of, new_node_of}
 use Rattle.core_updates.specs.PlanEvents.{IsLockOf}
 use Rattle.core_updates.proofs.PlanLocks.{locks_law}
-use Rattle.plan_steps.specs.Fills.{AreApart}
-use Rattle.plan_steps.specs.Frames.{KeepsOwned}
-use Rattle.plan_steps.specs.Raises.{HasFinalised, HasMarked, fresh_entry, fresh_entries, raised_entries}
-use Rattle.plan_steps.proofs.Fills.{got-none}
-use Rattle.plan_steps.proofs.Finals.{finalise_step, mark_step}
-use Rattle.plan_steps.proofs.Items.{drop-got, got-every, got-counts}
-use Rattle.plan_steps.proofs.Tries.{no_slots}
+use Rattle.plan_laws.specs.Fills.{AreApart}
+use Rattle.plan_laws.specs.Frames.{KeepsOwned}
+use Rattle.plan_laws.specs.Raises.{HasFinalised, HasMarked, fresh_entry, fresh_entries, raised_entries}
+use Rattle.plan_laws.proofs.Fills.{got-none}
+use Rattle.plan_laws.proofs.Finals.{finalise_step, mark_step}
+use Rattle.plan_laws.proofs.Items.{drop-got, got-every, got-counts}
+use Rattle.plan_laws.proofs.Tries.{no_slots}
 use Rattle.table_steps.specs.Updates.{place_of, raised_at}
 
 pub may_finalise : (v : View) (n : ℕ) (plan : Plan) (slots : PlanSlots) (at place entry : ℕ) → HasFinalised v n plan slots at place → slice_get (raised_entries plan slots) place ≡ Some entry

@@ -18,16 +18,16 @@ use Rattle.core_updates.specs.declared.plan.Front.{Front}
 use Rattle.core_updates.specs.PlanReady.{HoldsFill}
 use Rattle.core_updates.specs.Plans.{fronts_of}
 use Rattle.core_updates.proofs.HeldOnce.{held_once}
-use Rattle.plan_steps.specs.Answers.{owned_entries}
-use Rattle.plan_steps.specs.Fills.{AreApart}
-use Rattle.plan_steps.specs.Frames.{KeepsPass}
-use Rattle.plan_steps.specs.Fronts.{HasPrepared}
-use Rattle.plan_steps.specs.Places.{look_of_front}
-use Rattle.plan_steps.proofs.Answered.{prepared_owns}
-use Rattle.plan_steps.proofs.Fills.{got-none}
-use Rattle.plan_steps.proofs.Frames.{steps_keep}
-use Rattle.plan_steps.proofs.Fronts.{prepare_step}
-use Rattle.plan_steps.proofs.PlanFronts.{entry_at, front_is, front_filled}
+use Rattle.plan_laws.specs.Answers.{owned_entries}
+use Rattle.plan_laws.specs.Fills.{AreApart}
+use Rattle.plan_laws.specs.Frames.{KeepsPass}
+use Rattle.plan_laws.specs.Fronts.{HasPrepared}
+use Rattle.plan_laws.specs.Places.{look_of_front}
+use Rattle.plan_laws.proofs.Answered.{prepared_owns}
+use Rattle.plan_laws.proofs.Fills.{got-none}
+use Rattle.plan_laws.proofs.Frames.{steps_keep}
+use Rattle.plan_laws.proofs.Fronts.{prepare_step}
+use Rattle.plan_laws.proofs.PlanFronts.{entry_at, front_is, front_filled}
 use Rattle.table_rule.specs.Homes.{IsLiveView}
 use Rattle.table_rule.specs.Running.{table}
 use Rattle.table_rule.proofs.Lists.{item_at}

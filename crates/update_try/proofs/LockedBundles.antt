@@ -34,13 +34,13 @@ use Rattle.core_updates.specs.Held.{HoldsHead}
 use Rattle.core_updates.specs.declared.plan.Look.{Look}
 use Rattle.core_updates.specs.declared.plan.Look.TheVariants.{Link as LinkLook, Key as KeyLook, Val as ValLook}
 use Rattle.core_updates.specs.Plans.{locks_of}
-use Rattle.plan_steps.specs.Frames.{KeepsPass, KeepsTry}
-use Rattle.plan_steps.specs.Looks.{HasLooked}
-use Rattle.plan_steps.proofs.Fills.{same-held}
-use Rattle.plan_steps.proofs.Frames.{same-counts}
-use Rattle.plan_steps.proofs.HeldMaps.{as-it-was}
-use Rattle.plan_steps.proofs.Items.{item-longer, last-item}
-use Rattle.plan_steps.proofs.Kept.{KeepsLook, more-links, trying-kept, looked-kept}
+use Rattle.plan_laws.specs.Frames.{KeepsPass, KeepsTry}
+use Rattle.plan_laws.specs.Looks.{HasLooked}
+use Rattle.plan_laws.proofs.Fills.{same-held}
+use Rattle.plan_laws.proofs.Frames.{same-counts}
+use Rattle.plan_laws.proofs.HeldMaps.{as-it-was}
+use Rattle.plan_laws.proofs.Items.{item-longer, last-item}
+use Rattle.plan_laws.proofs.Kept.{KeepsLook, more-links, trying-kept, looked-kept}
 use Rattle.table_rule.specs.Homes.{IsLiveView}
 use Rattle.table_rule.specs.Running.{Stands, table}
 use Rattle.table_rule.proofs.Lists.{item_at}

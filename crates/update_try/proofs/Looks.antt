@@ -22,15 +22,15 @@ use Rattle.core_updates.specs.declared.plan.Look.{Look}
 use Rattle.core_updates.specs.declared.plan.Look.TheVariants.{Link as LinkLook, Key as KeyLook, Val as ValLook}
 use Rattle.core_updates.specs.PlanEvents.{looked_node}
 use Rattle.core_updates.specs.Plans.{locks_of, looks_of}
-use Rattle.plan_steps.specs.Frames.{KeepsTry}
-use Rattle.plan_steps.specs.Looks.{IsUnmarked, HoldsEntry, HoldsNumbered, HasLooked}
-use Rattle.plan_steps.specs.Tries.{IsTrying, HasLockedAll, FailsCounted}
-use Rattle.plan_steps.proofs.Frames.{steps_keep}
-use Rattle.plan_steps.specs.Searches.{FindsPlanned}
-use Rattle.plan_steps.proofs.Items.{got-every}
-use Rattle.plan_steps.proofs.Looks.{looked-locked, mark_look, head_look, number_look, key_look, val_look}
-use Rattle.plan_steps.proofs.Searches.{pairs_found}
-use Rattle.plan_steps.proofs.Tries.{try_fails}
+use Rattle.plan_laws.specs.Frames.{KeepsTry}
+use Rattle.plan_laws.specs.Looks.{IsUnmarked, HoldsEntry, HoldsNumbered, HasLooked}
+use Rattle.plan_laws.specs.Tries.{IsTrying, HasLockedAll, FailsCounted}
+use Rattle.plan_laws.proofs.Frames.{steps_keep}
+use Rattle.plan_laws.specs.Searches.{FindsPlanned}
+use Rattle.plan_laws.proofs.Items.{got-every}
+use Rattle.plan_laws.proofs.Looks.{looked-locked, mark_look, head_look, number_look, key_look, val_look}
+use Rattle.plan_laws.proofs.Searches.{pairs_found}
+use Rattle.plan_laws.proofs.Tries.{try_fails}
 use Rattle.table_rule.specs.Homes.{IsLiveView}
 use Rattle.table_rule.specs.Running.{Happened, table}
 use Rattle.table_rule.proofs.Happens.{happened_word}

@@ -19,11 +19,11 @@ use Rattle.core_updates.specs.declared.plan.Front.{Front}
 use Rattle.core_updates.specs.declared.plan.Look.TheVariants.{Link as LinkLook, Key as KeyLook, Val as ValLook}
 use Rattle.core_updates.specs.Held.{HoldsHead}
 use Rattle.core_updates.specs.Plans.{looks_of, out_of, fronts_of, link_of, other_side}
-use Rattle.plan_steps.specs.Fills.{HasLookedAll}
-use Rattle.plan_steps.specs.Places.{LocksOnce}
-use Rattle.plan_steps.proofs.HeldMaps.{known-node, known-keeps}
-use Rattle.plan_steps.proofs.Fills.{got-none}
-use Rattle.plan_steps.proofs.Items.{item-map}
+use Rattle.plan_laws.specs.Fills.{HasLookedAll}
+use Rattle.plan_laws.specs.Places.{LocksOnce}
+use Rattle.plan_laws.proofs.HeldMaps.{known-node, known-keeps}
+use Rattle.plan_laws.proofs.Fills.{got-none}
+use Rattle.plan_laws.proofs.Items.{item-map}
 use Rattle.table_steps.specs.Raises.{HoldsChain, HoldsBundles, HoldsEntries}
 use Rattle.update_try.proofs.Finals.{second_front}
 use Rattle.update_try.specs.Walked.{KeepsNexts, IsOutLink, IsWalkedAt, HasWalked, HasWalkedAll, HoldsOutHeads}

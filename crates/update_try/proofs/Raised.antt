@@ -19,13 +19,13 @@ use Rattle.core_updates.specs.PlanReady.{HoldsNewNode, HoldsFreshEntry}
 use Rattle.core_updates.specs.Plans.{key_of, change_of, out_of, new_node_of, fronts_of, slot_of, head_of, fresh_to}
 use Rattle.core_updates.specs.Ready.{update_of}
 use Rattle.core_updates.proofs.PlansRaise.{plan_may_raise}
-use Rattle.plan_steps.specs.Fills.{AreApart}
-use Rattle.plan_steps.specs.Fronts.{IsReadyToRaise}
-use Rattle.plan_steps.specs.Answers.{AnswersRaise}
-use Rattle.plan_steps.specs.Raises.{HasFinalised, update_by, raised_at}
-use Rattle.plan_steps.proofs.Answered.{answer}
-use Rattle.plan_steps.proofs.Fronts.{prepare_end}
-use Rattle.plan_steps.proofs.Raises.{raise_step}
+use Rattle.plan_laws.specs.Fills.{AreApart}
+use Rattle.plan_laws.specs.Fronts.{IsReadyToRaise}
+use Rattle.plan_laws.specs.Answers.{AnswersRaise}
+use Rattle.plan_laws.specs.Raises.{HasFinalised, update_by, raised_at}
+use Rattle.plan_laws.proofs.Answered.{answer}
+use Rattle.plan_laws.proofs.Fronts.{prepare_end}
+use Rattle.plan_laws.proofs.Raises.{raise_step}
 use Rattle.table_rule.specs.Running.{Happened, table}
 use Rattle.table_rule.proofs.Happens.{happened_view, happened_word}
 use Rattle.table_steps.specs.Passes.{Pass}

@@ -17,13 +17,13 @@ use Rattle.core_updates.specs.declared.plan.Look.{Look}
 use Rattle.core_updates.specs.declared.plan.Look.TheVariants.{Link as LinkLook}
 use Rattle.core_updates.specs.Plans.{locks_of, looks_of}
 use Rattle.core_updates.proofs.PlanLocks.{reach_law}
-use Rattle.plan_steps.specs.Frames.{KeepsOwned, KeepsTry}
-use Rattle.plan_steps.specs.Releases.{IsReleasing}
-use Rattle.plan_steps.specs.Tries.{HasLocked}
-use Rattle.plan_steps.proofs.Frames.{steps_keep}
-use Rattle.plan_steps.proofs.Items.{drop-got, got-every, not-yet, got-counts}
-use Rattle.plan_steps.proofs.Releases.{unlock_place}
-use Rattle.plan_steps.proofs.Tries.{lock_step}
+use Rattle.plan_laws.specs.Frames.{KeepsOwned, KeepsTry}
+use Rattle.plan_laws.specs.Releases.{IsReleasing}
+use Rattle.plan_laws.specs.Tries.{HasLocked}
+use Rattle.plan_laws.proofs.Frames.{steps_keep}
+use Rattle.plan_laws.proofs.Items.{drop-got, got-every, not-yet, got-counts}
+use Rattle.plan_laws.proofs.Releases.{unlock_place}
+use Rattle.plan_laws.proofs.Tries.{lock_step}
 use Rattle.table_steps.specs.Passes.{Pass, IsSamePass}
 use Rattle.update_try.specs.Outcomes.{KeepsAll}
 

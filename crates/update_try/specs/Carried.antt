@@ -6,8 +6,8 @@ use Rattle.key_map.specs.History.{after}
 use Rattle.key_map.specs.Map.{map_has}
 use Rattle.core_updates.specs.declared.plan.Plan.{Plan}
 use Rattle.core_updates.specs.Plans.{key_of}
-use Rattle.plan_steps.specs.Answers.{owned_nodes, owned_entries, was_there, MovesNodes}
-use Rattle.plan_steps.specs.Raises.{update_by}
+use Rattle.plan_laws.specs.Answers.{owned_nodes, owned_entries, was_there, MovesNodes}
+use Rattle.plan_laws.specs.Raises.{update_by}
 
 -- from the view before the try to the one after it: the update of the plan is the last of the history that the pass has seen then, at this
 -- place, which is its own; the others are all updates before it, and begin with those that it had seen; the key was in the map after

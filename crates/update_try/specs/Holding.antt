@@ -3,7 +3,7 @@ use Rattle.std.specs.Prelude.{ℕ, take, drop}
 use Rattle.index_words.specs.declared.view.View.{View}
 use Rattle.core_updates.specs.declared.plan.Plan.{Plan}
 use Rattle.core_updates.specs.Plans.{locks_of}
-use Rattle.plan_steps.specs.Releases.{IsReleasing}
+use Rattle.plan_laws.specs.Releases.{IsReleasing}
 
 -- of the first `count` nodes of the plan, which were locked, those from this place on are locked still
 abbrev pub IsReleasingFrom : View → ℕ → Plan → ℕ → ℕ → Type 0

@@ -2,8 +2,8 @@
 use Rattle.std.specs.Prelude.{◌≡◌, ℕ, ◌≤◌, []}
 use Rattle.index_words.specs.declared.view.View.{View}
 use Rattle.core_events.specs.LoadMoves.{risen}
-use Rattle.plan_steps.specs.Frames.{CountsGrow}
-use Rattle.plan_steps.specs.Releases.{IsReleasing}
+use Rattle.plan_laws.specs.Frames.{CountsGrow}
+use Rattle.plan_laws.specs.Releases.{IsReleasing}
 use Rattle.update_try.specs.declared.outcome.Failed.{Failed}
 use Rattle.update_try.specs.declared.outcome.Failed.TheVariants.{Busy, Moved, Pending}
 

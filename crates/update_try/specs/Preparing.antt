@@ -8,8 +8,8 @@ use Rattle.core_updates.specs.declared.plan.Plan.TheVariants.{Grow, Replace, Lif
 use Rattle.core_updates.specs.declared.plan.PlanSlots.{PlanSlots}
 use Rattle.core_updates.specs.declared.plan.NewNode.{NewNode}
 use Rattle.core_updates.specs.Plans.{fronts_of, head_of}
-use Rattle.plan_steps.specs.Answers.{AnswersRaise}
-use Rattle.plan_steps.specs.Fronts.{HasPrepared}
+use Rattle.plan_laws.specs.Answers.{AnswersRaise}
+use Rattle.plan_laws.specs.Fronts.{HasPrepared}
 use Rattle.table_steps.specs.Passes.{Pass}
 
 -- all entries of the plan are in front of their bundles

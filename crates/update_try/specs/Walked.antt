@@ -11,7 +11,7 @@ use Rattle.core_updates.specs.declared.plan.Plan.{Plan}
 use Rattle.core_updates.specs.declared.plan.Look.TheVariants.{Link as LinkLook}
 use Rattle.core_updates.specs.Held.{HoldsHead}
 use Rattle.core_updates.specs.Plans.{looks_of, out_of}
-use Rattle.plan_steps.specs.Looks.{HasLooked}
+use Rattle.plan_laws.specs.Looks.{HasLooked}
 use Rattle.table_steps.specs.Raises.{HoldsNext, HoldsChain}
 
 -- the pass has locked the node and found the head of the link's bundle, and stands at this entry of it, or behind the last

@@ -7,22 +7,22 @@
 ghost use Rattle.std.specs.Prelude.{◌≡◌, ◌+◌, ◌<◌, ℕ, length, IfOk, IfErr};
 ghost use Rattle.core_updates.specs.PlanEvents.{HasSlots};
 ghost use Rattle.core_updates.specs.Plans.{fronts_of};
-ghost use Rattle.plan_steps.specs.Answers.{owned_entries};
-ghost use Rattle.plan_steps.specs.Fills.{AreApart, HasLookedAll};
-ghost use Rattle.plan_steps.specs.Frames.{KeepsOwned, KeepsPass, KeepsTry};
-ghost use Rattle.plan_steps.specs.Raises.{HasFinalised};
-ghost use Rattle.plan_steps.specs.Tries.{IsSearched};
+ghost use Rattle.plan_laws.specs.Answers.{owned_entries};
+ghost use Rattle.plan_laws.specs.Fills.{AreApart, HasLookedAll};
+ghost use Rattle.plan_laws.specs.Frames.{KeepsOwned, KeepsPass, KeepsTry};
+ghost use Rattle.plan_laws.specs.Raises.{HasFinalised};
+ghost use Rattle.plan_laws.specs.Tries.{IsSearched};
 ghost use Rattle.table_steps.specs.Passes.{AtRest, IsSamePass};
 ghost use Rattle.update_try.specs.Carried.{HasCarriedOut};
 ghost use Rattle.update_try.specs.Outcomes.{HasGivenUp, IsCounted, KeepsAll};
 ghost use Rattle.update_try.specs.Preparing.{HasPreparedAll};
 ghost use Rattle.update_try.specs.Walked.{HasWalkedAll, HoldsOutHeads};
 
+use crate::after_raise::{finalise_all, mark_all};
 use crate::fills::{fill_all, prepare_all};
 use crate::locking::lock_all;
 use crate::looking::look_all;
 use crate::outcome::Failed;
-use crate::raises::{finalise_all, mark_all};
 use crate::raising::raise_plan;
 use crate::release::{leave_section, unlock_all};
 use core_updates::{Plan, PlanSlots};

@@ -1,23 +1,23 @@
-//! The try of a plan on the running table: the steps that carry an update out, or give it up. It stands on the steps of
-//! `table_steps`, and on the laws of `plan_steps` that lead from stage to stage. The layer above uses `plan_slots` and
-//! `carry_out`. The stages of `carry_out` are public too, for callers that stop between them: `validate`, `make_ready`,
-//! `raise_plan`, `finalise_all`, `mark_all`, `unlock_all` and `leave_section`, in this order.
+//! The try of a plan on the running table: the steps that carry an update out, or give it up; the laws of `plan_laws`
+//! lead from stage to stage. The layer above uses `plan_slots` and `carry_out`. The stages of `carry_out` are public too,
+//! for callers that stop between them: `validate`, `make_ready`, `raise_plan`, `finalise_all`, `mark_all`, `unlock_all`
+//! and `leave_section`, in this order.
 #![tactic(auto)]
 
+mod after_raise;
 mod carry;
 mod fills;
 mod locking;
 mod looking;
 mod outcome;
-mod raises;
 mod raising;
 mod release;
 mod slots;
 mod walking;
 
+pub use after_raise::{finalise_all, mark_all};
 pub use carry::{carry_out, make_ready, validate};
 pub use outcome::Failed;
-pub use raises::{finalise_all, mark_all};
 pub use raising::raise_plan;
 pub use release::{leave_section, unlock_all};
 pub use slots::plan_slots;

@@ -1,7 +1,7 @@
 //! How a try locks the nodes of its plan.
 ghost use Rattle.std.specs.Prelude.{◌≡◌, true, false};
-ghost use Rattle.plan_steps.specs.Frames.{KeepsTry};
-ghost use Rattle.plan_steps.specs.Tries.{HasLockedAll, IsSearched};
+ghost use Rattle.plan_laws.specs.Frames.{KeepsTry};
+ghost use Rattle.plan_laws.specs.Tries.{HasLockedAll, IsSearched};
 ghost use Rattle.table_steps.specs.Passes.{IsSamePass};
 ghost use Rattle.update_try.specs.Outcomes.{HasGivenUp, HasRisen};
 

@@ -1,8 +1,8 @@
 //! The raise of a plan, at which its update takes effect.
 ghost use Rattle.std.specs.Prelude.{◌≡◌, ◌<◌, ◌^◌, ℕ, List};
 ghost use Rattle.core_updates.specs.Plans.{head_of, key_of as plan_key, out_of};
-ghost use Rattle.plan_steps.specs.Fills.{AreApart};
-ghost use Rattle.plan_steps.specs.Raises.{HasFinalised};
+ghost use Rattle.plan_laws.specs.Fills.{AreApart};
+ghost use Rattle.plan_laws.specs.Raises.{HasFinalised};
 ghost use Rattle.table_steps.specs.Passes.{IsSamePass};
 ghost use Rattle.table_steps.specs.Raises.{HoldsEntries};
 ghost use Rattle.update_try.specs.Preparing.{HasPreparedAll, new_slots_of, out_slots_of, IsRaisedBy};

@@ -1,8 +1,8 @@
 //! How the locks of an update are given back, at its end and where a try fails.
 ghost use Rattle.std.specs.Prelude.{◌≡◌, []};
 ghost use Rattle.core_updates.specs.Plans.{locks_of};
-ghost use Rattle.plan_steps.specs.Frames.{KeepsOwned};
-ghost use Rattle.plan_steps.specs.Releases.{IsReleasing};
+ghost use Rattle.plan_laws.specs.Frames.{KeepsOwned};
+ghost use Rattle.plan_laws.specs.Releases.{IsReleasing};
 ghost use Rattle.table_steps.specs.Passes.{AtRest, IsSamePass};
 ghost use Rattle.update_try.specs.Holding.{IsReleasingFrom};
 

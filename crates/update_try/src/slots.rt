@@ -3,7 +3,7 @@ ghost use Rattle.std.specs.Prelude.{◌≡◌, ◌<◌, ◌^◌, length, IfSome,
 ghost use Rattle.std.specs.List.{slice_get};
 ghost use Rattle.core_updates.specs.declared.plan.PlanSlots.{PlanSlots as Slots};
 ghost use Rattle.core_updates.specs.PlanEvents.{HasSlots};
-ghost use Rattle.plan_steps.specs.Fills.{AreApart};
+ghost use Rattle.plan_laws.specs.Fills.{AreApart};
 ghost use Rattle.update_try.specs.FreeSlots.{HasFreeSlots, LacksFreeSlots};
 
 use core_updates::PlanSlots;

@@ -1,6 +1,6 @@
 //! The entries of a bundle of a node that goes out. The raise retires them, so the pass has to find each.
 ghost use Rattle.std.specs.Prelude.{ℕ, List};
-ghost use Rattle.plan_steps.specs.Frames.{KeepsTry};
+ghost use Rattle.plan_laws.specs.Frames.{KeepsTry};
 ghost use Rattle.table_steps.specs.Passes.{IsSamePass};
 ghost use Rattle.table_steps.specs.Raises.{HoldsChain};
 ghost use Rattle.update_try.specs.Walked.{KeepsLooks, KeepsNexts, StandsOn};

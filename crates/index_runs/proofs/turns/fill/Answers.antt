@@ -1,6 +1,6 @@
 use Rattle.std.proofs.Common.{sym}
 use Rattle.index_words.specs.declared.word.Part.TheVariants.{Child}
-use Rattle.plan_steps.proofs.Items.{got-counts}
+use Rattle.plan_laws.proofs.Items.{got-counts}
 use Rattle.index_runs.proofs.Seats.{free_there}
 use Rattle.index_runs.proofs.turns.fill.Goals as goal
 

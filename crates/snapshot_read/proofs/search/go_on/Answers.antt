@@ -5,7 +5,7 @@ use Rattle.table_steps.specs.Loads.{loading_pair}
 use Rattle.table_steps.specs.Passes.{Pass}
 use Rattle.snapshot_read.specs.Ways.{keys_left, OnWay}
 use Rattle.snapshot_read.specs.declared.kept_way.Search.{Search}
-use Rattle.snapshot_read.proofs.ReadMoves.{pair_read}
+use Rattle.bundle_reads.proofs.ReadMoves.{pair_read}
 use Rattle.snapshot_read.proofs.SnapshotTrees.{reader}
 use Rattle.snapshot_read.proofs.Levels.{pass_same, may_pair, go_right, closer_right, go_left, closer_left}
 use Rattle.snapshot_read.proofs.search.go_on.Goals as goal

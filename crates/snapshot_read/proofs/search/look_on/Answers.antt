@@ -1,8 +1,9 @@
 use Rattle.std.proofs.Common.{refl, ap, sym, ◌∙◌, subst}
 use Rattle.table_steps.specs.Passes.{Pass, IsSamePass}
-use Rattle.snapshot_read.specs.Links.{LeadsThere}
-use Rattle.snapshot_read.specs.Snapshots.{HasRead}
-use Rattle.snapshot_read.proofs.ReadMoves.{read_nothing, read_more, inside_on, same_pass, same_more, tree_after, leads_before}
+use Rattle.bundle_reads.specs.Links.{LeadsThere}
+use Rattle.bundle_reads.specs.Reads.{HasRead}
+use Rattle.snapshot_read.proofs.SnapshotMoves.{tree_after}
+use Rattle.bundle_reads.proofs.ReadMoves.{read_nothing, read_more, inside_on, same_pass, same_more, leads_before}
 use Rattle.snapshot_read.proofs.SnapshotTrees.{reader}
 use Rattle.snapshot_read.proofs.Levels.{way_link}
 use Rattle.snapshot_read.proofs.Ways.{way_ends, every_on, every_before}

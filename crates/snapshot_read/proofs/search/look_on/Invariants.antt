@@ -1,7 +1,7 @@
 use Rattle.std.proofs.Common.{◌≡◌}
 use Rattle.key_map.specs.Lists.{Every}
 use Rattle.table_steps.specs.Passes.{IsSamePass}
-use Rattle.snapshot_read.specs.Snapshots.{HasRead}
+use Rattle.bundle_reads.specs.Reads.{HasRead}
 use Rattle.snapshot_read.specs.Ways.{Covers, IsOnWay, keys_left}
 use Rattle.snapshot_read.proofs.search.look_on.Given as goal
 

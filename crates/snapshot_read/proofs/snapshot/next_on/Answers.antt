@@ -1,4 +1,4 @@
-use Rattle.snapshot_read.proofs.ReadMoves.{read_nothing, same_pass}
+use Rattle.bundle_reads.proofs.ReadMoves.{read_nothing, same_pass}
 use Rattle.snapshot_read.proofs.snapshot.next_on.Goals as goal
 
 pub tries-init : goal.tries-init

@@ -1,5 +1,6 @@
 use Rattle.table_steps.specs.Passes.{IsSamePass}
-use Rattle.snapshot_read.specs.Snapshots.{IsReading, HasRead}
+use Rattle.bundle_reads.specs.Reads.{HasRead}
+use Rattle.snapshot_read.specs.Snapshots.{IsReading}
 use Rattle.snapshot_read.specs.Ways.{IsKeptWay}
 use Rattle.snapshot_read.proofs.snapshot.next_on.Given as goal
 

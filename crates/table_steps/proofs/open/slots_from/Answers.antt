@@ -1,5 +1,5 @@
 use Rattle.std.proofs.Common.{length, arith, ap}
-use Rattle.kept_seats.proofs.MadeSeats.{from_length}
+use Rattle.core_kept.proofs.MadeSeats.{from_length}
 use Rattle.table_steps.proofs.open.slots_from.Goals as goal
 
 pub add_free-requires-clause-room : goal.add_free-requires-clause-room

@@ -1,8 +1,8 @@
 use Rattle.std.proofs.Common.{ℕ, arith, sym, subst}
-use Rattle.plan_steps.specs.Tries.{IsSearched}
+use Rattle.plan_laws.specs.Tries.{IsSearched}
 use Rattle.tree_update.proofs.CallSteps.{search_stays}
 use Rattle.tree_update.proofs.TryMade.{offers_still}
-use Rattle.snapshot_read.proofs.ReadMoves.{inside_on}
+use Rattle.bundle_reads.proofs.ReadMoves.{inside_on}
 use Rattle.table_tests.proofs.moved.is_moved_by.Goals as goal
 
 pub carry_out-ended-requires-clause-searched : goal.carry_out-ended-requires-clause-searched

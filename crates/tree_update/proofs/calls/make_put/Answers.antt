@@ -2,7 +2,7 @@ use Rattle.std.proofs.Common.{◌∙◌, ℕ, arith, subst}
 use Rattle.key_map.specs.declared.update.Change.TheVariants.{Put}
 use Rattle.tree_update.specs.Calls.{MakesChange}
 use Rattle.tree_update.proofs.CallSteps.{stays_nothing, stays_more, fixes_more, made_more}
-use Rattle.snapshot_read.proofs.ReadMoves.{same_pass, same_more}
+use Rattle.bundle_reads.proofs.ReadMoves.{same_pass, same_more}
 use Rattle.tree_update.proofs.calls.make_put.Goals as goal
 
 pub tries-init : goal.tries-init

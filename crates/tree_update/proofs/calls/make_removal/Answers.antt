@@ -2,7 +2,7 @@ use Rattle.std.proofs.Common.{◌∙◌, ℕ, arith, subst}
 use Rattle.tree_update.specs.Calls.{AnswersRemoval}
 use Rattle.tree_update.proofs.CallSteps.{stays_nothing, goes_more}
 use Rattle.tree_update.proofs.CallsMade.{removal_more}
-use Rattle.snapshot_read.proofs.ReadMoves.{same_pass, same_more}
+use Rattle.bundle_reads.proofs.ReadMoves.{same_pass, same_more}
 use Rattle.tree_update.proofs.calls.make_removal.Goals as goal
 
 pub tries-init : goal.tries-init

@@ -1,5 +1,5 @@
 use Rattle.tree_update.proofs.CallSteps.{stays_nothing, stays_more, settle_stays}
-use Rattle.snapshot_read.proofs.ReadMoves.{same_pass, same_more}
+use Rattle.bundle_reads.proofs.ReadMoves.{same_pass, same_more}
 use Rattle.tree_update.proofs.calls.wait_for_slots.Goals as goal
 
 pub tries-init : goal.tries-init

@@ -1,10 +1,10 @@
 use Rattle.std.proofs.Common.{◌∙◌, ℕ, arith, sym, subst}
-use Rattle.plan_steps.specs.Tries.{IsSearched}
+use Rattle.plan_laws.specs.Tries.{IsSearched}
 use Rattle.tree_update.proofs.CallSteps.{search_stays, stays_more}
 use Rattle.tree_update.proofs.CallsMade.{made_as, has_made_more}
 use Rattle.update_search.proofs.ReadTrees.{reader}
 use Rattle.tree_update.proofs.TryMade.{offers_still, try_counted, search_waited}
-use Rattle.snapshot_read.proofs.ReadMoves.{inside_on}
+use Rattle.bundle_reads.proofs.ReadMoves.{inside_on}
 use Rattle.tree_update.proofs.trying.try_update.Goals as goal
 
 pub carry_found-requires-clause-searched : goal.carry_found-requires-clause-searched

@@ -1,7 +1,7 @@
 use Rattle.std.proofs.Common.{◌<◌, arith, refl, ap, ◌∙◌, sym, subst}
 use Rattle.table_steps.specs.Passes.{Pass, IsSamePass}
-use Rattle.snapshot_read.specs.Links.{LeadsThere, HasSearched}
-use Rattle.snapshot_read.proofs.ReadMoves.{same_pass, same_more, searched_nothing, searched_more, seen_before, link_after}
+use Rattle.bundle_reads.specs.Links.{LeadsThere, HasSearched}
+use Rattle.bundle_reads.proofs.ReadMoves.{same_pass, same_more, searched_nothing, searched_more, seen_before, link_after}
 use Rattle.update_search.specs.Descents.{EndsFound}
 use Rattle.update_search.proofs.ReadTrees.{reader}
 use Rattle.update_search.proofs.Levels.{way_begins, way_link, way_missing_there}

@@ -1,6 +1,6 @@
 use Rattle.std.proofs.Common.{◌≡◌}
 use Rattle.table_steps.specs.Passes.{IsSamePass}
-use Rattle.snapshot_read.specs.Links.{HasSearched}
+use Rattle.bundle_reads.specs.Links.{HasSearched}
 use Rattle.update_search.specs.Descents.{IsOnWay, keys_left}
 use Rattle.update_search.proofs.descent.find_end.Given as goal
 

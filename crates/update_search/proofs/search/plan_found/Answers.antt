@@ -1,5 +1,5 @@
 use Rattle.std.proofs.Common.{sym, subst}
-use Rattle.snapshot_read.proofs.ReadMoves.{searched_more}
+use Rattle.bundle_reads.proofs.ReadMoves.{searched_more}
 use Rattle.update_search.specs.Planned.{IsPlanned}
 use Rattle.update_search.proofs.ReadTrees.{reader}
 use Rattle.update_search.proofs.Levels.{key_in_tree}

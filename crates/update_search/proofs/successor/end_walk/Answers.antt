@@ -1,11 +1,11 @@
 use Rattle.std.proofs.Common.{inr, sym, subst}
 use Rattle.index_words.specs.declared.side.Side.TheVariants.{Left, Right}
 use Rattle.core_updates.specs.Plans.{link_of}
-use Rattle.plan_steps.specs.Tries.{RemembersLink}
+use Rattle.plan_laws.specs.Tries.{RemembersLink}
 use Rattle.table_steps.specs.Loads.{IsTreeLink}
 use Rattle.table_steps.specs.Passes.{Pass}
-use Rattle.snapshot_read.specs.Links.{LeadsThere, HasSearched}
-use Rattle.snapshot_read.specs.Children.{IsSeen}
+use Rattle.bundle_reads.specs.Links.{LeadsThere, HasSearched}
+use Rattle.bundle_reads.specs.Children.{IsSeen}
 use Rattle.update_search.proofs.ReadTrees.{reader}
 use Rattle.update_search.proofs.Walks.{walk_in_tree, ends_next}
 use Rattle.update_search.proofs.successor.end_walk.Goals as goal

@@ -3,9 +3,9 @@ use Rattle.index_words.specs.declared.side.Side.TheVariants.{Left, Right}
 use Rattle.core_updates.specs.Plans.{link_of}
 use Rattle.table_steps.specs.Loads.{IsTreeLink}
 use Rattle.table_steps.specs.Passes.{Pass, IsSamePass}
-use Rattle.snapshot_read.specs.Links.{HasSearched}
-use Rattle.snapshot_read.specs.Children.{IsSeen}
-use Rattle.snapshot_read.proofs.ReadMoves.{same_pass, same_more, searched_nothing, searched_more, seen_before, seen_later, leads_after, link_after}
+use Rattle.bundle_reads.specs.Links.{HasSearched}
+use Rattle.bundle_reads.specs.Children.{IsSeen}
+use Rattle.bundle_reads.proofs.ReadMoves.{same_pass, same_more, searched_nothing, searched_more, seen_before, seen_later, leads_after, link_after}
 use Rattle.update_search.proofs.ReadTrees.{reader}
 use Rattle.update_search.proofs.Walks.{walk_in_tree}
 use Rattle.update_search.proofs.Later.{seen_now, key_later, walk_later, walk_before, next_before}

@@ -1,7 +1,7 @@
 use Rattle.std.proofs.Common.{◌≡◌}
 use Rattle.table_steps.specs.Passes.{IsSamePass}
-use Rattle.snapshot_read.specs.Links.{HasSearched}
-use Rattle.snapshot_read.specs.Children.{IsSeen}
+use Rattle.bundle_reads.specs.Links.{HasSearched}
+use Rattle.bundle_reads.specs.Children.{IsSeen}
 use Rattle.update_search.specs.Successors.{IsOnWalk}
 use Rattle.update_search.proofs.successor.find_next.Given as goal
 

@@ -1,6 +1,6 @@
 use Rattle.std.proofs.Common.{◌∙◌, length, subst}
 use Rattle.core_updates.specs.Plans.{fronts_of}
-use Rattle.plan_steps.proofs.Frames.{keeps_pass}
+use Rattle.plan_laws.proofs.Frames.{keeps_pass}
 use Rattle.update_try.specs.Carried.{HasCarriedOut}
 use Rattle.update_try.proofs.Done.{entries_filled, has_done}
 use Rattle.update_try.proofs.Outs.{entries_held}

@@ -1,8 +1,8 @@
 use Rattle.std.proofs.Common.{◌≡◌, ◌∙◌, sym, subst, arith, Some, None}
 use Rattle.std.specs.List.{slice_get}
-use Rattle.plan_steps.specs.Fills.{HasFilledAll, fills_of}
-use Rattle.plan_steps.proofs.Fills.{fill_end}
-use Rattle.plan_steps.proofs.Frames.{keeps_try}
+use Rattle.plan_laws.specs.Fills.{HasFilledAll, fills_of}
+use Rattle.plan_laws.proofs.Fills.{fill_end}
+use Rattle.plan_laws.proofs.Frames.{keeps_try}
 use Rattle.update_try.proofs.FilledWords.{can_fill, filled_next, filled_nexts, few_fills, fill_within}
 use Rattle.update_try.proofs.Steps.{same_more}
 use Rattle.update_try.proofs.fills.fill_all.Goals as goal

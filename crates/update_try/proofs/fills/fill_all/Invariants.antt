@@ -1,6 +1,6 @@
 use Rattle.std.proofs.Common.{◌-◌, length}
-use Rattle.plan_steps.specs.Fills.{IsFilling, fills_of}
-use Rattle.plan_steps.specs.Frames.{KeepsTry}
+use Rattle.plan_laws.specs.Fills.{IsFilling, fills_of}
+use Rattle.plan_laws.specs.Frames.{KeepsTry}
 use Rattle.table_steps.specs.Passes.{IsSamePass}
 use Rattle.update_try.specs.Walked.{KeepsNexts}
 use Rattle.update_try.proofs.fills.fill_all.Given as goal

@@ -1,6 +1,6 @@
 use Rattle.std.proofs.Common.{◌∙◌, sym}
 use Rattle.core_updates.specs.Plans.{node_fills}
-use Rattle.plan_steps.proofs.Fills.{got-none}
+use Rattle.plan_laws.proofs.Fills.{got-none}
 use Rattle.update_try.proofs.fills.new_fill.Goals as goal
 
 pub overflow_sub-place : goal.overflow_sub-place

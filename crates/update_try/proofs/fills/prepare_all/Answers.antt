@@ -1,9 +1,9 @@
 use Rattle.std.proofs.Common.{◌≡◌, ◌∙◌, sym, subst, arith, Some, None}
 use Rattle.std.specs.List.{slice_get}
 use Rattle.core_updates.specs.Plans.{fronts_of}
-use Rattle.plan_steps.proofs.Fills.{got-none}
-use Rattle.plan_steps.proofs.Frames.{keeps_pass}
-use Rattle.plan_steps.proofs.Fronts.{prepare_start}
+use Rattle.plan_laws.proofs.Fills.{got-none}
+use Rattle.plan_laws.proofs.Frames.{keeps_pass}
+use Rattle.plan_laws.proofs.Fronts.{prepare_start}
 use Rattle.update_try.specs.Preparing.{HasPreparedAll}
 use Rattle.update_try.proofs.Fronts.{may_prepare, prepared_next, prepared_nexts, prepared_entries, few_fronts, front_within, prepared_end}
 use Rattle.update_try.proofs.Outs.{out_heads_prepared}

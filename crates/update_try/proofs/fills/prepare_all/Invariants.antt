@@ -1,8 +1,8 @@
 use Rattle.std.proofs.Common.{◌≡◌, ◌+◌, ◌-◌, ◌≤◌, length}
 use Rattle.core_updates.specs.Plans.{fronts_of}
-use Rattle.plan_steps.specs.Answers.{owned_entries}
-use Rattle.plan_steps.specs.Frames.{KeepsPass}
-use Rattle.plan_steps.specs.Fronts.{HasPrepared}
+use Rattle.plan_laws.specs.Answers.{owned_entries}
+use Rattle.plan_laws.specs.Frames.{KeepsPass}
+use Rattle.plan_laws.specs.Fronts.{HasPrepared}
 use Rattle.table_steps.specs.Passes.{IsSamePass}
 use Rattle.update_try.specs.Walked.{HoldsOutHeads, KeepsNexts}
 use Rattle.update_try.proofs.fills.prepare_all.Given as goal

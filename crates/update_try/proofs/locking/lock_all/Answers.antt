@@ -1,9 +1,9 @@
 use Rattle.std.proofs.Common.{◌≡◌, ◌+◌, ◌∙◌, refl, sym, subst, take, [], arith, Some}
 use Rattle.std.specs.List.{slice_get}
 use Rattle.core_updates.specs.Plans.{locks_of}
-use Rattle.plan_steps.specs.Releases.{IsReleasing}
-use Rattle.plan_steps.proofs.Frames.{keeps_try}
-use Rattle.plan_steps.proofs.Releases.{give_up}
+use Rattle.plan_laws.specs.Releases.{IsReleasing}
+use Rattle.plan_laws.proofs.Frames.{keeps_try}
+use Rattle.plan_laws.proofs.Releases.{give_up}
 use Rattle.update_try.proofs.Steps.{same_more, few_locks, lock_within, lock_reach, lock_free, locked_next, met_same, all_kept}
 use Rattle.update_try.proofs.locking.lock_all.Goals as goal
 

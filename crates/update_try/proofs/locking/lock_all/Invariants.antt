@@ -1,7 +1,7 @@
 use Rattle.std.proofs.Common.{◌-◌, length}
 use Rattle.core_updates.specs.Plans.{locks_of}
-use Rattle.plan_steps.specs.Frames.{KeepsTry}
-use Rattle.plan_steps.specs.Tries.{HasLocked}
+use Rattle.plan_laws.specs.Frames.{KeepsTry}
+use Rattle.plan_laws.specs.Tries.{HasLocked}
 use Rattle.table_steps.specs.Passes.{IsSamePass}
 use Rattle.update_try.proofs.locking.lock_all.Given as goal
 

@@ -1,10 +1,10 @@
 use Rattle.std.proofs.Common.{◌≡◌, ◌+◌, ◌∙◌, sym, subst, None}
 use Rattle.std.specs.List.{slice_get}
 use Rattle.core_updates.specs.Plans.{looks_of}
-use Rattle.plan_steps.specs.Fills.{HasLookedAll}
-use Rattle.plan_steps.specs.Looks.{HasLooked}
-use Rattle.plan_steps.proofs.Fills.{look_end}
-use Rattle.plan_steps.proofs.Frames.{keeps_try}
+use Rattle.plan_laws.specs.Fills.{HasLookedAll}
+use Rattle.plan_laws.specs.Looks.{HasLooked}
+use Rattle.plan_laws.proofs.Fills.{look_end}
+use Rattle.plan_laws.proofs.Frames.{keeps_try}
 use Rattle.update_try.proofs.Outs.{walked_more, walked_end}
 use Rattle.update_try.proofs.Steps.{same_more}
 use Rattle.update_try.proofs.looking.look_all.Goals as goal

@@ -1,7 +1,7 @@
 use Rattle.std.proofs.Common.{◌-◌, length}
 use Rattle.core_updates.specs.Plans.{looks_of}
-use Rattle.plan_steps.specs.Frames.{KeepsTry}
-use Rattle.plan_steps.specs.Looks.{HasLooked}
+use Rattle.plan_laws.specs.Frames.{KeepsTry}
+use Rattle.plan_laws.specs.Looks.{HasLooked}
 use Rattle.table_steps.specs.Passes.{IsSamePass}
 use Rattle.update_try.specs.Walked.{HasWalked}
 use Rattle.update_try.proofs.looking.look_all.Given as goal

@@ -1,6 +1,6 @@
 use Rattle.std.proofs.Common.{◌+◌, sym, subst}
-use Rattle.plan_steps.specs.Looks.{HasLooked}
-use Rattle.plan_steps.specs.Tries.{HasLockedAll}
+use Rattle.plan_laws.specs.Looks.{HasLooked}
+use Rattle.plan_laws.specs.Tries.{HasLockedAll}
 use Rattle.update_try.proofs.looking.look_along_link.Goals as goal
 
 pub walk_along-requires : goal.walk_along-requires

@@ -2,8 +2,8 @@ use Rattle.std.proofs.Common.{◌≡◌, ◌+◌, ◌∙◌, ap, sym, subst, Som
 use Rattle.std.specs.List.{slice_get}
 use Rattle.core_updates.specs.declared.plan.Look.TheVariants.{Key as KeyLook, Val as ValLook}
 use Rattle.core_updates.specs.Plans.{looks_of}
-use Rattle.plan_steps.specs.Looks.{HasLooked}
-use Rattle.plan_steps.specs.Tries.{HasLockedAll}
+use Rattle.plan_laws.specs.Looks.{HasLooked}
+use Rattle.plan_laws.specs.Tries.{HasLockedAll}
 use Rattle.update_try.proofs.Looks.{may_key, key_looked, key_keeps, may_val, val_looked, val_keeps, key_nexts, val_nexts}
 use Rattle.update_try.proofs.Outs.{no_link, no_link_val}
 use Rattle.update_try.proofs.looking.look_at.Goals as goal

@@ -4,9 +4,9 @@ use Rattle.index_words.specs.declared.layout.Layout.{Layout}
 use Rattle.core_trees.specs.declared.link.Link.{Link}
 use Rattle.core_updates.specs.declared.plan.Look.TheVariants.{Link as LinkLook}
 use Rattle.core_updates.specs.Plans.{looks_of}
-use Rattle.plan_steps.specs.Looks.{HasLooked}
-use Rattle.plan_steps.specs.Tries.{HasLockedAll}
-use Rattle.plan_steps.proofs.Frames.{keeps_try}
+use Rattle.plan_laws.specs.Looks.{HasLooked}
+use Rattle.plan_laws.specs.Tries.{HasLockedAll}
+use Rattle.plan_laws.proofs.Frames.{keeps_try}
 use Rattle.update_try.proofs.Counted.{rose_after}
 use Rattle.update_try.proofs.Steps.{same_more, few_looks, look_within}
 use Rattle.update_try.proofs.Looks.{may_mark, mark_keeps, mark_locked, mark_moved, unmarked, may_head, head_keeps, head_locked, head_moved, head_same, head_none, may_number, number_keeps, number_locked, number_pending, number_written, mark_nexts, head_nexts, head_place, head_stands, number_nexts, number_stands, keeps_nexts_more, link_same}

@@ -4,7 +4,7 @@ use Rattle.key_map.specs.declared.update.Change.{Change}
 use Rattle.core_updates.specs.Held.{MayRaise, raise_of}
 use Rattle.core_updates.specs.Plans.{key_of, change_of, new_node_of}
 use Rattle.core_updates.specs.Ready.{update_of}
-use Rattle.plan_steps.specs.Raises.{HasFinalised, update_by}
+use Rattle.plan_laws.specs.Raises.{HasFinalised, update_by}
 use Rattle.table_rule.specs.Running.{Happened}
 use Rattle.table_steps.specs.Raises.{slot_given, new_slot, nodes_out}
 use Rattle.update_try.specs.Preparing.{IsRaisedBy, new_slots_of}

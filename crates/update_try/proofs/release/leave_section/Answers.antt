@@ -1,7 +1,7 @@
 use Rattle.std.proofs.Common.{sym, subst}
 use Rattle.index_words.specs.declared.view.View.{View}
-use Rattle.plan_steps.specs.Frames.{KeepsOwned}
-use Rattle.plan_steps.proofs.Releases.{leave_step}
+use Rattle.plan_laws.specs.Frames.{KeepsOwned}
+use Rattle.plan_laws.proofs.Releases.{leave_step}
 use Rattle.update_try.proofs.Steps.{no_node}
 use Rattle.update_try.proofs.release.leave_section.Goals as goal
 

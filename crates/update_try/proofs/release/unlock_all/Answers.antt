@@ -1,7 +1,7 @@
 use Rattle.std.proofs.Common.{◌≡◌, ◌∙◌, sym, Some}
 use Rattle.std.specs.List.{slice_get}
 use Rattle.core_updates.specs.Plans.{locks_of}
-use Rattle.plan_steps.proofs.Frames.{keeps_owned}
+use Rattle.plan_laws.proofs.Frames.{keeps_owned}
 use Rattle.update_try.proofs.Steps.{same_more, unlocked_next}
 use Rattle.update_try.proofs.release.unlock_all.Goals as goal
 

@@ -1,7 +1,7 @@
 use Rattle.std.proofs.Common.{◌-◌, length, drop}
 use Rattle.core_updates.specs.Plans.{locks_of}
-use Rattle.plan_steps.specs.Frames.{KeepsOwned}
-use Rattle.plan_steps.specs.Releases.{IsReleasing}
+use Rattle.plan_laws.specs.Frames.{KeepsOwned}
+use Rattle.plan_laws.specs.Releases.{IsReleasing}
 use Rattle.table_steps.specs.Passes.{IsSamePass}
 use Rattle.update_try.proofs.release.unlock_all.Given as goal
 

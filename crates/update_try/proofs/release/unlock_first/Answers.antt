@@ -1,8 +1,8 @@
 use Rattle.std.proofs.Common.{◌≡◌, ◌∙◌, sym, take, Some}
 use Rattle.std.specs.List.{slice_get}
 use Rattle.core_updates.specs.Plans.{locks_of}
-use Rattle.plan_steps.proofs.Frames.{keeps_owned}
-use Rattle.plan_steps.proofs.Releases.{takes_first}
+use Rattle.plan_laws.proofs.Frames.{keeps_owned}
+use Rattle.plan_laws.proofs.Releases.{takes_first}
 use Rattle.update_try.proofs.Steps.{same_more, may_unlock, unlocked_next}
 use Rattle.update_try.proofs.release.unlock_first.Goals as goal
 

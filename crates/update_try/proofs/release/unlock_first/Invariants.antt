@@ -1,5 +1,5 @@
 use Rattle.std.proofs.Common.{◌-◌}
-use Rattle.plan_steps.specs.Frames.{KeepsOwned}
+use Rattle.plan_laws.specs.Frames.{KeepsOwned}
 use Rattle.table_steps.specs.Passes.{IsSamePass}
 use Rattle.update_try.specs.Holding.{IsReleasingFrom}
 use Rattle.update_try.proofs.release.unlock_first.Given as goal

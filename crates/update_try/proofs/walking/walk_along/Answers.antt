@@ -1,7 +1,7 @@
 use Rattle.std.proofs.Common.{◌≡◌, ◌<◌, ◌++◌, ◌∷◌, [], ap, subst, arith, refl}
 use Rattle.std.proofs.lemmas.List.{length-append}
 use Rattle.index_words.specs.declared.layout.Layout.{Layout}
-use Rattle.plan_steps.proofs.Frames.{keeps_try}
+use Rattle.plan_laws.proofs.Frames.{keeps_try}
 use Rattle.update_try.specs.Walked.{HoldsPart}
 use Rattle.update_try.proofs.LockedBundles.{part_ends, part_few, may_walk, walked_try, walked_looks, walked_nexts, walked_long, walked_on, walked_part}
 use Rattle.update_try.proofs.Steps.{same_pass, same_more, try_same}

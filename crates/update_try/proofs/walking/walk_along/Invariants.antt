@@ -1,5 +1,5 @@
 use Rattle.std.proofs.Common.{◌≡◌, ℕ, ◌+◌, ◌-◌, List, length}
-use Rattle.plan_steps.specs.Frames.{KeepsTry}
+use Rattle.plan_laws.specs.Frames.{KeepsTry}
 use Rattle.table_steps.specs.Passes.{IsSamePass}
 use Rattle.update_try.specs.Walked.{StandsOn, HoldsPart, KeepsLooks, KeepsNexts}
 use Rattle.update_try.proofs.walking.walk_along.Given as goal

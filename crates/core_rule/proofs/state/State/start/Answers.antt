@@ -1,4 +1,4 @@
-use Rattle.kept_seats.proofs.Opened.{started}
+use Rattle.core_kept.proofs.Opened.{started}
 use Rattle.core_rule.proofs.state.State.start.Goals as goal
 
 pub invariant_of-result : goal.invariant_of-result

@@ -6,13 +6,13 @@ use Rattle.core_events.specs.declared.event.Event.{Event}
 use Rattle.core_events.specs.Steps.{allowed, after}
 use Rattle.core_events.specs.Tables.{Table, held_by}
 use Rattle.core_events.proofs.Allowed.{raises}
-use Rattle.core_needs.specs.StepParts.{Parts}
+use Rattle.machine_needs.specs.StepParts.{Parts}
 use Rattle.core_invariant.specs.LinkLaw.{KeepsSelections}
-use Rattle.kept_views.specs.KeepsSeen.{KeepsSeen}
-use Rattle.kept_views.specs.SectionMoves.{MovesSections}
-use Rattle.kept_views.proofs.SeenLaw.{keeps_seen}
-use Rattle.kept_views.proofs.SectionLaw.{moves_sections}
-use Rattle.kept_rule.proofs.StepLaw.{AfterTable, stepped_right}
+use Rattle.core_kept.specs.KeepsSeen.{KeepsSeen}
+use Rattle.core_kept.specs.SectionMoves.{MovesSections}
+use Rattle.core_kept.proofs.SeenLaw.{keeps_seen}
+use Rattle.core_kept.proofs.SectionLaw.{moves_sections}
+use Rattle.core_kept.proofs.StepLaw.{AfterTable, stepped_right}
 use Rattle.core_laws.specs.Owners.{KeepsOwners}
 use Rattle.core_laws.proofs.Laws.{laws_of, laws_same, laws_refused}
 use Rattle.core_laws.proofs.Owners.{owners}

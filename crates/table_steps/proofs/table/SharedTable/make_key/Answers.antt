@@ -3,7 +3,7 @@ use Rattle.index_words.specs.declared.view.View.{View}
 use Rattle.core_events.specs.Openings.{made_left, made_right, MayMake}
 use Rattle.table_rule.specs.Homes.{Sat}
 use Rattle.table_steps.specs.Kept.{Keeps}
-use Rattle.kept_seats.proofs.MadeSeats.{left_gives, right_is, may_make}
+use Rattle.core_kept.proofs.MadeSeats.{left_gives, right_is, may_make}
 use Rattle.table_steps.proofs.Opened.{fresh_keeps, fresh_rest}
 use Rattle.table_steps.specs.Passes.{AtRest}
 use Rattle.table_steps.proofs.table.SharedTable.make_key.Goals as goal

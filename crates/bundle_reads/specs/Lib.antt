@@ -1,0 +1,3 @@
+pub mod Reads
+pub mod Links
+pub mod Children

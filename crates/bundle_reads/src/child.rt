@@ -1,0 +1,75 @@
+//! The child of a link of the tree that a pass reads, and the entry that tells it.
+ghost use Rattle.std.specs.Prelude.{◌≡◌, ◌<◌, IfSome};
+ghost use Rattle.table_steps.specs.Loads.{IsTreeLink};
+ghost use Rattle.table_steps.specs.Passes.{IsSamePass};
+ghost use Rattle.bundle_reads.specs.Links.{InsideAt, HasSearched};
+ghost use Rattle.bundle_reads.specs.Children.{IsSeen, waits_after, IsAtEntryOf, GoesAlong};
+
+use core_trees::Link;
+use table_steps::TablePass;
+
+/// The child of a link, 0 for none, and the entry with which the pass remembers it, 0 where no entry has it.
+#[derive(Clone, Copy, Debug, PartialEq, Eq)]
+pub struct Seen {
+    pub child: u32,
+    pub entry: u32,
+}
+
+/// What comes of a look at an entry of a link's bundle.
+#[derive(Clone, Copy)]
+pub(crate) enum Along {
+    /// It is the one that tells.
+    Found(Seen),
+    /// The next older one is to be looked at, 0 behind the last one.
+    Next(u32),
+    /// It has no number yet.
+    Pending,
+}
+
+/// One look at an entry of a link's bundle: if its number is at most `at`, it tells the child.
+fn look_along(pass: &mut TablePass<'_>, at: u64, link: Link, entry: u32) -> Along
+    requires reads { InsideAt pass.old.view at }
+    requires link { IsTreeLink pass.old.view link.node link.side }
+    requires stands { IsAtEntryOf pass.old.view link entry }
+    requires some { 0 < entry }
+    ensures same { IsSamePass pass.old pass.new }
+    ensures searched { HasSearched pass.old.view pass.new.view }
+    ensures goes { GoesAlong pass.old.view pass.new.view link result }
+{
+    pass.facts();
+    let number = pass.load_ts(entry);
+    if number == 0 {
+        return Along::Pending;
+    }
+    if number <= at {
+        let child = pass.load_ptr(entry);
+        return Along::Found(Seen { child, entry });
+    }
+    let next = pass.load_next(entry);
+    Along::Next(next)
+}
+
+/// The child of a link of the tree that the pass reads at `at`: of the link's entries, from the newest on, the first
+/// one whose number is at most `at` has it. Their numbers fall, so it ends. None where an entry had no number yet; the
+/// count of such entries has then risen.
+pub fn child_at(pass: &mut TablePass<'_>, at: u64, link: Link) -> Option<Seen>
+    requires reads { InsideAt pass.old.view at }
+    requires link { IsTreeLink pass.old.view link.node link.side }
+    ensures same { IsSamePass pass.old pass.new }
+    ensures searched { HasSearched pass.old.view pass.new.view }
+    ensures seen { IfSome result (IsSeen pass.old.view pass.new.view link) }
+    ensures waits { pass.new.view.counts.waits ≡ waits_after result pass.old.view.counts.waits }
+{
+    pass.facts();
+    let mut entry = pass.load_head(link.node, link.side);
+    'along: loop {
+        if entry == 0 {
+            return Some(Seen { child: 0, entry: 0 });
+        }
+        match look_along(pass, at, link, entry) {
+            Along::Found(seen) => return Some(seen),
+            Along::Pending => return None,
+            Along::Next(next) => entry = next,
+        }
+    }
+}

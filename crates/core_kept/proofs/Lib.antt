@@ -1,0 +1,88 @@
+-- Each view knows where its own updates stand, after every event.
+pub mod OwnPlaces
+-- The section words and the announcements of passes: an enter and a leave alone store to one, and to their own.
+pub mod SectionWords
+-- No event makes what a seat has seen shorter.
+pub mod SeenLaw
+-- What an event does to the section words of passes: an enter makes the own word odd, a leave even.
+pub mod SectionLaw
+-- A store to the own section word keeps the rule.
+pub mod Stores
+-- A store to a word of a free slot keeps the rule: no part of it reads such a word.
+pub mod Fills
+-- A fill keeps the rule: the word of a free slot is stored, and the view knows what it holds.
+pub mod FillViews
+-- A seat that is split, and a seat that is joined into another one: the rule is kept.
+pub mod TwoViews
+-- Each kind of event keeps the rule where its needs are met.
+pub mod EachKind
+-- A seat that is made: the rule is kept.
+pub mod MadeViews
+-- The seats of the opening, made one after another.
+pub mod MadeSeats
+-- The table with the first view alone, which has all slots, calls and numbers, meets the rule.
+pub mod AtOpening
+-- The first view of a table put behind the others: the rule stays, since it names no seat by its place.
+pub mod LastView
+-- The table of the opening meets the rule: the seats of the passes are made one after another from the first view, which then
+pub mod Opened
+-- The laws on how seats are made, and on what a view knows that has every number.
+pub mod SeatLaws
+-- An event of a seat, or of its free slots, that is allowed keeps the rule.
+pub mod StepSeats
+-- Loads of the stamp, of heads and of the stamps of entries keep the rule.
+pub mod HeadLoads
+-- Loads of the words of an entry at which the seat stands keep the rule.
+pub mod LoadEntries
+-- A load that is allowed keeps the rule.
+pub mod StepLoads
+-- A move of one view that holds more, where nothing of it is free, and nothing of it waits in the batch of one
+pub mod Holding
+-- Try lock keeps the rule: a free lock word names the pass, and a held one stays.
+pub mod TryLocks
+-- Unlock keeps the rule: the lock word is 0, and the view has forgotten the node.
+pub mod Unlocks
+-- Loads and stores of marks keep the rule.
+pub mod Marks
+-- What the needs of events that lock, unlock or mark say, and so what each of these events keeps.
+pub mod LockSteps
+-- An event of a lock, of a mark, or of a key or a value that is allowed keeps the rule.
+pub mod StepLocks
+-- Prepare: what is linked and held once a free entry is put in front of a bundle.
+pub mod Prepare
+-- Prepare: the bundles, and what each number selects, once a free entry is the head of one of them.
+pub mod PrepareBundles
+-- Prepare keeps the rule: a free entry, which has the old head behind it, becomes the head of a bundle.
+pub mod PrepareSeats
+-- Finalise keeps the rule: the number of the raise is written into a pending entry.
+pub mod Finalise
+-- What the tree step of a raise makes true, apart from how its needs are computed.
+pub mod TreeMoved
+-- What the tests of a new node tell, and the children, the selections and the bundles after a raise.
+pub mod TreeAfter
+-- The needs of a tree step, as they are computed, and what they make true.
+pub mod TreeNeeds
+-- How often slots stand in a tree, in the bundles of its nodes, and in a list without others.
+pub mod RaiseCounts
+-- A move of one view that brings some of its free slots in: the rule on one kind of slots, and what the others know of a batch.
+pub mod RaiseMoves
+-- The node that a raise brings in, and the entries of its bundles: they were free, so nothing of the rule spoke of them.
+pub mod RaiseNew
+-- A raise keeps the rule on slots.
+pub mod RaiseSlots
+-- Raise, its part on the history: the update is the last of it, and the view that has made it knows it whole.
+pub mod RaiseHistory
+-- Raise, its part on numbers: the pending entries and those of the new node have the number of the raise, and what
+pub mod RaiseNumbers
+-- Raise: the bundles. Those of live nodes keep their entries, and each bundle of the new node has its head alone.
+pub mod RaiseBundles
+-- Raise: the trees. A tree that a seat reads at an older number stays the one at that number, its null links are as
+pub mod RaiseTrees
+-- Raise: the rule on each seat, the one that raises and each other one.
+pub mod RaiseSeats
+-- Raise keeps the rule: the stamp rises by one, the pending entries and those of the new node have that number, and
+pub mod Raise
+-- An event of an update that is allowed keeps the rule.
+pub mod StepUpdates
+-- An event that is allowed keeps the rule, and what each number up to the stamp selects.
+pub mod StepLaw

@@ -1,0 +1,128 @@
+-- What the needs of events that lock, unlock or mark say, and so what each of these events keeps.
+use Rattle.std.proofs.Common.{◌≡◌, ℕ, ◌+◌, ◌<◌, ◌≤◌, cond, List, [], ◌∷◌, length, Bool, true, false, eqb, ◌&&◌, not, set, arith, refl, sym, subst, Option, Some, None}
+use Rattle.std.specs.List.{list_all}
+use Rattle.std.proofs.lemmas.Bool.{eqb-true, and_parts}
+use Rattle.index_words.specs.declared.layout.Layout.{Layout}
+use Rattle.index_words.specs.declared.view.View.{View}
+use Rattle.index_words.specs.declared.word.Field.{Field}
+use Rattle.index_words.specs.declared.word.Field.TheVariants.{Key, Val, Lock, Mark, Head, Link, Tag}
+use Rattle.index_words.specs.declared.word.Word.TheVariants.{Stamp, Node}
+use Rattle.index_words.specs.Words.{Memory, written}
+use Rattle.key_map.specs.Lists.{count, has, IsItem}
+use Rattle.key_map.proofs.Counting.{has-count}
+use Rattle.core_grace.specs.Sections.{is_even}
+use Rattle.core_invariant.specs.Meanings.{Meaning}
+use Rattle.core_events.specs.Needs.{is_lock, is_marked_node, nothing_pending}
+use Rattle.core_events.specs.LoadMoves.{locks, raised_if}
+use Rattle.core_events.specs.LoadNeeds.{is_reachable}
+use Rattle.core_events.specs.LockNeeds.{is_mark, names_pass, may_try_lock, may_unlock, may_load_mark, may_mark}
+use Rattle.core_events.specs.LockMoves.{locked_view, names_other, met_lock, unlocked_view, with_mark, finds_mark, mark_loaded}
+use Rattle.core_invariant.specs.Rule.{Rule}
+use Rattle.core_invariant.specs.LinkLaw.{Kept}
+use Rattle.core_invariant.proofs.HeldFacts.{locks-count}
+use Rattle.core_events.proofs.Tests.{never, not_true}
+use Rattle.core_invariant.proofs.Needed.{reach_is}
+use Rattle.core_kept.proofs.TryLocks.{lock_kept, met_kept}
+use Rattle.core_kept.proofs.Unlocks.{unlock_kept}
+use Rattle.core_kept.proofs.Marks.{load_mark_kept, mark_kept}
+
+-- a lock word that names the pass
+record OwnLock (number : Option ℕ) (word : ℕ) : Type 0 where
+  n : ℕ
+  named : number ≡ Some n
+  is : word ≡ n + 1
+
+own_lock : (number : Option ℕ) (word : ℕ) → names_pass number word ≡ true → OwnLock number word
+own_lock None word met = absurd (never met)
+own_lock (Some n) word met = record { n = n; named = refl; is = eqb-true word (n + 1) met }
+
+empty_of : {X : Type 0} (xs : List X) → eqb (length xs) 0 ≡ true → xs ≡ []
+empty_of [] e = refl
+empty_of (x ∷ xs) e = let none : length (x ∷ xs) ≡ 0 = eqb-true (length (x ∷ xs)) 0 e in absurd (omega arith)
+
+marked_step : (m : Memory) (j x : ℕ) (b : Bool) (rest : ℕ) → eqb x j ≡ b → m (Node Mark x) ≡ 1 → (0 < rest → m (Node Mark j) ≡ 1) → 0 < cond b 1 0 + rest → m (Node Mark j) ≡ 1
+marked_step m j x true rest is here later some = subst (λ k. m (Node Mark k) ≡ 1) (eqb-true x j is) here
+marked_step m j x false rest is here later some = later (omega (arith, some))
+
+-- each of the nodes that are all marked
+all_marked : (m : Memory) (xs : List ℕ) → list_all (is_marked_node m) xs ≡ true → (j : ℕ) → 0 < count j xs → m (Node Mark j) ≡ 1
+all_marked m [] all j some = absurd (omega (arith, some))
+all_marked m (x ∷ xs) all j some =
+    let parts = and_parts (is_marked_node m x) (list_all (is_marked_node m) xs) all in
+    marked_step m j x (eqb x j) (count j xs) refl (eqb-true (m (Node Mark x)) 1 parts.0) (all_marked m xs parts.1 j) some
+
+module _ (z : Layout) (m : Memory) (vs : List View) (g : Meaning) (rule : Rule z m vs g) (i : ℕ) (v : View) (at : IsItem vs i v) where
+  -- a lock that is free
+  pub lock_by : (f : Field) (k value : ℕ) → k ≤ z.nodes → may_try_lock v (Node f k) value ≡ true → m (Node f k) ≡ 0
+      → Kept z (m Stamp) vs g (written m (Node f k) value) (set vs i (locked_view v k))
+  lock_by Lock k value there met free =
+      let b = not (is_even v.section_word) in
+      let c = is_reachable v k in
+      let d = not (locks k v.held.nodes) in
+      let one = and_parts (is_lock Lock && b && c && d) (names_pass v.number value) met in
+      let two = and_parts (is_lock Lock && b && c) d one.0 in
+      let three = and_parts (is_lock Lock && b) c two.0 in
+      let own = own_lock v.number value one.1 in
+      subst (λ x. Kept z (m Stamp) vs g (written m (Node Lock k) x) (set vs i (locked_view v k))) (sym own.is)
+      (lock_kept z m vs g rule i k own.n v at (not_true (is_even v.section_word) (and_parts (is_lock Lock) b three.0).1) (reach_is z v k there three.1) own.named free)
+  lock_by Key k value there met free = absurd (never met)
+  lock_by Val k value there met free = absurd (never met)
+  lock_by Mark k value there met free = absurd (never met)
+  lock_by (Head side) k value there met free = absurd (never met)
+  lock_by (Link side) k value there met free = absurd (never met)
+  lock_by (Tag side) k value there met free = absurd (never met)
+
+  -- a lock that was found held
+  pub met_by : (f : Field) (k value found : ℕ) → may_try_lock v (Node f k) value ≡ true → Rule z m (set vs i (met_lock v value found)) g
+  met_by f k value found met =
+      let b = not (is_even v.section_word) in
+      let c = is_reachable v k in
+      let d = not (locks k v.held.nodes) in
+      let one = and_parts (is_lock f && b && c && d) (names_pass v.number value) met in
+      let two = and_parts (is_lock f && b && c) d one.0 in
+      let three = and_parts (is_lock f && b) c two.0 in
+      met_kept z m vs g i v (record v.counts { busy = raised_if (names_other value found) v.counts.busy }) rule at
+      (not_true (is_even v.section_word) (and_parts (is_lock f) b three.0).1)
+
+  pub unlock_by : (f : Field) (k value : ℕ) → may_unlock m v (Node f k) value ≡ true → Kept z (m Stamp) vs g (written m (Node f k) value) (set vs i (unlocked_view v k))
+  unlock_by Lock k value met =
+      let b = locks k v.held.nodes in
+      let one = and_parts (is_lock Lock && b && nothing_pending m v) (eqb value 0) met in
+      let two = and_parts (is_lock Lock && b) (nothing_pending m v) one.0 in
+      let none = and_parts (eqb (length v.update.pending) 0) (list_all (is_marked_node m) v.update.taken) two.1 in
+      subst (λ x. Kept z (m Stamp) vs g (written m (Node Lock k) x) (set vs i (unlocked_view v k))) (sym (eqb-true value 0 one.1))
+      (unlock_kept z m vs g rule i k v at (locks-count k v.held.nodes (and_parts (is_lock Lock) b two.0).1) (empty_of v.update.pending none.0) (all_marked m v.update.taken none.1))
+  unlock_by Key k value met = absurd (never met)
+  unlock_by Val k value met = absurd (never met)
+  unlock_by Mark k value met = absurd (never met)
+  unlock_by (Head side) k value met = absurd (never met)
+  unlock_by (Link side) k value met = absurd (never met)
+  unlock_by (Tag side) k value met = absurd (never met)
+
+  pub load_mark_by : (f : Field) (k value : ℕ) → may_load_mark v (Node f k) value ≡ true → Rule z m (set vs i (mark_loaded v k (m (Node f k)))) g
+  load_mark_by Mark k value met =
+      let b = not (is_even v.section_word) in
+      let one = and_parts (is_mark Mark && b) (eqb value 0) met in
+      let x = m (Node Mark k) in
+      load_mark_kept z m vs g rule i k x v at (record v.counts { moves = raised_if (finds_mark v k x) v.counts.moves }) (not_true (is_even v.section_word) (and_parts (is_mark Mark) b one.0).1) refl
+  load_mark_by Key k value met = absurd (never met)
+  load_mark_by Val k value met = absurd (never met)
+  load_mark_by Lock k value met = absurd (never met)
+  load_mark_by (Head side) k value met = absurd (never met)
+  load_mark_by (Link side) k value met = absurd (never met)
+  load_mark_by (Tag side) k value met = absurd (never met)
+
+  pub mark_by : (f : Field) (k value : ℕ) → may_mark v (Node f k) value ≡ true → Kept z (m Stamp) vs g (written m (Node f k) value) (set vs i (with_mark v k 1))
+  mark_by Mark k value met =
+      let b = locks k v.held.nodes in
+      let c = has k v.update.taken in
+      let one = and_parts (is_mark Mark && b && c) (eqb value 1) met in
+      let two = and_parts (is_mark Mark && b) c one.0 in
+      subst (λ x. Kept z (m Stamp) vs g (written m (Node Mark k) x) (set vs i (with_mark v k 1))) (sym (eqb-true value 1 one.1))
+      (mark_kept z m vs g rule i k v at (locks-count k v.held.nodes (and_parts (is_mark Mark) b two.0).1) (has-count k v.update.taken two.1))
+  mark_by Key k value met = absurd (never met)
+  mark_by Val k value met = absurd (never met)
+  mark_by Lock k value met = absurd (never met)
+  mark_by (Head side) k value met = absurd (never met)
+  mark_by (Link side) k value met = absurd (never met)
+  mark_by (Tag side) k value met = absurd (never met)

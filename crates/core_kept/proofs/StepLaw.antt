@@ -1,0 +1,97 @@
+-- An event that is allowed keeps the rule, and what each number up to the stamp selects.
+use Rattle.std.proofs.Common.{◌≡◌, ℕ, List, true, false, not, ◌&&◌, refl, Option, Some, None}
+use Rattle.std.specs.List.{All, slice_get}
+use Rattle.std.proofs.lemmas.Bool.{and_parts}
+use Rattle.index_words.specs.declared.layout.Layout.{Layout}
+use Rattle.key_map.specs.declared.update.Update.{Update}
+use Rattle.index_words.specs.declared.view.View.{View}
+use Rattle.index_words.specs.declared.word.Word.{Word}
+use Rattle.index_words.specs.Words.{Memory, memory, word_at}
+use Rattle.key_map.specs.Lists.{IsItem}
+use Rattle.core_events.specs.declared.event.Event.{Event}
+use Rattle.core_events.specs.declared.event.Kind.{Kind}
+use Rattle.core_events.specs.declared.event.Kind.TheVariants.{MakeSeat, SplitSeat, JoinSeat, Enter, Leave, LookSec, Fill, LoadStamp, LoadHead, LoadTs, LoadPtr, LoadNext, Prepare, Raise, Finalise, TryLock, Unlock, LoadMark, Mark as MarkNode, LoadKeyOrVal}
+use Rattle.core_events.specs.Tables.{Table, held_by}
+use Rattle.core_invariant.specs.Rule.{InRule, IsRight}
+use Rattle.core_invariant.specs.LinkLaw.{KeepsSelections}
+use Rattle.core_events.specs.Steps.{needs, carries, allowed, allowed_at, after, after_at, views_after, words_after}
+use Rattle.core_kept.specs.KeepsRule.{KeepsLaw}
+use Rattle.core_invariant.specs.SpentViews.{IsSpent}
+use Rattle.core_invariant.specs.Numbers.{IsSpare}
+use Rattle.core_invariant.specs.OwnPlaces.{KnowsPlaces}
+use Rattle.core_invariant.proofs.OneView.{item_from_get}
+use Rattle.core_events.proofs.Tests.{never, not_true}
+use Rattle.core_invariant.proofs.LinkLaw.{selections_kept}
+use Rattle.core_invariant.proofs.SpentViews.{spent_after}
+use Rattle.core_kept.proofs.SectionWords.{spare_after}
+use Rattle.core_kept.proofs.OwnPlaces.{places_after}
+use Rattle.core_invariant.specs.KeptRule.{After}
+use Rattle.core_kept.proofs.StepLoads.{stamp_law, head_law, number_law, child_law, next_law}
+use Rattle.core_kept.proofs.StepUpdates.{prepare_law, raise_law, finalise_law}
+use Rattle.core_kept.proofs.StepLocks.{lock_law, unlock_law, load_mark_law, mark_law, load_pair_law}
+use Rattle.core_kept.proofs.StepSeats.{split_law, join_law, enter_law, leave_law, look_law, fill_law}
+
+module _ (z : Layout) (words : List ℕ) (vs : List View) (right : InRule z words vs) (i : ℕ) (v : View) (at : IsItem vs i v) (live : v.joined ≡ false) (n : ℕ) (w : Word) (found : word_at z n ≡ Some w) (value : ℕ) where
+  abbrev m : Memory
+  m = memory z words
+
+  abbrev Gives : List ℕ → List View → Type 0
+  Gives = After z words vs right
+
+  kind_right : (kind : Kind) (o : Option Update) → carries kind v o ≡ true → needs kind z m vs i v w value o ≡ true
+      → Gives (words_after kind words n value) (views_after kind z m vs i v w value o)
+  kind_right MakeSeat o own met = absurd (never met)
+  kind_right SplitSeat o own met = split_law z words vs right i v at live n w found value o own met
+  kind_right JoinSeat o own met = join_law z words vs right i v at live n w found value o own met
+  kind_right Enter o own met = enter_law z words vs right i v at live n w found value o own met
+  kind_right Leave o own met = leave_law z words vs right i v at live n w found value o own met
+  kind_right LookSec o own met = look_law z words vs right i v at live n w found value o own met
+  kind_right Fill o own met = fill_law z words vs right i v at live n w found value o own met
+  kind_right LoadStamp o own met = stamp_law z words vs right i v at live n w found value o own met
+  kind_right LoadHead o own met = head_law z words vs right i v at live n w found value o own met
+  kind_right LoadTs o own met = number_law z words vs right i v at live n w found value o own met
+  kind_right LoadPtr o own met = child_law z words vs right i v at live n w found value o own met
+  kind_right LoadNext o own met = next_law z words vs right i v at live n w found value o own met
+  kind_right Prepare o own met = prepare_law z words vs right i v at live n w found value o own met
+  kind_right Raise o own met = raise_law z words vs right i v at live n w found value o own met
+  kind_right Finalise o own met = finalise_law z words vs right i v at live n w found value o own met
+  kind_right TryLock o own met = lock_law z words vs right i v at live n w found value o own met
+  kind_right Unlock o own met = unlock_law z words vs right i v at live n w found value o own met
+  kind_right LoadMark o own met = load_mark_law z words vs right i v at live n w found value o own met
+  kind_right MarkNode o own met = mark_law z words vs right i v at live n w found value o own met
+  kind_right LoadKeyOrVal o own met = load_pair_law z words vs right i v at live n w found value o own met
+
+-- the table after an event, and the rule of it
+pub record AfterTable (t u : Table) : Type 0 where
+  pub right : IsRight u
+  pub same : KeepsSelections t u
+
+after_of : (z : Layout) (words : List ℕ) (vs : List View) (right : InRule z words vs) (words' : List ℕ) (ws : List View) → After z words vs right words' ws → All IsSpent ws → All (IsSpare (memory z words')) ws → All KnowsPlaces ws
+    → AfterTable (record { layout = z; words = words; views = vs }) (record { layout = z; words = words'; views = ws })
+after_of z words vs right words' ws gives spent spare places = record {
+  right = record { size = gives.size; meaning = gives.kept.meaning; rule = gives.kept.rule; spent = spent; spare = spare; places = places };
+  same = selections_kept z (memory z words) (memory z words') vs ws right.meaning gives.kept.meaning right.rule gives.kept.rule gives.kept.same;
+}
+
+after_right : (t : Table) (e : Event) (o : Option View) (w : Option Word) → slice_get t.views e.seat ≡ o → word_at t.layout e.word ≡ w → IsRight t → allowed_at t e o w ≡ true → AfterTable t (after_at t e o w)
+after_right t e None w is found right met = absurd (never met)
+after_right t e (Some v) None is found right met = absurd (never met)
+after_right t e (Some v) (Some w) is found right met =
+    let a = carries e.kind v e.update in
+    let b = not v.joined in
+    let c = needs e.kind t.layout (held_by t) t.views e.seat v w e.value e.update in
+    let one = and_parts (a && b) c met in
+    let two = and_parts a b one.0 in
+    let live : v.joined ≡ false = not_true v.joined two.1 in
+    let at = item_from_get t.views e.seat v is in
+    after_of t.layout t.words t.views right _ _ (kind_right t.layout t.words t.views right e.seat v at live e.word w found e.value e.kind e.update two.0 one.1)
+    (spent_after t.layout (held_by t) t.views e.seat v w e.value e.update right.spent live e.kind)
+    (spare_after t.layout t.words t.views right e.seat v at e.word w found e.value e.update e.kind one.1)
+    (places_after t.layout t.words t.views right e.seat v at w e.value e.kind e.update two.0 one.1)
+
+-- the law on an allowed event: the rule holds after it, and what was selected is selected
+pub stepped_right : (t : Table) (e : Event) → IsRight t → allowed t e ≡ true → AfterTable t (after t e)
+stepped_right t e right met = after_right t e (slice_get t.views e.seat) (word_at t.layout e.word) refl refl right met
+
+pub keeps : KeepsLaw
+keeps t e right met = (stepped_right t e right met).right

@@ -1,0 +1,144 @@
+-- An event of a seat, or of its free slots, that is allowed keeps the rule.
+use Rattle.std.proofs.Common.{◌≡◌, ℕ, ◌+◌, ◌<◌, List, [], ◌∷◌, ◌++◌, length, true, false, not, eqb, ◌&&◌, ◌||◌, inl, inr, set, refl, sym, subst, Option, Some, None, is_none}
+use Rattle.std.specs.List.{slice_get}
+use Rattle.std.proofs.lemmas.Bool.{and_parts}
+use Rattle.index_words.specs.declared.layout.Layout.{Layout}
+use Rattle.index_words.specs.declared.view.View.{View}
+use Rattle.index_words.specs.declared.view.slots.Slots.{Slots}
+use Rattle.index_words.specs.declared.word.Word.{Word}
+use Rattle.index_words.specs.declared.word.Word.TheVariants.{Stamp, Section, Announced, Node, Entry}
+use Rattle.index_words.specs.Words.{Memory, memory, written, word_at}
+use Rattle.key_map.specs.Lists.{count, has, IsItem}
+use Rattle.key_map.proofs.Counting.{has-count}
+use Rattle.index_words.specs.Views.{spent_view}
+use Rattle.core_grace.specs.Sections.{is_even, left_word}
+use Rattle.core_grace.specs.Batches.{is_number, is_empty, looked}
+use Rattle.core_events.specs.declared.event.Kind.TheVariants.{SplitSeat, JoinSeat, Enter, Leave, LookSec, Fill}
+use Rattle.core_events.specs.Needs.{is_outside, is_own_section, may_enter, may_leave, may_look, may_fill, may_join, may_join_found, may_join_view, nothing_pending, is_stamp, is_lock}
+use Rattle.core_events.specs.FillMoves.{filled_view}
+use Rattle.core_events.specs.Moves.{entered, left, split_left, split_right, joined_with}
+use Rattle.core_invariant.specs.Rule.{Rule, InRule}
+use Rattle.core_invariant.specs.LinkLaw.{Kept}
+use Rattle.core_events.specs.Steps.{views_after, join_found}
+use Rattle.core_invariant.specs.SectionRule.{IsIdle}
+use Rattle.core_invariant.proofs.OneView.{item_from_get, seat_at}
+use Rattle.core_events.proofs.Tests.{never, not_equal, either_true, not_true, none_of}
+use Rattle.core_invariant.proofs.Needed.{own_section, outside_idle}
+use Rattle.core_kept.proofs.EachKind.{enter_kept, leave_kept, look_kept}
+use Rattle.core_invariant.proofs.Idle.{nameless_idle}
+use Rattle.core_kept.proofs.Fills.{node_stored, entry_stored}
+use Rattle.core_kept.proofs.FillViews.{fill_kept}
+use Rattle.core_kept.proofs.TwoViews.{split_kept, join_kept}
+use Rattle.core_invariant.specs.KeptRule.{After, KeepsRuleAt}
+use Rattle.core_invariant.proofs.StepGives.{kept_same, store_right, load_right}
+
+module _ (z : Layout) (words : List ℕ) (vs : List View) (right : InRule z words vs) (i : ℕ) (v : View) (at : IsItem vs i v) (live : v.joined ≡ false) (n : ℕ) (w : Word) (found : word_at z n ≡ Some w) (value : ℕ) where
+  abbrev m : Memory
+  m = memory z words
+
+  abbrev Gives : List ℕ → List View → Type 0
+  Gives = After z words vs right
+
+  one_kept : (m' : Memory) (ws : List View) → Rule z m' ws right.meaning → Kept z (m Stamp) vs right.meaning m' ws
+  one_kept m' ws rule = kept_same z (m Stamp) vs right.meaning m' ws rule
+
+  pub enter_right : may_enter v w value ≡ true → Gives (set words n value) (set vs i (entered z.passes v value))
+  enter_right met =
+      let parts = and_parts (is_own_section v.number w && is_outside v) (eqb value (v.section_word + 1)) met in
+      let first = and_parts (is_own_section v.number w) (is_outside v) parts.0 in
+      let own = own_section v.number w first.0 in
+      store_right z words vs n value w right (set vs i (entered z.passes v value)) found
+      (one_kept (written m w value) (set vs i (entered z.passes v value))
+      (subst (λ u. Rule z (written m u value) (set vs i (entered z.passes v value)) right.meaning) (sym own.word)
+      (enter_kept z m vs right.meaning i own.n value v at right.rule own.named first.1)))
+
+  pub leave_right : may_leave m v w value ≡ true → Gives (set words n value) (set vs i (left v value))
+  leave_right met =
+      let a = is_own_section v.number w in
+      let b = not (is_even v.section_word) in
+      let c = eqb (length v.held.nodes) 0 in
+      let d = nothing_pending m v in
+      let one = and_parts (a && b && c && d) (eqb value (left_word v.section_word)) met in
+      let two = and_parts (a && b && c) d one.0 in
+      let three = and_parts (a && b) c two.0 in
+      let own = own_section v.number w (and_parts a b three.0).0 in
+      store_right z words vs n value w right (set vs i (left v value)) found
+      (one_kept (written m w value) (set vs i (left v value))
+      (subst (λ u. Rule z (written m u value) (set vs i (left v value)) right.meaning) (sym own.word)
+      (leave_kept z m vs right.meaning i own.n value v at right.rule own.named three.1)))
+
+  pub look_found : (u : Word) → may_look v u value ≡ true → Gives words (views_after LookSec z m vs i v u value None)
+  look_found (Section pass) met =
+      let a = not (is_number pass v.number) in
+      let b = is_outside v in
+      let c = not (is_empty v.batch && is_empty v.retired) in
+      let one = and_parts (a && b && c) (eqb value 0) met in
+      let two = and_parts (a && b) c one.0 in
+      let three = and_parts a b two.0 in
+      load_right z words vs right (set vs i (looked z.passes v pass (m (Section pass))))
+      (look_kept z m vs right.meaning i pass v at right.rule (not_true (is_number pass v.number) three.0) three.1)
+  look_found Stamp met = absurd (never met)
+  look_found (Announced k) met = absurd (never met)
+  look_found (Node f k) met = absurd (never met)
+  look_found (Entry p e) met = absurd (never met)
+
+  pub fill_found : (u : Word) → word_at z n ≡ Some u → may_fill v u ≡ true → Gives (set words n value) (set vs i (filled_view v u value))
+  fill_found (Node f k) is met =
+      let parts = and_parts (not (is_lock f)) (has k v.free.nodes) met in
+      let free = has-count k v.free.nodes parts.1 in
+      store_right z words vs n value (Node f k) right (set vs i (filled_view v (Node f k) value)) is
+      (one_kept (written m (Node f k) value) (set vs i (filled_view v (Node f k) value))
+      (fill_kept z m right.meaning i (Node f k) value vs right.rule v at
+      (λ us u rule here same fresh. node_stored z m us right.meaning rule i k u f value here (subst (λ (s : Slots). 0 < count k s.nodes) (sym same) free) (not_true (is_lock f) parts.0) fresh)))
+  fill_found (Entry p e) is met =
+      let free = has-count e v.free.entries met in
+      store_right z words vs n value (Entry p e) right (set vs i (filled_view v (Entry p e) value)) is
+      (one_kept (written m (Entry p e) value) (set vs i (filled_view v (Entry p e) value))
+      (fill_kept z m right.meaning i (Entry p e) value vs right.rule v at
+      (λ us u rule here same fresh. entry_stored z m us right.meaning rule i e u here (subst (λ (s : Slots). 0 < count e s.entries) (sym same) free) p value fresh)))
+  fill_found Stamp is met = absurd (never met)
+  fill_found (Section k) is met = absurd (never met)
+  fill_found (Announced k) is met = absurd (never met)
+
+  pub split_right' : Gives words (set vs i (split_left v value) ++ split_right v value ∷ [])
+  split_right' =
+      load_right z words vs right (set vs i (split_left v value) ++ split_right v value ∷ [])
+      (split_kept z m vs right.meaning i value v at right.rule live)
+
+  join_idle : (u : View) → IsItem vs value u → may_join_view v u ≡ true → IsIdle u
+  join_idle u of met =
+      elim (either_true (is_none u.number) (is_outside v && is_outside u) (and_parts (not u.joined) (is_none u.number || (is_outside v && is_outside u)) met).1) as (λ _. IsIdle u) [
+        | inl none ↦ nameless_idle (λ k. m (Section k)) (λ k. m (Announced k)) u (seat_at z m vs right.meaning value u of right.rule).section (none_of u.number none)
+        | inr both ↦ outside_idle z m vs right.meaning value u of right.rule (and_parts (is_outside v) (is_outside u) both).1
+      ]
+
+  join_by : (o : Option View) → slice_get vs value ≡ o → (value ≡ i → ⊥) → may_join_found v o ≡ true → Gives words (join_found vs i v value o)
+  join_by None is other met = load_right z words vs right vs right.rule
+  join_by (Some u) is other met =
+      let of = item_from_get vs value u is in
+      load_right z words vs right (set (set vs i (joined_with v u)) value spent_view)
+      (join_kept z m vs right.meaning i value v u at of other (join_idle u of met) right.rule)
+
+  pub join_right : may_join vs i v w value ≡ true → Gives words (join_found vs i v value (slice_get vs value))
+  join_right met =
+      let one = and_parts (is_stamp w && not (eqb value i)) (may_join_found v (slice_get vs value)) met in
+      let two = and_parts (is_stamp w) (not (eqb value i)) one.0 in
+      join_by (slice_get vs value) refl (not_equal value i two.1) one.1
+
+pub split_law : KeepsRuleAt SplitSeat
+split_law z words vs right i v at live n w found value o own met = split_right' z words vs right i v at live n w found value
+
+pub join_law : KeepsRuleAt JoinSeat
+join_law z words vs right i v at live n w found value o own met = join_right z words vs right i v at live n w found value met
+
+pub enter_law : KeepsRuleAt Enter
+enter_law z words vs right i v at live n w found value o own met = enter_right z words vs right i v at live n w found value met
+
+pub leave_law : KeepsRuleAt Leave
+leave_law z words vs right i v at live n w found value o own met = leave_right z words vs right i v at live n w found value met
+
+pub look_law : KeepsRuleAt LookSec
+look_law z words vs right i v at live n w found value o own met = look_found z words vs right i v at live n w found value w met
+
+pub fill_law : KeepsRuleAt Fill
+fill_law z words vs right i v at live n w found value o own met = fill_found z words vs right i v at live n w found value w found met

@@ -1,0 +1,5 @@
+pub mod KeepsSeen
+pub mod SectionMoves
+pub mod ViewLaws
+pub mod SeatLaws
+pub mod KeepsRule

@@ -1,0 +1,73 @@
+// Why each event keeps the rule, by the kinds of events, and what each event keeps of a view. The calls do nothing: their clauses are
+// what is proved.
+ghost use Rattle.core_events.specs.declared.event.Kind.TheVariants.{SplitSeat, JoinSeat, Enter, Leave, LookSec, Fill, LoadStamp, LoadHead, LoadTs, LoadPtr, LoadNext, TryLock, Unlock, LoadMark, Mark, LoadKeyOrVal, Prepare, Raise, Finalise};
+ghost use Rattle.core_invariant.specs.KeptRule.{KeepsRuleAt};
+ghost use Rattle.core_kept.specs.KeepsRule.{KeepsLaw};
+ghost use Rattle.core_kept.specs.SeatLaws.{FirstLaw, MakeLaw, MadeLaw, WholeLaw};
+ghost use Rattle.core_kept.specs.ViewLaws.{SpentLaw, SpareLaw, PlacesLaw, SeenLaw, SectionsLaw};
+
+/// What every allowed event keeps of each view. Nothing is left of a view that was joined into another one. The section
+/// word and the announcement of a number that is still to be given are 0. Each view knows the places of its own
+/// updates. No event makes what a seat has seen shorter. An enter takes the own section word from even to odd, a leave
+/// from odd to even, and no event changes another pass's.
+pub fn views_keep_the_rule()
+    ensures spent { SpentLaw }
+    ensures spare { SpareLaw }
+    ensures places { PlacesLaw }
+    ensures seen { SeenLaw }
+    ensures sections { SectionsLaw }
+{}
+
+/// An allowed split or join of seats, enter, leave, look at a section word, or fill of a free slot
+/// keeps the rule, and what the stamp and each section number select.
+pub fn seats_keep_the_rule()
+    ensures split { KeepsRuleAt SplitSeat }
+    ensures join { KeepsRuleAt JoinSeat }
+    ensures enter { KeepsRuleAt Enter }
+    ensures leave { KeepsRuleAt Leave }
+    ensures look { KeepsRuleAt LookSec }
+    ensures fill { KeepsRuleAt Fill }
+{}
+
+/// How seats are made. The table with the first view alone meets the rule, and making a seat keeps it. Made one after
+/// another, the seats of the passes stand behind the first view, which is empty then. And a view that has every number,
+/// as its own or given up to it, knows as many updates as the stamp says.
+pub fn how_seats_are_made()
+    ensures first { FirstLaw }
+    ensures make { MakeLaw }
+    ensures made { MadeLaw }
+    ensures whole { WholeLaw }
+{}
+
+/// An allowed load of the stamp, of a head, or of the stamp, the child or the next of an entry keeps the rule,
+/// and what the stamp and each section number select.
+pub fn loads_keep_the_rule()
+    ensures stamp { KeepsRuleAt LoadStamp }
+    ensures head { KeepsRuleAt LoadHead }
+    ensures number { KeepsRuleAt LoadTs }
+    ensures child { KeepsRuleAt LoadPtr }
+    ensures next { KeepsRuleAt LoadNext }
+{}
+
+/// An allowed try of a lock, unlock, load of a mark, mark, or load of a key or a value keeps the rule, and what the
+/// stamp and each section number select.
+pub fn locks_keep_the_rule()
+    ensures lock { KeepsRuleAt TryLock }
+    ensures unlock { KeepsRuleAt Unlock }
+    ensures read_mark { KeepsRuleAt LoadMark }
+    ensures mark { KeepsRuleAt Mark }
+    ensures read_pair { KeepsRuleAt LoadKeyOrVal }
+{}
+
+/// An allowed prepare, raise or finalise keeps the rule, and what the stamp and each section number select. After a
+/// raise the stamp is a new number, at which the words spell the tree after the update.
+pub fn updates_keep_the_rule()
+    ensures prepare { KeepsRuleAt Prepare }
+    ensures raise { KeepsRuleAt Raise }
+    ensures finalise { KeepsRuleAt Finalise }
+{}
+
+/// Every allowed event keeps the rule, from every table that meets it: what the laws above show of the kinds, joined.
+pub fn every_event_keeps_the_rule()
+    ensures keeps { KeepsLaw }
+{}

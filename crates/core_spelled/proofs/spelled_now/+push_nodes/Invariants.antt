@@ -1,4 +1,0 @@
-use Rattle.core_spelled.proofs.spelled_now.+push_nodes.Given as goal
-
-abbrev pub decreases-push_nodes : goal.decreases-push_nodes
-decreases-push_nodes l = l.depth

@@ -1,4 +1,0 @@
-use Rattle.core_spelled.proofs.spelling.+spells_put.Given as goal
-
-abbrev pub decreases-spells_put : goal.decreases-spells_put
-decreases-spells_put l = l.tree.depth

@@ -1,4 +1,0 @@
-use Rattle.core_spelled.proofs.spelling.+spells_removal.Given as goal
-
-abbrev pub decreases-spells_removal : goal.decreases-spells_removal
-decreases-spells_removal l = l.tree.depth

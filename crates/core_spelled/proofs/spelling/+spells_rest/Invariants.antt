@@ -1,4 +1,0 @@
-use Rattle.core_spelled.proofs.spelling.+spells_rest.Given as goal
-
-abbrev pub decreases-spells_rest : goal.decreases-spells_rest
-decreases-spells_rest l = l.tree.depth

@@ -1,4 +1,0 @@
-use Rattle.core_spelled.proofs.spelling.+spells_same.Given as goal
-
-abbrev pub decreases-spells_same : goal.decreases-spells_same
-decreases-spells_same l = l.tree.depth

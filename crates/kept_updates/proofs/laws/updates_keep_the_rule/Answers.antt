@@ -1,5 +1,0 @@
-use Rattle.kept_updates.proofs.StepUpdates.{prepare_law, raise_law, finalise_law}
-use Rattle.kept_updates.proofs.laws.updates_keep_the_rule.Goals as goal
-
-pub returns : goal.returns
-returns c = record { prepare = prepare_law; raise = raise_law; finalise = finalise_law }

@@ -1,3 +1,0 @@
-pub mod KeepsSeen
-pub mod SectionMoves
-pub mod ViewLaws

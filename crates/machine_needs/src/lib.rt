@@ -1,0 +1,10 @@
+//! What each kind of event needs, tested by code, and the step that an allowed event makes, with what its kind needs.
+//! It is a part of the machine of `core_rule`: no crate calls it but those of the machine.
+#![tactic(auto)]
+
+mod load_needs;
+mod lock_needs;
+pub mod needs;
+mod seat_needs;
+pub mod step;
+mod update_needs;

@@ -1,0 +1,97 @@
+// Whether an event is allowed, and its step.
+ghost use Rattle.std.specs.Prelude.{◌≡◌, ◌&&◌, Some, None, IfSome, is_some};
+ghost use Rattle.std.specs.List.{slice_get};
+ghost use Rattle.index_words.specs.Words.{memory};
+ghost use Rattle.core_events.specs.declared.event.Kind.TheVariants.{Raise};
+ghost use Rattle.core_events.specs.Steps.{carries, needs, allowed_at};
+ghost use Rattle.machine_needs.specs.StepParts.{parts_of, IsStep};
+
+use crate::load_needs::{load_child, load_head, load_next, load_number, load_stamp};
+use crate::lock_needs::{load_mark, load_pair, mark, try_lock, unlock};
+use crate::seat_needs::{enter, fill, join, leave, look, split};
+use crate::step::Step;
+use crate::update_needs::{finalise, prepare, raise};
+use core_events::{Event, Kind};
+use core_grace::is_own;
+use index_words::{Layout, Update, View, Word};
+
+/// The step of an event without an update, of a kind, at a word by name, by a seat with this view.
+fn plain_step(
+    layout: &Layout,
+    words: &[u64],
+    views: &[View],
+    view: &View,
+    word: Word,
+    event: &Event,
+) -> Option<Step>
+    ensures met { is_some result ≡ (carries event.now.kind view.now None && needs event.now.kind layout.now (memory layout.now words.now) views.now event.now.seat view.now word event.now.value None) }
+    ensures step { IfSome result (IsStep event.now.kind word event.now.value) }
+{
+    let value = event.value;
+    match event.kind {
+        Kind::MakeSeat | Kind::Raise => None,
+        Kind::SplitSeat => split(view, word, value),
+        Kind::JoinSeat => join(views, event.seat, view, word, value),
+        Kind::Enter => enter(view, word, value),
+        Kind::Leave => leave(layout, words, view, word, value),
+        Kind::LookSec => look(view, word, value),
+        Kind::Fill => fill(view, word, value),
+        Kind::LoadStamp => load_stamp(view, word, value),
+        Kind::LoadHead => load_head(view, word, value),
+        Kind::LoadTs => load_number(view, word, value),
+        Kind::LoadPtr => load_child(view, word, value),
+        Kind::LoadNext => load_next(view, word, value),
+        Kind::Prepare => prepare(layout, words, view, word, value),
+        Kind::Finalise => finalise(view, word, value),
+        Kind::TryLock => try_lock(view, word, value),
+        Kind::Unlock => unlock(layout, words, view, word, value),
+        Kind::LoadMark => load_mark(view, word, value),
+        Kind::Mark => mark(view, word, value),
+        Kind::LoadKeyOrVal => load_pair(view, word, value),
+    }
+}
+
+/// The step of an event with an update: a raise by the update's own pass.
+fn raise_step(
+    layout: &Layout,
+    words: &[u64],
+    views: &[View],
+    view: &View,
+    word: Word,
+    event: &Event,
+    update: Update,
+) -> Option<Step>
+    ensures met { is_some result ≡ (carries event.now.kind view.now (Some update) && needs event.now.kind layout.now (memory layout.now words.now) views.now event.now.seat view.now word event.now.value (Some update)) }
+    ensures step { IfSome result (λ s. parts_of s ≡ record { kind = event.now.kind; word = word; value = event.now.value; update = Some update }) }
+{
+    match event.kind {
+        Kind::Raise => {
+            if !is_own(view.number, update.client) {
+                return None;
+            }
+            raise(layout, words, views, view, word, event.value, update)
+        }
+        _ => None,
+    }
+}
+
+/// The step of an event whose word has this name. None exactly where the event is not allowed.
+pub fn allowed_step(
+    layout: &Layout,
+    words: &[u64],
+    views: &[View],
+    word: Word,
+    event: &Event,
+) -> Option<Step>
+    ensures met { is_some result ≡ allowed_at (record { layout = layout.now; words = words.now; views = views.now }) event.now (slice_get views.now event.now.seat) (Some word) }
+    ensures step { IfSome result (λ s. parts_of s ≡ record { kind = event.now.kind; word = word; value = event.now.value; update = event.now.update }) }
+{
+    let view = views.get(event.seat as usize)?;
+    if view.joined {
+        return None;
+    }
+    match event.update {
+        None => plain_step(layout, words, views, view, word, event),
+        Some(update) => raise_step(layout, words, views, view, word, event, update),
+    }
+}

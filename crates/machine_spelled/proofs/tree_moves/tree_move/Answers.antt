@@ -1,0 +1,28 @@
+use Rattle.std.proofs.Common.{[]}
+use Rattle.index_words.specs.Words.{memory}
+use Rattle.core_events.specs.SpelledNow.{graph_now, tree_from}
+use Rattle.machine_spelled.proofs.TreeTests.{ready_is, added_free, heads_free}
+use Rattle.machine_spelled.proofs.tree_moves.tree_move.Goals as goal
+
+pub own_added-added-requires : goal.own_added-added-requires
+own_added-added-requires c =
+    added_free (memory c.args.layout.now c.args.words.now) c.args.view.now c.plan_of-plan.result.added c.as_slice-2.result.now c.as_slice-2.ensures
+    (ready_is c.args.layout.now (memory c.args.layout.now c.args.words.now) c.args.views.now c.args.view.now c.args.update c.as_slice.result.now
+    (tree_from c.whole.result.depth c.args.layout.now.nodes (graph_now (memory c.args.layout.now c.args.words.now) c.args.views.now []) c.whole.result.child)
+    c.plan_of-plan.result.slot c.plan_of-plan.result.added c.as_slice.ensures c.whole.ensures c.plan_of-plan.ensures.slot c.plan_of-plan.ensures.added c.requires.met)
+
+pub new_list-requires-clause-left : goal.new_list-requires-clause-left
+new_list-requires-clause-left c =
+    (heads_free (memory c.args.layout.now c.args.words.now) c.args.view.now c.plan_of-plan.result.heads.left c.plan_of-plan.result.heads.right c.plan_of-plan.result.added c.as_slice-3.result.now c.as_slice-3.ensures
+    c.plan_of-plan.ensures.heads
+    (ready_is c.args.layout.now (memory c.args.layout.now c.args.words.now) c.args.views.now c.args.view.now c.args.update c.as_slice.result.now
+    (tree_from c.whole.result.depth c.args.layout.now.nodes (graph_now (memory c.args.layout.now c.args.words.now) c.args.views.now []) c.whole.result.child)
+    c.plan_of-plan.result.slot c.plan_of-plan.result.added c.as_slice.ensures c.whole.ensures c.plan_of-plan.ensures.slot c.plan_of-plan.ensures.added c.requires.met)).0
+
+pub new_list-requires-clause-right : goal.new_list-requires-clause-right
+new_list-requires-clause-right c =
+    (heads_free (memory c.args.layout.now c.args.words.now) c.args.view.now c.plan_of-plan.result.heads.left c.plan_of-plan.result.heads.right c.plan_of-plan.result.added c.as_slice-3.result.now c.as_slice-3.ensures
+    c.plan_of-plan.ensures.heads
+    (ready_is c.args.layout.now (memory c.args.layout.now c.args.words.now) c.args.views.now c.args.view.now c.args.update c.as_slice.result.now
+    (tree_from c.whole.result.depth c.args.layout.now.nodes (graph_now (memory c.args.layout.now c.args.words.now) c.args.views.now []) c.whole.result.child)
+    c.plan_of-plan.result.slot c.plan_of-plan.result.added c.as_slice.ensures c.whole.ensures c.plan_of-plan.ensures.slot c.plan_of-plan.ensures.added c.requires.met)).1

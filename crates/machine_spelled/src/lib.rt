@@ -1,0 +1,10 @@
+//! The tree in the words, read and tested by code: the nodes of the tree at the stamp, whether the words spell the
+//! tree after an update, and what a raise moves. It is a part of the machine of `core_rule`: no crate calls it but those of
+//! the machine.
+#![tactic(auto)]
+
+pub mod spelled_now;
+mod spelling;
+mod subtrees;
+pub mod tree_moves;
+pub mod tree_steps;

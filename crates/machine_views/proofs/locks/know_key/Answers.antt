@@ -1,0 +1,11 @@
+use Rattle.std.proofs.Common.{ap, ◌∙◌, arith, set}
+use Rattle.index_words.specs.declared.view.update.HeldNode.{HeldNode}
+use Rattle.index_words.specs.declared.word.Field.TheVariants.{Key}
+use Rattle.core_events.specs.LockMoves.{pair_known}
+use Rattle.machine_views.proofs.InPlace.{map_step}
+use Rattle.machine_views.proofs.locks.know_key.Goals as goal
+
+pub loop-held-preserved : goal.loop-held-preserved
+loop-held-preserved c =
+    ap (λ (h : HeldNode). set c.loop-held.nodes c.loop-held.held-index h) c.node_with_key.ensures
+    ∙ map_step (pair_known Key c.args.node c.args.key) c.args.nodes.now c.loop-held.nodes c.loop-held.held-index _ c.loop-held.invariant (omega (arith, c.loop-held-test.true))

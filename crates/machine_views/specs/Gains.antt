@@ -1,0 +1,24 @@
+-- A view with what it has gained from another one, and the lists that a raise makes longer.
+use Rattle.std.specs.Prelude.{◌++◌, [], ℕ, ◌∷◌}
+use Rattle.index_words.specs.declared.view.View.{View}
+use Rattle.machine_views.specs.declared.moves.Gained.{Gained}
+use Rattle.core_events.specs.declared.tree_move.TreeMove.{TreeMove}
+use Rattle.machine_views.specs.declared.updates.Longer.{Longer}
+
+-- what is gained from the other view is right where this is the view after the join
+abbrev pub with_gain : View → Gained → View
+with_gain v gain = record v {
+  to_give = gain.to_give;
+  reading = record v.reading { filled = [] };
+  history = record v.history { seen = gain.seen; told = gain.told; ended = gain.ended; ended_places = gain.ended_places };
+  free = gain.free;
+  retired = gain.retired;
+}
+
+-- the lists that a raise makes longer
+abbrev pub lengthened : View → ℕ → TreeMove → Longer
+lengthened v place move = record {
+  mine = v.history.mine ++ place ∷ [];
+  pending = v.update.pending ++ move.entries;
+  retired = record { nodes = v.retired.nodes ++ move.taken; entries = v.retired.entries ++ move.taken_entries };
+}

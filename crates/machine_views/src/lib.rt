@@ -1,0 +1,9 @@
+//! The view of a seat after each kind of event, by code. It is a part of the machine of `core_rule`: no crate calls it but
+//! those of the machine.
+#![tactic(auto)]
+
+pub mod fill_words;
+pub mod loads;
+pub mod locks;
+pub mod moves;
+pub mod updates;

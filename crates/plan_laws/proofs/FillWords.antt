@@ -1,0 +1,255 @@
+-- The words that a plan fills are different ones, of free slots of the seat.
+use Rattle.std.proofs.Common.{◌≡◌, ℕ, zero, suc, ◌<◌, ◌⊎◌, inl, inr, List, [], ◌∷◌, ◌++◌, Bool, true, false, cond, refl, ap, sym, ◌∙◌, subst, arith, Some, None}
+use Rattle.std.specs.Prelude.{◌==◌, ◌&&◌, slice_index}
+use Rattle.std.specs.List.{slice_get}
+use Rattle.std.proofs.lemmas.Bool.{ne_eqb}
+use Rattle.index_words.specs.declared.side.Side.TheVariants.{Left, Right}
+use Rattle.index_words.specs.declared.layout.Layout.{Layout}
+use Rattle.index_words.specs.declared.view.View.{View}
+use Rattle.index_words.specs.declared.view.reading.Filled.{Filled}
+use Rattle.index_words.specs.declared.word.Field.{Field}
+use Rattle.index_words.specs.declared.word.Field.TheVariants.{Key, Val, Mark, Head}
+use Rattle.index_words.specs.declared.word.Part.{Part}
+use Rattle.index_words.specs.declared.word.Part.TheVariants.{Child, Stamp as Number, Next}
+use Rattle.index_words.specs.declared.word.Word.TheVariants.{Node, Entry}
+use Rattle.index_words.specs.Words.{same_word, same_part}
+use Rattle.key_map.specs.Lists.{count, Every}
+use Rattle.core_events.specs.Needs.{is_lock}
+use Rattle.core_laws.proofs.ViewNeeds.{may_fill_law}
+use Rattle.core_updates.specs.declared.plan.Plan.{Plan}
+use Rattle.core_updates.specs.declared.plan.Plan.TheVariants.{Grow, Replace, Lift, Join}
+use Rattle.core_updates.specs.declared.plan.JoinPlan.{JoinPlan}
+use Rattle.core_updates.specs.declared.plan.PlanSlots.{PlanSlots}
+use Rattle.core_updates.specs.declared.plan.NewNode.{NewNode}
+use Rattle.core_updates.specs.PlanEvents.{HasSlots, MayFillAll}
+use Rattle.core_updates.specs.Plans.{node_fills, entry_fills, fresh_to}
+use Rattle.plan_laws.specs.Fills.{AreApart, fresh_fills, front_fills, fills_of}
+use Rattle.plan_laws.proofs.Items.{got-every, every-both, every-to}
+
+abbrev pub WordApart : Filled → Filled → Type 0
+WordApart f g = same_word f.word g.word ≡ false
+
+-- no word of the list is filled twice
+abbrev AllApart : List Filled → Type 0
+AllApart [] = Unit {0}
+AllApart (f ∷ fs) = Every (WordApart f) fs × AllApart fs
+
+apart-at : (fs : List Filled) (first second : ℕ) (f g : Filled) → AllApart fs → first < second → slice_get fs first ≡ Some f → slice_get fs second ≡ Some g → WordApart f g
+apart-at [] first second f g all below is other = cc
+apart-at (x ∷ fs) zero zero f g all below is other = absurd (omega (arith, below))
+apart-at (x ∷ fs) zero (suc second) f g all below is other =
+    let same : x ≡ f = cc in
+    subst (λ l. WordApart l g) same (got-every (WordApart x) fs second g all.0 other)
+apart-at (x ∷ fs) (suc first) zero f g all below is other = absurd (omega (arith, below))
+apart-at (x ∷ fs) (suc first) (suc second) f g all below is other = apart-at fs first second f g all.1 (omega (arith, below)) is other
+
+apart-append : (fs gs : List Filled) → AllApart fs → AllApart gs → Every (λ f. Every (WordApart f) gs) fs → AllApart (fs ++ gs)
+apart-append [] gs a b across = b
+apart-append (f ∷ fs) gs a b across = (every-both (WordApart f) fs gs a.0 across.0, apart-append fs gs a.1 b across.1)
+
+-- a word of this node, but not its lock; a word of this entry
+pub record OfNode (k : ℕ) (f : Filled) : Type 0 where
+  pub field : Field
+  pub is : f.word ≡ Node field k
+  pub open' : is_lock field ≡ false
+
+pub record OfEntry (e : ℕ) (f : Filled) : Type 0 where
+  pub part : Part
+  pub is : f.word ≡ Entry part e
+
+and_false : (b : Bool) → (b && false) ≡ false
+and_false true = refl
+and_false false = refl
+
+entry-apart : (d e : ℕ) (f g : Filled) → ¬ (d ≡ e) → OfEntry d f → OfEntry e g → WordApart f g
+entry-apart d e f g apart a b =
+    (λ i. same_word (a.is i) (b.is i)) ∙ ap (λ c. same_part a.part b.part && c) (ne_eqb d e apart) ∙ and_false (same_part a.part b.part)
+
+node-apart : (k e : ℕ) (f g : Filled) → OfNode k f → OfEntry e g → WordApart f g
+node-apart k e f g a b = (λ i. same_word (a.is i) (b.is i))
+
+entries-apart : (d e : ℕ) (fs gs : List Filled) → ¬ (d ≡ e) → Every (OfEntry d) fs → Every (OfEntry e) gs → Every (λ f. Every (WordApart f) gs) fs
+entries-apart d e fs gs apart a b =
+    every-to (OfEntry d) (λ f. Every (WordApart f) gs) fs (λ f of. every-to (OfEntry e) (WordApart f) gs (λ g of'. entry-apart d e f g apart of of') b) a
+
+nodes-apart : (k e : ℕ) (fs gs : List Filled) → Every (OfNode k) fs → Every (OfEntry e) gs → Every (λ f. Every (WordApart f) gs) fs
+nodes-apart k e fs gs a b =
+    every-to (OfNode k) (λ f. Every (WordApart f) gs) fs (λ f of. every-to (OfEntry e) (WordApart f) gs (λ g of'. node-apart k e f g of of') b) a
+
+-- across to two groups
+across-both : (fs gs hs : List Filled) → Every (λ f. Every (WordApart f) gs) fs → Every (λ f. Every (WordApart f) hs) fs → Every (λ f. Every (WordApart f) (gs ++ hs)) fs
+across-both [] gs hs a b = tt
+across-both (f ∷ fs) gs hs a b = (every-both (WordApart f) gs hs a.0 b.0, across-both fs gs hs a.1 b.1)
+
+-- the words of one entry
+record Group (e : ℕ) (fs : List Filled) : Type 0 where
+  of : Every (OfEntry e) fs
+  apart : AllApart fs
+
+no-group : (e : ℕ) → Group e []
+no-group e = record { of = tt; apart = tt }
+
+entry-group : (e child behind : ℕ) → Group e (entry_fills e child behind)
+entry-group e child behind = record {
+  of = (record { part = Child; is = refl }, (record { part = Number; is = refl }, (record { part = Next; is = refl }, tt)));
+  apart = ((refl, (refl, tt)), ((refl, tt), (tt, tt)));
+}
+
+fresh-group : (e child : ℕ) → Group e (fresh_fills (fresh_to e child))
+fresh-group e child = by (child == 0)
+  where
+    by : (b : Bool) → Group e (fresh_fills (cond b None (Some (record { entry = e; child = child }))))
+    by true = no-group e
+    by false = entry-group e child 0
+
+record NodeGroup (k : ℕ) (fs : List Filled) : Type 0 where
+  of : Every (OfNode k) fs
+  apart : AllApart fs
+
+no-node : (k : ℕ) → NodeGroup k []
+no-node k = record { of = tt; apart = tt }
+
+node-group : (n : NewNode) → NodeGroup n.slot (node_fills n)
+node-group n = record {
+  of = (
+    record { field = Mark; is = refl; open' = refl },
+    (
+      record { field = Key; is = refl; open' = refl },
+      (
+        record { field = Val; is = refl; open' = refl },
+        (record { field = Head Left; is = refl; open' = refl }, (record { field = Head Right; is = refl; open' = refl }, tt)),
+      ),
+    ),
+  );
+  apart = ((refl, (refl, (refl, (refl, tt)))), ((refl, (refl, (refl, tt))), ((refl, (refl, tt)), ((refl, tt), (tt, tt)))));
+}
+
+-- the groups of all that is filled, in their order
+record Groups (slots : PlanSlots) (fs : List Filled) : Type 0 where
+  node : List Filled
+  left : List Filled
+  right : List Filled
+  at : List Filled
+  next : List Filled
+  node_of : NodeGroup slots.node node
+  left_of : Group slots.left left
+  right_of : Group slots.right right
+  at_of : Group slots.at at
+  next_of : Group slots.next next
+  is : fs ≡ (node ++ (left ++ right)) ++ (at ++ next)
+
+-- of all groups
+groups-every : (P : Filled → Type 0) (slots : PlanSlots) (fs : List Filled) (g : Groups slots fs) → ((f : Filled) → OfNode slots.node f → P f)
+    → ((e : ℕ) → (e ≡ slots.left) ⊎ ((e ≡ slots.right) ⊎ ((e ≡ slots.at) ⊎ (e ≡ slots.next))) → (f : Filled) → OfEntry e f → P f) → Every P fs
+groups-every P slots fs g node entry =
+    subst (Every P) (sym g.is)
+    (every-both P (g.node ++ (g.left ++ g.right)) (g.at ++ g.next)
+    (every-both P g.node (g.left ++ g.right) (every-to (OfNode slots.node) P g.node node g.node_of.of)
+    (every-both P g.left g.right (every-to (OfEntry slots.left) P g.left (entry slots.left (inl refl)) g.left_of.of)
+    (every-to (OfEntry slots.right) P g.right (entry slots.right (inr (inl refl))) g.right_of.of)))
+    (every-both P g.at g.next (every-to (OfEntry slots.at) P g.at (entry slots.at (inr (inr (inl refl)))) g.at_of.of)
+    (every-to (OfEntry slots.next) P g.next (entry slots.next (inr (inr (inr refl)))) g.next_of.of)))
+
+groups-apart : (slots : PlanSlots) (fs : List Filled) → AreApart slots → Groups slots fs → AllApart fs
+groups-apart slots fs a g =
+    let entries = apart-append g.left g.right g.left_of.apart g.right_of.apart (entries-apart slots.left slots.right g.left g.right a.left_right g.left_of.of g.right_of.of) in
+    let fronts = apart-append g.at g.next g.at_of.apart g.next_of.apart (entries-apart slots.at slots.next g.at g.next a.at_next g.at_of.of g.next_of.of) in
+    let new = apart-append g.node (g.left ++ g.right) g.node_of.apart entries
+    (across-both g.node g.left g.right (nodes-apart slots.node slots.left g.node g.left g.node_of.of g.left_of.of) (nodes-apart slots.node slots.right g.node g.right g.node_of.of g.right_of.of)) in
+    let over-node = across-both g.node g.at g.next (nodes-apart slots.node slots.at g.node g.at g.node_of.of g.at_of.of) (nodes-apart slots.node slots.next g.node g.next g.node_of.of g.next_of.of) in
+    let over-left = across-both g.left g.at g.next (entries-apart slots.left slots.at g.left g.at (λ e. a.at_left (sym e)) g.left_of.of g.at_of.of)
+    (entries-apart slots.left slots.next g.left g.next a.left_next g.left_of.of g.next_of.of) in
+    let over-right = across-both g.right g.at g.next (entries-apart slots.right slots.at g.right g.at (λ e. a.at_right (sym e)) g.right_of.of g.at_of.of)
+    (entries-apart slots.right slots.next g.right g.next a.right_next g.right_of.of g.next_of.of) in
+    subst AllApart (sym g.is)
+    (apart-append (g.node ++ (g.left ++ g.right)) (g.at ++ g.next) new fronts
+    (every-both (λ f. Every (WordApart f) (g.at ++ g.next)) g.node (g.left ++ g.right) over-node
+    (every-both (λ f. Every (WordApart f) (g.at ++ g.next)) g.left g.right over-left over-right)))
+
+-- the second front of a removal with two children
+next-group : (near : Bool) (p : JoinPlan) (slots : PlanSlots) (entries : List ℕ)
+    → Group slots.next (front_fills 1 (cond near [] (record { at = p.next.at; entry = slots.next; child = p.next.right } ∷ [])) entries)
+next-group true p slots entries = no-group slots.next
+next-group false p slots entries = entry-group slots.next p.next.right (slice_index entries 8)
+
+groups-of : (plan : Plan) (slots : PlanSlots) (entries : List ℕ) → Groups slots (fills_of plan slots entries)
+groups-of (Grow p) slots entries = record {
+  node = node_fills (record { slot = slots.node; pair = p.pair; left = None; right = None });
+  left = [];
+  right = [];
+  at = entry_fills slots.at slots.node (slice_index entries 0);
+  next = [];
+  node_of = node-group (record { slot = slots.node; pair = p.pair; left = None; right = None });
+  left_of = no-group slots.left;
+  right_of = no-group slots.right;
+  at_of = entry-group slots.at slots.node (slice_index entries 0);
+  next_of = no-group slots.next;
+  is = refl;
+}
+groups-of (Replace p) slots entries = record {
+  node = node_fills (record { slot = slots.node; pair = p.pair; left = fresh_to slots.left p.left; right = fresh_to slots.right p.right });
+  left = fresh_fills (fresh_to slots.left p.left);
+  right = fresh_fills (fresh_to slots.right p.right);
+  at = entry_fills slots.at slots.node (slice_index entries 0);
+  next = [];
+  node_of = node-group (record { slot = slots.node; pair = p.pair; left = fresh_to slots.left p.left; right = fresh_to slots.right p.right });
+  left_of = fresh-group slots.left p.left;
+  right_of = fresh-group slots.right p.right;
+  at_of = entry-group slots.at slots.node (slice_index entries 0);
+  next_of = no-group slots.next;
+  is = refl;
+}
+groups-of (Lift p) slots entries = record {
+  node = [];
+  left = [];
+  right = [];
+  at = entry_fills slots.at p.child (slice_index entries 0);
+  next = [];
+  node_of = no-node slots.node;
+  left_of = no-group slots.left;
+  right_of = no-group slots.right;
+  at_of = entry-group slots.at p.child (slice_index entries 0);
+  next_of = no-group slots.next;
+  is = refl;
+}
+groups-of (Join p) slots entries =
+    let high : ℕ = cond (p.next.at.node == p.node) p.next.right p.right in
+    record {
+      node = node_fills (record { slot = slots.node; pair = p.next.pair; left = fresh_to slots.left p.left; right = fresh_to slots.right high });
+      left = fresh_fills (fresh_to slots.left p.left);
+      right = fresh_fills (fresh_to slots.right high);
+      at = entry_fills slots.at slots.node (slice_index entries 0);
+      next = front_fills 1 (cond (p.next.at.node == p.node) [] (record { at = p.next.at; entry = slots.next; child = p.next.right } ∷ [])) entries;
+      node_of = node-group (record { slot = slots.node; pair = p.next.pair; left = fresh_to slots.left p.left; right = fresh_to slots.right high });
+      left_of = fresh-group slots.left p.left;
+      right_of = fresh-group slots.right high;
+      at_of = entry-group slots.at slots.node (slice_index entries 0);
+      next_of = next-group (p.next.at.node == p.node) p slots entries;
+      is = refl;
+    }
+
+-- a word that is filled later is another one
+pub fills-apart : (plan : Plan) (slots : PlanSlots) (entries : List ℕ) (first second : ℕ) (f g : Filled) → AreApart slots → first < second
+    → slice_get (fills_of plan slots entries) first ≡ Some f → slice_get (fills_of plan slots entries) second ≡ Some g → WordApart f g
+fills-apart plan slots entries first second f g apart below is other =
+    apart-at (fills_of plan slots entries) first second f g (groups-apart slots (fills_of plan slots entries) apart (groups-of plan slots entries)) below is other
+
+-- each of these words may be filled
+pub fills-may : (z : Layout) (v : View) (seat : ℕ) (plan : Plan) (slots : PlanSlots) (entries : List ℕ) → HasSlots v slots → Every (MayFillAll z v seat) (fills_of plan slots entries)
+fills-may z v seat plan slots entries free =
+    groups-every (MayFillAll z v seat) slots (fills_of plan slots entries) (groups-of plan slots entries)
+    (λ f of. subst (λ w. MayFillAll z v seat (record { word = w; value = f.value })) (sym of.is) (may_fill_law z v seat (Node of.field slots.node) f.value (of.open', free.node)))
+    (λ e which f of. subst (λ w. MayFillAll z v seat (record { word = w; value = f.value })) (sym of.is) (may_fill_law z v seat (Entry of.part e) f.value (is-free e which)))
+  where
+    is-free : (e : ℕ) → (e ≡ slots.left) ⊎ ((e ≡ slots.right) ⊎ ((e ≡ slots.at) ⊎ (e ≡ slots.next))) → 0 < count e v.free.entries
+    is-free e which =
+        elim which as (λ _. 0 < count e v.free.entries) [
+          | inl l ↦ subst (λ k. 0 < count k v.free.entries) (sym l) free.left
+          | inr m ↦ elim m as (λ _. 0 < count e v.free.entries) [
+            | inl r ↦ subst (λ k. 0 < count k v.free.entries) (sym r) free.right
+            | inr o ↦ elim o as (λ _. 0 < count e v.free.entries) [
+              | inl a ↦ subst (λ k. 0 < count k v.free.entries) (sym a) free.at
+              | inr n ↦ subst (λ k. 0 < count k v.free.entries) (sym n) free.next
+            ]
+          ]
+        ]

@@ -1,0 +1,5 @@
+use Rattle.plan_laws.proofs.Answered.{answer, prepared_owns, four_entries}
+use Rattle.plan_laws.proofs.end_laws.updates_are_answered.Goals as goal
+
+pub returns : goal.returns
+returns c = record { answer = answer; prepared = prepared_owns; four = four_entries }

@@ -1,0 +1,91 @@
+-- The end of an update, and of a try that fails: the locks are given back, one after another, and the section is left.
+use Rattle.std.specs.Prelude.{◌≡◌, ℕ, ◌+◌, ◌<◌, ◌≤◌, List, [], ◌∷◌, take, drop, true, false, Some, None}
+use Rattle.std.specs.List.{slice_get}
+use Rattle.index_words.specs.declared.layout.Layout.{Layout}
+use Rattle.index_words.specs.declared.view.View.{View}
+use Rattle.index_words.specs.declared.view.update.HeldNode.{HeldNode}
+use Rattle.index_words.specs.declared.word.Field.TheVariants.{Lock}
+use Rattle.index_words.specs.declared.word.Word.TheVariants.{Section, Node}
+use Rattle.index_words.specs.Views.{no_reading, no_update}
+use Rattle.key_map.specs.Lists.{count, Every}
+use Rattle.core_grace.specs.Holds.{held_slots}
+use Rattle.core_grace.specs.Sections.{is_even, left_word}
+use Rattle.core_events.specs.declared.event.Kind.TheVariants.{Leave, Unlock}
+use Rattle.core_events.specs.LockMoves.{unlocked_view}
+use Rattle.core_events.specs.Moves.{left}
+use Rattle.core_laws.specs.ViewNeeds.{May, IsInside, event_at}
+use Rattle.core_updates.specs.declared.plan.Plan.{Plan}
+use Rattle.core_updates.specs.Plans.{locks_of}
+use Rattle.plan_laws.specs.Frames.{KeepsOwned}
+use Rattle.plan_laws.specs.Tries.{HasLocked, HasLockedAll}
+
+-- a pass inside a section still has these nodes locked, in this order, and no others. Nothing is pending, and of these nodes those that
+-- its update took out are known to be marked. With the last lock the update has ended
+pub record IsReleasing (v : View) (n : ℕ) (nodes : List ℕ) : Type 0 where
+  pub live : v.joined ≡ false
+  pub own : v.number ≡ Some n
+  pub inside : IsInside v
+  pub once : (k : ℕ) → count k nodes ≤ 1
+  pub locked : held_slots v.held.nodes ≡ nodes
+  pub done : v.update.pending ≡ []
+  pub marked : Every (λ (h : HeldNode). 0 < count h.node v.update.taken → h.mark ≡ Some 1) v.held.nodes
+  pub ended : nodes ≡ [] → v.update ≡ no_update
+
+-- a try may give up at each of its steps before it fills its slots
+abbrev pub GiveUpLaw : Type 0
+GiveUpLaw =
+    (v : View) (n : ℕ) (plan : Plan) (entries : List ℕ) (done : ℕ) → HasLocked v n plan entries done → IsReleasing v n (take done (locks_of plan))
+
+abbrev pub GiveAllUpLaw : Type 0
+GiveAllUpLaw = (v : View) (n : ℕ) (plan : Plan) (entries : List ℕ) → HasLockedAll v n plan entries → IsReleasing v n (locks_of plan)
+
+-- a pass inside a section that has locked no node may leave it
+abbrev pub NothingLockedLaw : Type 0
+NothingLockedLaw =
+    (v : View) (n : ℕ) → v.joined ≡ false → v.number ≡ Some n → IsInside v → v.held.nodes ≡ [] → v.update ≡ no_update → IsReleasing v n []
+
+-- the first of the locks may be given back, and then the others are left
+pub record UnlocksNext (z : Layout) (v : View) (seat n node : ℕ) (rest : List ℕ) : Type 0 where
+  pub may : May z v (event_at z seat Unlock (Node Lock node) 0)
+  pub released : IsReleasing (unlocked_view v node) n rest
+  pub keeps : KeepsOwned v (unlocked_view v node)
+
+abbrev pub UnlockStepLaw : Type 0
+UnlockStepLaw = (z : Layout) (v : View) (seat n node : ℕ) (rest : List ℕ) → IsReleasing v n (node ∷ rest) → UnlocksNext z v seat n node rest
+
+-- the same by the lock's place in a list of nodes, of which those in front are given back already
+abbrev pub UnlockPlaceLaw : Type 0
+UnlockPlaceLaw =
+    (z : Layout) (v : View) (seat n node place : ℕ) (nodes : List ℕ) → IsReleasing v n (drop place nodes) → slice_get nodes place ≡ Some node
+    → UnlocksNext z v seat n node (drop (place + 1) nodes)
+
+-- behind the last one none is left
+abbrev pub UnlockEndLaw : Type 0
+UnlockEndLaw =
+    (v : View) (n place : ℕ) (nodes : List ℕ) → IsReleasing v n (drop place nodes) → slice_get nodes place ≡ None → IsReleasing v n []
+
+-- where the first nodes of a plan are locked, these are the ones by their places
+pub record TakesFirst (nodes : List ℕ) (done place : ℕ) : Type 0 where
+  pub here : place < done → slice_get (take done nodes) place ≡ slice_get nodes place
+  pub past : done ≤ place → slice_get (take done nodes) place ≡ None
+
+abbrev pub TakesFirstLaw : Type 0
+TakesFirstLaw = (nodes : List ℕ) (done place : ℕ) → TakesFirst nodes done place
+
+-- outside a section, with nothing read, locked or under way
+pub record IsResting (v : View) (n : ℕ) : Type 0 where
+  pub live : v.joined ≡ false
+  pub own : v.number ≡ Some n
+  pub outside : is_even v.section_word ≡ true
+  pub reading : v.reading ≡ no_reading
+  pub unlocked : v.held.nodes ≡ []
+  pub update : v.update ≡ no_update
+
+-- with no lock left the section may be left
+pub record LeavesLast (z : Layout) (v : View) (seat n : ℕ) : Type 0 where
+  pub may : May z v (event_at z seat Leave (Section n) (left_word v.section_word))
+  pub rests : IsResting (left v (left_word v.section_word)) n
+  pub keeps : KeepsOwned v (left v (left_word v.section_word))
+
+abbrev pub LeaveStepLaw : Type 0
+LeaveStepLaw = (z : Layout) (v : View) (seat n : ℕ) → IsReleasing v n [] → LeavesLast z v seat n

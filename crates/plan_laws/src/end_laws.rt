@@ -1,0 +1,46 @@
+// Laws on the raise, and on the steps behind it and behind a try that fails. These calls do nothing: their clauses are
+// what is proved.
+ghost use Rattle.plan_laws.specs.Answers.{AnswerLaw, PreparedOwnsLaw, FourEntriesLaw};
+ghost use Rattle.plan_laws.specs.Frames.{StepsKeepLaw, KeepsPassLaw, KeepsTryLaw, KeepsOwnedLaw};
+ghost use Rattle.plan_laws.specs.Raises.{RaiseStepLaw, FinaliseStepLaw, FinaliseEndLaw, MarkStepLaw, MarkEndLaw};
+ghost use Rattle.plan_laws.specs.Releases.{GiveUpLaw, GiveAllUpLaw, NothingLockedLaw, UnlockStepLaw, UnlockPlaceLaw, UnlockEndLaw, TakesFirstLaw, LeaveStepLaw};
+
+/// A seat that is ready for its plan may raise, at the place behind the stamp. Then the numbers of its entries are
+/// written, and the nodes that went out are marked.
+pub fn updates_raise()
+    ensures raise { RaiseStepLaw }
+    ensures finalise { FinaliseStepLaw }
+    ensures finalised { FinaliseEndLaw }
+    ensures mark { MarkStepLaw }
+    ensures marked { MarkEndLaw }
+{}
+
+/// A try may give up before it fills its slots. It gives its locks back, as an update does at its end, and leaves its
+/// section.
+pub fn locks_are_given_back()
+    ensures give_up { GiveUpLaw }
+    ensures give_all_up { GiveAllUpLaw }
+    ensures nothing_locked { NothingLockedLaw }
+    ensures unlock { UnlockStepLaw }
+    ensures unlock_place { UnlockPlaceLaw }
+    ensures unlock_end { UnlockEndLaw }
+    ensures first_locks { TakesFirstLaw }
+    ensures leave { LeaveStepLaw }
+{}
+
+/// What the steps leave as it was.
+pub fn steps_keep_the_rest()
+    ensures steps { StepsKeepLaw }
+    ensures pass { KeepsPassLaw }
+    ensures tried { KeepsTryLaw }
+    ensures owned { KeepsOwnedLaw }
+{}
+
+/// What the answer of an update needs. The raise is at the place behind the stamp, which is the length of the history
+/// that the pass has seen then; the key was in the map before or not, as the plan has it; and of the slots that the pass
+/// owns there is at most one node fewer, and at most four entries with those that were put in front.
+pub fn updates_are_answered()
+    ensures answer { AnswerLaw }
+    ensures prepared { PreparedOwnsLaw }
+    ensures four { FourEntriesLaw }
+{}

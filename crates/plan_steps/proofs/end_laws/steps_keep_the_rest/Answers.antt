@@ -1,5 +1,0 @@
-use Rattle.plan_steps.proofs.Frames.{steps_keep, keeps_pass, keeps_try, keeps_owned}
-use Rattle.plan_steps.proofs.end_laws.steps_keep_the_rest.Goals as goal
-
-pub returns : goal.returns
-returns c = record { steps = steps_keep; pass = keeps_pass; tried = keeps_try; owned = keeps_owned }

@@ -1,5 +1,0 @@
-use Rattle.plan_steps.proofs.Tries.{lock_step, lock_end, try_reads, try_fails}
-use Rattle.plan_steps.proofs.try_laws.tries_lock.Goals as goal
-
-pub returns : goal.returns
-returns c = record { step = lock_step; end = lock_end; reads = try_reads; fails = try_fails }

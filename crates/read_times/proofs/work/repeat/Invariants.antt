@@ -1,6 +1,0 @@
-use Rattle.table_steps.specs.Passes.{AtRest}
-use Rattle.read_times.proofs.work.repeat.Given as goal
-
--- between two turns the pass is at rest
-abbrev pub invariant-loop : goal.invariant-loop
-invariant-loop g l = AtRest l.pass.view
