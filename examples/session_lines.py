@@ -4,9 +4,23 @@ import re
 import signal
 import sys
 
+# What a session takes: docs/FORMAT.md.
+MOST_REQUESTS = 200000
+MOST_BYTES = 64 * 1024 * 1024
+HELP = {"--help", "-h"}
 
-def ready():
-    """Writes UTF-8 and LF; a reader that has enough, such as `head`, ends the script without a word."""
+
+def stop(why):
+    """Ends the script with one line on standard error."""
+    sys.exit("%s: %s" % (sys.argv[0].rpartition("/")[2], why))
+
+
+def ready(about):
+    """Prints what the script is for, where a word asks for help. Else it writes UTF-8 and LF from now on, and a reader that
+    has enough, such as `head`, ends it without a word."""
+    if HELP.intersection(sys.argv[1:]):
+        print(about.strip())
+        sys.exit()
     sys.stdin.reconfigure(encoding="utf-8")
     sys.stdout.reconfigure(encoding="utf-8", newline="\n")
     if hasattr(signal, "SIGPIPE"):
@@ -36,9 +50,14 @@ def put_line(name, size, etag, modified):
 
 def print_session(lines):
     """Prints a session of one client with these PUT lines, in an order that looks random and is always the same. The index
-    keeps its keys in a tree that is not balanced: names that are put in rising order make it as deep as it can be."""
+    keeps its keys in a tree that is not balanced: names that are put in rising order make it as deep as it can be.
+
+    Prints nothing where there are more lines than a session takes. The requests behind them count too."""
     lines = [line for line in lines if line]
     random.Random(1).shuffle(lines)
-    print("CLIENT")
-    for line in lines:
-        print(line)
+    session = "\n".join(["CLIENT", *lines, ""])
+    if len(lines) > MOST_REQUESTS:
+        stop("%d names, and a session takes at most %d requests: take a part of them" % (len(lines), MOST_REQUESTS))
+    if len(session.encode()) > MOST_BYTES:
+        stop("a session has at most %d bytes, and this one would have more: take a part of the names" % MOST_BYTES)
+    print(session, end="")

@@ -5,7 +5,7 @@
 
 A folder becomes a session, the program lists it page by page, the pages become the JSON that
 `aws s3api list-objects-v2` prints, and that becomes a session again: the same PUT lines, in byte order. And so
-does a listing whose names are escaped, as the service escapes them.
+does a listing whose names are escaped, as the service escapes them. What the scripts cannot use they refuse with one line.
 """
 import json
 import os
@@ -62,9 +62,42 @@ def escaped(listing):
     return json.dumps(document)
 
 
+def listing_of(names):
+    item = {"Size": 1, "ETag": '"e"', "LastModified": "2026-11-27T11:48:03+00:00"}
+    return json.dumps({"Contents": [{"Key": name, **item} for name in names]})
+
+
+# The script with its words, its input, and what its one line has.
+REFUSED = [
+    (["from_listing"], '{"Error": {"Code": "NoSuchBucket"}}', "standard input: not what `aws s3api list-objects-v2` prints"),
+    (["from_listing"], "[]", "not what `aws s3api list-objects-v2` prints"),
+    (["from_listing"], "An error occurred", "not JSON"),
+    (["from_listing"], '{"Contents": [{"Key": "a"}]}', 'not an object with Key, Size, ETag and LastModified: {"Key": "a"}'),
+    (["from_listing"], listing_of(map(str, range(200001))), "200001 names, and a session takes at most 200000 requests"),
+    (["from_listing"], listing_of("%01000d" % at for at in range(70000)), "a session has at most 67108864 bytes"),
+    (["from_listing", "nowhere.json"], "", "nowhere.json: No such file or directory"),
+    (["from_listing", "--all"], "", "there is no option --all"),
+    (["from_folder", "nowhere"], "", "nowhere: not a folder"),
+    (["to_listing"], "bucketidx: bad words", "line 1 is not what ./bucketidx run writes"),
+]
+
+
+def try_refusals():
+    for (name, *words), given, wanted in REFUSED:
+        ran = subprocess.run([EXAMPLES / name, *words], input=given.encode(), capture_output=True)
+        said = ran.stderr.decode()
+        if (ran.returncode, ran.stdout, said.count("\n")) != (1, b"", 1) or wanted not in said:
+            sys.exit("%s %s\n  got    %r, status %d\n  wanted %r" % (name, words, said[:300], ran.returncode, wanted))
+    for name in ("from_folder", "from_listing", "to_listing"):
+        ran = subprocess.run([EXAMPLES / name, "--help"], stdin=subprocess.DEVNULL, capture_output=True)
+        if ran.returncode != 0 or ran.stderr or b"examples/" + name.encode() not in ran.stdout:
+            sys.exit("%s --help: status %d\n%s" % (name, ran.returncode, ran.stderr.decode()))
+
+
 def main():
     if len(sys.argv) != 2:
         sys.exit(__doc__)
+    try_refusals()
     program = [str(Path(sys.argv[1]).resolve()), "run"]
     make_ready(program[0])
     with tempfile.TemporaryDirectory() as top:
@@ -82,7 +115,8 @@ def main():
     back = text_of([EXAMPLES / "from_listing", "--url"], escaped(listing))
     if sorted_lines(back) != sorted_lines(session):
         sys.exit("another session came back from a listing with escaped names:\n%s\n%s" % (session, back))
-    print("from_folder, to_listing and from_listing: %d files there and back, in four ways" % len(FILES))
+    count = (len(FILES), len(REFUSED))
+    print("from_folder, to_listing and from_listing: %d files there and back, in four ways, and %d refusals" % count)
 
 
 main()
