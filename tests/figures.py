@@ -1,11 +1,11 @@
 #!/usr/bin/env python3
-"""Counts what README says of the repository in figures.
+"""Counts what docs/PROVED.md says of the repository in figures.
 
     tests/figures.py            prints them
-    tests/figures.py --check    compares them with README.md
+    tests/figures.py --check    compares them with the page
     tests/figures.py --write    puts them in there
 
-The table of README stands between the lines `<!-- NAME: .. -->` and `<!-- end -->`.
+The table of the page stands between the lines `<!-- NAME: .. -->` and `<!-- end -->`.
 """
 import re
 import sys
@@ -77,7 +77,7 @@ def figures():
 
 
 def parts():
-    yield TOP / "README.md", "figures", figures()
+    yield TOP / "docs" / "PROVED.md", "figures", figures()
 
 
 def main():

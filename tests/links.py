@@ -1,12 +1,17 @@
 #!/usr/bin/env python3
-"""Tries each link of the documents, and each file of the repository that they name; and compares the floor plan
-of crates/README.md with crates.txt.
+"""Tries each link of the documents, each file of the repository that they name, and each name in code style; and
+compares the floor plan of crates/README.md with crates.txt.
 
     tests/links.py
 
 A link leads to a file, or to a heading of one, as GitHub names headings. Addresses on the network are not tried. The
 floor plan has the headings of crates.txt and the crates below each, in the same order, and the file of each crate that
 it says to open first is there.
+
+A name in code style, such as `serve` or `AnswersList.same_page`, is declared in the source, or stands in one of its
+texts, in a script, in crates.txt or in the name of a file; the parts of one with a dot or `::` stand in one file of the
+source. Of a line in code style with spaces, such as a session's or a command's, the words are tried that have `_` or a
+capital inside. docs/CONTRACTS.md is made from the source, and so is not tried.
 """
 import re
 import sys
@@ -14,6 +19,18 @@ from pathlib import Path
 
 TOP = Path(__file__).resolve().parent.parent
 FOLDERS = ("crates", "docs", "tests", "examples", "bench", ".ci")
+# What declares a name, by the ending of the file; the name is the group.
+DECLARES = {
+    ".rt": (
+        r"\b(?:fn|struct|enum|trait|mod|const|static|type|impl|use|for)\s+(\w+)",
+        r"(\w+)\s*:",
+        r"(?m)^\s+(\w+)\s*(?:[({,=]|$)",
+        r"\b(?:requires|ensures|invariant)\s+(\w+)",
+        r"\b([A-Z]\w*)",
+    ),
+    ".antt": (r"(?m)^\s*(?:pub )?(?:abbrev |record |data |mod )?(?:pub )?(\w+)", r"\b([A-Z]\w*)"),
+}
+ENDINGS = {"rt", "antt", "py", "md", "txt", "edit", "out", "rs", "svg"}
 
 
 def pages():
@@ -59,6 +76,47 @@ def wrong_files(page):
             yield "there is no file %s in crates/" % name
 
 
+def sources():
+    """The text of each file of the crates' source, without its comments, by its path."""
+    for path in sorted((TOP / "crates").glob("*/*/**/*")):
+        if path.suffix in DECLARES and path.relative_to(TOP).parts[2] in ("src", "specs", "proofs"):
+            comment = r"//.*" if path.suffix == ".rt" else r"--.*"
+            yield path, re.sub(comment, "", path.read_text())
+
+
+def declared(texts):
+    """The names that the source declares, the words of its texts, of scripts, of crates.txt, and of the names of files."""
+    names = set()
+    for path, text in texts.items():
+        for form in DECLARES[path.suffix]:
+            names.update(re.findall(form, text))
+        for part in re.findall(r'"([^"\n]*)"', text):
+            names.update(re.findall(r"\w+", part))
+    scripts = [path for folder in FOLDERS[1:] for path in (TOP / folder).rglob("*") if path.is_file()]
+    scripts = [path for path in scripts if path.suffix in ("", ".py", ".rs")] + [TOP / "bucketidx", TOP / "crates.txt"]
+    for path in scripts:
+        names.update(re.findall(r"\w+", re.sub(r"(?m)^\s*(?:#|//).*", "", path.read_text())))
+    for folder in FOLDERS:
+        for path in (TOP / folder).rglob("*"):
+            names.update(re.findall(r"\w+", path.name) if "out" not in path.parts else ())
+    return names
+
+
+def wrong_names(page, names, words_of_files):
+    for span in re.findall(r"`([^`\n]+)`", without_code(page.read_text())):
+        if " " not in span and span.endswith("_.."):
+            if not any(name.startswith(span[:-2]) for name in names):
+                yield "no name begins as `%s` does" % span
+            continue
+        for name in re.findall(r"\w+", span):
+            is_tried = " " not in span or re.search(r"\w_\w|[a-z][A-Z]", name)
+            if is_tried and not name.isdigit() and name not in names:
+                yield "nothing is named %s: `%s`" % (name, span)
+        for parts in re.findall(r"\b(\w+)(?:::|\.)(\w+)", "" if re.search("[/ ]", span) else span):
+            if parts[1] not in ENDINGS and not any(words.issuperset(parts) for words in words_of_files):
+                yield "no file of the source has both parts of `%s.%s`" % parts
+
+
 def floors():
     """The headings of crates.txt, each with the crates below it. A comment of more than one line is no heading."""
     found = []
@@ -84,9 +142,13 @@ def wrong_floors():
 
 def main():
     wrong = ["crates/README.md: " + fault for fault in wrong_floors()]
+    texts = dict(sources())
+    names, words_of_files = declared(texts), [set(re.findall(r"\w+", text)) for text in texts.values()]
     for page in pages():
-        for fault in [*wrong_links(page), *wrong_files(page)]:
-            wrong.append("%s: %s" % (page.relative_to(TOP), fault))
+        faults = [*wrong_links(page), *wrong_files(page)]
+        if page.name != "CONTRACTS.md":
+            faults += wrong_names(page, names, words_of_files)
+        wrong += ["%s: %s" % (page.relative_to(TOP), fault) for fault in faults]
     print("\n".join(wrong) if wrong else "each link of %d pages leads somewhere" % len(pages()))
     sys.exit(len(wrong) > 0)
 
