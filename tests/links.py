@@ -1,12 +1,12 @@
 #!/usr/bin/env python3
 """Tries each link of the documents, each file of the repository that they name, and each name in code style; and
-compares the floor plan of crates/README.md with crates.txt.
+compares the floor plan of crates/README.md with crates.txt, and docs/DEFINITIONS.md with docs/TRUSTED.md.
 
     tests/links.py
 
 A link leads to a file, or to a heading of one, as GitHub names headings. Addresses on the network are not tried. The
 floor plan has the headings of crates.txt and the crates below each, in the same order, and the file of each crate that
-it says to open first is there.
+it says to open first is there. docs/DEFINITIONS.md has a section for each file that docs/TRUSTED.md lists, in its order.
 
 A name in code style, such as `serve` or `AnswersList.same_page`, is declared in the source, or stands in one of its
 texts, in a script, in crates.txt or in the name of a file; the parts of one with a dot or `::` stand in one file of the
@@ -140,8 +140,17 @@ def wrong_floors():
         yield "the headings or the crates are not those of crates.txt"
 
 
+def wrong_definitions():
+    sections = re.findall(r"^### (.*)$", (TOP / "docs" / "DEFINITIONS.md").read_text(), re.M)
+    listed = re.findall(r"^\d+\. `crates/([\w/.]+)`", (TOP / "docs" / "TRUSTED.md").read_text(), re.M)
+    if sections != listed:
+        other = sorted(set(sections) ^ set(listed)) or ["the order"]
+        yield "the sections are not the files of docs/TRUSTED.md: " + ", ".join(other)
+
+
 def main():
     wrong = ["crates/README.md: " + fault for fault in wrong_floors()]
+    wrong += ["docs/DEFINITIONS.md: " + fault for fault in wrong_definitions()]
     texts = dict(sources())
     names, words_of_files = declared(texts), [set(re.findall(r"\w+", text)) for text in texts.values()]
     for page in pages():
