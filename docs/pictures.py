@@ -4,7 +4,7 @@
     docs/pictures.py            draws them
     docs/pictures.py --check    says whether they are as drawn here
 
-The picture of the floors is made from crates.txt. Colours follow the reader's light or dark scheme.
+The picture of the floors is made from crates.txt, and the files in that of the headline are those of TRUSTED.md. Colours follow the reader's light or dark scheme.
 """
 import re
 import sys
@@ -102,24 +102,62 @@ def history():
     return p
 
 
+# The files that the headline rests on, by crate, below the part of it that they say. Those of the generated session are not
+# in the picture.
+PARTS = [
+    ("HasRead, IsTaken", ["the word run; the bytes", "read, and those written"], ["command_words", "outside_io"]),
+    ("IsSessionOf", ["the session that", "the input's text says"], ["request_lines"]),
+    ("IsLegal", ["one journal; each answer", "right at its place"], ["bucket_terms", "client_threads", "key_map", "key_names"]),
+    ("session_text", ["its lines of JSON,", "byte for byte"], ["answer_text"]),
+]
+TOP_FILES = "serve_session"
+OF_SAMPLE = re.compile("Sampl|Summar")
+
+
+def trusted():
+    """The definition files that TRUSTED.md lists, by crate, without those of the generated session."""
+    found = {}
+    for crate, name in re.findall(r"^\d+\. `crates/(\w+)/specs/(\w+)\.antt`", (DOCS / "TRUSTED.md").read_text(), re.M):
+        if not OF_SAMPLE.search(name):
+            found.setdefault(crate, []).append(name)
+    return found
+
+
+def wrapped(words, most):
+    """Lines of words with commas between, each line at most so long."""
+    lines = [""]
+    for at, word in enumerate(words):
+        word += "," * (at + 1 < len(words))
+        fits = len(lines[-1]) + 1 + len(word) <= most
+        lines[-1:] = [(lines[-1] + " " + word).strip()] if fits else [lines[-1], word]
+    return lines
+
+
 def headline():
-    p = Picture(800, 400, "From the headline down to the files of its definitions")
+    files = trusted()
+    lacking = set(files) - {TOP_FILES} - {crate for _, _, crates in PARTS for crate in crates}
+    if lacking:
+        sys.exit("docs/pictures.py: the picture of the headline has no place for the files of " + ", ".join(sorted(lacking)))
+    columns = []
+    for name, about, crates in PARTS:
+        lines = []
+        for crate in crates:
+            if crate in files:
+                lines += [(crate + "/specs", "s m", 11)] + [(line, "t", 12) for line in wrapped(files[crate], 26)]
+        columns.append((name, about, lines))
+    tallest = max(len(lines) for _, _, lines in columns) * 16 + 20
+    p = Picture(800, 320 + tallest, "From the headline down to the files of its definitions")
     p.labelled(220, 12, 360, 46, [("clause headline of serve", "t b", 13), ("crates/serve_session/src/serving.rt", "s m", 11)], "good")
     p.arrow(400, 58, 400, 92)
-    p.labelled(170, 92, 460, 62, [
+    p.labelled(150, 92, 500, 78, [
         ("HoldsOfInput", "t b", 13), ("some session and one legal run of it: the input is the one,", "t", 12),
-        ("what was written is the text of the other", "t", 12)], "key")
-    p.text(645, 127, "serve_session/specs/Served", "s m", 11, "start")
-    columns = [
-        (20, "IsSessionOf", ["the session that", "the input's text says"], "request_lines/specs", ["Input, Session", "Grammar, Queries", "Lines, Texts, Reads", "key_names: Names"]),
-        (285, "IsLegal", ["one journal; each answer", "right at its place"], "bucket_terms/specs", ["LegalRun, Answer", "Page, Entries, Token", "key_map: Map, History", "key_names: Names"]),
-        (550, "session_text", ["its lines of JSON,", "byte for byte"], "answer_text/specs", ["Lines", "Objects, Escaping", "bucket_terms: Page, Token", "key_names: Names"]),
-    ]
-    for x, name, about, folder, files in columns:
-        p.arrow(400 + (x - 285) * 0.45, 154, x + 115, 196)
-        p.labelled(x, 196, 230, 64, [(name, "t b", 13), *about], "key")
-        p.arrow(x + 115, 260, x + 115, 288)
-        p.labelled(x, 288, 230, 100, [(folder, "s m", 11)] + [(file, "t", 12) for file in files])
+        ("what was written is the text of the other", "t", 12), ("serve_session/specs: " + ", ".join(files[TOP_FILES]), "s m", 11)], "key")
+    for at, (name, about, lines) in enumerate(columns):
+        x = 14 + 196 * at
+        p.arrow(250 + 100 * at, 170, x + 92, 212)
+        p.labelled(x, 212, 184, 64, [(name, "t b", 13), *about], "key")
+        p.arrow(x + 92, 276, x + 92, 304)
+        p.labelled(x, 304, 184, tallest, lines)
     return p
 
 
@@ -157,33 +195,49 @@ def grace():
 
 
 def session():
-    p = Picture(800, 290, "The life of a session")
-    stages = [
-        (20, 50, "bytes", ["of the input"]),
-        (215, 50, "Session", ["names, records,", "requests by client"]),
-        (410, 50, "Directory", ["each name once, in", "order: rank ↔ name"]),
-        (605, 50, "Request", ["by rank; one", "after another"]),
-        (605, 190, "Placed reply", ["answer and place;", "pages as ranks"]),
-        (410, 190, "Run", ["the replies, and", "the journal"]),
-        (215, 190, "lines", ["of JSON"]),
-        (20, 190, "bytes", ["of the output"]),
+    p = Picture(800, 400, "The life of a session")
+
+    def stage(x, y, name, about, kind="box"):
+        p.labelled(x, y, 164, 62, [(name, "t b", 13)] + [(line, "s", 12) for line in about], kind)
+
+    stage(16, 30, "bytes", ["of the input"], "key")
+    stage(16, 128, "Session", ["names, records,", "requests by client"])
+    stage(16, 226, "Directory", ["each name once, in", "order: rank ↔ name"])
+    stage(620, 30, "Placed replies", ["each with its place;", "pages as ranks"])
+    stage(620, 128, "Run", ["the replies, and", "the journal"])
+    stage(620, 226, "lines", ["of JSON"])
+    stage(620, 324, "bytes", ["of the output"], "key")
+    p.text(98, 20, "read_all", "t m", 11)
+    for x, y, name in [(98, 92, "read_session"), (98, 190, "into_directory"), (702, 92, ""), (702, 190, ""), (702, 288, "write_all")]:
+        p.arrow(x, y, x, y + 36)
+        p.text(x + 8, y + 21, name, "t m", 11, "start")
+
+    # The index, with a pass for each client: the clients part at the left, and come together at the right.
+    p.box(266, 30, 294, 226, "dash")
+    p.text(413, 50, "SharedIndex: a pass for each client", "t b", 13)
+    lanes = [("client 0", 62), ("client 1", 118), ("client 31", 198)]
+    for name, y in lanes:
+        p.labelled(290, y, 246, 46, [(name, "t b", 13), ("put, remove, begin, next_from", "s m", 11)])
+        p.arrow(228, y + 23, 290, y + 23)
+        p.line(536, y + 23, 586, y + 23)
+    p.text(413, 184, "…", "t b", 16)
+    first, last = lanes[0][1] + 23, lanes[-1][1] + 23
+    p.line(180, 257, 228, 257)
+    p.line(228, 257, 228, first)
+    p.line(586, last, 586, 61)
+    p.arrow(586, 61, 620, 61)
+    p.line(560, 244, 602, 244)
+    p.line(602, 244, 602, 159)
+    p.arrow(602, 159, 620, 159)
+    p.text(565, 259, "finish", "t m", 11, "start")
+    notes = [
+        ("open_index", "opens the index; finish ends it to its whole history, the journal."),
+        ("run_all", "runs the clients at once, up to 32, each by run_client on a thread of its own."),
+        ("push_reply_line, push_journal_line, last_line", "make the lines."),
     ]
-    for at, (x, y, name, about) in enumerate(stages):
-        kind = "key" if name == "bytes" else "box"
-        p.labelled(x, y, 150, 66, [(name, "t b", 13)] + [(line, "s", 12) for line in about], kind)
-    steps = [
-        (170, 83, 215, 83, "read_session", 192, 38), (365, 83, 410, 83, "Directory::new", 387, 38), (560, 83, 605, 83, "run_client", 582, 38),
-        (680, 116, 680, 190, "KeyPass", 0, 0), (605, 223, 560, 223, "", 0, 0),
-        (410, 223, 365, 223, "", 387, 0), (215, 223, 170, 223, "write_all", 192, 274),
-    ]
-    for x, y, to_x, to_y, name, label_x, label_y in steps:
-        p.arrow(x, y, to_x, to_y)
-        if label_y:
-            p.text(label_x, label_y, name, "t m", 11)
-    p.text(95, 38, "read_all", "t m", 11)
-    p.text(688, 148, "put, remove,", "t m", 11, "start")
-    p.text(688, 163, "begin, next_from", "t m", 11, "start")
-    p.text(387, 274, "push_reply_line, push_journal_line, last_line", "t m", 11)
+    for at, (name, about) in enumerate(notes):
+        p.text(16, 326 + 20 * at, name, "t m", 11, "start")
+        p.text(24 + 6.75 * len(name), 326 + 20 * at, about, "s", 12, "start")
     return p
 
 
