@@ -9,6 +9,7 @@ program itself refuse.
 import os
 import pty
 import shutil
+import signal
 import subprocess
 import sys
 import tempfile
@@ -40,6 +41,7 @@ ci)
     echo "== key_map"; echo "fn key_map::put: proved"; block key_map; echo "rt: key_map proved"
     [ -z "${BROKEN:-}" ] || { echo "== bucketidx"; echo "error: no proof of a clause"; echo "rt: bucketidx NOT PROVED"
         for at in $(seq 50); do echo "rt: more is said"; done; echo "2 passed, 1 failed"; exit 1; }
+    [ -z "${SLOW:-}" ] || sleep 60
     [ -z "${MEANWHILE:-}" ] || { sleep 0.1; touch "$MEANWHILE"; }
     echo "== bucketidx"; block bucketidx; echo "rt: bucketidx proved"
     cd crates/bucketidx; last="3 passed, 0 failed" ;;
@@ -119,6 +121,20 @@ def try_words(top):
         expect("the page has %r" % part, part in page)
 
 
+def try_a_stop(top):
+    """A build that is stopped from the terminal ends with 130, and leaves no copy."""
+    path = "%s:%s" % (top / "kit", os.environ["PATH"])
+    here = {**os.environ, "PATH": path, "TMPDIR": str(top / "tmp"), "SLOW": "yes"}
+    how = {"stdin": subprocess.DEVNULL, "stdout": subprocess.DEVNULL, "stderr": subprocess.PIPE, "start_new_session": True}
+    with subprocess.Popen([top / "bucketidx", "run"], env=here, **how) as started:
+        for line in started.stderr:
+            if b"proved key_map" in line:
+                break
+        os.killpg(started.pid, signal.SIGINT)
+        expect("a build that was stopped ends with 130", started.wait(30) == 130)
+    expect("it leaves no copy", not [path for path in (top / "tmp").iterdir() if path.is_dir()])
+
+
 def try_builds(top):
     status, out, said = run(top, ["run"], BROKEN="1")
     expect("a failed build ends with 70, and shows why", status == 70 and out == "" and "no proof of a clause" in said)
@@ -155,6 +171,7 @@ def main():
         top = Path(folder)
         make_top(top)
         try_words(top)
+        try_a_stop(top)
         try_builds(top)
         try_program(top)
     print("./bucketidx: the first run, a failed build, and bad words, as they should be")
