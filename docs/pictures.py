@@ -194,6 +194,51 @@ def grace():
     return p
 
 
+def prune():
+    p = Picture(800, 356, "A cut beside a reader that announces late, and one that reads at an older number")
+    rows = [("the stamp", 27), ("pass 0 cuts", 87), ("pass 1 comes late", 163), ("pass 2 reads", 227)]
+    for name, y in rows:
+        p.text(12, y + 4, name, "t", 12, "start")
+        p.line(170, y, 780, y, "line")
+    for start, end, name in [(170, 455, "7"), (455, 780, "8")]:
+        p.labelled(start, 14, end - start, 26, [(name, "t b", 12)])
+
+    def event(x, y, first, second=""):
+        p.line(x, y - 8, x, y + 8, "line")
+        p.text(x, y - 28 if second else y - 14, first, "t", 11)
+        if second:
+            p.text(x, y - 14, second, "t", 11)
+
+    event(205, 87, "announces 7,", "reads at 7")
+    event(312, 87, "looks at 1:", "finds 0")
+    event(388, 87, "looks at 2:", "finds 6")
+    event(455, 87, "raises", "to 8")
+    event(560, 87, "cuts behind the entry", "that 5 selects")
+    p.line(312, 95, 312, 163, "dash")
+    p.line(388, 95, 388, 214, "dash")
+    p.text(394, 124, "its least number is 5 now", "s", 11, "start")
+    p.line(250, 155, 250, 171, "line")
+    p.text(250, 149, "loads 7", "t", 11)
+    p.text(400, 156, "is held up: it has no section number", "s", 11, "start")
+    event(640, 163, "announces 7,", "finds 8")
+    p.labelled(690, 150, 90, 26, [("reads at 8", "t", 11)], "key")
+    p.labelled(180, 214, 600, 26, [("its word is 6; reads at 5", "t", 11)], "key")
+    p.text(12, 296, "the link's bundle", "t", 12, "start")
+    p.text(12, 311, "after the cut", "t", 12, "start")
+    for at, (number, kind, reader) in enumerate([("8", "good", "pass 1, at 8"), ("7", "good", "pass 0, at 7"), ("5", "good", "pass 2, at 5"), ("2", "warn", "nobody: retired")]):
+        x = 170 + 155 * at
+        p.labelled(x, 286, 80, 30, [("number " + number, "t b", 12)], kind)
+        p.text(x + 40, 338, reader, "t" if at < 3 else "s", 11)
+        if at < 2:
+            p.arrow(x + 80, 301, x + 155, 301)
+        if at == 2:
+            p.line(x + 80, 301, x + 112, 301, "line")
+            p.line(x + 112, 293, x + 112, 309, "line")
+    p.text(12, 338, "selected by", "s", 11, "start")
+    p.text(780, 262, "time", "s", 11, "end")
+    return p
+
+
 def session():
     p = Picture(800, 400, "The life of a session")
 
@@ -282,7 +327,7 @@ def layers():
     return p
 
 
-PICTURES = {"history": history, "headline": headline, "grace": grace, "session": session, "layers": layers}
+PICTURES = {"history": history, "headline": headline, "grace": grace, "prune": prune, "session": session, "layers": layers}
 
 
 def main():

@@ -9,6 +9,8 @@ The session is the first of rows.txt, whose whole text stands there, worked out 
 - Reads: the input fails behind each piece, also behind the last one. Nothing is written then.
 - Writes: the output takes so many bytes and no more, for each number of them. Just these were written.
 - Lines: each line is written at once.
+- Several pieces: the same of texts that are put together in several pieces, on threads. The output fails at each line,
+  at its first byte and in its middle.
 """
 import fcntl
 import os
@@ -22,6 +24,7 @@ import termios
 import time
 
 from rows import SESSIONS, sessions
+from several_pieces import long_lines, short_lines
 
 PIECES = [1, 7, 10, 1000]
 DONE = (0, "")
@@ -95,6 +98,15 @@ def writes_of(program, raw):
     return writes
 
 
+def rooms_of_lines(text):
+    """How much is written where the write of a line fails, or ends in the middle of the line."""
+    start = 0
+    for line in text.splitlines(keepends=True):
+        yield start
+        yield start + len(line) // 2
+        start += len(line)
+
+
 def compared(program):
     """What was tried, what came of it, and what was wanted."""
     raw, text = whole_session()
@@ -107,6 +119,12 @@ def compared(program):
         yield "room for %d bytes" % room, into_room(program, raw, room), (WRITE_FAULT, text[:room])
     yield "room for all bytes", into_room(program, raw, len(text)), (DONE, text)
     yield "a write a line", writes_of(program, raw), text.splitlines(keepends=True)
+    raw, text = short_lines()
+    yield "a write a line, in several pieces", writes_of(program, raw), text.splitlines(keepends=True)
+    raw, text = long_lines()
+    for room in rooms_of_lines(text):
+        yield "several pieces and room for %d bytes" % room, into_room(program, raw, room), (WRITE_FAULT, text[:room])
+    yield "several pieces and room for all bytes", into_room(program, raw, len(text)), (DONE, text)
 
 
 def main():
@@ -115,7 +133,7 @@ def main():
     tried = 0
     for what, got, wanted in compared(sys.argv[1]):
         if got != wanted:
-            sys.exit("%s\n  got    %r\n  wanted %r" % (what, got, wanted))
+            sys.exit("%s\n  got    %.2000r\n  wanted %.2000r" % (what, got, wanted))
         tried += 1
     print("broken streams: %d runs ended as wanted" % tried, file=sys.stderr)
 

@@ -3,18 +3,21 @@
 
     tests/failed_allocations.py PROGRAM [SESSION ..]
 
-Without names it takes each text of examples/ that has its answers beside it, and tests/three_clients.txt, whose text does
-not depend on the schedule. Wanted of each failure: status 7, a start of the whole text, down to
-nothing, and one line on standard error; or the whole text and status 0, where a thread could not be started and its
-client was run without one. A session of several clients needs answers that do not depend on the schedule. PROGRAM is the built program itself, crates/bucketidx/out/bucketidx. A
-small library, which is compiled with cc and loaded before the C library, counts the program's allocations and
-refuses one of them; those of the C library itself are let through. Not part of the gate.
+Without names it takes each text of examples/ that has its answers beside it, tests/three_clients.txt, whose text does
+not depend on the schedule, and a session whose text is put together in several pieces, on threads. Wanted of each
+failure: status 7, a start of the whole text, down to nothing, and one line on standard error; or the whole text and
+status 0, where a thread could not be started, and its client was run or its piece made without one. A session of several
+clients needs answers that do not depend on the schedule. PROGRAM is the built program itself,
+crates/bucketidx/out/bucketidx. A small library, which is compiled with cc and loaded before the C library, counts the
+program's allocations and refuses one of them; those of the C library itself are let through. Not part of the gate.
 """
 import os
 import subprocess
 import sys
 import tempfile
 from pathlib import Path
+
+from several_pieces import long_lines
 
 HERE = Path(__file__).resolve().parent.parent
 LIBRARY = r"""
@@ -97,11 +100,13 @@ def refused_rightly(ran, whole):
     return ran.returncode == 7 and whole.startswith(ran.stdout) and lines == ["bucketidx: no memory"]
 
 
-def failures_of(tried, session):
+def failures_of(tried, session, text=None):
     """How many allocations were refused in turn, at how many of them something was written, and at how many all of it."""
     ran = tried.run(session)
     if ran.returncode != 0:
         sys.exit("status %d without a failing allocation" % ran.returncode)
+    if text not in (None, ran.stdout):
+        sys.exit("without a failing allocation the text is another one")
     whole, count, begun, borne = ran.stdout, tried.allocations(), 0, 0
     for number in range(1, count + 1):
         ran = tried.run(session, number)
@@ -124,8 +129,11 @@ def main():
     names = sys.argv[2:] or sorted(map(str, found)) + [str(HERE / "tests" / "three_clients.txt")]
     with tempfile.TemporaryDirectory() as folder:
         tried = Tried(sys.argv[1], Path(folder))
-        for name in names:
-            count, begun, borne = failures_of(tried, Path(name).read_bytes())
+        tries = [(name, Path(name).read_bytes(), None) for name in names]
+        if not sys.argv[2:]:
+            tries.append(("a text of several pieces", *long_lines()))
+        for name, session, text in tries:
+            count, begun, borne = failures_of(tried, session, text)
             if count == 0:
                 sys.exit("%s: no allocation was seen" % name)
             print("%s: %d allocations failed in turn, %d of them behind the first line, %d borne" % (name, count, begun, borne))

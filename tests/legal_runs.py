@@ -20,7 +20,7 @@ import subprocess
 import sys
 from pathlib import Path
 
-from random_sessions import base64url, line_text, make_ready, page_members, point_of
+from random_sessions import base64url, line_text, make_ready, page_members, point_of, token_text
 from session_model import command_of, lines_of
 
 MOST_REQUESTS = 200_000
@@ -154,7 +154,7 @@ def resolved(lines, replies):
         else:
             yield ()
             continue
-        point = point_of(query["token"]) if query and query["token"] else None
+        point = point_of(query) if query and query["token"] else None
         bad = query is None or (query["token"] and point is None)
         yield None if bad else (query, point)
         last_query, last_token = query, None if bad else reply.get("NextContinuationToken")
@@ -314,7 +314,9 @@ def random_line(rng, names, most_keys):
     if rng.random() < 0.2:
         query.append("start-after=" + name)
     if rng.random() < 0.2:
-        token = rng.choice([base64url(b"K" + name.encode()), base64url(b"P" + name[:1].encode()), "UA", "*"])
+        entry = rng.choice([(b"K", name.encode()), (b"P", name[:1].encode())])
+        bound = token_text(entry, rng.choice(["", "", "a", "b", "c"]), rng.choice(["", "/", "a"]))
+        token = rng.choice([base64url(b"".join(entry)), bound, bound, "UA", "*"])
         query.append("continuation-token=" + token)
     if rng.random() < 0.2:
         query.append("encoding-type=url")

@@ -5,10 +5,11 @@
 
 Up to four passes put, remove and look up keys at once; this script chooses what each is asked for and whose
 turn it is. PROGRAM makes a plan for each update from the tree that the pass reads, makes the plan's events,
-and tells what each try has come to. A try that was validated must raise. One that was not must have raised
-the count of its cause by one, and no other count. Each look-up in a snapshot must find what the map had at
-its number. At the end the words must spell the tree of the whole history. The model of map and tree shares
-no code with the machine. The script ends with status 1 at the first difference.
+and tells what each try has come to, and where it has cut a bundle. A try that was validated must raise. One
+that was not must have raised the count of its cause by one, and no other count. Each look-up in a snapshot
+must find what the map had at its number, whatever was cut meanwhile. At the end the words must spell the
+tree of the whole history. The model of map and tree shares no code with the machine. The script ends with
+status 1 at the first difference.
 """
 import argparse
 import random
@@ -151,7 +152,7 @@ class Model:
 
     def take(self, line):
         words = line.split()
-        takers = {"raised": self.take_raised, "tried": self.take_tried}
+        takers = {"raised": self.take_raised, "cut": self.take_cut, "tried": self.take_tried}
         takers |= {"found": self.take_found, "missing": self.take_missing}
         ask(words[0] in takers, line)
         takers[words[0]](int(words[1]), line, words[2:])
@@ -171,6 +172,10 @@ class Model:
         self.cases[case] += 1
         self.maps.append(before)
         self.raised[number] = at
+
+    def take_cut(self, number, line, words):
+        ask(self.raised[number] is not None, line)
+        self.seen["cuts"] += words[1] != "0"
 
     def take_tried(self, number, line, words):
         outcome, at, counts = words[0], int(words[1]), self.counts_of(words[2:])
@@ -242,7 +247,7 @@ def main():
             sys.exit(1)
         seen.update(model.seen)
         cases.update(model.cases)
-    missed = (OUTCOMES | {"old look-ups", "look-ups that waited"}) - set(seen) | CASES - set(cases)
+    missed = (OUTCOMES | {"cuts", "old look-ups", "look-ups that waited"}) - set(seen) | CASES - set(cases)
     if missed:
         print("not reached: %s" % ", ".join(sorted(missed)))
         sys.exit(1)

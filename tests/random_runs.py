@@ -4,10 +4,13 @@
     tests/random_runs.py PROGRAM [--runs N] [--events N] [--seed N] [--inserts]
 
 Several seats put, remove and look up keys at once, by the procedures of a Citrus tree with bundled
-references; a scheduler lets one of them make its next step. The model keeps the words by itself. Whenever
-a seat has a section number, and at the stamp, the words must spell the tree of the map after so many
-updates. PROGRAM reads the sizes and the events, and prints the words at the end, or the first event that it
-refuses. The model shares no code with it. The script ends with status 1 at the first difference.
+references; a scheduler lets one of them make its next step. A seat announces before it reads, and cuts
+bundles of nodes that it has locked behind what nobody can select any more. The model keeps the words by
+itself. Whenever a seat has a section number, and at the stamp, the words must spell the tree of the map
+after so many updates. PROGRAM reads the sizes and the events, and prints the words at the end, or the first
+event that it refuses. Events without which a later one must be refused are left out, and cuts are moved to
+an entry too far in front. The model shares no code with PROGRAM. The script ends with status 1 at the first
+difference.
 """
 import argparse
 import random
@@ -33,10 +36,15 @@ class Table:
         self.entries = sum(size[1] for size in sizes)
         self.words = [0] * (1 + 2 * self.passes + 10 * (self.nodes + 1) + 3 * self.entries)
         self.maps, self.events, self.raised = [{}], [], {}
-        self.cases, self.freed = Counter(), 0
+        self.cases, self.freed, self.cut_off = Counter(), 0, 0
+        # Places of cuts, each with the event of a cut that goes too far.
+        self.too_far = []
 
     def section(self, seat):
         return 1 + seat
+
+    def announced(self, seat):
+        return 1 + self.passes + seat
 
     def node(self, node, field):
         return 1 + 2 * self.passes + 10 * node + field
@@ -47,12 +55,15 @@ class Table:
     def entry(self, entry, part):
         return 1 + 2 * self.passes + 10 * (self.nodes + 1) + 3 * (entry - 1) + part
 
+    def number(self, entry):
+        """The number of an entry, written or given by a raise; 0 where it has none."""
+        return self.words[self.entry(entry, TS)] or self.raised.get(entry, 0)
+
     def selected(self, node, side, number):
         """The child that a number selects."""
         entry = self.words[self.head(node, side)]
         while entry:
-            stamp = self.words[self.entry(entry, TS)] or self.raised.get(entry, 0)
-            if 0 < stamp <= number:
+            if 0 < self.number(entry) <= number:
                 return self.words[self.entry(entry, PTR)]
             entry = self.words[self.entry(entry, NEXT)]
         return 0
@@ -73,12 +84,13 @@ class Table:
 class Seat:
     """One pass: its slots, and the procedure that it is in."""
 
-    def __init__(self, table, number, first_node, first_entry):
+    def __init__(self, table, rng, number, first_node, first_entry):
         size = table.sizes[number]
-        self.table, self.number, self.left = table, number, size[2]
+        self.table, self.rng, self.number, self.left = table, rng, number, size[2]
         self.free = ([first_node + k for k in range(size[0])], [first_entry + k for k in range(size[1])])
         self.retired, self.batch, self.found, self.passed = ([], []), ([], []), {}, set()
-        self.at = None
+        # The section number, and the least number with the passes whose announcements it has looked at.
+        self.at, self.least, self.looked = None, None, set()
 
     # ---- steps: each is one event
 
@@ -116,7 +128,72 @@ class Seat:
     def leave(self):
         word = self.table.section(self.number)
         self.store("Leave", word, self.table.words[word] + 1)
-        self.at = None
+        self.at, self.least, self.looked = None, None, set()
+
+    def load_stamp(self, fixes):
+        """A load of the stamp, which gives a section number where the seat has announced."""
+        stamp = self.load("LoadStamp", 0, fixes)
+        if self.table.words[self.table.announced(self.number)]:
+            self.at, self.least, self.looked = stamp, stamp, set()
+        return stamp
+
+    def begin(self, fixes):
+        """Enters and reads from then on, by four steps; by two where the last announcement was not taken back."""
+        self.enter()
+        yield
+        if not self.table.words[self.table.announced(self.number)]:
+            seen = self.load_stamp(0)
+            yield
+            self.store("Announce", self.table.announced(self.number), seen + 1)
+            yield
+        self.load_stamp(fixes)
+        yield
+
+    def end(self):
+        self.leave()
+        yield
+        if self.rng.random() < 0.9:
+            self.store("Announce", self.table.announced(self.number), 0)
+            yield
+
+    def look_at_announcements(self):
+        """Lowers the least number to what the other passes have announced."""
+        others = [other for other in range(self.table.passes) if other != self.number]
+        self.rng.shuffle(others)
+        for other in others:
+            word = self.load("LookAnn", self.table.announced(other))
+            if word:
+                self.least = min(self.least, word - 1)
+            self.looked.add(other)
+            yield
+
+    def prune(self, node, side):
+        """Cuts the bundle of a link of a locked, unmarked node behind the entry that the least number selects."""
+        table = self.table
+        if len(self.looked) < table.passes - 1:
+            yield from self.look_at_announcements()
+        front, entry = 0, self.load("LoadHead", table.head(node, side))
+        yield
+        while entry:
+            self.load("LoadTs", table.entry(entry, TS))
+            yield
+            if 0 < table.number(entry) <= self.least:
+                break
+            front, entry = entry, self.load("LoadNext", table.entry(entry, NEXT))
+            yield
+        if entry:
+            self.cut_behind(front, entry)
+            yield
+
+    def cut_behind(self, front, entry):
+        table = self.table
+        behind = list(self.chain_from(table.words[table.entry(entry, NEXT)]))
+        if front:
+            table.too_far.append((len(table.events), "%d Cut %d 0" % (self.number, table.entry(front, NEXT))))
+        self.store("Cut", table.entry(entry, NEXT), 0)
+        self.retired[1].extend(behind)
+        table.cut_off += len(behind)
+        table.cases["cut, %s" % ("behind an older reader" if self.least < self.at else "behind the newest entry read")] += 1
 
     def look(self, other):
         self.take_batch()
@@ -237,15 +314,24 @@ class Seat:
         self.left -= 1
 
     def chain(self, node, side):
-        entry = self.table.words[self.table.head(node, side)]
+        return self.chain_from(self.table.words[self.table.head(node, side)])
+
+    def chain_from(self, entry):
         while entry:
             yield entry
             entry = self.table.words[self.table.entry(entry, NEXT)]
 
-    def finish(self, entries, marked, locked):
+    def finish(self, entries, marked, locked, changed):
+        """Ends an update: its numbers, the bundles of the links that it changed, marks, and locks."""
+        prunes = self.rng.random()
+        if prunes < 0.2:
+            yield from self.prune(*self.rng.choice(changed))
         for entry in entries:
             self.store("Finalise", self.table.entry(entry, TS), self.table.raised.pop(entry))
             yield
+        if prunes < 0.8:
+            for node, side in changed:
+                yield from self.prune(node, side)
         for node in marked:
             self.store("Mark", self.table.node(node, MARK), 1)
             yield
@@ -256,13 +342,9 @@ class Seat:
 
     def try_update(self, line, key, change):
         """One try of a put, or of a removal where the change is None; tells whether it is answered."""
-        self.enter()
-        yield
-        self.at = self.load("LoadStamp", 0)
-        yield
+        yield from self.begin(0)
         answered = yield from self.try_inside(line, key, change)
-        self.leave()
-        yield
+        yield from self.end()
         return answered
 
     def try_inside(self, line, key, change):
@@ -282,6 +364,8 @@ class Seat:
         locked = yield from self.lock_all(nodes)
         if not locked:
             return False
+        if self.rng.random() < 0.1:
+            yield from self.prune(self.rng.choice(nodes), self.rng.choice([LEFT, RIGHT]))
         head, under = yield from self.locked_child(node, side)
         if (head, under) != (entry, child):
             yield from self.unlock_all(nodes)
@@ -319,7 +403,7 @@ class Seat:
         yield
         self.raise_stamp(line, key, val, [], [entry])
         yield
-        yield from self.finish([entry], [], [node])
+        yield from self.finish([entry], [], [node], [(node, side)])
 
     def new_children(self, slot, children):
         """Entries for the children of a new node."""
@@ -345,7 +429,7 @@ class Seat:
         yield
         self.raise_stamp(line, key, val, [child], [entry] + below)
         yield
-        yield from self.finish([entry] + below, [child], [node, child])
+        yield from self.finish([entry] + below, [child], [node, child], [(node, side)])
 
     def cut(self, line, key, node, side, head, child):
         left = yield from self.locked_child(child, LEFT)
@@ -360,7 +444,7 @@ class Seat:
         yield
         self.raise_stamp(line, key, None, [child], [entry])
         yield
-        yield from self.finish([entry], [child], [node, child])
+        yield from self.finish([entry], [child], [node, child], [(node, side)])
         return True
 
     def move(self, line, key, node, side, head, child, successor):
@@ -396,7 +480,8 @@ class Seat:
         yield
         self.raise_stamp(line, key, None, [child, first], entries)
         yield
-        yield from self.finish(entries, [child, first], nodes)
+        changed = [(node, side)] + ([(parent, LEFT)] if parent != child else [])
+        yield from self.finish(entries, [child, first], nodes, changed)
         return True
 
     def settle(self):
@@ -412,12 +497,14 @@ class Seat:
             self.leave()
             yield
 
-    def read(self, key):
-        """A snapshot with one look-up."""
-        self.enter()
-        yield
-        self.at = self.load("LoadStamp", 0, 1)
-        yield
+    def read(self, keys):
+        """A snapshot with some look-ups."""
+        yield from self.begin(1)
+        for key in keys:
+            yield from self.look_up(key)
+        yield from self.end()
+
+    def look_up(self, key):
         node, side, entry, child = yield from self.search(key)
         found = None
         if child:
@@ -425,18 +512,16 @@ class Seat:
             yield
         if found != self.table.maps[self.at].get(key):
             raise Refused("key %d at %d: found %r, and not %r" % (key, self.at, found, self.table.maps[self.at].get(key)))
-        self.leave()
-        yield
 
-    def live(self, rng, keys):
+    def live(self, keys):
         """Random requests, one after another."""
-        line = 0
+        rng, line = self.rng, 0
         while True:
             line += 1
             key = rng.randrange(keys)
             choice = rng.random()
             if choice < 0.2 or not self.left:
-                yield from self.read(key)
+                yield from self.read([rng.randrange(keys) for _ in range(rng.choice([1, 1, 1, 12]))])
                 continue
             change = rng.randrange(1000) if choice < 0.6 else None
             answered = False
@@ -465,10 +550,10 @@ def random_run(rng, count, inserts):
     sizes = [(rng.randint(2, most[0]), rng.randint(8, most[1]), count) for _ in range(rng.randint(1, 4))]
     table, seats, node, entry = Table(sizes, inserts), [], 1, 1
     for number, size in enumerate(sizes):
-        seats.append(Seat(table, number, node, entry))
+        seats.append(Seat(table, rng, number, node, entry))
         node, entry = node + size[0], entry + size[1]
     keys = rng.choice([30, 60, 200] if inserts else [3, 6, 10])
-    lives = [seat.live(rng, keys) for seat in seats]
+    lives = [seat.live(keys) for seat in seats]
     steps = 0
     while len(table.events) < count:
         next(lives[rng.randrange(len(seats))])
@@ -478,9 +563,10 @@ def random_run(rng, count, inserts):
     return table
 
 
-# An event of the first kind must not be left out before the seat's next event of the second.
-NEEDED_BY = {"Prepare": "Raise", "Mark": "Unlock", "Finalise": "Unlock"}
+# An event of the first kind must not be left out before the seat's next event of the second, in the same section.
+NEEDED_BY = {"Prepare": "Raise", "Mark": "Unlock", "Finalise": "Unlock", "Announce": "LookAnn", "LookAnn": "Cut"}
 CASES = {"insert", "replace", "remove, 0 children", "remove, 1 children", "remove, 2 children, deep", "remove, 2 children, right child"}
+CUTS = {"cut, behind an older reader", "cut, behind the newest entry read"}
 
 
 def answer(program, sizes, events):
@@ -497,13 +583,20 @@ def needed_event(rng, events):
     for place in places:
         seat, kind = events[place].split()[:2]
         for later in range(place + 1, len(events)):
+            if events[later].split()[:2] == [seat, "Leave"]:
+                break
             if events[later].split()[:2] == [seat, NEEDED_BY[kind]]:
                 return place, later
     return None
 
 
+def fail(run, what, said):
+    print("run %d %s: %s" % (run, what, said[:400]))
+    sys.exit(1)
+
+
 def compare(program, rng, table, run):
-    """The program's answers to a run, and to the run without one event, are as they must be."""
+    """The program's answers to a run, to the run without one event, and to one with a cut too far, are as they must be."""
     said = answer(program, table.sizes, table.events)
     if said != " ".join(map(str, table.words)) + "\n":
         print("run %d: %s" % (run, said[:400]))
@@ -514,10 +607,14 @@ def compare(program, rng, table, run):
     found = needed_event(rng, table.events)
     if found:
         place, later = found
-        said = answer(program, table.sizes, table.events[:place] + table.events[place + 1 :]).split()
-        if said[:1] != ["refused"] or int(said[1]) > later - 1:
-            print("run %d without event %d, %s: %s" % (run, place, table.events[place], " ".join(said)[:400]))
-            sys.exit(1)
+        said = answer(program, table.sizes, table.events[:place] + table.events[place + 1 :])
+        if said.split()[:1] != ["refused"] or int(said.split()[1]) > later - 1:
+            fail(run, "without event %d, %s" % (place, table.events[place]), said)
+    if table.too_far:
+        place, cut = rng.choice(table.too_far)
+        said = answer(program, table.sizes, table.events[:place] + [cut])
+        if said != "refused %d\n" % place:
+            fail(run, "with the event %d, %s, in place of %s" % (place, cut, table.events[place]), said)
 
 
 def main():
@@ -529,18 +626,21 @@ def main():
     parser.add_argument("--inserts", action="store_true", help="puts of absent keys and look-ups alone")
     options = parser.parse_args()
     rng = random.Random(options.seed)
-    cases, freed = Counter(), 0
+    cases, freed, cut_off = Counter(), 0, 0
     for run in range(options.runs):
         table = random_run(rng, options.events, options.inserts)
         cases.update(table.cases)
         freed += table.freed
+        cut_off += table.cut_off
         if options.program:
             compare(options.program, rng, table, run)
-    if not options.inserts and (CASES - set(cases) or not freed):
-        print("not reached: %s" % ", ".join(sorted(CASES - set(cases)) or ["slots that are used again"]))
+    missed = sorted((CASES | CUTS) - set(cases)) + ["slots that are used again"] * (not freed) + ["entries cut off"] * (not cut_off)
+    if not options.inserts and missed:
+        print("not reached: %s" % ", ".join(missed))
         sys.exit(1)
     counts = ", ".join("%s: %d" % case for case in sorted(cases.items()))
-    print("%d runs of %d events, all as the model (%s; slots freed: %d)" % (options.runs, options.events, counts, freed), file=sys.stderr)
+    told = (options.runs, options.events, counts, cut_off, freed)
+    print("%d runs of %d events, all as the model (%s; entries cut off: %d; slots freed: %d)" % told, file=sys.stderr)
 
 
 if __name__ == "__main__":

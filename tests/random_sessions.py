@@ -1,11 +1,12 @@
 #!/usr/bin/env python3
 """Compares the program with a model of the definitions on random sessions of one client.
 
-    tests/random_sessions.py PROGRAM [--sessions N] [--seed N] [--hostile]
+    tests/random_sessions.py PROGRAM [--sessions N] [--seed N] [--hostile] [--tokens]
 
 The model below is written from docs/DEFINITIONS.md and shares no code with the program. It prints the
 first session that the program answers otherwise, and ends with status 1 then. With `--hostile` the sessions
-are broken first, as `hostile_sessions.py` does it, and one session below, at and above each limit comes behind.
+are broken first, as `hostile_sessions.py` does it, and one session below, at and above each limit comes behind. With
+`--tokens` nearly each listing has a continuation token, many of them broken or of another listing.
 """
 import argparse
 import base64
@@ -13,6 +14,7 @@ import collections
 import itertools
 import json
 import random
+import re
 import subprocess
 import sys
 from urllib.parse import quote
@@ -27,17 +29,61 @@ def base64url(raw):
     return base64.urlsafe_b64encode(raw).decode().rstrip("=")
 
 
-def point_of(token):
-    """The point of a continuation token as (kind, text), or None where it is the token of no point."""
-    padded = token.replace("-", "+").replace("_", "/") + "=" * (-len(token) % 4)
+def sized(text):
+    """A text behind its length in bytes, as four digits."""
+    raw = text.encode()
+    return b"%04d" % len(raw) + raw
+
+
+def token_text(entry, prefix, delimiter):
+    """The token of the page whose last entry it is, of a listing with this prefix and delimiter."""
+    kind, text = entry
+    return base64url(b"2" + kind + sized(prefix) + sized(delimiter) + text)
+
+
+def cut_sized(raw):
+    """The text behind its length, and the bytes behind that. Where the length does not fit, `ValueError`."""
+    if not re.fullmatch(rb"[0-9]{4}", raw[:4]):
+        raise ValueError
+    end = 4 + int(raw[:4])
+    if not end <= min(len(raw), 4 + 1024):
+        raise ValueError
+    return raw[4:end].decode(), raw[end:]
+
+
+def token_of(text):
+    """The token with this text as (kind, text, bound), or None where there is none. A bound is a prefix and a delimiter,
+    or None."""
+    padded = text.replace("-", "+").replace("_", "/") + "=" * (-len(text) % 4)
     try:
         raw = base64.b64decode(padded, validate=True)
-        raw.decode()
+        if base64url(raw) != text:
+            return None
+        kind, rest, bound = raw[:1], raw[1:], None
+        if kind == b"2":
+            kind = raw[1:2]
+            prefix, rest = cut_sized(raw[2:])
+            delimiter, rest = cut_sized(rest)
+            bound = prefix, delimiter
+        rest.decode()
     except ValueError:
         return None
-    if base64url(raw) != token or raw[:1] not in (b"K", b"P") or not 2 <= len(raw) <= 1025:
+    return (kind, rest, bound) if kind in (b"K", b"P") and 1 <= len(rest) <= 1024 else None
+
+
+def point_of(query):
+    """The point of the query's token as (kind, text), or None where it is that of no token, or of another prefix or
+    delimiter."""
+    token = token_of(query["token"])
+    if token is None or token[2] not in (None, (query["prefix"], query["delimiter"])):
         return None
-    return raw[:1], raw[1:]
+    return token[:2]
+
+
+def kind_of(text):
+    """Which form of a token the text has."""
+    token = token_of(text)
+    return "none" if token is None else "without a bound" if token[2] is None else "with a bound"
 
 
 def is_behind(key, query, point):
@@ -87,7 +133,7 @@ def page_members(records, query, point):
     if query["start_after"]:
         members["StartAfter"] = shown(query["start_after"])
     if truncated:
-        members["NextContinuationToken"] = base64url(b"".join(entries[-1]))
+        members["NextContinuationToken"] = token_text(entries[-1], query["prefix"], query["delimiter"])
     return members
 
 
@@ -102,6 +148,7 @@ class Model:
     def __init__(self):
         self.records, self.journal, self.answers = {}, [], []
         self.last_query, self.next_token = None, None
+        self.tokens = collections.Counter()
 
     def answer(self, line, status, **members):
         at = None if status == 400 else len(self.journal)
@@ -124,7 +171,9 @@ class Model:
 
     def list(self, line, query):
         self.last_query, self.next_token = query, None
-        point = point_of(query["token"]) if query["token"] else None
+        point = point_of(query) if query["token"] else None
+        if query["token"]:
+            self.tokens[kind_of(query["token"]) + (", refused" if point is None else ", taken")] += 1
         if query["token"] and point is None:
             return self.answer(line, 400)
         members = page_members(self.records, query, point)
@@ -149,10 +198,12 @@ class Model:
 
 
 class Session:
-    """A random session: its text, and the model that was told of each request."""
+    """A random session: its text, and the model that was told of each request. `with_token` is the share of its listings
+    that have a token."""
 
-    def __init__(self, rng):
+    def __init__(self, rng, with_token=0.3):
         self.rng, self.model, self.lines = rng, Model(), ["CLIENT"]
+        self.with_token = with_token
         self.names = [self.word(1, 5) for _ in range(rng.randint(1, 25))]
         asks = [self.put] * 40 + [self.delete] * 10 + [self.head] * 8 + [self.list] * 22 + [self.next] * 20
         for _ in range(rng.randint(1, 60)):
@@ -194,28 +245,70 @@ class Session:
     def next(self):
         self.model.next(self.ask("NEXT"))
 
-    def token(self):
-        name = self.name().encode()
-        group = self.word(1, 2).encode()
-        good = [b"K" + name, b"P" + name, b"P" + group]
-        bad = [base64url(b"X" + name), base64url(b"K\xff"), "UA", "S2F", "UGEv=", "S", "*", ""]
-        return self.rng.choice([base64url(raw) for raw in good] + bad)
+    def token(self, query):
+        """A token for the query: its own or that of another listing, in both forms, or one that is broken."""
+        rng = self.rng
+        name, group = self.name().encode(), self.word(1, 2).encode()
+        kind, text = entry = rng.choice([(b"K", name), (b"P", name), (b"P", group)])
+        prefix, delimiter = query["prefix"], query["delimiter"]
+        own = self.model.next_token or token_text(entry, prefix, delimiter)
+        other = token_text(entry, *rng.choice([(prefix, self.word(0, 2)), (self.word(0, 2), delimiter), (delimiter, prefix), ("", "")]))
+        whole = token_text(entry, prefix, delimiter)
+        free = base64url(kind + text)
+        bad = [base64url(b"X" + name), base64url(b"K\xff"), "UA", "S2F", "UGEv=", "S", "*", "Mg", ""]
+        return rng.choice([own, other, whole, whole, free, free, rng.choice(bad), self.broken(whole), self.misfit(entry, query)])
+
+    def broken(self, token):
+        """The token cut, longer, or with one letter changed."""
+        rng, letters = self.rng, "ABKMPSZagw019-_"
+        place = rng.randrange(len(token))
+        return rng.choice([
+            token[:place], token[: -rng.randint(1, 3)], token + rng.choice(letters), token + rng.choice(letters + "=") * 4,
+            token[:place] + rng.choice(letters) + token[place + 1 :], token[:place] + rng.choice(letters) + token[place:],
+            token[:place] + token[place + 1 :],
+        ])
+
+    def misfit(self, entry, query):
+        """The query's token with a length that does not fit, or that is not four digits, or with another text of 1,024
+        bytes and more."""
+        rng, (kind, text) = self.rng, entry
+        fields = [query["prefix"].encode(), query["delimiter"].encode()]
+        lengths = [len(field) for field in fields]
+        which, form = rng.randrange(2), "%04d"
+        if rng.random() < 0.4:
+            lengths[which] = rng.choice([max(lengths[which] - 1, 0), lengths[which] + 1, 1024, 1025, 9999])
+        elif rng.random() < 0.4:
+            fields[which] = b"x" * rng.choice([1024, 1024, 1025])
+            lengths[which] = len(fields[which])
+        else:
+            form = rng.choice(["%4d", "%+04d", "%d", "%03d", "%05d", "%04x", "%-4d"])
+        raw = b"2" + kind
+        for place, (field, length) in enumerate(zip(fields, lengths)):
+            raw += ((form if place == which else "%04d") % length).encode() + field
+        return base64url(raw + text)
 
     def list(self):
         rng = self.rng
         query = dict(prefix="", delimiter="", start_after="", token="", max_keys=1000, url=False)
         written = []
-        if rng.random() < 0.4:
-            query["prefix"] = rng.choice([self.word(0, 2), self.name()[:1]])
-            written.append("prefix=" + self.escaped(query["prefix"]))
-        if rng.random() < 0.6:
+        if rng.random() < 0.01:
+            query["delimiter"] = rng.choice("/é") * 512 * rng.randint(1, 2)
+            query["delimiter"] = query["delimiter"].encode()[:1024].decode()
+            written.append("delimiter=" + self.escaped(query["delimiter"]))
+        elif rng.random() < 0.6:
             query["delimiter"] = rng.choice(["/", "/", self.word(0, 2)])
             written.append("delimiter=" + self.escaped(query["delimiter"]))
+        if rng.random() < 0.01:
+            query["prefix"] = rng.choice(LETTERS[:3]) * 1024
+            written.append("prefix=" + self.escaped(query["prefix"]))
+        elif rng.random() < 0.4:
+            query["prefix"] = rng.choice([self.word(0, 2), self.name()[:1]])
+            written.append("prefix=" + self.escaped(query["prefix"]))
         if rng.random() < 0.3:
             query["start_after"] = rng.choice([self.name(), self.word(0, 3)])
             written.append("start-after=" + self.escaped(query["start_after"]))
-        if rng.random() < 0.25:
-            query["token"] = self.token()
+        if rng.random() < self.with_token:
+            query["token"] = self.token(query)
             written.append("continuation-token=" + query["token"])
         if rng.random() < 0.75:
             most = rng.choice([0, 1, 1, 1, 2, 2, 3, 5, 2000])
@@ -288,17 +381,20 @@ def main():
     parser.add_argument("--sessions", type=int, default=1000)
     parser.add_argument("--seed", type=int, default=7)
     parser.add_argument("--hostile", action="store_true")
+    parser.add_argument("--tokens", action="store_true")
     options = parser.parse_args()
     make_ready(options.program)
     rng = random.Random(options.seed)
     if options.hostile:
         return hostile(options, rng)
-    requests = 0
+    requests, tokens = 0, collections.Counter()
     for _ in range(options.sessions):
-        session = Session(rng)
+        session = Session(rng, 0.9) if options.tokens else Session(rng)
         requests += len(session.lines) - 1
+        tokens.update(session.model.tokens)
         check(options.program, session.input().encode(), 0, session.model.text(), "")
     print("%d sessions, %d requests: all answered as the model does" % (options.sessions, requests), file=sys.stderr)
+    print("tokens of listings: " + ", ".join("%s %d" % kind for kind in sorted(tokens.items())), file=sys.stderr)
 
 
 if __name__ == "__main__":

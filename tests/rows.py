@@ -6,7 +6,7 @@
 - rows.txt: sessions of one client, and lines of their text at their places, counted from 1.
 - TEXTS: the same, of inputs that the file cannot show: ends of lines, no request, long ones.
 - LIMITS: what fits a limit exactly.
-- TOKENS: the value of a continuation token, and whether it is that of a point.
+- TOKENS: the value of a continuation token, and whether it is read. BOUND: those that name their listing.
 - RIGHT: lines behind `CLIENT` that are not refused.
 - FAULTY: a line between good ones, and its cause.
 - REFUSED: an input, the line that is refused, and its cause.
@@ -24,6 +24,11 @@ from typing import NamedTuple
 from random_sessions import make_ready
 
 SESSIONS = Path(__file__).resolve().parent / "rows.txt"
+
+
+def base64url(raw):
+    return base64.urlsafe_b64encode(raw).decode().rstrip("=")
+
 
 NO_UPDATES = {1: '{"Updates":0}'}
 
@@ -68,6 +73,12 @@ TEXTS = [
             5: '{"Updates":2}',
         },
     ),
+    (
+        "one CR at the end of a line is dropped",
+        "CLIENT\nPUT a%0D 1 e 1\nHEAD a\r\r\n",
+        {2: '{"At":1,"Client":0,"ETag":"e","LastModified":1,"Line":3,"Size":1,"Status":200}'},
+    ),
+    ("a tab cuts no field", "CLIENT\nHEAD a\tb\n", {1: '{"At":0,"Client":0,"Line":2,"Status":404}'}),
     (
         "an input of more than a piece that is read at once",
         "CLIENT\n" + "HEAD photos/2006/January/sample.jpg\n" * 20000,
@@ -116,6 +127,11 @@ LIMITS = [
         {},
     ),
     (
+        "a client whose NEXT lines follow no LIST of its own",
+        "CLIENT\nLIST\nCLIENT\n" + "NEXT\n" * 4001,
+        {2: '{"At":null,"Client":1,"Line":4,"Status":400}', 4003: '{"Updates":0}'},
+    ),
+    (
         "200,000 requests",
         "CLIENT\n\n" + "HEAD a\n" * 200_000,
         {
@@ -127,13 +143,60 @@ LIMITS = [
     ("32 clients", "CLIENT\n" * 32, NO_UPDATES),
 ]
 
-# A point is `K` and a key or `P` and a common prefix, in URL-safe base64 without padding. These are of `Pa/`, `Ka`, `Kb`,
-# `Ka?`, `Ka>` and `Ké€𝄞`; and the others: padding, bits left over, a letter alone, another letter, symbols of another
-# alphabet, a space, bytes that are no text. A key has 1,024 bytes at most.
+# A token without a bound is `K` and a key or `P` and a common prefix, in URL-safe base64 without padding. These are of
+# `Pa/`, `Ka`, `Kb`, `Ka?`, `Ka>` and `Ké€𝄞`; and the others: padding, bits left over, a letter alone, another letter, symbols
+# of another alphabet, a space, bytes that are no text. A key has 1,024 bytes at most.
 TOKENS = [(token, True) for token in ["UGEv", "S2E", "S2I", "S2E_", "S2E-", "S8Op4oKs8J2Eng"]]
-TOKENS += [(base64.urlsafe_b64encode(b"K" + b"k" * 1024).decode().rstrip("="), True)]
-TOKENS += [(base64.urlsafe_b64encode(b"K" + b"k" * 1025).decode().rstrip("="), False)]
-TOKENS += [(token, False) for token in ["UGEv=", "S2F", "UA", "Sw", "WGE", "S2E+", "S2E/", "S2E%20", "S_8"]]
+TOKENS += [(base64url(b"K" + b"k" * 1024), True), (base64url(b"K" + b"k" * 1025), False)]
+TOKENS += [(token, False) for token in ["UGEv=", "S2F", "UA", "Sw", "WGE", "S2E+", "S2E/", "S2E%20", "S_8", "Mg"]]
+
+# A token with a bound: `2` and the letter; the prefix and the delimiter of its listing, each behind its length in bytes as
+# four digits; and the key or the common prefix. Here by the prefix and the delimiter of the LIST that has it, whether it
+# is read, and its bytes.
+PREFIX, DELIMITER = "p" * 1024, "é" * 512
+BOUND = [
+    ("", "", True, b"2K00000000a"),
+    ("", "", True, b"2P00000000a/"),
+    ("", "", True, b"K2K00000000a"),
+    ("", "/", True, b"2P00000001/a/"),
+    ("a", "/", True, b"2K0001a0001/a"),
+    ("2K", "0000", True, b"2P00022K000400002K0000"),
+    ("é", "", True, "2K0002é0000éa".encode()),
+    ("", "", True, b"2K00000000" + b"k" * 1024),
+    (PREFIX, DELIMITER, True, b"2K1024%s1024%sa" % (PREFIX.encode(), DELIMITER.encode())),
+    # another prefix or delimiter, a longer one, and each in the place of the other
+    ("", "", False, b"2P00000001/a/"),
+    ("", "/", False, b"2P00000000a/"),
+    ("a", "", False, b"2K0001a0001/a"),
+    ("", "/", False, b"2K0001a0001/a"),
+    ("b", "/", False, b"2K0001a0001/a"),
+    ("a", "//", False, b"2K0001a0001/a"),
+    ("/", "a", False, b"2K0001a0001/a"),
+    # cut off, a text that is missing or too long, another letter
+    ("", "", False, b"2K"),
+    ("", "", False, b"2K0000"),
+    ("", "", False, b"2K0000000"),
+    ("", "", False, b"2K00000000"),
+    ("", "", False, b"2K00000000" + b"k" * 1025),
+    ("", "", False, b"2X00000000a"),
+    ("", "", False, b"1K00000000a"),
+    ("", "", False, b"22K00000000a"),
+    # lengths that do not fit, and those that are not four digits
+    ("a", "", False, b"2K0002a0000"),
+    ("a", "", False, b"2K0001a0009a"),
+    ("a", "", False, b"2K9999a0000a"),
+    ("a", "", False, b"2K001a0000a"),
+    ("a", "", False, b"2K   1a0000a"),
+    ("a", "", False, b"2K+001a0000a"),
+    ("a", "", False, b"2K-001a0000a"),
+    ("a", "", False, b"2K0001a    a"),
+    ("a", "", False, b"2K0x01a0000a"),
+    ("a", "", False, "2K٠٠٠١a0000a".encode()),
+    # a prefix that is no text, and one character in two texts
+    ("", "", False, b"2K0001\xff0000a"),
+    ("é", "", False, b"2K0001\xc30001\xa9a"),
+    (PREFIX, "", False, b"2K1025%sp0000a" % PREFIX.encode()),
+]
 
 RIGHT = [
     'PUT a+b 0018446744073709551615 "e-1" 00',
@@ -168,6 +231,9 @@ FAULTY = [
     (b"PUT " + b"k" * 1025 + b" 1 e1 1", "KeyTooLong"),
     (b"LIST prefix=" + b"k" * 1025, "KeyTooLong"),
     (b"LIST prefix=" + b"k" * 1025 + b"&x", "KeyTooLong"),
+    (b"HEAD " + "é".encode() * 513, "KeyTooLong"),
+    (b"LIST delimiter=" + b"k" * 1025, "KeyTooLong"),
+    (b"LIST start-after=" + b"k" * 1025, "KeyTooLong"),
     (b"PUT a x e1 1", "BadNumber"),
     (b"PUT a 1 e1 +1", "BadNumber"),
     (b"PUT a  e1 1", "BadNumber"),
@@ -176,9 +242,14 @@ FAULTY = [
     (b"PUT a 1 e! 1", "BadEtag"),
     (b'PUT a 1 " 1', "BadEtag"),
     (b'PUT a 1 "" 1', "BadEtag"),
+    (b'PUT a 1 "e 1', "BadEtag"),
+    (b"PUT a 1 e_1 1", "BadEtag"),
+    (b"PUT a 1 " + b"e" * 65 + b" 1", "BadEtag"),
     (b"LIST marker=a", "UnknownParameter"),
     (b"LIST =a", "UnknownParameter"),
     (b"LIST ??prefix=a", "UnknownParameter"),
+    (b"LIST %70refix=a", "UnknownParameter"),
+    (b"LIST Prefix=a", "UnknownParameter"),
     (b"LIST prefix=a&prefix=b", "RepeatedParameter"),
     (b"LIST list-type=1", "BadListType"),
     (b"LIST list-type=", "BadListType"),
@@ -198,6 +269,10 @@ FAULTY = [
     (b"LIST fetch-owner=yes&encoding-type=gzip", "BadEncoding"),
     (b"LIST fetch-owner=yes&list-type=2&max-keys=x&list-type=2", "RepeatedParameter"),
     (b"LIST list-type=1&marker=a", "UnknownParameter"),
+    (b"LIST list-type=1&prefix=a&prefix=b", "RepeatedParameter"),
+    (b"LIST max-keys=x&list-type=1", "BadListType"),
+    (b"LIST encoding-type=gzip&max-keys=x", "BadMaxKeys"),
+    (b"HEAD %zz" + b"k" * 1030, "BadEscape"),
     (b"LIST list-type=1&list-type=1&x", "UnknownParameter"),
     (b"LIST x=1&prefix=%zz", "BadEscape"),
 ]
@@ -220,6 +295,8 @@ REFUSED = [
         "TooManyEntries",
     ),
     (b"CLIENT\n\n" + b"HEAD a\n" * 200_001, 200_003, "TooManyLines"),
+    # over two limits at once
+    (b"CLIENT\n" + b"LIST max-keys=20\n" * 200_000 + b"LIST max-keys=1\n", 200_002, "TooManyLines"),
 ]
 
 STARTED = (
@@ -265,9 +342,16 @@ STARTS = [
     (195, None),
 ]
 
-# What a token of a point is answered on an empty bucket, and any other one.
-PAGE_BEHIND = '{"At":0,"Client":0,"CommonPrefixes":[],"Contents":[],"ContinuationToken":"%s","IsTruncated":false,"KeyCount":0,"Line":2,"MaxKeys":1000,"Prefix":"","Status":200}'
+# What a token that is read is answered on an empty bucket, and any other one.
 NO_TOKEN = '{"At":null,"Client":0,"Line":2,"Status":400}'
+
+
+def page_behind(token, prefix="", delimiter=""):
+    shown = '"Delimiter":"%s",' % delimiter if delimiter else ""
+    return (
+        '{"At":0,"Client":0,"CommonPrefixes":[],"Contents":[],"ContinuationToken":"%s",%s"IsTruncated":false,"KeyCount":0,"Line":2,'
+        '"MaxKeys":1000,"Prefix":"%s","Status":200}' % (token, shown, prefix)
+    )
 
 
 class Row(NamedTuple):
@@ -301,8 +385,13 @@ def rows():
     for name, session, lines in TEXTS + LIMITS:
         yield Row(name, session.encode(), lines)
     for token, is_read in TOKENS:
-        wanted = PAGE_BEHIND % token if is_read else NO_TOKEN
+        wanted = page_behind(token) if is_read else NO_TOKEN
         yield Row("token " + token, b"CLIENT\nLIST continuation-token=%s\n" % token.encode(), {1: wanted})
+    for prefix, delimiter, is_read, raw in BOUND:
+        token = base64url(raw)
+        session = "CLIENT\nLIST prefix=%s&delimiter=%s&continuation-token=%s\n" % (prefix, delimiter, token)
+        wanted = page_behind(token, prefix, delimiter) if is_read else NO_TOKEN
+        yield Row("token of %r" % raw[:40], session.encode(), {1: wanted})
     for line in RIGHT:
         yield Row("right line " + line, b"CLIENT\n%s\n" % line.encode())
     for line, cause in FAULTY:

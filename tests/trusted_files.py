@@ -1,9 +1,10 @@
 #!/usr/bin/env python3
-"""Checks that docs/TRUSTED.md lists just the definition files on which the clauses of `serve` rest.
+"""Checks that docs/TRUSTED.md lists just the definition files and the types on which the clauses of `serve` rest.
 
     tests/trusted_files.py [--list]
 
-The files are the closure of the imports of the file of `serve`, and of the two traits of its source and sink.
+The files are the closure of the imports of the file of `serve`, and of the two traits of its source and sink. The types
+are the Rust types of this repository that these files and the clauses name.
 Of the crates that have one of them, each other definition file says in its first line that it is a helper. All
 other crates below `serve` have helpers alone.
 With `--list` the files are printed in place of the check, each with its lines, and with those of them that are
@@ -17,6 +18,8 @@ HERE = Path(__file__).resolve().parent.parent
 DOCUMENT = HERE / "docs" / "TRUSTED.md"
 ROOTS = ["serve_session/src/serving.rt", "outside_io/src/source.rt", "outside_io/src/sink.rt"]
 HELPER = "-- Helper: the headline does not rest on this file."
+DECLARED = re.compile(r"^\s*(?:pub |ghost )*use Rattle\.(\w+)\.specs\.declared\.([\w.]+?)(?:\.TheVariants)?(?:\.\{| as )", re.MULTILINE)
+TYPES = re.compile(r"Rust types that the definitions speak of, (.*?)\. A `Text`", re.DOTALL)
 IMPORT = re.compile(r"^\s*(?:pub |ghost )*use Rattle\.(\w+)\.specs\.([\w.]+)\.\{", re.MULTILINE)
 
 
@@ -36,6 +39,22 @@ def closure():
                 seen.add(found)
                 waiting.append(found)
     return names_of(seen)
+
+
+def types_of(names):
+    """The Rust types of this repository that these files and the clauses of `serve` name, each with its crate."""
+    for path in [HERE / name for name in names] + [HERE / "crates" / root for root in ROOTS]:
+        for crate, module in DECLARED.findall(path.read_text()):
+            if (HERE / "crates" / crate).is_dir():
+                yield "%s of %s" % (module.split(".")[-1], crate)
+
+
+def types_listed(document):
+    """The types of the document's sentence on them, each with its crate."""
+    for group in TYPES.search(document)[1].split(";"):
+        *types, crate = re.findall(r"`(\w+)`", group)
+        for name in types:
+            yield "%s of %s" % (name, crate)
 
 
 def crates_below(crate):
@@ -108,13 +127,18 @@ def main():
             print("%4d %4d  %s" % (*lines_of(name), name))
         print("%d files, %d lines, %d of them neither empty nor an import" % (len(needed), *sums(needed)))
         return print("not needed: %s" % ", ".join(not_needed(needed)))
-    listed = re.findall(r"^\d+\. `(crates/[\w/]+\.antt)`", DOCUMENT.read_text(), re.MULTILINE)
+    document = DOCUMENT.read_text()
+    listed = re.findall(r"^\d+\. `(crates/[\w/]+\.antt)`", document, re.MULTILINE)
     wrong = ["%s is not listed" % name for name in sorted(needed - set(listed))]
     wrong += ["%s is listed and no clause of serve rests on it" % name for name in sorted(set(listed) - needed)]
     wrong += ["%s is listed twice" % name for name in sorted(set(listed)) if listed.count(name) > 1]
     helpers, others = marked(needed)
     wrong += ["%s calls itself a helper, and a clause of serve rests on it" % name for name in sorted(helpers & needed)]
     wrong += ["%s does not call itself a helper in its first line" % name for name in sorted(others - needed)]
+    named, told = set(types_of(needed)), list(types_listed(document))
+    wrong += ["the type %s is not listed" % name for name in sorted(named - set(told))]
+    wrong += ["the type %s is listed and no definition names it" % name for name in sorted(set(told) - named)]
+    wrong += ["the type %s is listed twice" % name for name in sorted(set(told)) if told.count(name) > 1]
     if wrong:
         print("docs/TRUSTED.md:\n  " + "\n  ".join(wrong))
         sys.exit(1)

@@ -174,7 +174,7 @@ fn list<'a>(out: &mut Vec<u8>, client: usize, line: u32, query: Query, shared: &
         Some((text, false)) if page.truncated => Some(Point::Key(text.to_string())),
         _ => None,
     };
-    let token = next.as_ref().map(session::token_of).unwrap_or_default();
+    let token = next.as_ref().map(|point| session::token_of(point, &query)).unwrap_or_default();
     lines::listed(out, at, client, line, &query, &page, &token);
     next.map(|point| Query { token, point: Some(point), ..query })
 }

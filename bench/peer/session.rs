@@ -73,13 +73,11 @@ fn query_of(text: &str) -> Query {
             "start-after" => query.start_after = value,
             "max-keys" => query.max_keys = value.parse::<usize>().expect("a number").min(1000),
             "encoding-type" => query.url = value == "url",
-            "continuation-token" => {
-                query.point = point_of(&value);
-                query.token = value;
-            }
+            "continuation-token" => query.token = value,
             _ => {}
         }
     }
+    query.point = point_of(&query);
     query
 }
 
@@ -119,27 +117,43 @@ pub fn read(input: &str) -> Vec<Vec<Asked<'_>>> {
 
 const LETTERS: &[u8; 64] = b"ABCDEFGHIJKLMNOPQRSTUVWXYZabcdefghijklmnopqrstuvwxyz0123456789-_";
 
-/// The token of a point: base64 of a letter for its kind, and its text.
-pub fn token_of(point: &Point) -> String {
-    let (kind, text) = match point {
-        Point::Key(text) => (b'K', text),
-        Point::Group(text) => (b'P', text),
-    };
-    let mut bytes = vec![kind];
-    bytes.extend_from_slice(text.as_bytes());
-    let mut token = String::with_capacity(bytes.len() * 4 / 3 + 3);
+fn base64(bytes: &[u8]) -> String {
+    let mut text = String::with_capacity(bytes.len() * 4 / 3 + 3);
     for chunk in bytes.chunks(3) {
         let mut group = [0; 3];
         group[..chunk.len()].copy_from_slice(chunk);
         let bits = u32::from(group[0]) << 16 | u32::from(group[1]) << 8 | u32::from(group[2]);
         for place in 0..=chunk.len() {
-            token.push(LETTERS[(bits >> (18 - 6 * place) & 63) as usize] as char);
+            text.push(LETTERS[(bits >> (18 - 6 * place) & 63) as usize] as char);
         }
     }
-    token
+    text
 }
 
-fn point_of(token: &str) -> Option<Point> {
+/// What stands before the text of a point in a token of the query: the form, the kind, and the prefix and the delimiter, each
+/// behind its length.
+fn front_of(kind: u8, query: &Query) -> Vec<u8> {
+    let (prefix, delimiter) = (&query.prefix, &query.delimiter);
+    let mut bytes = vec![b'2', kind];
+    for text in [prefix, delimiter] {
+        bytes.extend_from_slice(format!("{:04}", text.len()).as_bytes());
+        bytes.extend_from_slice(text.as_bytes());
+    }
+    bytes
+}
+
+/// The token of a point for the query, in base64.
+pub fn token_of(point: &Point, query: &Query) -> String {
+    let (kind, text) = match point {
+        Point::Key(text) => (b'K', text),
+        Point::Group(text) => (b'P', text),
+    };
+    let mut bytes = front_of(kind, query);
+    bytes.extend_from_slice(text.as_bytes());
+    base64(&bytes)
+}
+
+fn decoded(token: &str) -> Option<Vec<u8>> {
     let mut bytes = Vec::new();
     let (mut bits, mut count) = (0u32, 0);
     for letter in token.bytes() {
@@ -150,11 +164,21 @@ fn point_of(token: &str) -> Option<Point> {
             bytes.push((bits >> count) as u8);
         }
     }
-    let text = String::from_utf8(bytes.split_off(1)).ok()?;
-    let point = match bytes[0] {
-        b'K' => Point::Key(text),
-        b'P' => Point::Group(text),
-        _ => return None,
+    (base64(&bytes) == token).then_some(bytes)
+}
+
+/// The point of the query's token, which names the query's prefix and delimiter, or none.
+fn point_of(query: &Query) -> Option<Point> {
+    let bytes = decoded(&query.token)?;
+    let (kind, text) = match &bytes[..] {
+        [b'2', kind, ..] => (*kind, bytes.strip_prefix(&front_of(*kind, query)[..])?),
+        [kind, text @ ..] => (*kind, text),
+        [] => return None,
     };
-    (token_of(&point) == token).then_some(point)
+    let text = String::from_utf8(text.to_vec()).ok().filter(|text| !text.is_empty() && text.len() <= 1024)?;
+    match kind {
+        b'K' => Some(Point::Key(text)),
+        b'P' => Some(Point::Group(text)),
+        _ => None,
+    }
 }

@@ -5,7 +5,8 @@ use Rattle.std.proofs.lemmas.Bool.Decides.{nat_tests}
 use Rattle.percent_encoding.specs.AsciiSet.{should_percent_encode}
 use Rattle.percent_encoding.specs.Percent.{percent_encode_byte, percent_encode, encode_byte}
 use Rattle.answer_text.specs.declared.escapes.TheConstants.{ESCAPED}
-use Rattle.answer_text.specs.Escaping.{is_kept, escaped_byte, escaped}
+use Rattle.answer_text.specs.Lines.{is_kept}
+use Rattle.answer_text.specs.Shown.{escaped_byte, escaped}
 
 agrees : agree_below (should_percent_encode ESCAPED) (λ b. not (is_kept b)) 128 ≡ true
 unfolding should_percent_encode
@@ -33,7 +34,7 @@ byte_same : (b : ℕ) → encode_byte ESCAPED b ≡ escaped_byte b
 byte_same b = ap (λ t. cond t (percent_encode_byte b) (b ∷ [])) (escaped_where_not_kept b) ∙ choice (is_kept b) _ _
 
 pub percent_encode-ESCAPED : (text : List ℕ) → percent_encode ESCAPED text ≡ escaped text
-unfolding percent_encode escaped
+unfolding percent_encode
 percent_encode-ESCAPED [] = refl
 percent_encode-ESCAPED (b ∷ text) =
     ap (λ front. front ++ percent_encode ESCAPED text) (byte_same b) ∙ ap (λ rest. escaped_byte b ++ rest) (percent_encode-ESCAPED text)

@@ -11,8 +11,8 @@ use Rattle.bucket_terms.specs.declared.record.Record.{Record}
 use Rattle.bucket_terms.specs.declared.list_query.ListQuery.{ListQuery}
 use Rattle.bucket_terms.specs.declared.reply.Reply.{Reply}
 use Rattle.bucket_terms.specs.declared.reply.Reply.TheVariants.{Put, Deleted, Found, Missing, Listed, BadToken, NoSlot}
-use Rattle.answer_text.specs.Objects.{Member, always, only_if, whole, array_of, members_there, object_of, line_of}
-use Rattle.answer_text.specs.Lines.{PageShown, page_shown, is_given, verb_text, record_at, place_data, client_member, line_member, replaced_member, reply_members, journal_members, short_members, found_members, listed_members, last_data}
+use Rattle.answer_text.specs.Lines.{Member, always, only_if, whole, members_there, object_of, line_of, is_given, verb_text, record_at}
+use Rattle.answer_text.specs.Shown.{array_of, PageShown, page_shown, place_data, client_member, line_member, replaced_member, reply_members, journal_members, short_members, found_members, listed_members, last_data}
 use Rattle.answer_text.specs.Pieces as spec
 
 -- a member behind the first one, and what stands behind it

@@ -10,9 +10,9 @@ use Rattle.bucket_terms.specs.declared.record.Record.{Record}
 use Rattle.bucket_terms.specs.declared.list_query.ListQuery.{ListQuery}
 use Rattle.bucket_terms.specs.declared.reply.Reply.{Reply}
 use Rattle.bucket_terms.specs.declared.reply.Reply.TheVariants.{Put, Deleted, Found, Missing, Listed, BadToken, NoSlot}
-use Rattle.answer_text.specs.Objects.{Member, only_if}
+use Rattle.answer_text.specs.Lines.{Member, only_if, is_given}
 use Rattle.answer_text.specs.MemberOrder.{RiseAbove, StandInOrder}
-use Rattle.answer_text.specs.Lines.{PageShown, page_shown, is_given, short_members, listed_members, reply_members, content_members, journal_members}
+use Rattle.answer_text.specs.Shown.{PageShown, page_shown, short_members, listed_members, reply_members, content_members, journal_members}
 
 less_from_before : (o : Ordering) → is_lt o ≡ true → o ≡ Less
 less_from_before Less h = refl

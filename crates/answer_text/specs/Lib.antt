@@ -1,6 +1,5 @@
-pub mod Escaping
-pub mod Objects
-pub mod MemberOrder
 pub mod Lines
+pub mod Shown
+pub mod MemberOrder
 pub mod InRange
 pub mod Pieces

@@ -1,103 +1,86 @@
 -- The text of a run: one JSON object a line, whose members stand in the byte order of their names.
-use Rattle.std.specs.Prelude.{ℕ, ◌+◌, ◌==◌, not, Bool, List, [], ◌∷◌, ◌++◌, length, codes, Option, Some, None, slice_index_or}
+use Rattle.std.specs.Prelude.{ℕ, ◌+◌, ◌==◌, ◌||◌, not, Bool, true, false, List, [], ◌∷◌, ◌++◌, length, codes, if◌then◌else◌, Option, Some, None, slice_index_or}
+use Rattle.std.specs.Option.{option_map_or}
 use Rattle.std.specs.List.{filter_map, flat_map}
-use Rattle.serde_json.specs.Data.{Data, null, boolean, string}
+use Rattle.std.specs.Char.{is_ascii_alphanumeric}
+use Rattle.percent_encoding.specs.Percent.{percent_encode_byte}
+use Rattle.serde_json.specs.Data.{Data, null, boolean, string, number, unsigned, array, object, Members, no_members, member}
+use Rattle.serde_json.specs.View.{items_of}
+use Rattle.serde_json.specs.Written.{compact_text}
 use Rattle.key_names.specs.Names.{name_at}
 use Rattle.key_map.specs.declared.update.Update.{Update}
 use Rattle.key_map.specs.declared.update.Change.{Change}
 use Rattle.key_map.specs.declared.update.Change.TheVariants.{Put as PutVal, Remove}
 use Rattle.bucket_terms.specs.declared.record.Record.{Record}
-use Rattle.bucket_terms.specs.declared.list_query.ListQuery.{ListQuery}
-use Rattle.bucket_terms.specs.declared.token_point.TokenPoint.{TokenPoint}
 use Rattle.bucket_terms.specs.declared.page.PageEntry.{PageEntry}
 use Rattle.bucket_terms.specs.declared.page.PageEntry.TheVariants.{Key, Group}
-use Rattle.bucket_terms.specs.declared.page.Page.{Page}
 use Rattle.bucket_terms.specs.declared.reply.Reply.{Reply}
 use Rattle.bucket_terms.specs.declared.reply.Reply.TheVariants.{Put, Deleted, Found, Missing, Listed, BadToken, NoSlot}
 use Rattle.bucket_terms.specs.declared.reply.Placed.{Placed}
-use Rattle.bucket_terms.specs.Entries.{group_text}
-use Rattle.bucket_terms.specs.Token.{token_text}
-use Rattle.bucket_terms.specs.Page.{page_point}
+use Rattle.bucket_terms.specs.Listing.{group_text, next_token, page_point}
 use Rattle.bucket_terms.specs.LegalRun.{Run}
-use Rattle.answer_text.specs.Escaping.{shown}
-use Rattle.answer_text.specs.Objects.{Member, always, only_if, object_of, array_of, whole, line_of}
 
--- ---- what several lines show
+-- ---- escapes under `encoding-type=url` (Amazon S3 API reference, ListObjectsV2: `EncodingType`)
+
+-- whether a byte stands for itself: an ASCII letter or digit, or one of `-`, `.`, `_`, `~` and `/`
+abbrev pub is_kept : ℕ → Bool
+is_kept b = is_ascii_alphanumeric b || (b == 45) || (b == 46) || (b == 95) || (b == 126) || (b == 47)
+
+-- the text as an answer shows it: where the query asks for it, each other byte is `%` and two upper-case hexadecimal digits
+abbrev pub shown : Bool → List ℕ → List ℕ
+shown true text = flat_map (λ b. if is_kept b then b ∷ [] else percent_encode_byte b) text
+shown false text = text
+
+-- ---- objects by their members
+
+pub record Member : Type 0 where
+  pub name : List ℕ
+  pub value : Data
+
+-- a member that is always there, and one that is there where the test holds
+abbrev pub always : List ℕ → Data → Option Member
+always name value = Some (record { name = name; value = value })
+
+abbrev pub only_if : Bool → List ℕ → Data → Option Member
+only_if true name value = always name value
+only_if false name value = None
+
+-- the members that are there, in order
+abbrev pub members_there : List (Option Member) → Members
+members_there [] = no_members
+members_there (Some m ∷ ms) = member m.name m.value (members_there ms)
+members_there (None ∷ ms) = members_there ms
+
+abbrev pub object_of : List (Option Member) → Data
+object_of ms = object (members_there ms)
+
+-- an unsigned number, in decimal digits
+abbrev pub whole : ℕ → Data
+whole n = number (unsigned n)
+
+-- one line: the object with no space between its tokens, and LF
+abbrev pub line_of : Data → List ℕ
+line_of d = compact_text d ++ 10 ∷ []
+
+-- ---- the entries of a page
 
 -- the record at a place; behind the last place one that no answer shows
 abbrev pub record_at : List Record → ℕ → Record
 record_at records place = slice_index_or records place (record { size = 0; etag = []; modified = 0 })
 
-abbrev pub place_data : Option ℕ → Data
-place_data (Some at) = whole at
-place_data None = null
-
-abbrev pub at_member : Option ℕ → Option Member
-at_member at = always (codes "At") (place_data at)
-
-abbrev pub client_member : ℕ → Option Member
-client_member client = always (codes "Client") (whole client)
-
-abbrev pub line_member : ℕ → Option Member
-line_member line = always (codes "Line") (whole line)
-
-abbrev pub status_member : ℕ → Option Member
-status_member status = always (codes "Status") (whole status)
-
--- ---- the entries of a page
-
--- one key with its record (Amazon S3 API reference, ListObjectsV2: `Contents`)
-abbrev pub content_members : List ℕ → Record → List (Option Member)
-content_members key r =
-    always (codes "ETag") (string r.etag)
-    ∷ always (codes "Key") (string key)
-    ∷ always (codes "LastModified") (whole r.modified)
-    ∷ always (codes "Size") (whole r.size)
-    ∷ []
-
+-- what `Contents` and `CommonPrefixes` show of an entry (Amazon S3 API reference, ListObjectsV2)
 abbrev pub content_data : List ℕ → Record → Data
-content_data key r = object_of (content_members key r)
+content_data key r = object_of (
+    always (codes "ETag") (string r.etag) ∷ always (codes "Key") (string key)
+    ∷ always (codes "LastModified") (whole r.modified) ∷ always (codes "Size") (whole r.size) ∷ [])
 
--- one common prefix
-abbrev pub prefix_data : List ℕ → Data
-prefix_data prefix = object_of (always (codes "Prefix") (string prefix) ∷ [])
-
--- what `Contents` and `CommonPrefixes` show of an entry
 abbrev pub content_of : List (List ℕ) → List Record → Bool → PageEntry → Option Data
 content_of dir records url (Key rank val) = Some (content_data (shown url (name_at dir rank)) (record_at records val))
 content_of dir records url (Group rank len) = None
 
 abbrev pub prefix_of : List (List ℕ) → Bool → PageEntry → Option Data
 prefix_of dir url (Key rank val) = None
-prefix_of dir url (Group rank len) = Some (prefix_data (shown url (group_text dir rank len)))
-
--- the token of a page's point, where it has one
-abbrev pub point_token : Option TokenPoint → List ℕ
-point_token (Some point) = token_text point
-point_token None = []
-
--- what the line of a listing shows of its page, and the texts of its query as they are shown
-pub record PageShown : Type 0 where
-  pub prefixes : List Data
-  pub contents : List Data
-  pub count : ℕ
-  pub truncated : Bool
-  pub next : List ℕ
-  pub prefix : List ℕ
-  pub delimiter : List ℕ
-  pub start_after : List ℕ
-
-abbrev pub page_shown : List (List ℕ) → List Record → ListQuery → Page → PageShown
-page_shown dir records query page = record {
-  prefixes = filter_map (prefix_of dir query.url) page.entries;
-  contents = filter_map (content_of dir records query.url) page.entries;
-  count = length page.entries;
-  truncated = page.truncated;
-  next = point_token (page_point dir page);
-  prefix = shown query.url query.prefix;
-  delimiter = shown query.url query.delimiter;
-  start_after = shown query.url query.start_after;
-}
+prefix_of dir url (Group rank len) = Some (object_of (always (codes "Prefix") (string (shown url (group_text dir rank len))) ∷ []))
 
 -- ---- reply lines
 
@@ -105,87 +88,54 @@ page_shown dir records query page = record {
 abbrev pub is_given : List ℕ → Bool
 is_given text = not (length text == 0)
 
--- whether a put replaced a record
-abbrev pub replaced_member : Option Bool → Option Member
-replaced_member (Some was) = always (codes "Replaced") (boolean was)
-replaced_member None = None
+-- the members behind the place and the client: of a reply that shows no more than whether a record was replaced, of a
+-- record, and of any reply of the line. Tokens are never escaped.
+abbrev pub short_end : ℕ → Option Member → ℕ → List (Option Member)
+short_end line replaced status = always (codes "Line") (whole line) ∷ replaced ∷ always (codes "Status") (whole status) ∷ []
 
--- a reply with its status, and a put with one truth value beside it
-abbrev pub short_members : Option ℕ → ℕ → ℕ → Option Bool → ℕ → List (Option Member)
-short_members at client line replaced status =
-    at_member at ∷ client_member client ∷ line_member line ∷ replaced_member replaced ∷ status_member status ∷ []
+abbrev pub found_end : ℕ → Record → List (Option Member)
+found_end line r =
+    always (codes "ETag") (string r.etag) ∷ always (codes "LastModified") (whole r.modified) ∷ always (codes "Line") (whole line)
+    ∷ always (codes "Size") (whole r.size) ∷ always (codes "Status") (whole 200) ∷ []
 
-abbrev pub found_members : Option ℕ → ℕ → ℕ → Record → List (Option Member)
-found_members at client line r =
-    at_member at
-    ∷ client_member client
-    ∷ always (codes "ETag") (string r.etag)
-    ∷ always (codes "LastModified") (whole r.modified)
-    ∷ line_member line
-    ∷ always (codes "Size") (whole r.size)
-    ∷ status_member 200
-    ∷ []
-
--- a listing (Amazon S3 API reference, ListObjectsV2, response elements). Tokens are never escaped.
-abbrev pub listed_members : Option ℕ → ℕ → ℕ → ListQuery → PageShown → List (Option Member)
-listed_members at client line query page =
-    at_member at
-    ∷ client_member client
-    ∷ always (codes "CommonPrefixes") (array_of page.prefixes)
-    ∷ always (codes "Contents") (array_of page.contents)
+abbrev pub reply_end : List (List ℕ) → List Record → ℕ → Reply → List (Option Member)
+reply_end dir records line (Put was) = short_end line (always (codes "Replaced") (boolean was)) 200
+reply_end dir records line Deleted = short_end line None 204
+reply_end dir records line (Found val) = found_end line (record_at records val)
+reply_end dir records line Missing = short_end line None 404
+reply_end dir records line (Listed query page) =
+    always (codes "CommonPrefixes") (array (items_of (filter_map (prefix_of dir query.url) page.entries)))
+    ∷ always (codes "Contents") (array (items_of (filter_map (content_of dir records query.url) page.entries)))
     ∷ only_if (is_given query.token) (codes "ContinuationToken") (string query.token)
-    ∷ only_if (is_given query.delimiter) (codes "Delimiter") (string page.delimiter)
+    ∷ only_if (is_given query.delimiter) (codes "Delimiter") (string (shown query.url query.delimiter))
     ∷ only_if query.url (codes "EncodingType") (string (codes "url"))
     ∷ always (codes "IsTruncated") (boolean page.truncated)
-    ∷ always (codes "KeyCount") (whole page.count)
-    ∷ line_member line
+    ∷ always (codes "KeyCount") (whole (length page.entries))
+    ∷ always (codes "Line") (whole line)
     ∷ always (codes "MaxKeys") (whole query.max_keys)
-    ∷ only_if page.truncated (codes "NextContinuationToken") (string page.next)
-    ∷ always (codes "Prefix") (string page.prefix)
-    ∷ only_if (is_given query.start_after) (codes "StartAfter") (string page.start_after)
-    ∷ status_member 200
+    ∷ only_if page.truncated (codes "NextContinuationToken") (string (option_map_or (next_token query) (page_point dir page) []))
+    ∷ always (codes "Prefix") (string (shown query.url query.prefix))
+    ∷ only_if (is_given query.start_after) (codes "StartAfter") (string (shown query.url query.start_after))
+    ∷ always (codes "Status") (whole 200)
     ∷ []
-
-abbrev pub reply_members : List (List ℕ) → List Record → Option ℕ → ℕ → ℕ → Reply → List (Option Member)
-reply_members dir records at client line (Put was) = short_members at client line (Some was) 200
-reply_members dir records at client line Deleted = short_members at client line None 204
-reply_members dir records at client line (Found val) = found_members at client line (record_at records val)
-reply_members dir records at client line Missing = short_members at client line None 404
-reply_members dir records at client line (Listed query page) = listed_members at client line query (page_shown dir records query page)
-reply_members dir records at client line BadToken = short_members at client line None 400
-reply_members dir records at client line NoSlot = short_members at client line None 503
+reply_end dir records line BadToken = short_end line None 400
+reply_end dir records line NoSlot = short_end line None 503
 
 abbrev pub reply_data : List (List ℕ) → List Record → Placed → Data
-reply_data dir records placed = object_of (reply_members dir records placed.at placed.client placed.line placed.reply)
+reply_data dir records p = object_of (
+    always (codes "At") (option_map_or whole p.at null) ∷ always (codes "Client") (whole p.client) ∷ reply_end dir records p.line p.reply)
 
--- ---- the journal and the last line
+-- ---- the journal, the last line, and the whole run
 
 abbrev pub verb_text : Change → List ℕ
 verb_text (PutVal val) = codes "PUT"
 verb_text Remove = codes "DELETE"
 
--- the line of an update: its place, who made it for which request line, its key, which is never escaped, and its verb
-abbrev pub journal_members : ℕ → ℕ → List ℕ → ℕ → List ℕ → List (Option Member)
-journal_members place client key line verb =
-    at_member (Some place)
-    ∷ client_member client
-    ∷ always (codes "Key") (string key)
-    ∷ line_member line
-    ∷ always (codes "Verb") (string verb)
-    ∷ []
-
--- one update of the history, with its place
+-- one update of the history: its place, who made it for which request line, its key, which is never escaped, and its verb
 abbrev pub journal_data : List (List ℕ) → ℕ → Update → Data
-journal_data dir place u = object_of (journal_members place u.client (name_at dir u.key) u.line (verb_text u.change))
-
--- how many updates the history has
-abbrev pub last_data : ℕ → Data
-last_data updates = object_of (always (codes "Updates") (whole updates) ∷ [])
-
--- ---- the whole run
-
-abbrev pub reply_lines : List (List ℕ) → List Record → List Placed → List ℕ
-reply_lines dir records replies = flat_map (λ placed. line_of (reply_data dir records placed)) replies
+journal_data dir place u = object_of (
+    always (codes "At") (whole place) ∷ always (codes "Client") (whole u.client) ∷ always (codes "Key") (string (name_at dir u.key))
+    ∷ always (codes "Line") (whole u.line) ∷ always (codes "Verb") (string (verb_text u.change)) ∷ [])
 
 -- the updates from this place on
 abbrev pub journal_lines : List (List ℕ) → ℕ → List Update → List ℕ
@@ -196,6 +146,6 @@ journal_lines dir place (u ∷ us) = line_of (journal_data dir place u) ++ journ
 -- and the number of updates
 abbrev pub session_text : List (List ℕ) → List Record → Run → List ℕ
 session_text dir records run =
-    flat_map (reply_lines dir records) run.replies
+    flat_map (flat_map (λ (p : Placed). line_of (reply_data dir records p))) run.replies
     ++ journal_lines dir 1 run.updates
-    ++ line_of (last_data (length run.updates))
+    ++ line_of (object_of (always (codes "Updates") (whole (length run.updates)) ∷ []))

@@ -2,7 +2,7 @@
 -- The order of the members of an object.
 use Rattle.std.specs.Prelude.{◌≡◌, ℕ, true, List, [], ◌∷◌, Option, Some, None}
 use Rattle.key_names.specs.Ranks.{is_before}
-use Rattle.answer_text.specs.Objects.{Member}
+use Rattle.answer_text.specs.Lines.{Member}
 
 -- the names of the members that are there rise strictly in byte order, the first of them above `low`
 abbrev pub RiseAbove : List ℕ → List (Option Member) → Type 0

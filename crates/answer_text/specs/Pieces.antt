@@ -13,9 +13,9 @@ use Rattle.bucket_terms.specs.declared.page.PageEntry.{PageEntry}
 use Rattle.bucket_terms.specs.declared.page.PageEntry.TheVariants.{Key, Group}
 use Rattle.bucket_terms.specs.declared.reply.Reply.{Reply}
 use Rattle.bucket_terms.specs.declared.reply.Reply.TheVariants.{Put, Deleted, Found, Missing, Listed, BadToken, NoSlot}
-use Rattle.bucket_terms.specs.Entries.{group_text}
-use Rattle.answer_text.specs.Escaping.{shown}
-use Rattle.answer_text.specs.Lines.{is_given, record_at, PageShown, page_shown}
+use Rattle.bucket_terms.specs.Listing.{group_text}
+use Rattle.answer_text.specs.Lines.{shown, is_given, record_at}
+use Rattle.answer_text.specs.Shown.{PageShown, page_shown}
 
 abbrev pub truth_text : Bool → List ℕ
 truth_text true = codes "true"

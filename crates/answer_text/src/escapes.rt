@@ -1,7 +1,7 @@
 // Escapes under `encoding-type=url`.
 ghost use Rattle.std.specs.Prelude.{◌≡◌, IfOk};
 ghost use Rattle.std.specs.Cow.{cow_str_bytes};
-ghost use Rattle.answer_text.specs.Escaping.{shown};
+ghost use Rattle.answer_text.specs.Lines.{shown};
 
 use key_names::NoMemory;
 use percent_encoding::{AsciiSet, NON_ALPHANUMERIC, ascii_set, utf8_percent_encode};

@@ -1,9 +1,9 @@
 // The lines of the history.
 ghost use Rattle.std.specs.Prelude.{◌≡◌, ◌<◌, ◌++◌, length, string_bytes, IfOk, OnOk};
 ghost use Rattle.key_names.specs.Names.{name_at};
-ghost use Rattle.answer_text.specs.Objects.{line_of};
+ghost use Rattle.answer_text.specs.Lines.{line_of, verb_text, journal_data};
 ghost use Rattle.answer_text.specs.MemberOrder.{StandInOrder};
-ghost use Rattle.answer_text.specs.Lines.{verb_text, journal_members, journal_data, last_data};
+ghost use Rattle.answer_text.specs.Shown.{journal_members, last_data};
 ghost use Rattle.answer_text.specs.Pieces as spec;
 
 use crate::pieces::{push, push_number, push_text};

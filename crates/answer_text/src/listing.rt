@@ -1,9 +1,9 @@
 // The line of a listing.
 ghost use Rattle.std.specs.Prelude.{◌≡◌, ◌++◌, length, string_bytes, IfOk, OnOk};
-ghost use Rattle.bucket_terms.specs.Page.{page_point};
+ghost use Rattle.bucket_terms.specs.Listing.{page_point};
 ghost use Rattle.bucket_terms.specs.PageInRange.{IsInRange};
-ghost use Rattle.answer_text.specs.Escaping.{shown};
-ghost use Rattle.answer_text.specs.Lines.{is_given, page_shown, point_token};
+ghost use Rattle.answer_text.specs.Lines.{shown, is_given};
+ghost use Rattle.answer_text.specs.Shown.{page_shown, point_token};
 ghost use Rattle.answer_text.specs.InRange.{IsPageOf};
 ghost use Rattle.answer_text.specs.Pieces as spec;
 
@@ -95,10 +95,10 @@ fn push_bounds(
     page: &Page,
 ) -> Result<(), NoMemory>
     requires { IsInRange dir.now page.now }
-    ensures { OnOk result (string_bytes out.new ≡ string_bytes out.old ++ spec.bounds_text query.now page.now.truncated (point_token (page_point dir.now page.now)) (shown query.now.url query.now.prefix) (shown query.now.url query.now.start_after)) }
+    ensures { OnOk result (string_bytes out.new ≡ string_bytes out.old ++ spec.bounds_text query.now page.now.truncated (point_token query.now (page_point dir.now page.now)) (shown query.now.url query.now.prefix) (shown query.now.url query.now.start_after)) }
 {
     let alloc = *out.allocator();
-    let next = next_token(alloc, dir, page)?;
+    let next = next_token(alloc, dir, query, page)?;
     let prefix = shown(alloc, query.url, query.prefix.as_str())?;
     let start_after = shown(alloc, query.url, query.start_after.as_str())?;
     push_given(
@@ -124,13 +124,18 @@ fn is_given(text: &Text) -> bool
     !text.as_str().is_empty()
 }
 
-// The token of the page's point; empty where the page is not truncated.
-fn next_token(alloc: Global, dir: &Directory, page: &Page) -> Result<Text, NoMemory>
+// The token that goes on behind the page; empty where the page is not truncated.
+fn next_token(
+    alloc: Global,
+    dir: &Directory,
+    query: &ListQuery,
+    page: &Page,
+) -> Result<Text, NoMemory>
     requires { IsInRange dir.now page.now }
-    ensures { IfOk result (λ token. token ≡ point_token (page_point dir.now page.now)) }
+    ensures { IfOk result (λ token. token ≡ point_token query.now (page_point dir.now page.now)) }
 {
     match page.point(alloc, dir)? {
-        Some(point) => page_token::write(alloc, &point),
+        Some(point) => page_token::write(alloc, &point, &query.bound(alloc)?),
         None => Text::of(alloc, ""),
     }
 }

@@ -1,9 +1,9 @@
 // The lines of replies.
 ghost use Rattle.std.specs.Prelude.{◌≡◌, ◌++◌, ℕ, List, string_bytes, IfOk, OnOk};
 ghost use Rattle.bucket_terms.specs.declared.record.Record.{Record as StoredRecord};
-ghost use Rattle.answer_text.specs.Objects.{line_of};
+ghost use Rattle.answer_text.specs.Lines.{line_of, reply_data};
 ghost use Rattle.answer_text.specs.MemberOrder.{StandInOrder};
-ghost use Rattle.answer_text.specs.Lines.{reply_data, reply_members, content_members};
+ghost use Rattle.answer_text.specs.Shown.{reply_members, content_members};
 ghost use Rattle.answer_text.specs.InRange.{IsReplyOf};
 ghost use Rattle.answer_text.specs.Pieces as spec;
 

@@ -1,1 +1,3 @@
 pub mod PagePoints
+pub mod Finds
+pub mod LastListing

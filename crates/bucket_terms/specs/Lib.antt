@@ -1,8 +1,7 @@
-pub mod Entries
-pub mod Token
-pub mod Page
-pub mod Answer
+pub mod Listing
+pub mod PageParts
 pub mod LegalRun
+pub mod RunParts
 pub mod PassView
 pub mod PlainPass
 pub mod PlainInside

@@ -12,6 +12,7 @@ mod record;
 mod reply;
 mod request;
 mod summary;
+mod token;
 mod token_point;
 
 pub use boxed_query::BoxedQuery;
@@ -23,4 +24,5 @@ pub use record::Record;
 pub use reply::{Placed, Reply};
 pub use request::Request;
 pub use summary::Summary;
+pub use token::{Bound, Token};
 pub use token_point::TokenPoint;

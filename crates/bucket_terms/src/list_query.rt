@@ -1,5 +1,7 @@
 ghost use Rattle.std.specs.Prelude.{◌≡◌, IfOk};
+ghost use Rattle.bucket_terms.specs.Listing.{bound_of};
 
+use crate::Bound;
 use key_names::{NoMemory, Text};
 use std::alloc::Global;
 
@@ -33,6 +35,15 @@ impl ListQuery {
             token: self.token.copy(alloc)?,
             max_keys: self.max_keys,
             url: self.url,
+        })
+    }
+    /// What the tokens of this listing are bound to.
+    pub fn bound(&self, alloc: Global) -> Result<Bound, NoMemory>
+        ensures { IfOk result (λ bound. bound ≡ bound_of self.now) }
+    {
+        Ok(Bound {
+            prefix: self.prefix.copy(alloc)?,
+            delimiter: self.delimiter.copy(alloc)?,
         })
     }
 }

@@ -17,8 +17,7 @@ pub enum PageEntry {
 impl PageEntry {
     ghost use Rattle.std.specs.Prelude.{◌≡◌, IfOk};
     ghost use Rattle.key_names.specs.Names.{IsFine};
-    ghost use Rattle.bucket_terms.specs.Token.{point_text};
-    ghost use Rattle.bucket_terms.specs.Page.{entry_point};
+    ghost use Rattle.bucket_terms.specs.Listing.{point_text, entry_point};
     ghost use Rattle.bucket_terms.specs.PageInRange.{IsEntryInRange};
 
     /// Where a listing goes on behind this entry: behind its key, or behind all keys of its common prefix.
@@ -49,8 +48,7 @@ pub struct Page {
 impl Page {
     ghost use Rattle.std.specs.Prelude.{◌≡◌, is_some, IfOk, IfSome};
     ghost use Rattle.key_names.specs.Names.{IsFine};
-    ghost use Rattle.bucket_terms.specs.Token.{point_text};
-    ghost use Rattle.bucket_terms.specs.Page.{page_point};
+    ghost use Rattle.bucket_terms.specs.Listing.{point_text, page_point};
     ghost use Rattle.bucket_terms.specs.PageInRange.{IsInRange};
 
     /// Where the next page begins: behind the last entry of a truncated page, and nowhere behind another

@@ -13,8 +13,8 @@ pub enum Reply {
     Missing,
     /// 200. The query that was answered, with the token that it went on from, and its page.
     Listed { query: BoxedQuery, page: Page },
-    /// 400. The continuation token is the text of no key and no common prefix, or there is no page to go
-    /// on from.
+    /// 400. The continuation token is the text of no token, or of one with another prefix or delimiter; or
+    /// there is no page to go on from.
     BadToken,
     /// 503. The pass had no slot left for the update.
     NoSlot,

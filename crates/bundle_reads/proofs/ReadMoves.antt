@@ -16,7 +16,6 @@ use Rattle.core_grace.specs.Sections.{is_even}
 use Rattle.core_events.specs.LoadMoves.{bundle_link, child_links, found_at, has_moved, head_loaded, is_above, kept_if, locks, next_at, next_loaded, next_nexts, node_known, place_known, ptr_loaded, raised_if, remembered_if, stored_by, ts_loaded, with_held, with_place}
 use Rattle.core_events.specs.LockMoves.{pair_known, pair_loaded}
 use Rattle.core_trees.specs.declared.link.Link.{Link}
-use Rattle.core_trees.specs.NamedTree.{NamedTree}
 use Rattle.plan_laws.proofs.Frames.{same-counts, moves-grow, waits-grow}
 use Rattle.table_steps.specs.Loads.{IsTreeLink}
 use Rattle.table_steps.specs.Passes.{Pass, Inside, IsSamePass}
@@ -47,7 +46,6 @@ pub inside_still : (v w : View) → HasRead v w → Inside v → Inside w
 inside_still v w read inside = record {
   odd = ap (λ (u : View). is_even u.section_word) read.view ∙ inside.odd;
   unlocked = ap (λ (u : View). u.held.nodes) read.view ∙ inside.unlocked;
-  unannounced = ap (λ (u : View). u.announced) read.view ∙ inside.unannounced;
 }
 
 pub inside_on : (v w : View) (t : ℕ) → HasRead v w → InsideAt v t → InsideAt w t

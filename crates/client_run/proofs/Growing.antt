@@ -11,7 +11,8 @@ use Rattle.key_map.specs.declared.update.Update.{Update}
 use Rattle.key_map.specs.History.{places_from}
 use Rattle.bucket_terms.specs.declared.reply.Placed.{Placed}
 use Rattle.bucket_terms.specs.PassView.{PassView, KnowsOwn}
-use Rattle.bucket_terms.specs.LegalRun.{Setting, RequestLine, Answered, IsAnswered, AreAnswered, IsPlacedUpTo, answered_lines, is_earlier_of, is_update}
+use Rattle.bucket_terms.specs.LegalRun.{Setting, RequestLine, Answered, IsAnswered, AreAnswered, answered_lines, is_update}
+use Rattle.bucket_terms.specs.RunParts.{IsPlacedUpTo, is_earlier_of}
 use Rattle.client_run.specs.ClientRun.{IsLaterLine, RanClient}
 
 -- ---- counts of own updates

@@ -1,5 +1,5 @@
 -- The answers of LIST and NEXT.
-use Rattle.std.proofs.Common.{◌≡◌, ℕ, List, Option, Some, None, refl, sym, ap, ◌∙◌, subst}
+use Rattle.std.proofs.Common.{◌≡◌, ◌≢◌, ℕ, [], List, Option, Some, None, refl, sym, ap, ◌∙◌, subst}
 use Rattle.bucket_terms.specs.declared.list_query.ListQuery.{ListQuery}
 use Rattle.bucket_terms.specs.declared.token_point.TokenPoint.{TokenPoint}
 use Rattle.bucket_terms.specs.declared.request.Request.{Request}
@@ -7,12 +7,17 @@ use Rattle.bucket_terms.specs.declared.request.Request.TheVariants.{List as List
 use Rattle.bucket_terms.specs.declared.reply.Reply.{Reply}
 use Rattle.bucket_terms.specs.declared.reply.Reply.TheVariants.{Listed, BadToken}
 use Rattle.bucket_terms.specs.declared.reply.Placed.{Placed}
-use Rattle.bucket_terms.specs.Page.{page_of}
+use Rattle.bucket_terms.specs.declared.token.Token.{Token}
+use Rattle.bucket_terms.specs.Listing.{IsTokenOf, page_of}
+use Rattle.page_token.specs.OneToken.{HasOneToken}
 use Rattle.bucket_terms.specs.PassView.{PassView, KnowsOwn}
-use Rattle.bucket_terms.specs.LegalRun.{Resumed, IsPointOf, IsRight, next_of}
+use Rattle.bucket_terms.specs.LegalRun.{Resumed, IsPointOf, IsBoundTo, IsRight, next_of}
 use Rattle.key_map.specs.History.{after}
 use Rattle.client_run.specs.ClientRun.{setting, answered, Answers}
 use Rattle.client_run.specs.Listing.{ListedAs, HasPageInRange}
+use Rattle.client_run.specs.declared.pages.Start.{Start}
+use Rattle.client_run.specs.declared.pages.Start.TheVariants.{First, Behind, Bad}
+use Rattle.client_run.specs.Starts.{IsBadToken, IsStartOf, IsStartBehind}
 use Rattle.client_run.proofs.Steps.{step_looked, step_refused}
 
 -- a page was listed, and it is right for the request
@@ -29,14 +34,30 @@ pub list_answers : (dir : List (List ℕ)) (asked query : ListQuery) (point : Op
     → Answers dir old new last (answered line (ListRequest asked) placed)
 list_answers dir asked query point line old new last placed same from_token is =
     listed_answers dir query point line old new last (ListRequest asked) placed is
-    (λ slots. record { same_query = same; point = point; from_token = from_token; same_page = is.listed.is_page ∙ ap (λ (q : ListQuery). page_of dir q point (after new.seen is.at)) same })
+    (λ slots. (point, (from_token, (same, is.listed.is_page ∙ ap (λ (q : ListQuery). page_of dir q point (after new.seen is.at)) same))))
 
 pub next_answers : (dir : List (List ℕ)) (next : Resumed) (line : ℕ) (old new : PassView) (last : Option Reply) (placed : Placed)
     → next_of dir last ≡ Some next → ListedAs dir next.query (Some next.point) line old new placed
     → Answers dir old new last (answered line Next placed)
 next_answers dir next line old new last placed follows is =
     listed_answers dir next.query (Some next.point) line old new last Next placed is
-    (λ slots. record { next = next; follows = follows; same_query = refl; same_page = is.listed.is_page })
+    (λ slots. (next, (follows, (refl, is.listed.is_page))))
+
+-- with a text of no token of this listing there is no point, and not none either
+pub no_point : (query : ListQuery) → IsBadToken query → (point : Option TokenPoint) → ¬ (IsPointOf query point)
+no_point query bad None = bad.given
+no_point query bad (Some point) = λ from. bad.no_token (record { point = point; bound = from.0 }) from.1.0 from.1.1
+
+-- the listing begins where its one token tells it to
+pub start_is : (query : ListQuery) (token : Token) (start : Start) → query.token ≢ [] → HasOneToken query.token → IsTokenOf token query.token
+    → IsStartBehind query token start → IsStartOf query start
+start_is query token First given one of behind = absurd behind
+start_is query token (Behind point) given one of behind =
+    (token.bound, (behind.1, subst (λ (p : TokenPoint). IsTokenOf (record { point = p; bound = token.bound }) query.token) behind.0 of))
+start_is query token Bad given one of behind = record {
+  given = given;
+  no_token = λ other to other_of. behind (subst (λ (t : Token). IsBoundTo t.bound query) (one other token other_of of) to);
+}
 
 pub bad_answers : (dir : List (List ℕ)) (pass : PassView) (last : Option Reply) (line : ℕ) (request : Request)
     → KnowsOwn pass → pass.opened ≡ None

@@ -1,5 +1,5 @@
 -- What is right over a history is right over a longer one.
-use Rattle.std.proofs.Common.{◌≡◌, ℕ, zero, suc, ◌-◌, ◌≤◌, Bool, cond, All, MatchOption, List, [], ◌∷◌, ◌++◌, Option, Some, None, inl, inr, length, refl, sym, ap, ◌∙◌, arith}
+use Rattle.std.proofs.Common.{◌≡◌, ℕ, zero, suc, ◌-◌, ◌≤◌, Bool, true, cond, All, MatchOption, List, [], ◌∷◌, ◌++◌, Option, Some, None, inl, inr, length, refl, sym, ap, ◌∙◌, arith}
 use Rattle.std.proofs.lemmas.List.{length-append}
 use Rattle.std.proofs.lemmas.Option.{IfSome_then}
 use Rattle.std.proofs.lemmas.List.Elements.{All-append}
@@ -7,9 +7,11 @@ use Rattle.std.proofs.lemmas.List.Sums.{sum_by-append}
 use Rattle.key_map.specs.declared.update.Update.{Update}
 use Rattle.key_map.specs.declared.pair.Pair.{Pair}
 use Rattle.std.specs.Bool.{⊤}
-use Rattle.key_map.specs.Map.{map_has}
-use Rattle.bucket_terms.specs.Answer.{head_answer}
-use Rattle.bucket_terms.specs.Page.{page_of}
+use Rattle.key_map.specs.Map.{map_has, map_get}
+use Rattle.key_map.specs.declared.update.Change.{Change}
+use Rattle.key_map.specs.declared.update.Change.TheVariants.{Put as PutVal, Remove}
+use Rattle.bucket_terms.specs.declared.token_point.TokenPoint.{TokenPoint}
+use Rattle.bucket_terms.specs.Listing.{page_of}
 use Rattle.key_map.specs.History.{after}
 use Rattle.key_map.proofs.HistoryLaws.{after-append}
 use Rattle.bucket_terms.specs.declared.list_query.ListQuery.{ListQuery}
@@ -19,7 +21,8 @@ use Rattle.bucket_terms.specs.declared.request.Request.TheVariants.{Put, Delete,
 use Rattle.bucket_terms.specs.declared.reply.Reply.{Reply}
 use Rattle.bucket_terms.specs.declared.reply.Reply.TheVariants.{Put as PutReply, Deleted, Found, Missing, Listed, BadToken, NoSlot}
 use Rattle.bucket_terms.specs.declared.reply.Placed.{Placed}
-use Rattle.bucket_terms.specs.LegalRun.{Setting, RequestLine, Answered, IsOf, IsRight, IsAnswered, AreAnswered, KeepsOrder, PutStands, RemovalStands, FoundNone, AnswersHead, AnswersList, AnswersNext, HasUsedItsSlots, is_earlier_of, update_at, last_listing}
+use Rattle.bucket_terms.specs.LegalRun.{Setting, RequestLine, Answered, IsOf, IsRight, IsAnswered, AreAnswered, KeepsOrder, UpdateStands, Finds, Lists, HasUsedItsSlots, update_at, last_listing}
+use Rattle.bucket_terms.specs.RunParts.{is_earlier_of}
 use Rattle.client_run.proofs.Places.{slice_get-append_front}
 
 -- the same client in a history
@@ -41,73 +44,45 @@ before-longer : (s : Setting) (more : List Update) (at : ℕ) → at ≤ length 
 before-longer s more at le = sym (after-append s.updates more (at - 1) (omega arith))
 
 module _ (s : Setting) (more : List Update) where
-  put-longer : (line : ℕ) (name : List ℕ) (val : ℕ) (was : Bool) (n : ℕ) → n ≤ length s.updates → PutStands s line name val was n → PutStands (over s (s.updates ++ more)) line name val was n
-  put-longer line name val was n le made = record {
+  stands-longer : (line : ℕ) (name : List ℕ) (change : Change) (was : Bool) (n : ℕ) → n ≤ length s.updates → UpdateStands s line name change was n → UpdateStands (over s (s.updates ++ more)) line name change was n
+  stands-longer line name change was n le made = record {
     key = made.key;
     rank = made.rank;
     update = update_at-longer s more n le ∙ made.update;
     before = made.before ∙ ap (λ (m : List Pair). map_has made.key m) (before-longer s more n le);
   }
 
-  removal-longer : (line : ℕ) (name : List ℕ) (n : ℕ) → n ≤ length s.updates → RemovalStands s line name n → RemovalStands (over s (s.updates ++ more)) line name n
-  removal-longer line name n le made = record {
-    key = made.key;
-    rank = made.rank;
-    update = update_at-longer s more n le ∙ made.update;
-    before = sym (ap (λ (m : List Pair). map_has made.key m) (before-longer s more n le)) ∙ made.before;
-  }
-
-  none-longer : (line : ℕ) (name : List ℕ) (n : ℕ) → n ≤ length s.updates → OtherLines s line more → FoundNone s line name n → FoundNone (over s (s.updates ++ more)) line name n
-  none-longer line name n le others found = record {
+  finds-longer : (name : List ℕ) (n : ℕ) (value : Option ℕ) → n ≤ length s.updates → Finds s name n value → Finds (over s (s.updates ++ more)) name n value
+  finds-longer name n value le found = record {
     key = found.key;
     rank = found.rank;
-    none = λ k d below is.
-        All-append (λ (u : Update). ¬ (IsOf s line u)) s.updates more found.none others k d below (record { by = is.by; for_line = is.for_line });
-    absent = sym (ap (λ (m : List Pair). map_has found.key m) (after-longer s more n le)) ∙ found.absent;
+    value = sym (ap (λ (m : List Pair). map_get found.key m) (after-longer s more n le)) ∙ found.value;
   }
 
-  head-longer : (name : List ℕ) (n : ℕ) (reply : Reply) → n ≤ length s.updates → AnswersHead s name n reply → AnswersHead (over s (s.updates ++ more)) name n reply
-  head-longer name n reply le head = record {
-    key = head.key;
-    rank = head.rank;
-    answer = head.answer ∙ ap (λ (m : List Pair). head_answer head.key m) (after-longer s more n le);
-  }
+  none-longer : (line : ℕ) → OtherLines s line more → All (λ (u : Update). ¬ (IsOf s line u)) s.updates → All (λ (u : Update). ¬ (IsOf (over s (s.updates ++ more)) line u)) (s.updates ++ more)
+  none-longer line others none = λ k d below is.
+      All-append (λ (u : Update). ¬ (IsOf s line u)) s.updates more none others k d below (record { by = is.by; for_line = is.for_line })
 
-  list-longer : (asked : ListQuery) (n : ℕ) (query : ListQuery) (page : Page) → n ≤ length s.updates → AnswersList s asked n query page → AnswersList (over s (s.updates ++ more)) asked n query page
-  list-longer asked n query page le list = record {
-    same_query = list.same_query;
-    point = list.point;
-    from_token = list.from_token;
-    same_page = list.same_page ∙ ap (λ (m : List Pair). page_of s.dir asked list.point m) (after-longer s more n le);
-  }
-
-  next-longer : (last : Option Reply) (n : ℕ) (query : ListQuery) (page : Page) → n ≤ length s.updates → AnswersNext s last n query page → AnswersNext (over s (s.updates ++ more)) last n query page
-  next-longer last n query page le next = record {
-    next = next.next;
-    follows = next.follows;
-    same_query = next.same_query;
-    same_page = next.same_page ∙ ap (λ (m : List Pair). page_of s.dir next.next.query (Some next.next.point) m) (after-longer s more n le);
-  }
+  lists-longer : (n : ℕ) (asked : ListQuery) (point : Option TokenPoint) (shown : ListQuery) (page : Page) → n ≤ length s.updates → Lists s n asked point shown page → Lists (over s (s.updates ++ more)) n asked point shown page
+  lists-longer n asked point shown page le lists = (lists.0, lists.1 ∙ ap (λ (m : List Pair). page_of s.dir asked point m) (after-longer s more n le))
 
   slots-longer : (line : ℕ) → HasUsedItsSlots s line → HasUsedItsSlots (over s (s.updates ++ more)) line
-  slots-longer line out = record {
-    made = omega (arith, out.made, sum_by-append (λ (u : Update). cond (is_earlier_of s line u) 1 0) s.updates more);
-  }
+  slots-longer line used = omega (arith, used, sum_by-append (λ (u : Update). cond (is_earlier_of s line u) 1 0) s.updates more)
 
   pub IsRight-longer : (last : Option Reply) (line : ℕ) (request : Request) (at : Option ℕ) (reply : Reply)
       → MatchOption at ⊤ (λ n. n ≤ length s.updates) → OtherLines s line more
       → IsRight s last (record { line = line; request = request }) at reply
       → IsRight (over s (s.updates ++ more)) last (record { line = line; request = request }) at reply
-  IsRight-longer last line (Put name val) (Some n) (PutReply was) within others right = put-longer line name val was n within right
+  IsRight-longer last line (Put name val) (Some n) (PutReply was) within others right = stands-longer line name (PutVal val) was n within right
   IsRight-longer last line (Put name val) None NoSlot within others right = slots-longer line right
-  IsRight-longer last line (Delete name) (Some n) Deleted within others (inl made) = inl (removal-longer line name n within made)
-  IsRight-longer last line (Delete name) (Some n) Deleted within others (inr found) = inr (none-longer line name n within others found)
+  IsRight-longer last line (Delete name) (Some n) Deleted within others (inl made) = inl (stands-longer line name Remove true n within made)
+  IsRight-longer last line (Delete name) (Some n) Deleted within others (inr found) = inr (finds-longer name n None within found.0, none-longer line others found.1)
   IsRight-longer last line (Delete name) None NoSlot within others right = slots-longer line right
-  IsRight-longer last line (Head name) (Some n) (Found val) within others right = head-longer name n (Found val) within right
-  IsRight-longer last line (Head name) (Some n) Missing within others right = head-longer name n Missing within right
-  IsRight-longer last line (ListRequest query) (Some n) (Listed query' page) within others right = list-longer query n query' page within right
+  IsRight-longer last line (Head name) (Some n) (Found val) within others right = finds-longer name n (Some val) within right
+  IsRight-longer last line (Head name) (Some n) Missing within others right = finds-longer name n None within right
+  IsRight-longer last line (ListRequest query) (Some n) (Listed query' page) within others right = (right.0, (right.1.0, lists-longer n query right.0 query' page within right.1.1))
   IsRight-longer last line (ListRequest query) None BadToken within others right = right
-  IsRight-longer last line Next (Some n) (Listed query page) within others right = next-longer last n query page within right
+  IsRight-longer last line Next (Some n) (Listed query page) within others right = (right.0, (right.1.0, lists-longer n right.0.query (Some right.0.point) query page within right.1.1))
   IsRight-longer last line Next None BadToken within others right = right
   IsRight-longer last line request at reply within others right = absurd right
 

@@ -12,7 +12,8 @@ use Rattle.bucket_terms.specs.declared.reply.Reply.{Reply}
 use Rattle.bucket_terms.specs.declared.reply.Reply.TheVariants.{Put, Deleted, Found, Missing, Listed, BadToken, NoSlot}
 use Rattle.bucket_terms.specs.declared.reply.Placed.{Placed}
 use Rattle.bucket_terms.specs.PassView.{PassView, Continues, RoseBy, IsShort}
-use Rattle.bucket_terms.specs.LegalRun.{Setting, RequestLine, Answered, IsOf, AreAnswered, KeepsOrder, IsMadeBy, IsPlacedUpTo, IsPlacedBelow, answered_lines, is_earlier_of, is_update, update_at, last_listing}
+use Rattle.bucket_terms.specs.LegalRun.{Setting, RequestLine, Answered, IsOf, AreAnswered, KeepsOrder, IsMadeBy, answered_lines, is_update, update_at, last_listing}
+use Rattle.bucket_terms.specs.RunParts.{IsPlacedUpTo, IsPlacedBelow, is_earlier_of}
 use Rattle.client_run.specs.ClientRun.{setting, IsLaterLine, Answers, AnswersInTurn, Ended, HasLooked, is_looked_up, has_own, is_of}
 use Rattle.client_run.specs.Listing.{HasPageInRange}
 use Rattle.client_run.proofs.Places.{slice_get-append_front, slice_get-append_back}

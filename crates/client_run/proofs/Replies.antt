@@ -9,18 +9,20 @@ use Rattle.key_map.specs.Map.{map_get, first_from, value_at}
 use Rattle.key_map.specs.History.{after, own_places}
 use Rattle.key_map.proofs.MapLaws.{map_get-first_from}
 use Rattle.key_map.proofs.HistoryLaws.{IsMap-after}
+use Rattle.bucket_terms.proofs.Finds.{map_get-absent}
 use Rattle.bucket_terms.specs.declared.request.Request.{Request}
 use Rattle.bucket_terms.specs.declared.request.Request.TheVariants.{Put as PutRequest, Delete, Head}
 use Rattle.bucket_terms.specs.declared.reply.Reply.{Reply}
 use Rattle.bucket_terms.specs.declared.reply.Reply.TheVariants.{Put as PutReply, Deleted, Found, Missing, NoSlot}
-use Rattle.bucket_terms.specs.Answer.{head_by}
+use Rattle.bucket_terms.specs.RunParts.{head_by}
 use Rattle.bucket_terms.specs.PassView.{PassView, KnowsOwn, MadePut, AnsweredRemoval, Removed, FoundAbsent, Looked, Began, IsOutOfSlots, IsShort}
 use Rattle.std.specs.List.{count_by, slice_get}
 use Rattle.std.proofs.lemmas.Bool.{cases_lt, cases_Bool}
 use Rattle.std.proofs.lemmas.List.{get_or_append_left}
 use Rattle.std.proofs.lemmas.Option.{slice_get_within, slice_get-get_or, get_or_from_slice_get}
 use Rattle.key_map.specs.declared.update.Update.{Update}
-use Rattle.bucket_terms.specs.LegalRun.{Setting, IsRight, IsOf, is_earlier_of, update_at}
+use Rattle.bucket_terms.specs.LegalRun.{Setting, IsRight, IsOf, update_at}
+use Rattle.bucket_terms.specs.RunParts.{is_earlier_of}
 use Rattle.client_run.specs.ClientRun.{setting, answered, Answers, IsLaterLine, is_of, has_own}
 use Rattle.client_run.proofs.Places.{no_own_added}
 use Rattle.client_run.proofs.Steps.{update_here, step_made, step_refused, step_looked}
@@ -52,7 +54,7 @@ removed_answers dir old new last line key name done knows rank removed =
     let here = update_here dir old new line key done.at 0 Remove removed.update in
     let own : has_own (setting dir new 0) line (Some done.at) ≡ true = rw here (grind (arith, nat_tests)) in
     step_made dir old new last line key done.at Remove (Delete name) Deleted knows removed.update refl (rank, refl)
-    (λ slots. inl (record { key = key; rank = rank; update = update_here dir old new line key done.at slots Remove removed.update; before = removed.there }))
+    (λ slots. inl (record { key = key; rank = rank; update = update_here dir old new line key done.at slots Remove removed.update; before = sym removed.there }))
     (omega (arith, removed.nodes)) (λ e. cc) (ap not own) (rw own (omega (arith, removed.update.continues.looks)))
 
 -- no update of the history is that of this line
@@ -101,7 +103,7 @@ absent_answers : (dir : List (List ℕ)) (old new : PassView) (last : Option Rep
 absent_answers dir old new last line key at name knows rank later found =
     let no_own = is_of-none (setting dir new 0) line at (none_of dir old new line at 0 knows found.looked later) in
     step_looked dir old new last line at (Delete name) Deleted knows found.looked found.closed
-    (λ slots. inr (record { key = key; rank = rank; none = none_of dir old new line at slots knows found.looked later; absent = found.absent }))
+    (λ slots. inr (record { key = key; rank = rank; value = map_get-absent key (after new.seen at) found.absent }, none_of dir old new line at slots knows found.looked later))
     (λ e. cc) (ap not no_own) (rw no_own found.looks)
 
 pub removal_answers : (dir : List (List ℕ)) (old new : PassView) (last : Option Reply) (line key : ℕ) (name : List ℕ) (done : Done)
@@ -141,7 +143,7 @@ head_answers dir old opened new last line key at name first knows rank began clo
         → Answers dir old (closed_view opened) last (answered line (Head name) (record { client = old.number; line = line; at = Some at; reply = head_by val }))
     by_value None e =
         step_looked dir old (closed_view opened) last line at (Head name) Missing knows (looked_closed old opened at began.looked) refl
-        (λ slots. record { key = key; rank = rank; answer = ap head_by e }) (λ e. cc) refl began.looks
+        (λ slots. record { key = key; rank = rank; value = sym e }) (λ e. cc) refl began.looks
     by_value (Some val) e =
         step_looked dir old (closed_view opened) last line at (Head name) (Found val) knows (looked_closed old opened at began.looked) refl
-        (λ slots. record { key = key; rank = rank; answer = ap head_by e }) (λ e. cc) refl began.looks
+        (λ slots. record { key = key; rank = rank; value = sym e }) (λ e. cc) refl began.looks

@@ -12,7 +12,8 @@ use Rattle.bucket_terms.specs.declared.reply.Reply.TheVariants.{NoSlot}
 use Rattle.bucket_terms.specs.declared.reply.Placed.{Placed}
 use Rattle.key_map.specs.History.{own_places}
 use Rattle.bucket_terms.specs.PassView.{PassView, KnowsOwn, MadeUpdate, Looked, IsShort}
-use Rattle.bucket_terms.specs.LegalRun.{IsRight, is_earlier_of, IsChangeOf, update_at, is_update}
+use Rattle.bucket_terms.specs.LegalRun.{IsRight, IsChangeOf, update_at, is_update}
+use Rattle.bucket_terms.specs.RunParts.{is_earlier_of}
 use Rattle.client_run.specs.ClientRun.{setting, answered, Answers, is_looked_up, HasLooked}
 use Rattle.client_run.proofs.Places.{slice_get-append_back, own_added_last, no_own_added}
 

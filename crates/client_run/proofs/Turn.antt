@@ -9,7 +9,9 @@ use Rattle.std.proofs.lemmas.List.Sums.{sum_by-append, sum_by-cons}
 use Rattle.bucket_terms.specs.declared.reply.Reply.{Reply}
 use Rattle.bucket_terms.specs.declared.reply.Placed.{Placed}
 use Rattle.bucket_terms.specs.PassView.{PassView}
-use Rattle.bucket_terms.specs.LegalRun.{RequestLine, Answered, answered_lines, last_listing, is_listing, is_update, updates_in}
+use Rattle.bucket_terms.specs.LegalRun.{RequestLine, Answered, answered_lines, last_listing, is_listing, is_update}
+use Rattle.bucket_terms.specs.RunParts.{updates_in}
+use Rattle.bucket_terms.proofs.LastListing.{last_listing-yes, last_listing-no}
 use Rattle.client_run.specs.ClientRun.{Answers, IsLaterLine}
 use Rattle.request_lines.specs.SessionLaws.{Rise}
 use Rattle.client_run.specs.Listing.{HasPageInRange}
@@ -50,14 +52,6 @@ turn dir lines i d old mid now replies p below run later rising step in_range =
     (one_more dir (take i lines) old mid now replies (get_or lines i d) p run step (later i d below) (earlier_lines lines i d below rising) in_range)
 
 -- ---- the last listing
-
-last_listing-yes : (done : List Answered) (a : Answered) → is_listing a.asked.request ≡ true → last_listing (done ++ a ∷ []) ≡ Some a.placed.reply
-last_listing-yes [] a e = rw e
-last_listing-yes (x ∷ done) a e = rw (last_listing-yes done a e)
-
-last_listing-no : (done : List Answered) (a : Answered) → is_listing a.asked.request ≡ false → last_listing (done ++ a ∷ []) ≡ last_listing done
-last_listing-no [] a e = rw e
-last_listing-no (x ∷ done) a e = rw (last_listing-no done a e)
 
 -- the reply at the place of the last listing, where there is one
 abbrev pub reply_at : List Placed → Option ℕ → Option Reply

@@ -8,7 +8,8 @@ use Rattle.bucket_terms.specs.declared.reply.Reply.TheVariants.{Deleted, Found, 
 use Rattle.bucket_terms.specs.declared.reply.Placed.{Placed}
 use Rattle.bucket_terms.specs.PassView.{PassView, Continues, Extends, KnowsOwn, RoseBy, RoseByOne, IsShort}
 use Rattle.client_run.specs.Listing.{HasPageInRange}
-use Rattle.bucket_terms.specs.LegalRun.{RequestLine, Setting, Answered, AreAnswered, IsRight, IsMadeBy, answered_lines, last_listing, update_at, is_earlier_of, is_update}
+use Rattle.bucket_terms.specs.LegalRun.{RequestLine, Setting, Answered, AreAnswered, IsRight, IsMadeBy, answered_lines, last_listing, update_at, is_update}
+use Rattle.bucket_terms.specs.RunParts.{is_earlier_of}
 
 -- the line is later than those of the pass's updates so far
 abbrev pub IsLaterLine : PassView → ℕ → Type 0

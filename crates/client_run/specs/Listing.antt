@@ -8,7 +8,7 @@ use Rattle.bucket_terms.specs.declared.page.Page.{Page}
 use Rattle.bucket_terms.specs.declared.reply.Reply.{Reply}
 use Rattle.bucket_terms.specs.declared.reply.Reply.TheVariants.{Listed}
 use Rattle.bucket_terms.specs.declared.reply.Placed.{Placed}
-use Rattle.bucket_terms.specs.Page.{page_of}
+use Rattle.bucket_terms.specs.Listing.{page_of}
 use Rattle.bucket_terms.specs.PageInRange.{IsInRange}
 use Rattle.bucket_terms.specs.PassView.{PassView, KnowsOwn, Looked, RoseByOne, Extends}
 

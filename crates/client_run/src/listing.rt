@@ -2,7 +2,7 @@
 ghost use Rattle.std.specs.Prelude.{◌≡◌, ℕ, None, Some, Option, IsSome, IfOk};
 ghost use Rattle.std.specs.Option.{option_copied};
 ghost use Rattle.key_map.specs.History.{after};
-ghost use Rattle.bucket_terms.specs.Page.{page_of};
+ghost use Rattle.bucket_terms.specs.Listing.{page_of};
 ghost use Rattle.bucket_terms.specs.PageInRange.{IsInRange};
 ghost use Rattle.client_run.specs.Listing.{ListedAt, LookedOnly};
 

@@ -3,23 +3,24 @@ ghost use Rattle.std.specs.Prelude.{◌≡◌, None, Some, Option, IfOk, OnErr};
 ghost use Rattle.std.specs.Option.{option_copied, option_map, ForSome};
 ghost use Rattle.bucket_terms.specs.declared.request.Request.TheVariants.{List as ListRequest, Next};
 ghost use Rattle.bucket_terms.specs.declared.reply.Reply.{Reply};
-ghost use Rattle.bucket_terms.specs.Page.{page_point};
+ghost use Rattle.bucket_terms.specs.Listing.{page_point};
 ghost use Rattle.bucket_terms.specs.PageInRange.{IsInRange};
-ghost use Rattle.bucket_terms.specs.LegalRun.{Resumed, next_of, resumed_from, resumed_at};
+ghost use Rattle.bucket_terms.specs.LegalRun.{Resumed, next_of};
 ghost use Rattle.client_run.specs.ClientRun.{answered, Answers, Stopped};
 ghost use Rattle.client_run.specs.Listing.{HasPageInRange, ListedAs};
-ghost use Rattle.client_run.specs.Starts.{IsStartOf, resumed};
+ghost use Rattle.client_run.specs.Starts.{IsStartOf, IsStartBehind, resumed, resumed_at};
 
 use crate::list;
 use crate::updates::{answer_at, refused};
-use bucket_terms::{BoxedQuery, KeyPass, ListQuery, Page, Placed, Reply, TokenPoint};
+use bucket_terms::{BoxedQuery, KeyPass, ListQuery, Page, Placed, Reply, Token, TokenPoint};
 use key_names::{Directory, NoMemory};
 use page_token::TokenError;
 use std::alloc::Global;
 use std::sync::Wait;
 
 /// The query of the next page behind a reply: None exactly where there is no reply, or it is no listing, or
-/// its page is not truncated. Else it is the query of the reply, with the token of its page.
+/// its page is not truncated. Else it is the query of the reply, with the token of its page: the text that the line of the
+/// reply shows.
 pub fn next_query(
     alloc: Global,
     dir: &Directory,
@@ -65,7 +66,7 @@ fn behind_reply(
     reply: &Reply,
 ) -> Result<Option<Resumption>, NoMemory>
     requires { HasPageInRange dir.now reply.now }
-    ensures { IfOk result (λ next. option_map resumed next ≡ resumed_from dir.now reply.now) }
+    ensures { IfOk result (λ next. option_map resumed next ≡ next_of dir.now (Some reply.now)) }
 {
     match reply {
         Reply::Listed { query, page } => behind(alloc, dir, query.get(), page),
@@ -84,7 +85,7 @@ fn behind(
 {
     match page.point(alloc, dir)? {
         Some(point) => {
-            let token = page_token::write(alloc, &point)?;
+            let token = page_token::write(alloc, &point, &query.bound(alloc)?)?;
             let mut query = query.copy(alloc)?;
             query.token = token;
             Ok(Some(Resumption { query, point }))
@@ -99,7 +100,7 @@ pub(crate) enum Start {
     // At the first admitted key.
     First,
     Behind(TokenPoint),
-    // Nowhere: the token is that of no point.
+    // Nowhere: the text is that of no token, or of another listing's.
     Bad,
 }
 
@@ -110,9 +111,20 @@ fn start_of(alloc: Global, query: &ListQuery) -> Result<Start, NoMemory>
         return Ok(Start::First);
     }
     match page_token::read(alloc, query.token.bytes()) {
-        Ok(point) => Ok(Start::Behind(point)),
+        Ok(token) => Ok(start_behind(token, query)),
         Err(TokenError::Bad) => Ok(Start::Bad),
         Err(TokenError::NoMemory) => Err(NoMemory),
+    }
+}
+
+// Behind the point of a token, where the token belongs to this listing.
+fn start_behind(token: Token, query: &ListQuery) -> Start
+    ensures { IsStartBehind query.now token result }
+{
+    let Token { point, bound } = token;
+    match bound {
+        Some(bound) if !bound.is_of(query) => Start::Bad,
+        _ => Start::Behind(point),
     }
 }
 

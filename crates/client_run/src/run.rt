@@ -1,7 +1,8 @@
 // A client's requests, one after another.
 ghost use Rattle.std.specs.Prelude.{◌≡◌, ◌<◌, ◌≤◌, [], ◌∷◌, None, Some, All, IfOk, OnErr, length, if◌then◌else◌, slice_get};
 ghost use Rattle.std.specs.Option.{ForSome, option_copied, option_map, option_and_then};
-ghost use Rattle.bucket_terms.specs.LegalRun.{RequestLine, is_listing, updates_in};
+ghost use Rattle.bucket_terms.specs.LegalRun.{RequestLine, is_listing};
+ghost use Rattle.bucket_terms.specs.RunParts.{updates_in};
 ghost use Rattle.request_lines.specs.Session.{request_line, request_lines};
 ghost use Rattle.client_run.specs.Listing.{HasPageInRange};
 ghost use Rattle.client_run.specs.ClientRun.{Answers, RanClient, IsLaterLine, Stopped};

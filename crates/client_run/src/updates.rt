@@ -4,7 +4,7 @@ ghost use Rattle.key_names.specs.Names.{IsRank};
 ghost use Rattle.key_map.specs.Map.{value_at};
 ghost use Rattle.bucket_terms.specs.declared.request.Request.TheVariants.{Put, Delete, Head};
 ghost use Rattle.bucket_terms.specs.declared.reply.Reply.{Reply};
-ghost use Rattle.bucket_terms.specs.Answer.{head_by};
+ghost use Rattle.bucket_terms.specs.RunParts.{head_by};
 ghost use Rattle.client_run.specs.ClientRun.{answered, Answers, IsLaterLine};
 ghost use Rattle.client_run.specs.Listing.{HasPageInRange};
 

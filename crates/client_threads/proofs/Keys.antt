@@ -13,7 +13,8 @@ use Rattle.key_map.specs.Lists.{count, Every}
 use Rattle.bucket_terms.specs.declared.reply.Placed.{Placed}
 use Rattle.bucket_terms.specs.PassView.{PassView, Extends}
 use Rattle.bucket_terms.specs.PlainPass.{fresh}
-use Rattle.bucket_terms.specs.LegalRun.{RequestLine, lines_of, updates_in}
+use Rattle.bucket_terms.specs.LegalRun.{RequestLine, lines_of, slots_of}
+use Rattle.bucket_terms.specs.RunParts.{updates_in}
 use Rattle.request_lines.specs.declared.session.ClientPart.{ClientPart}
 use Rattle.request_lines.specs.declared.session.Session.{Session}
 use Rattle.request_lines.specs.Session.{request_lines}
@@ -24,7 +25,6 @@ use Rattle.table_steps.specs.Closes.{BeginsWithSeen, AreMadeBy, StandAtOwnPlaces
 use Rattle.table_steps.specs.Passes.{Pass}
 use Rattle.shared_index.specs.Keys.{IsKeyOf, AreAllKeys, AreFresh}
 use Rattle.shared_index.specs.Shown.{shown}
-use Rattle.client_threads.specs.Slots.{slots_of}
 use Rattle.client_threads.specs.Clients.{RanEach}
 use Rattle.client_threads.specs.Runs.{CanRunEach, RanOverEach, parts_of}
 use Rattle.client_threads.specs.Sizes.{CanServe, size_of, sizes_of}

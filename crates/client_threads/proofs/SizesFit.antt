@@ -6,7 +6,8 @@ use Rattle.std.proofs.lemmas.List.Elements.{All-cons, All-map}
 use Rattle.std.proofs.lemmas.List.Sums.{sum_by-cons, count_by-le-length}
 use Rattle.key_map.specs.declared.pass.PassSize.{PassSize}
 use Rattle.index_words.specs.Sizes.{FitTable, IsPassSize, all_nodes, all_entries, all_calls}
-use Rattle.bucket_terms.specs.LegalRun.{RequestLine, is_update, updates_in}
+use Rattle.bucket_terms.specs.LegalRun.{RequestLine, is_update}
+use Rattle.bucket_terms.specs.RunParts.{updates_in}
 use Rattle.request_lines.specs.declared.session.ClientPart.{ClientPart}
 use Rattle.request_lines.specs.Session.{request_line, request_lines}
 use Rattle.request_lines.specs.SessionLaws.{all_requests}

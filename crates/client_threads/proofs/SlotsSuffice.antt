@@ -13,8 +13,8 @@ use Rattle.bucket_terms.specs.declared.request.Request.TheVariants.{Put, Delete,
 use Rattle.bucket_terms.specs.declared.reply.Reply.{Reply}
 use Rattle.bucket_terms.specs.declared.reply.Reply.TheVariants.{NoSlot}
 use Rattle.bucket_terms.specs.declared.reply.Placed.{Placed}
-use Rattle.bucket_terms.specs.LegalRun.{RequestLine, Setting, Answered, HasUsedItsSlots, IsRight, AreAnswered, IsMadeBy, IsChangeOf, answered_lines, is_earlier_of, is_update, last_listing, lines_of, replies_of, setting_of, updates_in}
-use Rattle.client_threads.specs.Slots.{slots_of}
+use Rattle.bucket_terms.specs.LegalRun.{RequestLine, Setting, Answered, HasUsedItsSlots, IsRight, AreAnswered, IsMadeBy, IsChangeOf, answered_lines, is_update, last_listing, lines_of, replies_of, slots_of}
+use Rattle.bucket_terms.specs.RunParts.{is_earlier_of, setting_of, updates_in}
 use Rattle.client_threads.specs.SlotsSuffice.{NoneWantsSlots, SlotsSufficeLaw, OwnSlotsSufficeLaw}
 
 -- ---- sums
@@ -150,7 +150,7 @@ slots_suffice dir parts slots run legal c below more =
     let first : j + 1 ≡ 0 + j + 1 = omega arith in
     subst (λ (n : ℕ). Any (IsMadeBy dir u n) answers) first
     (subst (λ (d : ℕ). Any (IsMadeBy dir u (j + 1)) (answered_lines (lines_of parts d) (replies_of run d))) own (legal.made j u here).1)) in
-    omega (arith, used.made, all, answered_few lines (replies_of run c), more))
+    omega (arith, used, all, answered_few lines (replies_of run c), more))
     [] lines (replies_of run c) (legal.answered c below)
 
 pub own_slots_suffice : OwnSlotsSufficeLaw

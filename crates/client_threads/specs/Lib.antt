@@ -1,4 +1,3 @@
-pub mod Slots
 pub mod SlotsSuffice
 pub mod Clients
 pub mod Runs

@@ -3,7 +3,8 @@
 -- index, which may have been used before, and which others may use at the same time.
 use Rattle.std.specs.Prelude.{◌≡◌, ℕ, ◌<◌, ◌≤◌, List, [], length, map, All, slice_index_or}
 use Rattle.bucket_terms.specs.declared.reply.Placed.{Placed}
-use Rattle.bucket_terms.specs.LegalRun.{RequestLine, lines_of, updates_in}
+use Rattle.bucket_terms.specs.LegalRun.{RequestLine, lines_of}
+use Rattle.bucket_terms.specs.RunParts.{updates_in}
 use Rattle.request_lines.specs.declared.session.ClientPart.{ClientPart}
 use Rattle.request_lines.specs.Session.{request_lines}
 use Rattle.request_lines.specs.SessionLaws.{IsAskable, Rise}

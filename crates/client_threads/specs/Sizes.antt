@@ -2,10 +2,10 @@
 -- The index of a session: which sessions it is opened for, and the sizes of its passes.
 use Rattle.std.specs.Prelude.{ℕ, ◌+◌, ◌*◌, ◌<◌, ◌≤◌, List, length, map, All}
 use Rattle.key_map.specs.declared.pass.PassSize.{PassSize}
-use Rattle.bucket_terms.specs.LegalRun.{updates_in}
+use Rattle.bucket_terms.specs.RunParts.{updates_in}
 use Rattle.request_lines.specs.declared.session.ClientPart.{ClientPart}
 use Rattle.request_lines.specs.declared.session.Session.{Session}
-use Rattle.request_lines.specs.Limits.{most_clients, most_requests}
+use Rattle.request_lines.specs.InputParts.{most_clients, most_requests}
 use Rattle.request_lines.specs.Session.{request_lines}
 use Rattle.request_lines.specs.SessionLaws.{IsAskable, HasRecordBelow, Rise, all_requests}
 

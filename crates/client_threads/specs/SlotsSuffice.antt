@@ -3,8 +3,8 @@
 use Rattle.std.specs.Prelude.{◌≢◌, ℕ, ◌<◌, List, length, All}
 use Rattle.bucket_terms.specs.declared.reply.Reply.TheVariants.{NoSlot}
 use Rattle.bucket_terms.specs.declared.reply.Placed.{Placed}
-use Rattle.bucket_terms.specs.LegalRun.{RequestLine, Run, IsLegal, lines_of, replies_of, updates_in}
-use Rattle.client_threads.specs.Slots.{slots_of}
+use Rattle.bucket_terms.specs.LegalRun.{RequestLine, Run, IsLegal, lines_of, replies_of, slots_of}
+use Rattle.bucket_terms.specs.RunParts.{updates_in}
 
 -- none of these replies is a refusal for want of slots
 abbrev pub NoneWantsSlots : List Placed → Type 0

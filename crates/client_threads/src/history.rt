@@ -1,10 +1,10 @@
 // The history of a session: its clients over one shared index, which is then closed.
 ghost use Rattle.std.specs.Prelude.{◌≡◌, IfOk, OnOk};
-ghost use Rattle.outside_io.specs.Faults.{one_more};
+ghost use Rattle.outside_io.specs.Streams.{one_more};
 ghost use Rattle.client_threads.specs.Clients.{RanEach};
 ghost use Rattle.client_threads.specs.Runs.{parts_of};
 ghost use Rattle.client_threads.specs.Sizes.{CanServe};
-ghost use Rattle.client_threads.specs.Slots.{slots_of};
+ghost use Rattle.bucket_terms.specs.LegalRun.{slots_of};
 
 use crate::opening::open_index;
 use crate::runner::Runner;

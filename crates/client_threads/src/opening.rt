@@ -1,7 +1,7 @@
 // The index of a session: a pass for each client, with room for all that the client asks.
 ghost use Rattle.std.specs.Prelude.{◌≡◌, ◌≤◌, All, IfOk, length};
 ghost use Rattle.index_words.specs.Sizes.{FitTable};
-ghost use Rattle.request_lines.specs.Limits.{most_requests};
+ghost use Rattle.request_lines.specs.InputParts.{most_requests};
 ghost use Rattle.shared_index.specs.Keys.{AreAllKeys, AreFresh};
 ghost use Rattle.client_threads.specs.Sizes as spec;
 

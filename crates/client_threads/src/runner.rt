@@ -2,7 +2,7 @@
 ghost use Rattle.std.specs.Prelude.{◌≡◌, ◌<◌, ◌≤◌, ℕ, List, [], length, IfOk, OnOk, slice_index_or};
 ghost use Rattle.bucket_terms.specs.declared.reply.Placed.{Placed as PlacedReply};
 ghost use Rattle.std.specs.Thread.{IsSync};
-ghost use Rattle.outside_io.specs.Faults.{one_more};
+ghost use Rattle.outside_io.specs.Streams.{one_more};
 ghost use Rattle.client_threads.specs.Runs.{CanRunEach, RanOverEach, parts_of};
 
 use bucket_terms::Placed;

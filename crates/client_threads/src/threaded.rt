@@ -1,6 +1,6 @@
 // The runner of the program: a thread for each client.
 ghost use Rattle.std.specs.Prelude.{◌≡◌, ◌<◌, ◌≤◌, [], length, IfOk, slice_index_or};
-ghost use Rattle.outside_io.specs.Faults.{one_more};
+ghost use Rattle.outside_io.specs.Streams.{one_more};
 ghost use Rattle.request_lines.specs.Session.{request_lines};
 ghost use Rattle.client_threads.specs.Runs.{CanRunEach, RanOver, RanOverEach, parts_of};
 ghost use Rattle.client_threads.specs.Threads.{CanRunOne, CameOf, AreParts};

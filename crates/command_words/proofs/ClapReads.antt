@@ -19,8 +19,7 @@ use Rattle.clap.specs.declared.parser.matches.ArgMatches.TheViews.{out-ArgMatche
 use Rattle.clap.proofs.OnLiterals.{clap_on_literals}
 use Rattle.command_words.specs.declared.form.Form.{Form}
 use Rattle.command_words.specs.declared.form.Form.TheVariants.{Run, Sample}
-use Rattle.command_words.specs.Program.{program, read_of}
-use Rattle.command_words.specs.Words.{IsForm}
+use Rattle.command_words.specs.Program.{program, read_of, IsForm}
 
 pub program_simple : is_simple program ≡ true
 unfolding clap_on_literals

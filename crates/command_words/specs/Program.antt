@@ -1,8 +1,20 @@
 -- Helper: the headline does not rest on this file.
 -- The command that `clap` is given, and what it reads of words.
-use Rattle.std.specs.Prelude.{true, List, codes, Option}
+use Rattle.std.specs.Prelude.{ℕ, true, List, codes, Option}
 use Rattle.std.specs.Option.{option_map}
+use Rattle.command_words.specs.declared.form.Form.{Form}
+use Rattle.command_words.specs.declared.form.Form.TheVariants.{Run, Sample}
+use Rattle.command_words.specs.Words.{IsRun, IsSample}
 use Rattle.clap.specs.Words.{App, Row, Rule, Text, first_of, new_app, new_rule, with_rule, with_subcommand}
+
+-- the most requests that each client of the generated session may be asked for
+abbrev pub most_asked : ℕ
+most_asked = 40000
+
+-- the words are this form
+abbrev pub IsForm : List (List ℕ) → Form → Type 0
+IsForm words Run = IsRun words
+IsForm words (Sample n) = IsSample words n
 
 -- the number of `sample`, which is required
 abbrev pub number_rule : Rule

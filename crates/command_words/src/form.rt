@@ -1,7 +1,7 @@
 // The forms of the program.
 ghost use Rattle.std.specs.Prelude.{IfOk, MatchOption};
 ghost use Rattle.command_words.specs.declared.form.Form.{Form as TheForm};
-ghost use Rattle.command_words.specs.Words.{IsForm};
+ghost use Rattle.command_words.specs.Program.{IsForm};
 
 use crate::reading::read_words;
 use crate::spelling::is_spelled;

@@ -5,8 +5,7 @@ ghost use Rattle.std.specs.Option.{option_map};
 ghost use Rattle.clap.specs.Words.{app_of, subcommand_of, subcommand_rows_of, takes};
 ghost use Rattle.command_words.specs.declared.form.Form.{Form as TheForm};
 ghost use Rattle.command_words.specs.Program as spec;
-ghost use Rattle.command_words.specs.Program.{read_of};
-ghost use Rattle.command_words.specs.Words.{IsForm, most_asked};
+ghost use Rattle.command_words.specs.Program.{read_of, IsForm, most_asked};
 
 use crate::form::Form;
 use clap::error::ErrorKind;

@@ -1,7 +1,8 @@
 // How a form is written.
 ghost use Rattle.std.specs.Prelude.{◌≡◌, ◌<◌, ◌≤◌, ◌↔◌, [], ◌∷◌, codes, IsTrue, IfOk};
 ghost use Rattle.std.specs.Fmt.{decimal};
-ghost use Rattle.command_words.specs.Words.{IsForm, IsRun, most_asked};
+ghost use Rattle.command_words.specs.Program.{IsForm, most_asked};
+ghost use Rattle.command_words.specs.Words.{IsRun};
 
 use crate::form::Form;
 use key_names::{NoMemory, Text};

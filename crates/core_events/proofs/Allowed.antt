@@ -15,6 +15,8 @@ use Rattle.core_events.specs.declared.event.Event.{Event}
 use Rattle.core_events.specs.declared.event.Kind.{Kind}
 use Rattle.core_events.specs.declared.event.Kind.TheVariants.{SplitSeat, JoinSeat, LoadStamp, Prepare, Raise}
 use Rattle.core_events.specs.Needs.{may_join_found, is_stamp}
+use Rattle.core_events.specs.LoadNeeds.{may_load_stamp}
+use Rattle.core_events.specs.Announcing.{has_announced}
 use Rattle.core_events.specs.UpdateNeeds.{is_slot_number, may_prepare_entry, may_prepare_head, may_prepare, may_raise_number, is_raise_of}
 use Rattle.core_events.specs.Tables.{Table, held_by}
 use Rattle.core_events.specs.Seats.{HasFree, HasCalls}
@@ -22,7 +24,7 @@ use Rattle.core_events.specs.Steps.{needs, carries, allowed_at}
 use Rattle.index_words.specs.Words.{Memory}
 use Rattle.core_events.specs.TreeMoves.{is_tree_step}
 use Rattle.core_grace.specs.Sections.{is_even}
-use Rattle.core_events.proofs.Tests.{never, not_equal, stamp_named}
+use Rattle.core_events.proofs.Tests.{never, none_of, not_equal, not_true, stamp_named}
 
 pub record Needed (t : Table) (e : Event) (w : Word) : Type 0 where
   pub v : View
@@ -161,14 +163,35 @@ raise_steps t e w met is u carried v at =
     let need = (and_parts (carries e.kind v e.update && not v.joined) (needs e.kind t.layout (held_by t) t.views e.seat v w e.value e.update) met_at).1 in
     subst (λ (o : Option Update). is_raise_of t.layout (held_by t) t.views v o ≡ true) carried (raise_met t e w v need is).1
 
+-- what the needs of a load of the stamp say
+pub record StampNeeds (v : View) (w : Word) (value : ℕ) : Type 0 where
+  pub stamp : is_stamp w ≡ true
+  pub inside : is_even v.section_word ≡ false
+  pub closed : v.reading.opened ≡ None
+  pub fixes : value ≡ 1 → has_announced v ≡ true
+
+pub stamp_needs : (v : View) (w : Word) (value : ℕ) → may_load_stamp v w value ≡ true → StampNeeds v w value
+stamp_needs v w value met =
+    let b = not (is_even v.section_word) in
+    let c = is_none v.reading.opened in
+    let values = and_parts (is_stamp w && b && c) (eqb value 0 || (eqb value 1 && has_announced v)) met in
+    let none = and_parts (is_stamp w && b) c values.0 in
+    let first = and_parts (is_stamp w) b none.0 in
+    record {
+      stamp = first.0;
+      inside = not_true (is_even v.section_word) first.1;
+      closed = none_of v.reading.opened none.1;
+      fixes = λ one. by (eqb value 0) refl one values.1;
+    }
+  where
+    by : (d : Bool) → eqb value 0 ≡ d → value ≡ 1 → (d || (eqb value 1 && has_announced v)) ≡ true → has_announced v ≡ true
+    by true none one some = absurd (omega (arith, one, eqb-true value 0 none))
+    by false none one some = (and_parts (eqb value 1) (has_announced v) some).1
+
 pub loads_stamp : (t : Table) (e : Event) (w : Word) → allowed_at t e (slice_get t.views e.seat) (Some w) ≡ true → e.kind ≡ LoadStamp → w ≡ Stamp
 loads_stamp t e w met is =
     let need = needed t e w met in
-    let v : View = need.v in
-    let b = not (is_even v.section_word) in
-    let c = is_none v.reading.opened in
-    let one = and_parts (is_stamp w && b && c) (eqb e.value 0 || eqb e.value 1) (split_met t e w LoadStamp v is need.met) in
-    stamp_named w (and_parts (is_stamp w) b (and_parts (is_stamp w && b) c one.0).0).0
+    stamp_named w (stamp_needs need.v w e.value (split_met t e w LoadStamp need.v is need.met)).stamp
 
 -- the test for what is allowed, over the table itself
 pub met_now : (z : Layout) (words ws : List ℕ) (views vs : List View) (e : Event) (w : Word) (met : Bool) → ws ≡ words → vs ≡ views

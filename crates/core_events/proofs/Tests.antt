@@ -4,6 +4,7 @@ use Rattle.std.specs.Prelude.{nat_lt}
 use Rattle.std.proofs.lemmas.Bool.{eqb-true, eq-eqb, and_parts}
 use Rattle.std.proofs.lemmas.Bool.Decides.{nat_tests}
 use Rattle.index_words.specs.declared.layout.Layout.{Layout}
+use Rattle.index_words.specs.declared.view.View.{View}
 use Rattle.index_words.specs.declared.word.Field.{Field}
 use Rattle.index_words.specs.declared.word.Part.{Part}
 use Rattle.index_words.specs.declared.word.Word.{Word}
@@ -12,6 +13,7 @@ use Rattle.index_words.specs.Words.{word_at}
 use Rattle.index_words.proofs.Store.{word_there}
 use Rattle.core_grace.specs.Batches.{is_number}
 use Rattle.core_events.specs.Needs.{is_stamp}
+use Rattle.core_events.specs.Announcing.{has_announced}
 
 pub either_true : (a b : Bool) → (a || b) ≡ true → (a ≡ true) ⊎ (b ≡ true)
 either_true true b e = inl refl
@@ -38,6 +40,16 @@ number_of_is n (Some k) e = ap Some (eqb-true k n e)
 
 pub positive : (x : ℕ) → eqb x 0 ≡ false → 0 < x
 positive x p = grind (arith, nat_tests)
+
+-- a seat has announced where its announcement is above 0
+pub has_announced-is : (v : View) → 0 < v.announced → has_announced v ≡ true
+has_announced-is v some = by v.announced some
+  where
+    by : (x : ℕ) → 0 < x → not (eqb x 0) ≡ true
+    by x more = grind (arith, nat_tests)
+
+pub announced_some : (v : View) → has_announced v ≡ true → 0 < v.announced
+announced_some v told = positive v.announced (not_true (eqb v.announced 0) told)
 
 -- a node whose word was found is one of the table
 pub node_there : (z : Layout) (n k : ℕ) (f : Field) → word_at z n ≡ Some (Node f k) → k ≤ z.nodes

@@ -2,6 +2,7 @@ pub mod Tables
 pub mod Needs
 pub mod Moves
 pub mod FillMoves
+pub mod Announcing
 pub mod LoadMoves
 pub mod LoadNeeds
 pub mod UpdateMoves
@@ -11,6 +12,9 @@ pub mod LockNeeds
 pub mod Versions
 pub mod SpelledNow
 pub mod TreeMoves
+pub mod Numbered
+pub mod CutNeeds
+pub mod CutMoves
 pub mod Steps
 pub mod Seats
 pub mod Openings

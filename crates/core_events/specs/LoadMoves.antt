@@ -20,6 +20,7 @@ use Rattle.index_words.specs.declared.view.update.HeldNext.{HeldNext}
 use Rattle.index_words.specs.Words.{same_side}
 use Rattle.key_map.specs.Lists.{has}
 use Rattle.core_events.specs.Moves.{nowhere, longer}
+use Rattle.core_events.specs.Announcing.{has_announced}
 
 -- a count rises, but at its last value it stands still
 abbrev pub risen : ℕ → ℕ
@@ -45,13 +46,17 @@ locks node hs = list_any (λ (h : HeldNode). h.node == node) hs
 abbrev pub stamp_history : List Update → SeenHistory → ℕ → Bool → SeenHistory
 stamp_history known h s fixes = record h { seen = known; found = cond fixes s h.found; looks = raised_if fixes h.looks }
 
--- and it has the section number and the nodes of the tree at it; where the load fixes a place, a snapshot is open
--- at that number
-abbrev pub stamp_reading : Reading → ℕ → Bool → List TreeNode → Reading
-stamp_reading r s fixes nodes = record (nowhere r) { section = Some s; opened = cond fixes (Some s) None; tree = nodes }
+-- where it has announced, it reads from then on: at this number, of which it has the nodes of the tree, and below which
+-- no entry may be cut for it before it has looked at the others; where the load fixes a place, a snapshot is open at it.
+-- Without an announcement it reads nothing
+abbrev pub stamp_reading : Reading → Bool → ℕ → Bool → List TreeNode → Reading
+stamp_reading r announced s fixes nodes =
+    cond announced
+    (record (nowhere r) { section = Some s; opened = cond fixes (Some s) None; tree = nodes; least = Some s; looked = [] })
+    (nowhere r)
 
 abbrev pub stamp_loaded : List Update → View → ℕ → Bool → List TreeNode → View
-stamp_loaded known v s fixes nodes = record v { history = stamp_history known v.history s fixes; reading = stamp_reading v.reading s fixes nodes }
+stamp_loaded known v s fixes nodes = record v { history = stamp_history known v.history s fixes; reading = stamp_reading v.reading (has_announced v) s fixes nodes }
 
 abbrev pub bundle_link : ℕ → Side → ℕ → ℕ → Link
 bundle_link node side child entry = record { node = node; side = side; child = child; source = Bundle entry }

@@ -13,12 +13,13 @@ use Rattle.index_words.specs.declared.word.Word.{Word}
 use Rattle.index_words.specs.declared.word.Word.TheVariants.{Node, Entry}
 use Rattle.core_grace.specs.Sections.{is_even}
 use Rattle.core_events.specs.Needs.{is_stamp}
+use Rattle.core_events.specs.Announcing.{has_announced}
 use Rattle.core_events.specs.LoadMoves.{is_above, locks}
 
--- load of the stamp: inside a section, and no snapshot is open; the value says whether it fixes a place. That no
--- snapshot is open, and which values there are, is used by no law; a test alone pins both
+-- load of the stamp: inside a section, and no snapshot is open. The value says whether it fixes a place, which takes an
+-- announcement. Which values there are is used by no law; a test alone pins it
 abbrev pub may_load_stamp : View → Word → ℕ → Bool
-may_load_stamp v w value = is_stamp w && not (is_even v.section_word) && is_none v.reading.opened && (value == 0 || value == 1)
+may_load_stamp v w value = is_stamp w && not (is_even v.section_word) && is_none v.reading.opened && (value == 0 || (value == 1 && has_announced v))
 
 abbrev pub reads_tree : ℕ → List TreeNode → Bool
 reads_tree node ns = list_any (λ (n : TreeNode). n.slot == node) ns

@@ -1,6 +1,6 @@
 -- The tree at the stamp, as it is read from the words. In a bundle only the head may be without a number, so
 -- the newest entry that has one is the head or the entry behind it.
-use Rattle.std.specs.Prelude.{ℕ, zero, suc, List, [], ◌∷◌, cond, nat_lt, nat_le, Bool, not, ◌==◌, ◌&&◌, ◌||◌, is_none}
+use Rattle.std.specs.Prelude.{ℕ, ◌+◌, zero, suc, List, [], ◌∷◌, cond, nat_lt, nat_le, Bool, not, ◌==◌, ◌&&◌, ◌||◌, is_none}
 use Rattle.std.specs.List.{list_any}
 use Rattle.index_words.specs.declared.layout.Layout.{Layout}
 use Rattle.index_words.specs.declared.side.Side.{Side}
@@ -50,3 +50,12 @@ tree_now z m vs = tree_from (m Stamp) z.nodes (graph_now m vs []) (child_now m v
 abbrev pub entries_from : ℕ → ℕ → (ℕ → ℕ) → ℕ → List ℕ
 entries_from zero last next head = []
 entries_from (suc n) last next head = cond (nat_lt 0 head && nat_le head last) (head ∷ entries_from n last next (next head)) []
+
+-- the entries from this one on, as the words have them. The numbers of a bundle fall, so that it has at most one entry
+-- more than there were updates
+abbrev pub entries_on : Layout → Memory → ℕ → List ℕ
+entries_on z m e = entries_from (m Stamp + 1) z.entries (λ d. m (Entry Next d)) e
+
+-- the bundle of a link, as the words have it
+abbrev pub bundle_now : Layout → Memory → Side → ℕ → List ℕ
+bundle_now z m side k = entries_on z m (m (Node (Head side) k))

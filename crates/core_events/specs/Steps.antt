@@ -8,13 +8,13 @@ use Rattle.index_words.specs.declared.word.Field.{Field}
 use Rattle.index_words.specs.declared.word.Field.TheVariants.{Head}
 use Rattle.index_words.specs.declared.word.Part.TheVariants.{Child, Stamp as Number}
 use Rattle.index_words.specs.declared.word.Word.{Word}
-use Rattle.index_words.specs.declared.word.Word.TheVariants.{Section, Node, Entry}
+use Rattle.index_words.specs.declared.word.Word.TheVariants.{Section, Announced, Node, Entry}
 use Rattle.index_words.specs.Words.{Memory, memory, word_at}
 use Rattle.index_words.specs.Views.{spent_view}
 use Rattle.core_grace.specs.Batches.{is_number, looked}
 use Rattle.core_events.specs.declared.event.Event.{Event}
 use Rattle.core_events.specs.declared.event.Kind.{Kind}
-use Rattle.core_events.specs.declared.event.Kind.TheVariants.{MakeSeat, SplitSeat, JoinSeat, Enter, Leave, LookSec, Fill, LoadStamp, LoadHead, LoadTs, LoadPtr, LoadNext, Prepare, Raise, Finalise, TryLock, Unlock, LoadMark, Mark, LoadKeyOrVal}
+use Rattle.core_events.specs.declared.event.Kind.TheVariants.{MakeSeat, SplitSeat, JoinSeat, Enter, Leave, LookSec, Fill, LoadStamp, LoadHead, LoadTs, LoadPtr, LoadNext, Prepare, Raise, Finalise, TryLock, Unlock, LoadMark, Mark, LoadKeyOrVal, Announce, LookAnn, Cut}
 use Rattle.core_events.specs.Tables.{Table, held_by}
 use Rattle.core_events.specs.Needs.{may_enter, may_leave, may_look, may_fill, may_split, may_join}
 use Rattle.core_events.specs.LoadNeeds.{may_load_stamp, may_load_head, may_load_part, may_load_next}
@@ -28,6 +28,9 @@ use Rattle.core_events.specs.SpelledNow.{tree_now}
 use Rattle.core_events.specs.TreeMoves.{tree_move}
 use Rattle.core_events.specs.LockMoves.{tried, unlocked_view, with_mark, mark_loaded, pair_loaded}
 use Rattle.core_events.specs.FillMoves.{filled_view}
+use Rattle.core_events.specs.Announcing.{may_announce, announced_view, may_look_ann, ann_loaded}
+use Rattle.core_events.specs.CutNeeds.{may_cut}
+use Rattle.core_events.specs.CutMoves.{cut_off, cut_view}
 
 -- the needs of a kind, for a seat with this view, a word by name, and an update
 abbrev pub needs : Kind → Layout → Memory → List View → ℕ → View → Word → ℕ → Option Update → Bool
@@ -51,6 +54,9 @@ needs Unlock z m views seat v w value update = may_unlock m v w value
 needs LoadMark z m views seat v w value update = may_load_mark v w value
 needs Mark z m views seat v w value update = may_mark v w value
 needs LoadKeyOrVal z m views seat v w value update = may_load_pair v w value
+needs Announce z m views seat v w value update = may_announce v w value
+needs LookAnn z m views seat v w value update = may_look_ann v w value
+needs Cut z m views seat v w value update = may_cut z m views v w value
 
 -- a raise has an update of the view's own pass, and no other kind has one
 abbrev pub is_own_update : View → Option Update → Bool
@@ -135,6 +141,14 @@ abbrev pub pair_from : View → Word → ℕ → View
 pair_from v (Node field k) x = pair_loaded v field k x
 pair_from v _ x = v
 
+abbrev pub ann_from : View → Word → ℕ → View
+ann_from v (Announced pass) x = ann_loaded v pass x
+ann_from v _ x = v
+
+abbrev pub cut_from : Layout → Memory → View → Word → View
+cut_from z m v (Entry p e) = cut_view v e (cut_off z m e)
+cut_from z m v _ = v
+
 -- the view of the seat after an event of a kind that changes it alone, at a word that was found to hold `x`
 abbrev pub view_after : Kind → Layout → Memory → List View → View → Word → ℕ → ℕ → Option Update → View
 view_after Enter z m views v w x value update = entered z.passes v value
@@ -154,6 +168,9 @@ view_after Unlock z m views v w x value update = unlocked_from v w
 view_after LoadMark z m views v w x value update = mark_from v w x
 view_after Mark z m views v w x value update = marked_from v w
 view_after LoadKeyOrVal z m views v w x value update = pair_from v w x
+view_after Announce z m views v w x value update = announced_view v value
+view_after LookAnn z m views v w x value update = ann_from v w x
+view_after Cut z m views v w x value update = cut_from z m v w
 view_after _ z m views v w x value update = v
 
 -- the views after an event of a kind
@@ -175,6 +192,8 @@ words_after Finalise words at value = slice_set words at value
 words_after TryLock words at value = cond (slice_index words at == 0) (slice_set words at value) words
 words_after Unlock words at value = slice_set words at value
 words_after Mark words at value = slice_set words at value
+words_after Announce words at value = slice_set words at value
+words_after Cut words at value = slice_set words at value
 words_after _ words at value = words
 
 abbrev pub after_at : Table → Event → Option View → Option Word → Table

@@ -1,6 +1,6 @@
 -- The tree step of a raise: which node the update brings in, what it takes out, and whether the pending entries
 -- spell the tree after it.
-use Rattle.std.specs.Prelude.{ℕ, ◌+◌, List, [], ◌∷◌, ◌++◌, nat_lt, Bool, true, false, not, ◌==◌, ◌&&◌, ◌||◌, Option, Some, None}
+use Rattle.std.specs.Prelude.{ℕ, List, [], ◌∷◌, ◌++◌, nat_lt, Bool, true, false, not, ◌==◌, ◌&&◌, ◌||◌, Option, Some, None}
 use Rattle.std.specs.List.{list_all}
 use Rattle.index_words.specs.declared.layout.Layout.{Layout}
 use Rattle.index_words.specs.declared.side.Side.TheVariants.{Left, Right}
@@ -10,7 +10,7 @@ use Rattle.key_map.specs.declared.update.Change.TheVariants.{Put, Remove}
 use Rattle.index_words.specs.declared.view.View.{View}
 use Rattle.index_words.specs.declared.word.Field.TheVariants.{Mark, Head}
 use Rattle.index_words.specs.declared.word.Part.TheVariants.{Stamp as Number, Next}
-use Rattle.index_words.specs.declared.word.Word.TheVariants.{Stamp, Node, Entry}
+use Rattle.index_words.specs.declared.word.Word.TheVariants.{Node, Entry}
 use Rattle.index_words.specs.Words.{Memory}
 use Rattle.key_map.specs.Lists.{has}
 use Rattle.core_trees.specs.NamedTree.{NamedTree, Null, Branch}
@@ -21,7 +21,7 @@ use Rattle.core_events.specs.declared.tree_move.TreeMove.{TreeMove}
 use Rattle.core_events.specs.LoadMoves.{locks}
 use Rattle.core_events.specs.UpdateMoves.{listed_entry}
 use Rattle.core_trees.specs.SpelledTree.{spells}
-use Rattle.core_events.specs.SpelledNow.{child_now, graph_now, tree_now, entries_from}
+use Rattle.core_events.specs.SpelledNow.{child_now, graph_now, tree_now, bundle_now}
 
 -- the tree after the update, with the slot of a new node
 abbrev pub tree_after : Change → ℕ → ℕ → NamedTree → NamedTree
@@ -63,10 +63,7 @@ new_entries m (Some k) = listed_entry (m (Node (Head Left) k)) ++ listed_entry (
 -- the entries of the bundles of these nodes
 abbrev pub node_entries : Layout → Memory → List ℕ → List ℕ
 node_entries z m [] = []
-node_entries z m (k ∷ ks) =
-    (entries_from (m Stamp + 1) z.entries (λ e. m (Entry Next e)) (m (Node (Head Left) k))
-    ++ entries_from (m Stamp + 1) z.entries (λ e. m (Entry Next e)) (m (Node (Head Right) k)))
-    ++ node_entries z m ks
+node_entries z m (k ∷ ks) = (bundle_now z m Left k ++ bundle_now z m Right k) ++ node_entries z m ks
 
 -- the child, after the raise, of the link at which the search for the key ends: where there is a new node, its slot
 abbrev pub new_slot : Memory → List View → View → ℕ → NamedTree → ℕ

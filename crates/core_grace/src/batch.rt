@@ -38,14 +38,15 @@ pub fn is_own(number: Option<u32>, pass: u32) -> bool
     number == Some(pass)
 }
 
-fn is_done(passes: u32, number: Option<u32>, passed: &[u32]) -> bool
+/// Whether each of the first `passes` but this one is among these.
+pub fn has_all_others(passes: u32, number: Option<u32>, passed: &[u32]) -> bool
     ensures { result ≡ all_passed passes number passed.now }
 {
     if passes == 0 {
         return true;
     }
     let pass = passes - 1;
-    (is_own(number, pass) || is_in(passed, pass)) && is_done(pass, number, passed)
+    (is_own(number, pass) || is_in(passed, pass)) && has_all_others(pass, number, passed)
 }
 
 /// The looks of the batch that waits, or of the one that would be taken now.
@@ -83,7 +84,7 @@ fn take_or_free(alloc: Global, view: &mut View, looks: Looks, passes: u32) -> Re
     ensures err { OnErr result (view.new ≡ view.old) }
 {
     let taking = view.batch.is_empty();
-    if is_done(passes, view.number, looks.passed.as_slice()) {
+    if has_all_others(passes, view.number, looks.passed.as_slice()) {
         if taking {
             view.free.append(&view.retired)?;
             view.retired = Slots::none(alloc);

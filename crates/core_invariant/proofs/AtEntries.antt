@@ -18,8 +18,9 @@ use Rattle.key_map.proofs.Counting.{has-count}
 use Rattle.core_grace.specs.Sections.{is_even}
 use Rattle.core_links.specs.Bundle.{IsChain, no_number, select, child_of_entry}
 use Rattle.core_links.proofs.Chains.{select-here, select-behind}
+use Rattle.core_events.specs.Numbered.{shown}
 use Rattle.core_invariant.specs.Meanings.{Meaning}
-use Rattle.core_invariant.specs.BundleRule.{IsLive, IsBundle, IsNumbered, Falls, IsPending, shown}
+use Rattle.core_invariant.specs.BundleRule.{IsLive, IsBundle, IsNumbered, Falls, IsPending}
 use Rattle.core_invariant.specs.Readers.{IsWatched, IsLocked, StandsAt, IsPassed, PlaceRight}
 use Rattle.core_invariant.specs.SeatRule.{SeatRight}
 use Rattle.core_events.specs.LoadMoves.{locks, is_selected, is_above, is_above_at}

@@ -1,7 +1,6 @@
 -- What a seat has filled stays where a store is to another word than one of its own slots.
 use Rattle.std.proofs.Common.{◌≡◌, ℕ, ◌<◌, cond, List, [], ◌∷◌, Bool, true, false, eqb, ◌&&◌, not, refl, ap, ◌∙◌, subst, inl, inr}
 use Rattle.std.proofs.lemmas.Bool.{eq-eqb, ne_eqb}
-use Rattle.index_words.specs.declared.side.Side.TheVariants.{Left, Right}
 use Rattle.index_words.specs.declared.view.slots.Slots.{Slots}
 use Rattle.index_words.specs.declared.view.reading.Filled.{Filled}
 use Rattle.index_words.specs.declared.view.update.Updating.{Updating}
@@ -11,11 +10,12 @@ use Rattle.index_words.specs.declared.word.Part.{Part}
 use Rattle.index_words.specs.declared.word.Part.TheVariants.{Child, Stamp as Number, Next}
 use Rattle.index_words.specs.declared.word.Word.{Word}
 use Rattle.index_words.specs.declared.word.Word.TheVariants.{Stamp, Section, Announced, Node, Entry}
-use Rattle.index_words.specs.Words.{Memory, written, same_side, same_field, same_part, same_word}
+use Rattle.index_words.specs.Words.{Memory, written, same_field, same_part, same_word}
 use Rattle.key_map.specs.Lists.{count, Every}
 use Rattle.core_events.specs.FillMoves.{filled_other}
 use Rattle.core_invariant.specs.FilledRule.{IsOwnSlotWord, FilledRight}
 use Rattle.core_invariant.proofs.Frames.{every_map}
+use Rattle.core_invariant.proofs.Sides.{same_side-refl}
 
 and_false : (b : Bool) → (b && false) ≡ false
 and_false true = refl
@@ -54,6 +54,13 @@ module _ (m : Memory) (free : Slots) (u : Updating) where
   section_apart n x (Section i) own = absurd own
   section_apart n x (Announced i) own = absurd own
 
+  pub announced_apart : (n x : ℕ) (w : Word) → IsOwnSlotWord free u w → written m (Announced n) x w ≡ m w
+  announced_apart n x (Node f k) own = refl
+  announced_apart n x (Entry p e) own = refl
+  announced_apart n x Stamp own = absurd own
+  announced_apart n x (Section i) own = absurd own
+  announced_apart n x (Announced i) own = absurd own
+
   lock_field : (k x j : ℕ) (f : Field) → IsOwnSlotWord free u (Node f j) → written m (Node Lock k) x (Node f j) ≡ m (Node f j)
   lock_field k x j Key own = refl
   lock_field k x j Val own = refl
@@ -91,18 +98,14 @@ module _ (m : Memory) (free : Slots) (u : Updating) where
   entry_apart p e x apart unpending (Announced i) own = absurd own
 
 -- a word is the same as itself
-side-refl : (s : _) → same_side s s ≡ true
-side-refl Left = refl
-side-refl Right = refl
-
 field-refl : (f : Field) → same_field f f ≡ true
 field-refl Key = refl
 field-refl Val = refl
 field-refl Lock = refl
 field-refl Mark = refl
-field-refl (Head s) = side-refl s
-field-refl (Link s) = side-refl s
-field-refl (Tag s) = side-refl s
+field-refl (Head s) = same_side-refl s
+field-refl (Link s) = same_side-refl s
+field-refl (Tag s) = same_side-refl s
 
 part-refl : (p : Part) → same_part p p ≡ true
 part-refl Child = refl

@@ -14,13 +14,13 @@ use Rattle.index_words.specs.Words.{Memory}
 use Rattle.index_words.specs.Views.{no_slots, no_looks}
 use Rattle.core_grace.specs.Batches.{is_empty, batch_taken, batch_freed, all_passed, settled, looked, looked_at}
 use Rattle.core_events.specs.declared.event.Kind.{Kind}
-use Rattle.core_events.specs.declared.event.Kind.TheVariants.{MakeSeat, SplitSeat, JoinSeat, Enter, Leave, LookSec, Fill, LoadStamp, LoadHead, LoadTs, LoadPtr, LoadNext, Prepare, Raise, Finalise, TryLock, Unlock, LoadMark, Mark as MarkNode, LoadKeyOrVal}
+use Rattle.core_events.specs.declared.event.Kind.TheVariants.{MakeSeat, SplitSeat, JoinSeat, Enter, Leave, LookSec, Fill, LoadStamp, LoadHead, LoadTs, LoadPtr, LoadNext, Prepare, Raise, Finalise, TryLock, Unlock, LoadMark, Mark as MarkNode, LoadKeyOrVal, Announce, LookAnn, Cut}
 use Rattle.core_events.specs.Moves.{in_section, entered}
 use Rattle.core_grace.specs.Sections.{is_even}
 use Rattle.core_events.specs.FillMoves.{filled_with, with_filled}
 use Rattle.core_events.specs.LoadMoves.{next_at}
 use Rattle.core_events.specs.LockMoves.{locked_view, met_lock}
-use Rattle.core_events.specs.Steps.{view_after, look_from, head_at, head_from, ts_from, ptr_from, next_from, prepared_at, prepared_from, raised_from, finalised_from, tried_from, unlocked_from, mark_from, marked_from, pair_from}
+use Rattle.core_events.specs.Steps.{view_after, look_from, head_at, head_from, ts_from, ptr_from, next_from, prepared_at, prepared_from, raised_from, finalised_from, tried_from, unlocked_from, mark_from, marked_from, pair_from, ann_from, cut_from}
 use Rattle.index_words.specs.declared.view.history.SeenHistory.{SeenHistory}
 
 -- what a seat is, and what it still has to give
@@ -29,21 +29,22 @@ pub record OwnerPart : Type 0 where
   pub layout : Layout
   pub number : Option ℕ
   pub to_give : List ℕ
-  pub announced : ℕ
 
--- and what it knows, its section number and its open snapshot
+-- and what its own words hold, what it knows, its section number and its open snapshot
 pub record SeatPart : Type 0 where
   pub owner : OwnerPart
   pub word : ℕ
+  pub announced : ℕ
   pub history : SeenHistory
   pub section : Option ℕ
   pub opened : Option ℕ
 
 abbrev pub owner_of : View → OwnerPart
-owner_of v = record { joined = v.joined; layout = v.layout; number = v.number; to_give = v.to_give; announced = v.announced }
+owner_of v = record { joined = v.joined; layout = v.layout; number = v.number; to_give = v.to_give }
 
 abbrev pub part_of : View → SeatPart
-part_of v = record { owner = owner_of v; word = v.section_word; history = v.history; section = v.reading.section; opened = v.reading.opened }
+part_of v =
+    record { owner = owner_of v; word = v.section_word; announced = v.announced; history = v.history; section = v.reading.section; opened = v.reading.opened }
 
 either_part : (b : Bool) (p : SeatPart) (x y : View) → part_of x ≡ p → part_of y ≡ p → part_of (cond b x y) ≡ p
 either_part true p x y one two = one
@@ -171,26 +172,46 @@ pair_part v (Entry p e) x = refl
 filled_part : (v : View) (w : Word) (value : ℕ) → part_of (cond (is_even v.section_word) v (with_filled v (filled_with v.reading.filled w value))) ≡ part_of v
 filled_part v w value = either_part (is_even v.section_word) (part_of v) v (with_filled v (filled_with v.reading.filled w value)) refl refl
 
-raised_owner : (z : Layout) (m : Memory) (vs : List View) (v : View) (x : ℕ) (o : Option Update) → owner_of (raised_from z m vs v x o) ≡ owner_of v
-raised_owner z m vs v x None = refl
-raised_owner z m vs v x (Some u) = refl
+ann_part : (v : View) (w : Word) (x : ℕ) → part_of (ann_from v w x) ≡ part_of v
+ann_part v (Announced k) x = refl
+ann_part v Stamp x = refl
+ann_part v (Section k) x = refl
+ann_part v (Node f k) x = refl
+ann_part v (Entry p e) x = refl
 
-raised_word : (z : Layout) (m : Memory) (vs : List View) (v : View) (x : ℕ) (o : Option Update) → (raised_from z m vs v x o).section_word ≡ v.section_word
-raised_word z m vs v x None = refl
-raised_word z m vs v x (Some u) = refl
+cut_part : (z : Layout) (m : Memory) (v : View) (w : Word) → part_of (cut_from z m v w) ≡ part_of v
+cut_part z m v (Entry p e) = refl
+cut_part z m v Stamp = refl
+cut_part z m v (Section k) = refl
+cut_part z m v (Announced k) = refl
+cut_part z m v (Node f k) = refl
+
+-- what a raise leaves of it
+record RaisedPart (v w : View) : Type 0 where
+  pub owner : owner_of w ≡ owner_of v
+  pub word : w.section_word ≡ v.section_word
+  pub announced : w.announced ≡ v.announced
+
+raised_part : (z : Layout) (m : Memory) (vs : List View) (v : View) (x : ℕ) (o : Option Update) → RaisedPart v (raised_from z m vs v x o)
+raised_part z m vs v x None = record { owner = refl; word = refl; announced = refl }
+raised_part z m vs v x (Some u) = record { owner = refl; word = refl; announced = refl }
 
 pub entered_part : (passes value : ℕ) (v : View) → part_of (entered passes v value) ≡ part_of (in_section v value)
 entered_part passes value v = settled_part passes (batch_taken (in_section v value)) ∙ taken_part (in_section v value)
 
--- enter and leave, a load of the stamp and a raise change some of it
+-- an enter and a leave, a load of the stamp, a raise and an announcement change some of it
 abbrev pub is_still : Kind → Bool
 is_still Enter = false
 is_still Leave = false
 is_still LoadStamp = false
 is_still Raise = false
+is_still Announce = false
 is_still _ = true
 
 module _ (z : Layout) (m : Memory) (vs : List View) (v : View) (w : Word) (x value : ℕ) (o : Option Update) where
+  abbrev moved : Kind → View
+  moved kind = view_after kind z m vs v w x value o
+
   pub still_kept : (kind : Kind) → is_still kind ≡ true → part_of (view_after kind z m vs v w x value o) ≡ part_of v
   still_kept LookSec still = look_part z v w x
   still_kept LoadHead still = head_part v w x (m (Entry Number x))
@@ -208,36 +229,26 @@ module _ (z : Layout) (m : Memory) (vs : List View) (v : View) (w : Word) (x val
   still_kept JoinSeat still = refl
   still_kept Fill still = filled_part v w value
   still_kept LoadKeyOrVal still = pair_part v w x
+  still_kept LookAnn still = ann_part v w x
+  still_kept Cut still = cut_part z m v w
   still_kept Enter still = cc
   still_kept Leave still = cc
   still_kept LoadStamp still = cc
   still_kept Raise still = cc
-
-  still_owner : (kind : Kind) → is_still kind ≡ true → owner_of (view_after kind z m vs v w x value o) ≡ owner_of v
-  still_owner kind still = ap (λ (p : SeatPart). p.owner) (still_kept kind still)
+  still_kept Announce still = cc
 
   -- no event changes what a seat is
+  owner_by : (kind : Kind) (still : Bool) → is_still kind ≡ still → owner_of (moved kind) ≡ owner_of v
+  owner_by kind true still = ap (λ (p : SeatPart). p.owner) (still_kept kind still)
+  owner_by Enter false moves = ap (λ (p : SeatPart). p.owner) (entered_part z.passes value v)
+  owner_by Leave false moves = refl
+  owner_by LoadStamp false moves = refl
+  owner_by Raise false moves = (raised_part z m vs v x o).owner
+  owner_by Announce false moves = refl
+  owner_by _ false moves = cc
+
   pub owner_kept : (kind : Kind) → owner_of (view_after kind z m vs v w x value o) ≡ owner_of v
-  owner_kept Enter = ap (λ (p : SeatPart). p.owner) (entered_part z.passes value v)
-  owner_kept Leave = refl
-  owner_kept LoadStamp = refl
-  owner_kept Raise = raised_owner z m vs v x o
-  owner_kept LookSec = still_owner LookSec refl
-  owner_kept LoadHead = still_owner LoadHead refl
-  owner_kept LoadTs = still_owner LoadTs refl
-  owner_kept LoadPtr = still_owner LoadPtr refl
-  owner_kept LoadNext = still_owner LoadNext refl
-  owner_kept Prepare = still_owner Prepare refl
-  owner_kept Finalise = still_owner Finalise refl
-  owner_kept TryLock = still_owner TryLock refl
-  owner_kept Unlock = still_owner Unlock refl
-  owner_kept LoadMark = still_owner LoadMark refl
-  owner_kept MarkNode = still_owner MarkNode refl
-  owner_kept MakeSeat = still_owner MakeSeat refl
-  owner_kept SplitSeat = still_owner SplitSeat refl
-  owner_kept JoinSeat = still_owner JoinSeat refl
-  owner_kept Fill = still_owner Fill refl
-  owner_kept LoadKeyOrVal = still_owner LoadKeyOrVal refl
+  owner_kept kind = owner_by kind (is_still kind) refl
 
   pub joined_kept : (kind : Kind) → (view_after kind z m vs v w x value o).joined ≡ v.joined
   joined_kept kind = ap (λ (p : OwnerPart). p.joined) (owner_kept kind)
@@ -251,31 +262,28 @@ module _ (z : Layout) (m : Memory) (vs : List View) (v : View) (w : Word) (x val
   pub to_give_kept : (kind : Kind) → (view_after kind z m vs v w x value o).to_give ≡ v.to_give
   to_give_kept kind = ap (λ (p : OwnerPart). p.to_give) (owner_kept kind)
 
-  pub announced_kept : (kind : Kind) → (view_after kind z m vs v w x value o).announced ≡ v.announced
-  announced_kept kind = ap (λ (p : OwnerPart). p.announced) (owner_kept kind)
+  announced_by : (kind : Kind) (still : Bool) → is_still kind ≡ still → kind ≢ Announce → (moved kind).announced ≡ v.announced
+  announced_by kind true still other = ap (λ (p : SeatPart). p.announced) (still_kept kind still)
+  announced_by Announce false moves other = absurd (other refl)
+  announced_by Enter false moves other = ap (λ (p : SeatPart). p.announced) (entered_part z.passes value v)
+  announced_by Leave false moves other = refl
+  announced_by LoadStamp false moves other = refl
+  announced_by Raise false moves other = (raised_part z m vs v x o).announced
+  announced_by _ false moves other = cc
 
-  still_word : (kind : Kind) → is_still kind ≡ true → (view_after kind z m vs v w x value o).section_word ≡ v.section_word
-  still_word kind still = ap (λ (p : SeatPart). p.word) (still_kept kind still)
+  -- the announcement is changed by an announce alone
+  pub announced_kept : (kind : Kind) → kind ≢ Announce → (view_after kind z m vs v w x value o).announced ≡ v.announced
+  announced_kept kind other = announced_by kind (is_still kind) refl other
+
+  word_by : (kind : Kind) (still : Bool) → is_still kind ≡ still → kind ≢ Enter → kind ≢ Leave → (moved kind).section_word ≡ v.section_word
+  word_by kind true still enter leave = ap (λ (p : SeatPart). p.word) (still_kept kind still)
+  word_by Enter false moves enter leave = absurd (enter refl)
+  word_by Leave false moves enter leave = absurd (leave refl)
+  word_by LoadStamp false moves enter leave = refl
+  word_by Raise false moves enter leave = (raised_part z m vs v x o).word
+  word_by Announce false moves enter leave = refl
+  word_by _ false moves enter leave = cc
 
   -- the own section word is changed by an enter and a leave alone
   pub word_kept : (kind : Kind) → kind ≢ Enter → kind ≢ Leave → (view_after kind z m vs v w x value o).section_word ≡ v.section_word
-  word_kept Enter enter leave = absurd (enter refl)
-  word_kept Leave enter leave = absurd (leave refl)
-  word_kept LoadStamp enter leave = refl
-  word_kept Raise enter leave = raised_word z m vs v x o
-  word_kept LookSec enter leave = still_word LookSec refl
-  word_kept LoadHead enter leave = still_word LoadHead refl
-  word_kept LoadTs enter leave = still_word LoadTs refl
-  word_kept LoadPtr enter leave = still_word LoadPtr refl
-  word_kept LoadNext enter leave = still_word LoadNext refl
-  word_kept Prepare enter leave = still_word Prepare refl
-  word_kept Finalise enter leave = still_word Finalise refl
-  word_kept TryLock enter leave = still_word TryLock refl
-  word_kept Unlock enter leave = still_word Unlock refl
-  word_kept LoadMark enter leave = still_word LoadMark refl
-  word_kept MarkNode enter leave = still_word MarkNode refl
-  word_kept MakeSeat enter leave = still_word MakeSeat refl
-  word_kept SplitSeat enter leave = still_word SplitSeat refl
-  word_kept JoinSeat enter leave = still_word JoinSeat refl
-  word_kept Fill enter leave = still_word Fill refl
-  word_kept LoadKeyOrVal enter leave = still_word LoadKeyOrVal refl
+  word_kept kind enter leave = word_by kind (is_still kind) refl enter leave

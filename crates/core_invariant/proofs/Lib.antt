@@ -2,10 +2,14 @@
 pub mod Frames
 -- One bundle, where what it reads stays the same at its entries.
 pub mod BundleFrames
+-- Two sides compared, and a link compared with another one.
+pub mod Sides
 -- What a seat has filled stays where a store is to another word than one of its own slots.
 pub mod Filled
 -- What idle views hold, and what the rule says of two views with numbers.
 pub mod Idle
+-- What the rule says of announcements and of each two seats is kept where what it reads of a view is.
+pub mod Pairs
 -- Moves of one view's slots that keep the rule.
 pub mod OneView
 -- The entries of live nodes are not free, and what else the counts of slots say.
@@ -18,8 +22,10 @@ pub mod Without
 pub mod SlotLinks
 -- A bundle that gets an entry without a number in front: what is linked, read and held.
 pub mod Fronts
--- A node that a view has locked and found unmarked, before its update has raised, is the root or in the tree.
+-- A node that a view has locked and found unmarked is the root or in the tree, but for one that its update took out.
 pub mod Locked
+-- An entry of a linked node stands in no other bundle of a live node.
+pub mod Apart
 -- The nodes of a tree, as a list in the order of their keys.
 pub mod TreeNodes
 -- A tree stays spelled, and its gaps stay as they are, where the same is read of the root and of its nodes.
@@ -52,5 +58,7 @@ pub mod Longest
 pub mod ReadMoves
 -- What a seat knows that stands at an entry: the entry is in the bundle, and its number, and what is selected.
 pub mod AtEntries
+-- Where an allowed cut is, and that no seat reads below the number of its entry.
+pub mod Cuts
 -- Numbers fall along a bundle: behind an entry whose number was found stands one whose number is written, and below it.
 pub mod Falling

@@ -15,10 +15,11 @@ use Rattle.key_map.specs.Lists.{count, has, Every}
 use Rattle.key_map.proofs.Counting.{has-count, count-has}
 use Rattle.core_links.specs.Bundle.{select}
 use Rattle.core_links.proofs.Chains.{chain-same}
+use Rattle.core_events.specs.Numbered.{shown, raised_number, entry_number}
 use Rattle.core_invariant.specs.Meanings.{Meaning}
-use Rattle.core_invariant.specs.BundleRule.{IsLive, IsPendingAt, IsNumbered, IsPending, pending_count, shown}
+use Rattle.core_invariant.specs.BundleRule.{IsLive, IsPendingAt, IsNumbered, IsPending, pending_count}
 use Rattle.core_invariant.specs.Rule.{Rule}
-use Rattle.core_invariant.specs.LinkLaw.{raised_number, entry_number, IsBundleOf, IsRead, SelectsSame}
+use Rattle.core_invariant.specs.LinkLaw.{IsBundleOf, IsRead, SelectsSame}
 use Rattle.core_invariant.proofs.Frames.{every_at}
 use Rattle.core_invariant.proofs.BundleFrames.{select_frame}
 

@@ -23,6 +23,7 @@ use Rattle.core_grace.specs.Batches.{is_number}
 use Rattle.core_grace.specs.Holds.{HoldsNode, held_slots, listed, tree_slots, work_nodes}
 use Rattle.core_invariant.specs.Locks.{HeadRight, SideRight, IsNodeAt, lock_count}
 use Rattle.core_invariant.specs.Readers.{IsReachable, IsLocked}
+use Rattle.core_events.specs.Announcing.{is_own_announced}
 use Rattle.core_events.specs.Needs.{is_stamp, is_outside, is_own_section}
 use Rattle.core_events.specs.LoadMoves.{is_above, locks}
 use Rattle.core_events.specs.LoadNeeds.{reads_tree, is_reachable, stands_at, may_go_on}
@@ -106,6 +107,24 @@ own_section None (Section i) e = cc
 own_section None (Announced i) e = cc
 own_section None (Node f k) e = cc
 own_section None (Entry p k) e = cc
+
+-- the own announcement by name
+pub record OwnAnnounced (number : Option ℕ) (w : Word) : Type 0 where
+  pub n : ℕ
+  pub named : number ≡ Some n
+  pub word : w ≡ Announced n
+
+pub own_announced : (number : Option ℕ) (w : Word) → is_own_announced number w ≡ true → OwnAnnounced number w
+own_announced (Some n) (Announced pass) e = let same : pass ≡ n = eqb-true pass n e in record { n = n; named = refl; word = ap Announced same }
+own_announced (Some n) Stamp e = cc
+own_announced (Some n) (Section i) e = cc
+own_announced (Some n) (Node f k) e = cc
+own_announced (Some n) (Entry p k) e = cc
+own_announced None Stamp e = cc
+own_announced None (Section i) e = cc
+own_announced None (Announced i) e = cc
+own_announced None (Node f k) e = cc
+own_announced None (Entry p k) e = cc
 
 pub length_empty : {X : Type 0} (xs : List X) → eqb (length xs) 0 ≡ true → xs ≡ []
 length_empty [] e = refl

@@ -33,6 +33,7 @@ use Rattle.core_invariant.specs.SeatRule.{SeatRight}
 use Rattle.core_invariant.specs.Rule.{Rule}
 use Rattle.core_invariant.specs.LinkLaw.{IsRead}
 use Rattle.core_invariant.proofs.Frames.{live_moved, pending_moved, bundle_weaker, knows_moved}
+use Rattle.core_invariant.proofs.Pairs.{pairs_same}
 use Rattle.core_invariant.proofs.Idle.{idle_none, outside_idle, nameless_idle, section_of, number_low, number_apart}
 use Rattle.std.proofs.lemmas.Option.{slice_get_within, get_or_from_slice_get}
 
@@ -90,6 +91,7 @@ module _ (z : Layout) (m : Memory) (vs : List View) (g : Meaning) where
     seen = seat.seen;
     update = seat.update;
     version = seat.version;
+    announced = record { low = seat.announced.low; read = seat.announced.read; least = seat.announced.least };
     tree = seat.tree;
     locks = seat.locks;
     loaded = record { nodes = seat.loaded.nodes; nexts = seat.loaded.nexts };
@@ -116,6 +118,7 @@ module _ (z : Layout) (m : Memory) (vs : List View) (g : Meaning) where
         marks = rule.marks;
         bundles = λ k live side. bundle_weaker _ _ _ _ (IsPendingAt vs k) (IsPendingAt (set vs i w) k) _ _
             (λ e. pending_moved vs i k e v w at refl (λ works. works)) (rule.bundles k (live_moved z vs i k v w at (more k) live) side);
+        pairs = pairs_same vs i v w at refl rule.pairs;
         single = λ e. omega (arith, sum_kept (pending_count e) vs i v w at refl, rule.single e);
         seats = all_moved Seat Seat vs i v w at rule.seats (slots_seat v f r b l marks filled (seat_at i v at rule)) (λ u beside of. of);
       }

@@ -21,9 +21,13 @@ use Rattle.core_invariant.specs.BundleRule.{IsLive}
 use Rattle.core_invariant.specs.Readers.{IsReachable}
 use Rattle.core_invariant.proofs.Frames.{Term, term_of, same_item}
 
+-- an entry stands on one side of a node at most as often as on both
+pub one_side : (b : Bundles) (k e : ℕ) (side : Side) → count e (b.bundle side k) ≤ count e (entries_of b k)
+one_side b k e Left = omega (arith, count-append e (b.bundle Left k) (b.bundle Right k))
+one_side b k e Right = omega (arith, count-append e (b.bundle Left k) (b.bundle Right k))
+
 pub in_entries : (b : Bundles) (k e : ℕ) (side : Side) → 0 < count e (b.bundle side k) → 0 < count e (entries_of b k)
-in_entries b k e Left some = omega (arith, some, count-append e (b.bundle Left k) (b.bundle Right k))
-in_entries b k e Right some = omega (arith, some, count-append e (b.bundle Left k) (b.bundle Right k))
+in_entries b k e side some = omega (arith, some, one_side b k e side)
 
 pub linked-at : (b : Bundles) (k e : ℕ) (ks : List ℕ) → 0 < count k ks → count e (entries_of b k) ≤ linked_in b e ks
 linked-at b k e [] some = absurd (omega (arith, some))

@@ -17,6 +17,7 @@ use Rattle.core_invariant.specs.Numbers.{number_count}
 use Rattle.core_invariant.specs.Histories.{place_count, calls_left}
 use Rattle.core_invariant.specs.Locks.{lock_count}
 use Rattle.core_invariant.specs.BundleRule.{IsPendingAt, pending_count}
+use Rattle.core_invariant.specs.PruneRule.{PairsRight}
 use Rattle.core_invariant.specs.SeatRule.{SeatRight}
 use Rattle.core_invariant.specs.Rule.{Rule}
 use Rattle.core_invariant.proofs.Frames.{live_moved, pending_moved, bundle_weaker, knows_moved}
@@ -33,10 +34,10 @@ module _ (z : Layout) (m : Memory) (vs : List View) (g : Meaning) (rule : Rule z
   abbrev pub moved : View
   moved = record v { history = h; counts = c; reading = r; held = l }
 
-  pub quiet_kept : SameMade v.history h → (v.history.seen ≡ g.updates → h.seen ≡ g.updates) → held_slots l.nodes ≡ held_slots v.held.nodes
+  pub quiet_kept : PairsRight (set vs i moved) → SameMade v.history h → (v.history.seen ≡ g.updates → h.seen ≡ g.updates) → held_slots l.nodes ≡ held_slots v.held.nodes
       → HoldsFrom z (linked_by g) HoldsNode (HoldsEntry g.bundles) v moved → SeatRight z m g moved
       → Rule z m (set vs i moved) g
-  quiet_kept made known locks holds seat =
+  quiet_kept pairs made known locks holds seat =
       let work : work_nodes moved ≡ work_nodes v = ap (λ xs. xs ++ listed v.update.added) locks in
       record {
         numbers = λ n. sum_kept (number_count n) vs i v moved at (ap (λ xs. count n (own_number v.number) + (count n xs + count n v.to_give)) made.ended) ∙ rule.numbers n;
@@ -57,6 +58,7 @@ module _ (z : Layout) (m : Memory) (vs : List View) (g : Meaning) (rule : Rule z
         marks = rule.marks;
         bundles = λ k live side. bundle_weaker _ _ _ _ (IsPendingAt vs k) (IsPendingAt (set vs i moved) k) _ _
             (λ e. pending_moved vs i k e v moved at refl (λ works. subst (λ xs. 0 < count k xs) (sym work) works)) (rule.bundles k (live_moved z vs i k v moved at (omega arith) live) side);
+        pairs = pairs;
         single = λ e. omega (arith, sum_kept (pending_count e) vs i v moved at refl, rule.single e);
         seats = all_moved (SeatRight z m g) (SeatRight z m g) vs i v moved at rule.seats seat (λ u beside of. of);
       }

@@ -28,6 +28,7 @@ use Rattle.core_events.specs.LoadMoves.{with_held, with_place}
 use Rattle.core_invariant.specs.Rule.{Rule}
 use Rattle.core_invariant.proofs.Frames.{every_map}
 use Rattle.core_invariant.proofs.OneView.{seat_at}
+use Rattle.core_invariant.proofs.Pairs.{pairs_same}
 use Rattle.core_invariant.proofs.Quiet.{quiet_kept}
 
 module _ (z : Layout) (m : Memory) (vs : List View) (g : Meaning) (rule : Rule z m vs g) where
@@ -122,13 +123,14 @@ module _ (z : Layout) (m : Memory) (vs : List View) (g : Meaning) (rule : Rule z
         → Every (LinkRight z (λ e. m (Entry Child e)) g.bundles w) links
         → Rule z m (set vs i w) g
     read_kept inside nodes_right nexts_right place_right links_right =
-        quiet_kept z m vs g rule i v at w.history w.counts w.reading w.held (record { mine = refl; ended = refl; ended_places = refl; left = refl }) (λ known. known) same moved_holds
+        quiet_kept z m vs g rule i v at w.history w.counts w.reading w.held (pairs_same vs i v w at refl rule.pairs) (record { mine = refl; ended = refl; ended_places = refl; left = refl }) (λ known. known) same moved_holds
         (record {
           layout = seat.layout;
           section = record { section = seat.section.section; announced = seat.section.announced; outside = λ even. absurd (inside_only v inside even); unlocked = λ even. absurd (inside_only v inside even); done = λ none. seat.section.done (none_held none) };
           seen = seat.seen;
           update = seat.update;
           version = record { past = seat.version.past; opened = seat.version.opened; bare = seat.version.bare; there = seat.version.there };
+          announced = record { low = seat.announced.low; read = seat.announced.read; least = seat.announced.least };
           tree = seat.tree;
           locks = λ k locked. seat.locks k (subst (λ xs. 0 < count k xs) same locked);
           loaded = record { nodes = nodes_right; nexts = nexts_right };

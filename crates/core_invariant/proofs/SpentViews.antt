@@ -9,7 +9,7 @@ use Rattle.index_words.specs.declared.word.Word.{Word}
 use Rattle.index_words.specs.Words.{Memory}
 use Rattle.index_words.specs.Views.{spent_view}
 use Rattle.core_events.specs.declared.event.Kind.{Kind}
-use Rattle.core_events.specs.declared.event.Kind.TheVariants.{MakeSeat, SplitSeat, JoinSeat, Enter, Leave, LookSec, Fill, LoadStamp, LoadHead, LoadTs, LoadPtr, LoadNext, Prepare, Raise, Finalise, TryLock, Unlock, LoadMark, Mark as MarkNode, LoadKeyOrVal}
+use Rattle.core_events.specs.declared.event.Kind.TheVariants.{MakeSeat, SplitSeat, JoinSeat}
 use Rattle.core_events.specs.Moves.{split_left, split_right, joined_with}
 use Rattle.core_events.specs.Steps.{view_after, views_after, join_found}
 use Rattle.core_invariant.specs.SpentViews.{IsSpent}
@@ -41,22 +41,6 @@ module _ (z : Layout) (m : Memory) (vs : List View) (i : ℕ) (v : View) (w : Wo
   -- the views that were joined are spent after an event of a live one
   pub spent_after : (kind : Kind) → All IsSpent (views_after kind z m vs i v w value o)
   spent_after MakeSeat = all
-  spent_after Fill = moved_spent Fill
-  spent_after LoadKeyOrVal = moved_spent LoadKeyOrVal
   spent_after SplitSeat = split_spent
   spent_after JoinSeat = join_spent (slice_get vs value)
-  spent_after Enter = moved_spent Enter
-  spent_after Leave = moved_spent Leave
-  spent_after LookSec = moved_spent LookSec
-  spent_after LoadStamp = moved_spent LoadStamp
-  spent_after LoadHead = moved_spent LoadHead
-  spent_after LoadTs = moved_spent LoadTs
-  spent_after LoadPtr = moved_spent LoadPtr
-  spent_after LoadNext = moved_spent LoadNext
-  spent_after Prepare = moved_spent Prepare
-  spent_after Raise = moved_spent Raise
-  spent_after Finalise = moved_spent Finalise
-  spent_after TryLock = moved_spent TryLock
-  spent_after Unlock = moved_spent Unlock
-  spent_after LoadMark = moved_spent LoadMark
-  spent_after MarkNode = moved_spent MarkNode
+  spent_after kind = moved_spent kind

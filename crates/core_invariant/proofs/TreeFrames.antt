@@ -68,24 +68,24 @@ module _ (m m' : Memory) (b b' : Bundles) where
         contents = old.contents;
       }
 
-  -- the tree of a reader, where this is so at its number and at the stamp
-  pub reads_frame : (updates : List Update) (s : ℕ) (now : NamedTree) (nodes : List TreeNode) (section : Option ℕ)
-      → ((t x : ℕ) → t ≤ s → (x ≡ 0) ⊎ (0 < count x (tree_slots nodes)) → SameNode m m' b b' t x)
-      → IfSome section (λ t. t ≤ s)
+  -- the tree of a reader, where this is so at some numbers, its own and the stamp among them
+  pub reads_frame : (among : ℕ → Type 0) (updates : List Update) (s : ℕ) (now : NamedTree) (nodes : List TreeNode) (section : Option ℕ)
+      → ((t x : ℕ) → among t → (x ≡ 0) ⊎ (0 < count x (tree_slots nodes)) → SameNode m m' b b' t x)
+      → among s → IfSome section among
       → IfSome section (λ t. ReadsIn m b updates s now t nodes) → IfSome section (λ t. ReadsIn m' b' updates s now t nodes)
-  reads_frame updates s now nodes None same past old = tt
-  reads_frame updates s now nodes (Some t) same past old =
+  reads_frame among updates s now nodes None same stamp own old = tt
+  reads_frame among updates s now nodes (Some t) same stamp own old =
       let listed : (x : ℕ) → 0 < occurs x old.tree → 0 < count x (tree_slots nodes) = λ x here. omega (arith, here, count_slots x old.tree, ap (λ ns. count x (tree_slots ns)) old.read) in
       record {
         tree = old.tree;
         version = version_frame updates t old.tree (λ x here. elim here as (λ _. SameNode m m' b b' t x) [
-          | inl root ↦ same t x past (inl root)
-          | inr node ↦ same t x past (inr (listed x node))
+          | inl root ↦ same t x own (inl root)
+          | inr node ↦ same t x own (inr (listed x node))
         ]) old.version;
         read = old.read;
         gaps = λ k z side here there null gap.
-            let now_same : SameNode m m' b b' s k = same s k (omega arith) (inr (listed k here)) in
-            let then_same : SameNode m m' b b' t k = same t k past (inr (listed k here)) in
+            let now_same : SameNode m m' b b' s k = same s k stamp (inr (listed k here)) in
+            let then_same : SameNode m m' b b' t k = same t k own (inr (listed k here)) in
             subst (λ y. IsInGap side y z now) now_same.key
             (old.gaps k z side here there
             (then_same.entry side ∙ null.0 ∙ sym (now_same.entry side), same_child t k then_same side ∙ null.1)

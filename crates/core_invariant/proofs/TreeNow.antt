@@ -23,10 +23,11 @@ use Rattle.core_trees.specs.SpelledAt.{graph_at}
 use Rattle.core_trees.specs.SpelledTree.{Graph, IsSpelled}
 use Rattle.core_trees.proofs.SpelledTree.{spelled-frame}
 use Rattle.core_invariant.specs.Meanings.{Meaning}
-use Rattle.core_invariant.specs.BundleRule.{IsLive, IsPendingAt, IsNumbered, IsPending, TailWritten, Falls, pending_count, shown}
+use Rattle.core_invariant.specs.BundleRule.{IsLive, IsPendingAt, IsNumbered, IsPending, TailWritten, Falls, pending_count}
 use Rattle.core_invariant.specs.SeatRule.{SeatRight}
-use Rattle.core_events.specs.SpelledNow.{was_raised, has_number, newest, child_now, graph_now, tree_now, entries_from}
+use Rattle.core_events.specs.SpelledNow.{was_raised, has_number, newest, child_now, graph_now, tree_now, bundle_now}
 use Rattle.core_events.specs.Versions.{slots_of}
+use Rattle.core_events.specs.Numbered.{shown}
 use Rattle.core_invariant.specs.Rule.{Rule}
 use Rattle.core_invariant.proofs.Frames.{every_at}
 use Rattle.core_invariant.proofs.BundleFrames.{falls_below}
@@ -71,7 +72,7 @@ written_few s top stamp number (e ∷ es) some numbers written falls =
     omega (arith, falls.0, written_few s (number e) stamp number es (omega (arith, here.0, written.0)) numbers.1 written.1 falls.1)
 
 -- a bundle has at most one entry more than there were updates
-bundle_few : (s top : ℕ) (stamp number : ℕ → ℕ) (es : List ℕ) → Every (IsNumbered s stamp number) es → TailWritten stamp es → Falls number top es → length es ≤ s + 1
+pub bundle_few : (s top : ℕ) (stamp number : ℕ → ℕ) (es : List ℕ) → Every (IsNumbered s stamp number) es → TailWritten stamp es → Falls number top es → length es ≤ s + 1
 bundle_few s top stamp number [] numbers tail falls = omega arith
 bundle_few s top stamp number (e ∷ es) numbers tail falls =
     omega (arith, written_few s (s + 1) stamp number es (omega arith) numbers.1 tail (falls_below s (number e) (s + 1) stamp number es (omega arith) numbers.1 tail falls.1))
@@ -169,7 +170,7 @@ module _ (z : Layout) (m : Memory) (vs : List View) (g : Meaning) (rule : Rule z
   child_is k live side = ap (child_of_entry (λ e. m (Entry Child e))) (newest_selected k live side)
 
   -- the entries of a link's bundle
-  pub entries_are : (k : ℕ) (side : Side) → IsLive z vs k → entries_from (m Stamp + 1) z.entries (λ e. m (Entry Next e)) (m (Node (Head side) k)) ≡ g.bundles.bundle side k
+  pub entries_are : (k : ℕ) (side : Side) → IsLive z vs k → bundle_now z m side k ≡ g.bundles.bundle side k
   entries_are k side live =
       let right = rule.bundles k live side in
       entries_from_is z.entries (λ e. m (Entry Next e)) (s + 1) (m (Node (Head side) k)) (g.bundles.bundle side k) right.chain

@@ -1,5 +1,5 @@
 -- The rule on bundles and pending entries.
-use Rattle.std.specs.Prelude.{◌≡◌, ℕ, suc, ◌<◌, ◌≤◌, List, [], ◌∷◌, Option, Some, None, IfSome, All, sum_by}
+use Rattle.std.specs.Prelude.{◌≡◌, ℕ, suc, ◌<◌, ◌≤◌, List, [], ◌∷◌, None, IfSome, All, sum_by}
 use Rattle.index_words.specs.declared.layout.Layout.{Layout}
 use Rattle.index_words.specs.declared.side.Side.{Side}
 use Rattle.index_words.specs.declared.view.View.{View}
@@ -12,6 +12,7 @@ use Rattle.key_map.specs.Lists.{count, Every}
 use Rattle.core_grace.specs.Holds.{work_nodes}
 use Rattle.core_grace.specs.Slots.{own_free, nodes_of}
 use Rattle.core_links.specs.Bundle.{IsChain, no_number}
+use Rattle.core_events.specs.Numbered.{shown}
 use Rattle.core_invariant.specs.Meanings.{Meaning}
 
 -- the root, or a node slot that is not free
@@ -52,11 +53,6 @@ abbrev pub IsBundle : Memory → List View → Meaning → ℕ → Side → Type
 IsBundle m vs g k side =
     BundleRight (m Stamp) (λ e. m (Entry Next e)) (λ e. m (Entry Number e)) g.bundles.number (IsPendingAt vs k) (m (Node (Head side) k))
     (g.bundles.bundle side k)
-
--- the number that the pending entries of an update have: that of its raise, or none yet
-abbrev pub shown : Option ℕ → ℕ
-shown None = no_number
-shown (Some r) = r
 
 -- the entry is the head of a bundle of one of these nodes
 pub record IsHeadOf (z : Layout) (head : Side → ℕ → ℕ) (nodes : List ℕ) (e : ℕ) : Type 0 where

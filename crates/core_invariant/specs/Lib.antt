@@ -9,6 +9,7 @@ pub mod Locks
 pub mod BundleRule
 pub mod Readers
 pub mod FilledRule
+pub mod PruneRule
 pub mod SeatRule
 pub mod Rule
 pub mod LinkLaw

@@ -1,27 +1,19 @@
 -- The law on links: at each number that is read, no event changes which entry of a bundle is selected.
-use Rattle.std.specs.Prelude.{◌≡◌, ℕ, ◌⊎◌, cond, List, [], ◌∷◌, Some}
+use Rattle.std.specs.Prelude.{◌≡◌, ℕ, ◌⊎◌, List, Some}
 use Rattle.index_words.specs.declared.layout.Layout.{Layout}
 use Rattle.index_words.specs.declared.side.Side.{Side}
 use Rattle.index_words.specs.declared.view.View.{View}
 use Rattle.index_words.specs.declared.word.Field.TheVariants.{Head}
-use Rattle.index_words.specs.declared.word.Part.TheVariants.{Stamp as Number, Next}
+use Rattle.index_words.specs.declared.word.Part.TheVariants.{Next}
 use Rattle.index_words.specs.declared.word.Word.TheVariants.{Stamp, Node, Entry}
 use Rattle.index_words.specs.Words.{Memory}
-use Rattle.key_map.specs.Lists.{has, IsItem}
-use Rattle.core_links.specs.Bundle.{IsChain, number_of, no_number, select}
+use Rattle.key_map.specs.Lists.{IsItem}
+use Rattle.core_links.specs.Bundle.{IsChain, select}
 use Rattle.core_events.specs.Tables.{Table, held_by}
+use Rattle.core_events.specs.Numbered.{entry_number}
 use Rattle.core_invariant.specs.Meanings.{Meaning}
-use Rattle.core_invariant.specs.BundleRule.{IsLive, shown}
+use Rattle.core_invariant.specs.BundleRule.{IsLive}
 use Rattle.core_invariant.specs.Rule.{Rule}
-
--- the number that a raise has given to an entry: that of the view that has it pending
-abbrev pub raised_number : List View → ℕ → ℕ
-raised_number [] e = no_number
-raised_number (v ∷ vs) e = cond (has e v.update.pending) (shown v.update.raised) (raised_number vs e)
-
--- the number of an entry of a table: the written one, or else that of the raise, or none yet
-abbrev pub entry_number : Memory → List View → ℕ → ℕ
-entry_number m vs e = number_of (λ d. m (Entry Number d)) (raised_number vs) e
 
 -- the entries of a link's bundle, from its head on
 abbrev pub IsBundleOf : Memory → Side → ℕ → List ℕ → Type 0

@@ -1,4 +1,4 @@
--- What the words mean after a prepare and after a raise.
+-- What the words mean after a prepare, a cut and a raise.
 use Rattle.std.specs.Prelude.{ℕ, List, [], ◌∷◌, ◌++◌, cond, ◌==◌, ◌&&◌, Option}
 use Rattle.index_words.specs.declared.side.Side.{Side}
 use Rattle.key_map.specs.declared.update.Update.{Update}
@@ -22,6 +22,13 @@ abbrev pub prepared_meaning : Meaning → Side → ℕ → ℕ → Meaning
 prepared_meaning g side k e = record g {
   bundles = record { bundle = in_front g.bundles.bundle side k e; number = unnumbered g.bundles.number e };
 }
+
+-- the link's bundle has these entries
+abbrev pub with_bundle : (Side → ℕ → List ℕ) → Side → ℕ → List ℕ → Side → ℕ → List ℕ
+with_bundle bundle side k es s j = cond (same_side s side && j == k) es (bundle s j)
+
+abbrev pub cut_meaning : Meaning → Side → ℕ → List ℕ → Meaning
+cut_meaning g side k es = record g { bundles = record { bundle = with_bundle g.bundles.bundle side k es; number = g.bundles.number } }
 
 -- the pending entries have the number of the raise
 abbrev pub raised_numbers : (ℕ → ℕ) → List ℕ → ℕ → ℕ → ℕ

@@ -16,6 +16,7 @@ use Rattle.core_invariant.specs.Histories.{HistoryRight}
 use Rattle.core_invariant.specs.OwnPlaces.{KnowsPlaces}
 use Rattle.core_invariant.specs.Locks.{lock_count, TreeUnmarked}
 use Rattle.core_invariant.specs.BundleRule.{IsLive, IsBundle, pending_count}
+use Rattle.core_invariant.specs.PruneRule.{PairsRight}
 use Rattle.core_invariant.specs.SeatRule.{SeatRight}
 use Rattle.core_invariant.specs.SpentViews.{IsSpent}
 use Rattle.core_events.specs.Versions.{IsVersion, slots_of}
@@ -29,6 +30,7 @@ pub record Rule (z : Layout) (m : Memory) (vs : List View) (g : Meaning) : Type 
   pub tree : IsVersion (λ k. m (Node Key k)) (λ k. m (Node Val k)) (λ e. m (Entry Child e)) g.bundles g.updates (m Stamp) g.tree
   pub marks : TreeUnmarked (λ k. m (Node Mark k)) (slots_of g.tree)
   pub bundles : (k : ℕ) → IsLive z vs k → (side : Side) → IsBundle m vs g k side
+  pub pairs : PairsRight vs
   pub single : (e : ℕ) → sum_by (pending_count e) vs ≤ 1
   pub seats : All (SeatRight z m g) vs
 

@@ -13,6 +13,7 @@ use Rattle.core_invariant.specs.SectionRule.{SectionRight}
 use Rattle.core_invariant.specs.Locks.{LocksRight, LoadedRight, MarksRight}
 use Rattle.core_invariant.specs.BundleRule.{IsPending, UpdateRight}
 use Rattle.core_invariant.specs.Readers.{VersionRight, PlaceRight, LinkRight}
+use Rattle.core_invariant.specs.PruneRule.{AnnouncedRight}
 use Rattle.core_invariant.specs.FilledRule.{FilledRight}
 use Rattle.core_events.specs.Versions.{ReadsVersion}
 use Rattle.index_words.specs.declared.view.reading.TreeNode.{TreeNode}
@@ -32,6 +33,7 @@ pub record SeatRight (z : Layout) (m : Memory) (g : Meaning) (v : View) : Type 0
   pub seen : SeenRight g.updates v.history
   pub update : UpdateRight (m Stamp) v.update
   pub version : VersionRight z (m Stamp) v.reading
+  pub announced : AnnouncedRight (m Stamp) v
   pub tree : TreeRight m g v.reading.section v.reading.tree
   pub locks : LocksRight z (λ k. m (Node Lock k)) v
   pub loaded : LoadedRight m g.bundles v

@@ -24,6 +24,8 @@ use Rattle.key_map.specs.History.{after}
 use Rattle.core_grace.specs.Holds.{HoldsNode, HoldsEntry}
 use Rattle.core_grace.specs.Slots.{nodes_of, entries_in, own, own_free, is_slot, GraceRight, KeepsEntries}
 use Rattle.core_grace.proofs.RuleMoves.{no_looks_right}
+use Rattle.core_invariant.specs.PruneRule.{LookedRight}
+use Rattle.core_invariant.proofs.Pairs.{announced_idle, by_none}
 use Rattle.core_invariant.specs.Numbers.{number_count, NumbersRight, IsSpare}
 use Rattle.core_invariant.specs.OwnPlaces.{KnowsPlaces}
 use Rattle.core_invariant.specs.SectionRule.{IsIdle, SectionRight, IsOwnWord}
@@ -156,6 +158,7 @@ module _ (z : Layout) (vs : List View) (starts : StartsWith z vs) where
         seen = seen_fresh z v fresh;
         update = subst (UpdateRight (memory z ws Stamp)) (sym update) (record { raised = tt; first = λ _. refl });
         version = subst (VersionRight z (memory z ws Stamp)) (sym read) (record { past = tt; opened = tt; bare = λ _. refl; there = λ k some. absurd (omega (arith, some)) });
+        announced = announced_idle (memory z ws Stamp) v (omega (arith, fresh.announced)) (ap (λ (r : Reading). r.section) read) (ap (λ (r : Reading). r.least) read);
         tree = subst (λ (r : Reading). TreeRight (memory z ws) nothing_linked r.section r.tree) (sym read) tt;
         locks = λ k some. absurd (omega (arith, some, ap (λ (hs : List _). lock_count k (record v { held = record v.held { nodes = hs } })) locks));
         loaded = record { nodes = subst (Every _) (sym locks) tt; nexts = subst (Every _) (sym fresh.nexts) tt };
@@ -215,6 +218,8 @@ module _ (z : Layout) (vs : List View) (starts : StartsWith z vs) where
       tree = record { spelled = refl; lawful = tt; contents = sym (ap (after []) (zero_memory z (word_count z) Stamp) ∙ after-none []) };
       marks = record { root = zero_memory z (word_count z) (Node Mark 0); nodes = λ k some. absurd (omega (arith, some)) };
       bundles = λ k live side. record { chain = zero_memory z (word_count z) (Node (Head side) k); numbers = tt; tail = tt; falls = tt; owned = tt };
+      pairs = All-weaker (IsFresh z) (λ v. All (LookedRight v) vs)
+          (λ v fresh k d within. by_none v (get_or vs k d) (ap (λ (r : Reading). r.least) fresh.idle.reading)) vs starts.fresh;
       single = λ e. omega (arith, starts.pending e);
       seats = All-weaker (IsFresh z) (SeatRight z (memory z ws) nothing_linked) seat_right vs starts.fresh;
     };

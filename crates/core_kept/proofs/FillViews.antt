@@ -13,6 +13,7 @@ use Rattle.key_map.specs.Lists.{Every, IsItem}
 use Rattle.index_words.proofs.Seats.{item_set}
 use Rattle.core_grace.specs.Sections.{is_even}
 use Rattle.core_grace.proofs.RuleMoves.{every_push}
+use Rattle.core_invariant.proofs.Pairs.{pairs_same}
 use Rattle.core_invariant.specs.Meanings.{Meaning}
 use Rattle.core_events.specs.FillMoves.{filled_other, filled_with, with_filled, filled_view}
 use Rattle.core_invariant.specs.FilledRule.{FilledRight}
@@ -28,7 +29,7 @@ pub knows_filled : (z : Layout) (m : Memory) (vs : List View) (g : Meaning) (rul
 knows_filled z m vs g rule i v at fs inside right =
     let w : View = with_filled v fs in
     let seat = seat_at z m vs g i v at rule in
-    quiet_kept z m vs g rule i v at w.history w.counts w.reading w.held (record { mine = refl; ended = refl; ended_places = refl; left = refl }) (λ known. known) refl
+    quiet_kept z m vs g rule i v at w.history w.counts w.reading w.held (pairs_same vs i v w at refl rule.pairs) (record { mine = refl; ended = refl; ended_places = refl; left = refl }) (λ known. known) refl
     (record { nodes = λ k holds. inl holds; entries = λ x holds. inl holds })
     (record {
       layout = seat.layout;
@@ -36,6 +37,7 @@ knows_filled z m vs g rule i v at fs inside right =
       seen = seat.seen;
       update = seat.update;
       version = record { past = seat.version.past; opened = seat.version.opened; bare = seat.version.bare; there = seat.version.there };
+      announced = record { low = seat.announced.low; read = seat.announced.read; least = seat.announced.least };
       tree = seat.tree;
       locks = seat.locks;
       loaded = record { nodes = seat.loaded.nodes; nexts = seat.loaded.nexts };

@@ -96,8 +96,9 @@ module _ (z : Layout) (m : Memory) (vs : List View) (g : Meaning) (rule : Rule z
         seen = seat.seen;
         update = seat.update;
         version = seat.version;
-        tree = reads_frame m (written m (Node f k) x) g.bundles g.bundles g.updates (m Stamp) g.tree u.reading.tree u.reading.section
-            (λ t j past here. node_same i k t j v f x at free (read_live z vs g rule.slots (m Stamp) n j u of seat.version here)) seat.version.past seat.tree;
+        announced = seat.announced;
+        tree = reads_frame m (written m (Node f k) x) g.bundles g.bundles (λ t. t ≤ m Stamp) g.updates (m Stamp) g.tree u.reading.tree u.reading.section
+            (λ t j past here. node_same i k t j v f x at free (read_live z vs g rule.slots (m Stamp) n j u of seat.version here)) (omega arith) seat.version.past seat.tree;
         locks = λ j some. ((seat.locks j some).0, subst (λ l. NamesHolder l u.number) (sym (lock_other m f k j x other)) (seat.locks j some).1);
         loaded = record {
           nodes = every_named (λ (h : HeldNode). h.node)
@@ -161,6 +162,7 @@ module _ (z : Layout) (m : Memory) (vs : List View) (g : Meaning) (rule : Rule z
         bundles = λ j live side.
             subst (λ h. BundleRight (m Stamp) (λ e. m (Entry Next e)) (λ e. m (Entry Number e)) g.bundles.number (IsPendingAt vs j) h (g.bundles.bundle side j))
             (sym (node_other m f (Head side) k j x (apart i k j v at free live))) (rule.bundles j live side);
+        pairs = rule.pairs;
         single = rule.single;
         seats = all_items (SeatRight z m g) (SeatRight z (written m (Node f k) x) g) vs rule.seats (λ n u of seat. node_seat i k n v u f x at free other fresh of seat);
       }
@@ -260,8 +262,9 @@ module _ (z : Layout) (m : Memory) (vs : List View) (g : Meaning) (rule : Rule z
           seen = seat.seen;
           update = seat.update;
           version = seat.version;
-          tree = reads_frame m (written m (Entry p e) x) g.bundles g.bundles g.updates (m Stamp) g.tree u.reading.tree u.reading.section
-              (λ t j past here. entry_same t j (read_live z vs g rule.slots (m Stamp) n j u of seat.version here)) seat.version.past seat.tree;
+          announced = seat.announced;
+          tree = reads_frame m (written m (Entry p e) x) g.bundles g.bundles (λ t. t ≤ m Stamp) g.updates (m Stamp) g.tree u.reading.tree u.reading.section
+              (λ t j past here. entry_same t j (read_live z vs g rule.slots (m Stamp) n j u of seat.version here)) (omega arith) seat.version.past seat.tree;
           locks = seat.locks;
           loaded = record {
             nodes = every_named (λ (h : HeldNode). h.node)
@@ -316,6 +319,7 @@ module _ (z : Layout) (m : Memory) (vs : List View) (g : Meaning) (rule : Rule z
           (λ j here. entry_same (m Stamp) j (linked_live z vs g rule.slots j here)) rule.tree;
       marks = record { root = rule.marks.root; nodes = rule.marks.nodes };
       bundles = λ k live side. entry_bundle k live side (rule.bundles k live side);
+      pairs = rule.pairs;
       single = rule.single;
       seats = all_items (SeatRight z m g) (SeatRight z (written m (Entry p e) x) g) vs rule.seats (λ n u of seat. entry_seat fresh n u of seat);
     }

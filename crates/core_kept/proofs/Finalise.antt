@@ -23,10 +23,12 @@ use Rattle.key_map.specs.Lists.{count, Every, IsItem}
 use Rattle.index_words.proofs.Seats.{Beside, sum_moved, sum_kept, two_terms, at_item, all_moved}
 use Rattle.core_grace.specs.Holds.{HoldsNode, HoldsEntry, work_nodes}
 use Rattle.core_grace.proofs.RuleMoves.{quiet, same_looks}
+use Rattle.core_events.specs.Numbered.{shown}
+use Rattle.core_invariant.proofs.Pairs.{pairs_same}
 use Rattle.core_invariant.specs.Meanings.{Meaning, linked_by}
 use Rattle.core_invariant.specs.Numbers.{number_count}
 use Rattle.core_invariant.specs.Locks.{lock_count, SideRight, IsNodeAt, IsNextAt}
-use Rattle.core_invariant.specs.BundleRule.{IsLive, IsPendingAt, IsBundle, IsNumbered, TailWritten, IsPending, pending_count, shown}
+use Rattle.core_invariant.specs.BundleRule.{IsLive, IsPendingAt, IsBundle, IsNumbered, TailWritten, IsPending, pending_count}
 use Rattle.core_invariant.specs.Readers.{StandsAt, IsPassed, IsBelow, PlaceRight}
 use Rattle.core_invariant.specs.FilledRule.{IsOwnSlotWord}
 use Rattle.core_invariant.specs.SeatRule.{SeatRight}
@@ -207,6 +209,7 @@ module _ (z : Layout) (m : Memory) (vs : List View) (g : Meaning) (rule : Rule z
     seen = own.seen;
     update = record { raised = own.update.raised; first = own.update.first };
     version = own.version;
+    announced = record { low = own.announced.low; read = own.announced.read; least = own.announced.least };
     tree = own.tree;
     locks = own.locks;
     loaded = record { nodes = every_map _ _ v.held.nodes node_kept own.loaded.nodes; nexts = nexts_kept v own.loaded.nexts };
@@ -231,6 +234,7 @@ module _ (z : Layout) (m : Memory) (vs : List View) (g : Meaning) (rule : Rule z
     seen = of.seen;
     update = of.update;
     version = of.version;
+    announced = of.announced;
     tree = of.tree;
     locks = of.locks;
     loaded = record { nodes = every_map _ _ u.held.nodes node_kept of.loaded.nodes; nexts = nexts_kept u of.loaded.nexts };
@@ -258,6 +262,7 @@ module _ (z : Layout) (m : Memory) (vs : List View) (g : Meaning) (rule : Rule z
       tree = rule.tree;
       marks = record { root = rule.marks.root; nodes = rule.marks.nodes };
       bundles = bundle_kept;
+      pairs = pairs_same vs i v w at refl rule.pairs;
       single = λ d. omega (arith, sum_moved (pending_count d) vs i v w at, count-without-le d e v.update.pending, rule.single d);
       seats = all_moved (SeatRight z m g) (SeatRight z m' g) vs i v w at rule.seats own_kept other_kept;
     };

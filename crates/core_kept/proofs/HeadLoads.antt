@@ -1,57 +1,33 @@
--- Loads of the stamp, of heads and of the stamps of entries keep the rule.
-use Rattle.std.proofs.Common.{◌≡◌, ℕ, ◌+◌, ◌<◌, ◌≤◌, ◌⊎◌, cond, List, [], ◌∷◌, length, Bool, true, false, eqb, set, leb, arith, refl, ap, ◌∙◌, sym, subst, inl, inr, Option, Some, None, map}
+-- Loads of heads and of the stamps of entries keep the rule.
+use Rattle.std.proofs.Common.{◌≡◌, ℕ, ◌<◌, cond, List, [], ◌∷◌, Bool, true, false, eqb, set, arith, refl, ap, ◌∙◌, sym, Option, Some, None, map}
 use Rattle.std.specs.Prelude.{IfSome}
-use Rattle.std.proofs.lemmas.Bool.{eqb-true, cases_lt}
-use Rattle.std.proofs.lemmas.List.{take_all}
+use Rattle.std.proofs.lemmas.Bool.{eqb-true}
 use Rattle.index_words.specs.declared.layout.Layout.{Layout}
 use Rattle.index_words.specs.declared.side.Side.{Side}
 use Rattle.index_words.specs.declared.side.Side.TheVariants.{Left, Right}
-use Rattle.key_map.specs.declared.update.Update.{Update}
 use Rattle.index_words.specs.declared.view.View.{View}
 use Rattle.index_words.specs.declared.view.reading.Link.{Link}
-use Rattle.index_words.specs.declared.view.reading.TreeNode.{TreeNode}
 use Rattle.index_words.specs.declared.view.update.HeldNode.{HeldNode}
 use Rattle.index_words.specs.declared.view.update.LoadedHead.{LoadedHead}
 use Rattle.index_words.specs.declared.word.Field.TheVariants.{Head}
 use Rattle.index_words.specs.declared.word.Part.TheVariants.{Child, Stamp as Number, Next}
-use Rattle.index_words.specs.declared.word.Word.TheVariants.{Stamp, Node, Entry}
+use Rattle.index_words.specs.declared.word.Word.TheVariants.{Node, Entry}
 use Rattle.index_words.specs.Words.{Memory}
-use Rattle.key_map.specs.Lists.{count, Every, IsItem}
-use Rattle.key_map.proofs.Counting.{count-append}
+use Rattle.key_map.specs.Lists.{Every, IsItem}
 use Rattle.core_grace.specs.Sections.{is_even}
-use Rattle.core_grace.specs.Holds.{HoldsNode, HoldsEntry, held_slots, work_nodes, tree_slots, linked_in, read_at}
-use Rattle.core_grace.proofs.RuleMoves.{HoldsFrom, every_push}
+use Rattle.core_grace.specs.Holds.{held_slots}
+use Rattle.core_grace.proofs.RuleMoves.{every_push}
 use Rattle.core_links.specs.Bundle.{IsChain, select}
-use Rattle.core_events.specs.Versions.{tree_nodes, slots_of}
-use Rattle.core_invariant.specs.Meanings.{Meaning, linked_by}
-use Rattle.core_invariant.specs.Histories.{SeenRight}
+use Rattle.core_invariant.specs.Meanings.{Meaning}
 use Rattle.core_invariant.specs.Locks.{HeadRight, IsNodeAt}
 use Rattle.core_invariant.specs.Readers.{IsReachable, StandsAt, IsPassed, EntryRight, LinkRight}
-use Rattle.core_invariant.specs.SeatRule.{SeatRight}
-use Rattle.core_events.specs.LoadMoves.{stamp_loaded, found_again, head_found, found_at, head_loaded, remembered_if, bundle_link, stamp_known, node_known}
+use Rattle.core_events.specs.LoadMoves.{found_again, head_found, found_at, head_loaded, remembered_if, bundle_link, stamp_known, node_known}
 use Rattle.core_invariant.specs.Rule.{Rule}
 use Rattle.core_invariant.proofs.Frames.{every_mapped}
 use Rattle.core_invariant.proofs.OneView.{seat_at}
-use Rattle.core_invariant.proofs.Joins.{whole, begins-le}
-use Rattle.core_invariant.proofs.Owned.{in_entries, linked-at, reachable_live}
-use Rattle.core_invariant.proofs.TreeNodes.{count_slots}
-use Rattle.core_invariant.proofs.TreeFrames.{linked_live}
+use Rattle.core_invariant.proofs.Owned.{reachable_live}
 use Rattle.core_invariant.proofs.Fronts.{held-found}
-use Rattle.core_invariant.proofs.Quiet.{quiet_kept}
-use Rattle.core_invariant.proofs.ReadMoves.{inside_only, reach_back, links_back, nexts_back, read_kept}
-
-member_by : (x e : ℕ) (c : Bool) (rest es : List ℕ) → (0 < count x rest → 0 < count x es) → 0 < cond (eqb e x) 1 0 + count x (cond c [] rest) → 0 < count x (e ∷ es)
-member_by x e true rest es later some = omega (arith, some)
-member_by x e false rest es later some =
-    elim (cases_lt 0 (count x rest)) as (λ _. 0 < count x (e ∷ es)) [
-      | inl more ↦ omega (arith, later more)
-      | inr none ↦ omega (arith, some, none)
-    ]
-
--- what is read of a bundle stands in it
-pub read_member : (number : ℕ → ℕ) (t x : ℕ) (es : List ℕ) → 0 < count x (read_at number t es) → 0 < count x es
-read_member number t x [] some = absurd (omega (arith, some))
-read_member number t x (e ∷ es) some = member_by x e (leb (number e) t) (read_at number t es) es (read_member number t x es) some
+use Rattle.core_invariant.proofs.ReadMoves.{reach_back, links_back, nexts_back, read_kept}
 
 -- a list of heads keeps its nodes
 pub side_node : (e x : ℕ) (hs : List HeldNode) → held_slots (map (node_known e x) hs) ≡ held_slots hs
@@ -82,84 +58,6 @@ first_stands next stamp head (e ∷ es) unread chain some =
     record { front = []; back = es; splits = ap (λ x. x ∷ es) (sym chain.0); passed = tt; found = tt; falls = tt }
 
 module _ (z : Layout) (m : Memory) (vs : List View) (g : Meaning) (rule : Rule z m vs g) where
-  stamp_seen : (v : View) (known : List Update) (fixes : Bool) (nodes : List TreeNode) → SeatRight z m g v → known ≡ g.updates
-      → SeenRight g.updates (stamp_loaded known v (m Stamp) fixes nodes).history
-  stamp_seen v known fixes nodes seat all =
-      let long : length known ≡ m Stamp = ap length all ∙ rule.history.long in
-      let short = begins-le g.updates v.history.seen seat.seen.seen in
-      record {
-        seen = all ∙ sym (take_all (length known) g.updates (omega (arith, ap length all)));
-        told = seat.seen.told;
-        known = omega (arith, seat.seen.known, short, ap length all);
-        found = found_by fixes (omega (arith, long)) (omega (arith, seat.seen.found, short, ap length all));
-        given = seat.seen.given;
-      }
-    where
-      found_by : (b : Bool) → m Stamp ≤ length known → v.history.found ≤ length known → cond b (m Stamp) v.history.found ≤ length known
-      found_by true new old = new
-      found_by false new old = old
-
-  -- an entry of a bundle of the root or of a node of the tree
-  tree_linked : (k x : ℕ) (side : Side) → (k ≡ 0) ⊎ (0 < count k (slots_of g.tree)) → 0 < count x (g.bundles.bundle side k) → 0 < linked_in g.bundles x (0 ∷ slots_of g.tree)
-  tree_linked k x side of here =
-      let among : 0 < count k (0 ∷ slots_of g.tree) = elim of as (λ _. 0 < count k (0 ∷ slots_of g.tree)) [
-        | inl root ↦ subst (λ j. 0 < count j (0 ∷ slots_of g.tree)) (sym root) (omega arith)
-        | inr node ↦ omega (arith, node)
-      ] in
-      omega (arith, linked-at g.bundles k x (0 ∷ slots_of g.tree) among, in_entries g.bundles k x side here)
-
-  read_slots : (nodes : List TreeNode) (k : ℕ) → nodes ≡ tree_nodes g.tree → count k (tree_slots nodes) ≡ count k (slots_of g.tree)
-  read_slots nodes k all = ap (λ ns. count k (tree_slots ns)) all
-
-  stamp_holds : (v : View) (known : List Update) (fixes : Bool) (nodes : List TreeNode) → nodes ≡ tree_nodes g.tree
-      → HoldsFrom z (linked_by g) HoldsNode (HoldsEntry g.bundles) v (stamp_loaded known v (m Stamp) fixes nodes)
-  stamp_holds v known fixes nodes all = record { nodes = λ k holds. node_by k (cases_lt 0 (count k (work_nodes v))) holds; entries = λ x holds. entry_by x holds }
-    where
-      node_by : (k : ℕ) → (0 < count k (work_nodes v)) ⊎ (count k (work_nodes v) ≤ 0) → HoldsNode (stamp_loaded known v (m Stamp) fixes nodes) k
-          → HoldsNode v k ⊎ (0 < (linked_by g).nodes k)
-      node_by k (inl works) holds = inl (omega (arith, works, count-append k (tree_slots v.reading.tree) (work_nodes v)))
-      node_by k (inr none) holds = inr (omega (arith, none, holds, count-append k (tree_slots nodes) (work_nodes v), read_slots nodes k all))
-
-      entry_by : (x : ℕ) → HoldsEntry g.bundles (stamp_loaded known v (m Stamp) fixes nodes) x → HoldsEntry g.bundles v x ⊎ (0 < (linked_by g).entries x)
-      entry_by x (inr stands) = inl (inr stands)
-      entry_by x (inl reads) =
-          inr (tree_linked reads.node x reads.side
-          (elim reads.of as (λ _. (reads.node ≡ 0) ⊎ (0 < count reads.node (slots_of g.tree))) [
-            | inl root ↦ inl root
-            | inr node ↦ inr (omega (arith, node, read_slots nodes reads.node all))
-          ]) (read_member g.bundles.number (m Stamp) x (g.bundles.bundle reads.side reads.node) reads.read))
-
-  -- a load of the stamp, and of the whole tree at it
-  pub load_stamp_kept : (i : ℕ) (v : View) (known : List Update) (fixes : Bool) (nodes : List TreeNode) → IsItem vs i v → is_even v.section_word ≡ false
-      → known ≡ g.updates → nodes ≡ tree_nodes g.tree → Rule z m (set vs i (stamp_loaded known v (m Stamp) fixes nodes)) g
-  load_stamp_kept i v known fixes nodes at inside all whole =
-      let w : View = stamp_loaded known v (m Stamp) fixes nodes in
-      let seat = seat_at z m vs g i v at rule in
-      quiet_kept z m vs g rule i v at w.history w.counts w.reading w.held (record { mine = refl; ended = refl; ended_places = refl; left = refl }) (λ _. all) refl
-      (stamp_holds v known fixes nodes whole)
-      (record {
-        layout = seat.layout;
-        section = record { section = seat.section.section; announced = seat.section.announced; outside = λ even. absurd (inside_only z m vs g rule v inside even); unlocked = λ even. absurd (inside_only z m vs g rule v inside even); done = seat.section.done };
-        seen = stamp_seen v known fixes nodes seat all;
-        update = seat.update;
-        version = record { past = omega arith; opened = opened_by fixes; bare = λ none. cc; there = λ k here. slot_there k (omega (arith, here, read_slots nodes k whole)) };
-        tree = record { tree = g.tree; version = rule.tree; read = whole; gaps = λ k y side here there null gap. gap };
-        locks = seat.locks;
-        loaded = record { nodes = seat.loaded.nodes; nexts = seat.loaded.nexts };
-        marks = record { retired = seat.marks.retired; batch = seat.marks.batch; taken = seat.marks.taken };
-        pending = seat.pending;
-        place = tt;
-        filled = tt;
-        links = tt;
-      })
-    where
-      opened_by : (b : Bool) → IfSome (cond b (Some (m Stamp)) None) (λ t. Some (m Stamp) ≡ Some t)
-      opened_by true = refl
-      opened_by false = tt
-
-      slot_there : (k : ℕ) → 0 < count k (slots_of g.tree) → k ≤ z.nodes
-      slot_there k here = (linked_live z vs g rule.slots k (inr (omega (arith, here, count_slots k g.tree)))).0
-
   -- where a head is loaded, the heads known of locked nodes
   again_by : (e head : ℕ) (stamp : ℕ → ℕ) (l : LoadedHead) (b : Bool) → head ≡ e → HeadRight head stamp l → HeadRight head stamp (cond b l (record { entry = e; stamp = None }))
   again_by e head stamp l true is right = right

@@ -16,6 +16,7 @@ use Rattle.index_words.specs.Words.{Memory, memory}
 use Rattle.key_map.specs.Lists.{count, IsItem}
 use Rattle.core_grace.specs.Holds.{HoldsNode, HoldsEntry, work_nodes}
 use Rattle.core_grace.specs.Slots.{nodes_of, entries_in, own, own_free, GraceRight, KeepsEntries, SlotRule}
+use Rattle.core_invariant.specs.PruneRule.{LookedRight}
 use Rattle.core_invariant.specs.Meanings.{Meaning, linked_by}
 use Rattle.core_invariant.specs.Numbers.{number_count, IsSpare}
 use Rattle.core_invariant.specs.OwnPlaces.{KnowsPlaces}
@@ -105,6 +106,7 @@ module _ (v : View) (vs : List View) where
       tree = rule.tree;
       marks = rule.marks;
       bundles = bundle_turned;
+      pairs = all_turned (λ w. All (LookedRight w) turned) (All-weaker (λ w. All (LookedRight w) (v ∷ vs)) (λ w. All (LookedRight w) turned) (λ w each. all_turned (LookedRight w) each) (v ∷ vs) rule.pairs);
       single = λ e. omega (arith, sum_turned (pending_count e), rule.single e);
       seats = all_turned (SeatRight z m g) rule.seats;
     }

@@ -1,13 +1,15 @@
 -- Each view knows where its own updates stand, after every event.
 pub mod OwnPlaces
--- The section words and the announcements of passes: an enter and a leave alone store to one, and to their own.
+-- The section words and the announcements of passes: an enter, a leave and an announcement alone store to one, and to their own.
 pub mod SectionWords
 -- No event makes what a seat has seen shorter.
 pub mod SeenLaw
--- What an event does to the section words of passes: an enter makes the own word odd, a leave even.
+-- What an event does to the section words and the announcements of passes: an enter makes the own section word odd, a leave even.
 pub mod SectionLaw
 -- A store to the own section word keeps the rule.
 pub mod Stores
+-- A store to the own announcement keeps the rule: the seat has no section number then, so that nobody has read by it.
+pub mod Announces
 -- A store to a word of a free slot keeps the rule: no part of it reads such a word.
 pub mod Fills
 -- A fill keeps the rule: the word of a free slot is stored, and the view knows what it holds.
@@ -30,7 +32,9 @@ pub mod Opened
 pub mod SeatLaws
 -- An event of a seat, or of its free slots, that is allowed keeps the rule.
 pub mod StepSeats
--- Loads of the stamp, of heads and of the stamps of entries keep the rule.
+-- A load of the stamp keeps the rule: a seat that has announced reads from then on, and any other one knows the history alone.
+pub mod StampLoads
+-- Loads of heads and of the stamps of entries keep the rule.
 pub mod HeadLoads
 -- Loads of the words of an entry at which the seat stands keep the rule.
 pub mod LoadEntries
@@ -84,5 +88,19 @@ pub mod RaiseSeats
 pub mod Raise
 -- An event of an update that is allowed keeps the rule.
 pub mod StepUpdates
+-- A look at an announcement keeps the rule: where the pass has a section number, its announcement is at most that.
+pub mod LooksAtAnn
+-- Lists of entries from which what stands behind one of them is cut off.
+pub mod CutLists
+-- The bundles after a cut: what each number from the entry's on selects and reads, and which entries are linked.
+pub mod CutBundles
+-- A cut keeps the rule on slots: what is cut off is linked no more, and is retired in the view that cuts.
+pub mod CutSlots
+-- Where seats stand after a cut: one that reads, or works on the node, stands at no entry that is cut off.
+pub mod CutPlaces
+-- A cut keeps the rule: the bundle ends with the entry, and no seat reads, holds or knows of what stood behind it.
+pub mod CutSeats
+-- A look at an announcement, or a cut, that is allowed keeps the rule.
+pub mod StepCuts
 -- An event that is allowed keeps the rule, and what each number up to the stamp selects.
 pub mod StepLaw

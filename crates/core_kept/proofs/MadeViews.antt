@@ -12,6 +12,7 @@ use Rattle.index_words.proofs.Seats.{at_item, all_moved, sum_split}
 use Rattle.core_grace.specs.Holds.{HoldsNode, HoldsEntry}
 use Rattle.core_grace.specs.Slots.{own_free, nodes_of}
 use Rattle.core_grace.proofs.TwoSeats.{split_slots}
+use Rattle.core_invariant.proofs.Pairs.{pairs_same, pairs_push}
 use Rattle.core_invariant.specs.Meanings.{Meaning, linked_by}
 use Rattle.core_invariant.specs.Numbers.{number_count, IsSpare}
 use Rattle.core_invariant.specs.Histories.{place_count, calls_left}
@@ -63,6 +64,7 @@ module _ (z : Layout) (m : Memory) (vs : List View) (g : Meaning) where
       seen = record { seen = seat.seen.seen; told = seat.seen.told; known = seat.seen.known; found = seat.seen.found; given = seat.seen.given };
       update = seat.update;
       version = seat.version;
+      announced = record { low = seat.announced.low; read = seat.announced.read; least = seat.announced.least };
       tree = seat.tree;
       locks = seat.locks;
       loaded = record { nodes = seat.loaded.nodes; nexts = seat.loaded.nexts };
@@ -78,6 +80,7 @@ module _ (z : Layout) (m : Memory) (vs : List View) (g : Meaning) where
       seen = record { seen = refl; told = refl; known = omega arith; found = omega arith; given = tt };
       update = record { raised = tt; first = λ _. refl };
       version = record { past = tt; opened = tt; bare = λ _. refl; there = λ k some. absurd (omega (arith, some)) };
+      announced = record { low = omega arith; read = tt; least = tt };
       tree = tt;
       locks = λ k some. absurd (omega (arith, some));
       loaded = record { nodes = tt; nexts = tt };
@@ -120,6 +123,7 @@ module _ (z : Layout) (m : Memory) (vs : List View) (g : Meaning) where
               All-push (WorksIf k e) (set vs i w) y (all_moved (WorksIf k e) (WorksIf k e) vs i v w at is.1 (at_item (WorksIf k e) vs i v at is.1) (λ u beside of. of)) (λ some. absurd (omega (arith, some))),
             ))
             (rule.bundles k (alive.0, sym (sum_split (own_free nodes_of k) vs i v w y at (count-take-drop k size.nodes v.free.nodes)) ∙ alive.1) side);
+        pairs = pairs_push (set vs i w) y refl refl (pairs_same vs i v w at refl rule.pairs);
         single = λ e. omega (arith, sum_split (pending_count e) vs i v w y at (omega arith), rule.single e);
         seats = All-push (SeatRight z m g) (set vs i w) y (all_moved (SeatRight z m g) (SeatRight z m g) vs i v w at rule.seats seats.0 (λ u beside of. of)) seats.1;
       }

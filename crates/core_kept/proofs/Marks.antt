@@ -18,6 +18,7 @@ use Rattle.core_grace.specs.Holds.{HoldsNode, HoldsEntry, held_slots, work_nodes
 use Rattle.core_grace.specs.Slots.{nodes_of, own}
 use Rattle.core_grace.proofs.RuleMoves.{quiet, same_looks}
 use Rattle.core_events.specs.Versions.{slots_of}
+use Rattle.core_invariant.proofs.Pairs.{pairs_same}
 use Rattle.core_invariant.specs.Meanings.{Meaning, linked_by}
 use Rattle.core_invariant.specs.Numbers.{number_count}
 use Rattle.core_invariant.specs.Locks.{lock_count, IsNodeAt, IsTakenOut}
@@ -208,6 +209,7 @@ module _ (z : Layout) (m : Memory) (vs : List View) (g : Meaning) (rule : Rule z
     seen = seat.seen;
     update = seat.update;
     version = seat.version;
+    announced = record { low = seat.announced.low; read = seat.announced.read; least = seat.announced.least };
     tree = seat.tree;
     locks = λ j held. seat.locks j (subst (λ xs. 0 < count j xs) locks_same held);
     loaded = record {
@@ -241,6 +243,7 @@ module _ (z : Layout) (m : Memory) (vs : List View) (g : Meaning) (rule : Rule z
     seen = of.seen;
     update = of.update;
     version = of.version;
+    announced = of.announced;
     tree = of.tree;
     locks = of.locks;
     loaded = record {
@@ -291,6 +294,7 @@ module _ (z : Layout) (m : Memory) (vs : List View) (g : Meaning) (rule : Rule z
       };
       bundles = λ j live side. bundle_weaker _ _ _ _ (IsPendingAt vs j) (IsPendingAt ws j) _ _
           (λ d. pending_moved vs i j d v w at refl (λ works. subst (λ xs. 0 < count j xs) (sym works_same) works)) (rule.bundles j (live_moved z vs i j v w at (omega arith) live) side);
+      pairs = pairs_same vs i v w at refl rule.pairs;
       single = λ d. omega (arith, sum_kept (pending_count d) vs i v w at refl, rule.single d);
       seats = all_moved (SeatRight z m g) (SeatRight z m' g) vs i v w at rule.seats own_now other_now;
     };

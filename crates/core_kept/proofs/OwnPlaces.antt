@@ -1,5 +1,5 @@
 -- Each view knows where its own updates stand, after every event.
-use Rattle.std.proofs.Common.{◌≡◌, ℕ, zero, suc, ◌+◌, ◌<◌, ◌≤◌, cond, List, [], ◌∷◌, ◌++◌, length, take, ltb, Bool, true, false, not, eqb, ◌&&◌, ◌||◌, is_none, set, arith, refl, ap, ◌∙◌, sym, subst, inl, inr, Option, Some, None, map}
+use Rattle.std.proofs.Common.{◌≡◌, ℕ, zero, suc, ◌+◌, ◌<◌, ◌≤◌, cond, List, [], ◌∷◌, ◌++◌, length, take, ltb, Bool, true, false, not, eqb, ◌&&◌, is_none, set, arith, refl, ap, ◌∙◌, sym, subst, inl, inr, Option, Some, None, map}
 use Rattle.std.specs.Prelude.{IfSome}
 use Rattle.std.specs.List.{All, sum_by, slice_get}
 use Rattle.std.proofs.lemmas.Bool.{eqb-true, eq-eqb, cases_lt, and_parts}
@@ -34,13 +34,13 @@ use Rattle.core_invariant.proofs.Joins.{Begins, begins-le, longer_begins, longer
 use Rattle.index_words.specs.declared.view.reading.TreeNode.{TreeNode}
 use Rattle.core_events.specs.declared.tree_move.TreeMove.{TreeMove}
 use Rattle.core_events.specs.declared.event.Kind.{Kind}
-use Rattle.core_events.specs.declared.event.Kind.TheVariants.{MakeSeat, SplitSeat, JoinSeat, Enter, Leave, LookSec, Fill, LoadStamp, LoadHead, LoadTs, LoadPtr, LoadNext, Prepare, Raise, Finalise, TryLock, Unlock, LoadMark, Mark as MarkNode, LoadKeyOrVal}
-use Rattle.core_grace.specs.Sections.{is_even}
+use Rattle.core_events.specs.declared.event.Kind.TheVariants.{MakeSeat, SplitSeat, JoinSeat, Enter, Leave, LoadStamp, Raise, Announce}
 use Rattle.core_grace.specs.Batches.{is_number}
 use Rattle.core_events.specs.Needs.{is_stamp}
-use Rattle.core_events.specs.LoadNeeds.{may_load_stamp}
 use Rattle.core_events.specs.UpdateNeeds.{may_raise, may_raise_number, is_raise_of}
-use Rattle.core_events.specs.LoadMoves.{longest, stamp_loaded}
+use Rattle.core_events.specs.Announcing.{has_announced, announced_view}
+use Rattle.core_events.proofs.Allowed.{stamp_needs}
+use Rattle.core_events.specs.LoadMoves.{stamp_reading, longest, stamp_loaded}
 use Rattle.core_events.specs.UpdateMoves.{raised_view}
 use Rattle.core_events.specs.Versions.{tree_nodes}
 use Rattle.core_events.specs.SpelledNow.{tree_now}
@@ -191,21 +191,26 @@ module _ (z : Layout) (m : Memory) (vs : List View) (g : Meaning) (rule : Rule z
       last_by (Some u) is short =
           not_made u.client (length v.history.seen) u (counted u.client (all u.client (every_get (λ (x : Update). x.client < z.passes) g.updates (length v.history.seen) u rule.history.clients is))) (omega arith) is refl
 
-  -- a load of the stamp
-  pub stamp_places : (known : List Update) (fixes : Bool) (nodes : List TreeNode) → known ≡ g.updates → KnowsPlaces (stamp_loaded known v (m Stamp) fixes nodes)
-  stamp_places known fixes nodes all =
+  -- a load of the stamp: with an announcement the section number is the stamp, and without one it stays
+  pub stamp_places : (known : List Update) (fixes : Bool) (nodes : List TreeNode) → v.reading.opened ≡ None → known ≡ g.updates → KnowsPlaces (stamp_loaded known v (m Stamp) fixes nodes)
+  stamp_places known fixes nodes closed all =
       let whole_known : Begins g.updates known = all ∙ sym (take_all (length known) g.updates (omega (arith, ap length all))) in
       let short : length v.history.seen ≤ length known = omega (arith, begins-le g.updates v.history.seen (seat_at z m vs g i v at rule).seen.seen, ap length all) in
       record {
         own = own_longer v.number known refl whole_known short knows.own;
         given = given_longer (length known) short;
-        section = omega (arith, ap length all, rule.history.long);
-        opened = opened_by fixes;
+        section = section_by (has_announced v) short (omega (arith, ap length all, rule.history.long));
+        opened = opened_by (has_announced v) fixes;
       }
     where
-      opened_by : (b : Bool) → IfSome (cond b (Some (m Stamp)) None) (λ t. cond b (m Stamp) v.history.found ≡ t)
-      opened_by true = refl
-      opened_by false = tt
+      section_by : (c : Bool) → length v.history.seen ≤ length known → m Stamp ≤ length known → IfSome (stamp_reading v.reading c (m Stamp) fixes nodes).section (λ t. t ≤ length known)
+      section_by true short long = long
+      section_by false short long = IfSome_then v.reading.section knows.section (λ t low. omega (arith, low, short))
+
+      opened_by : (c b : Bool) → IfSome (stamp_reading v.reading c (m Stamp) b nodes).opened (λ t. cond b (m Stamp) v.history.found ≡ t)
+      opened_by true true = refl
+      opened_by true false = tt
+      opened_by false b = subst (λ (o : Option ℕ). IfSome o (λ t. cond b (m Stamp) v.history.found ≡ t)) (sym closed) tt
 
   -- a raise
   pub raise_places : (known : List Update) (u : Update) (move : TreeMove) → known ≡ g.updates → v.number ≡ Some u.client → KnowsPlaces (raised_view known v (m Stamp) u move)
@@ -247,20 +252,13 @@ module _ (z : Layout) (m : Memory) (vs : List View) (g : Meaning) (rule : Rule z
         opened = knows.opened;
       }
 
--- a raise and a load of the stamp are at the stamp
+-- a raise is at the stamp
 pub raise_needed : (z : Layout) (m : Memory) (vs : List View) (v : View) (w : Word) (value : ℕ) (o : Option Update) → may_raise z m vs v w value o ≡ true → is_stamp w ≡ true
 raise_needed z m vs v w value o met =
     let a = is_stamp w in
     let one = and_parts (a && eqb value 0 && is_none v.update.raised && not (eqb v.history.left 0)) (not (eqb (length v.update.pending) 0)) (and_parts (may_raise_number v w value) (is_raise_of z m vs v o) met).0 in
     let two = and_parts (a && eqb value 0 && is_none v.update.raised) (not (eqb v.history.left 0)) one.0 in
     (and_parts a (eqb value 0) (and_parts (a && eqb value 0) (is_none v.update.raised) two.0).0).0
-
-pub stamp_needed : (v : View) (w : Word) (value : ℕ) → may_load_stamp v w value ≡ true → is_stamp w ≡ true
-stamp_needed v w value met =
-    let b = not (is_even v.section_word) in
-    let c = is_none v.reading.opened in
-    let one = and_parts (is_stamp w && b && c) (eqb value 0 || eqb value 1) met in
-    (and_parts (is_stamp w) b (and_parts (is_stamp w && b) c one.0).0).0
 
 -- the views after an event
 module _ (z : Layout) (words : List ℕ) (vs : List View) (right : InRule z words vs) (i : ℕ) (v : View) (at : IsItem vs i v) (w : Word) (value : ℕ) where
@@ -300,10 +298,10 @@ module _ (z : Layout) (words : List ℕ) (vs : List View) (right : InRule z word
       subst (λ n. KnowsPlaces (raised_from z m' vs v n (Some u))) (sym is)
       (raise_places z m' vs right.meaning right.rule i v at knows' (longest vs) u (tree_move z m' vs v u) (longest_is z m' vs right.meaning right.rule) (named_by u.client v.number own))
 
-  loaded_places : (x : ℕ) → x ≡ m' Stamp → KnowsPlaces (stamp_loaded (longest vs) v x (eqb value 1) (tree_nodes (tree_now z m' vs)))
-  loaded_places x is =
+  loaded_places : (x : ℕ) → v.reading.opened ≡ None → x ≡ m' Stamp → KnowsPlaces (stamp_loaded (longest vs) v x (eqb value 1) (tree_nodes (tree_now z m' vs)))
+  loaded_places x closed is =
       subst (λ n. KnowsPlaces (stamp_loaded (longest vs) v n (eqb value 1) (tree_nodes (tree_now z m' vs)))) (sym is)
-      (stamp_places z m' vs right.meaning right.rule i v at knows' (longest vs) (eqb value 1) (tree_nodes (tree_now z m' vs)) (longest_is z m' vs right.meaning right.rule))
+      (stamp_places z m' vs right.meaning right.rule i v at knows' (longest vs) (eqb value 1) (tree_nodes (tree_now z m' vs)) closed (longest_is z m' vs right.meaning right.rule))
 
   -- a load of the stamp and a raise are at the stamp
   at_stamp : is_stamp w ≡ true → m' w ≡ m' Stamp
@@ -331,22 +329,11 @@ module _ (z : Layout) (words : List ℕ) (vs : List View) (right : InRule z word
   -- each view knows where its own updates stand after an event whose needs are met
   pub places_after : (kind : Kind) (o : Option Update) → carries kind v o ≡ true → needs kind z m' vs i v w value o ≡ true → All KnowsPlaces (views_after kind z m' vs i v w value o)
   places_after MakeSeat o own met = right.places
-  places_after Fill o own met = still Fill o refl
-  places_after LoadKeyOrVal o own met = still LoadKeyOrVal o refl
   places_after SplitSeat o own met = split_places
   places_after JoinSeat o own met = joined_by (slice_get vs value) refl
   places_after Enter o own met = moved (entered z.passes v value) entered_places
   places_after Leave o own met = moved (left v value) (record { own = knows'.own; given = knows'.given; section = tt; opened = tt })
-  places_after LoadStamp o own met = moved _ (loaded_places (m' w) (at_stamp (stamp_needed v w value met)))
+  places_after LoadStamp o own met = let needs = stamp_needs v w value met in moved _ (loaded_places (m' w) needs.closed (at_stamp needs.stamp))
   places_after Raise o own met = moved _ (raised_places (m' w) o (at_stamp (raise_needed z m' vs v w value o met)) own)
-  places_after LookSec o own met = still LookSec o refl
-  places_after LoadHead o own met = still LoadHead o refl
-  places_after LoadTs o own met = still LoadTs o refl
-  places_after LoadPtr o own met = still LoadPtr o refl
-  places_after LoadNext o own met = still LoadNext o refl
-  places_after Prepare o own met = still Prepare o refl
-  places_after Finalise o own met = still Finalise o refl
-  places_after TryLock o own met = still TryLock o refl
-  places_after Unlock o own met = still Unlock o refl
-  places_after LoadMark o own met = still LoadMark o refl
-  places_after MarkNode o own met = still MarkNode o refl
+  places_after Announce o own met = moved (announced_view v value) (record { own = knows'.own; given = knows'.given; section = knows'.section; opened = knows'.opened })
+  places_after kind o own met = still kind o refl

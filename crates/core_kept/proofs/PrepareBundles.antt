@@ -5,7 +5,6 @@ use Rattle.std.proofs.lemmas.Bool.{eq-eqb, ne_eqb, eqb-true, and_parts, cases_lt
 use Rattle.std.proofs.lemmas.List.{get_or_default}
 use Rattle.index_words.specs.declared.layout.Layout.{Layout}
 use Rattle.index_words.specs.declared.side.Side.{Side}
-use Rattle.index_words.specs.declared.side.Side.TheVariants.{Left, Right}
 use Rattle.index_words.specs.declared.view.View.{View}
 use Rattle.index_words.specs.declared.word.Field.TheVariants.{Head}
 use Rattle.index_words.specs.declared.word.Part.TheVariants.{Stamp as Number, Next}
@@ -31,18 +30,9 @@ use Rattle.core_invariant.proofs.HeldFacts.{work_holds}
 use Rattle.core_invariant.proofs.LiveHeads.{head_apart}
 use Rattle.core_invariant.proofs.Fronts.{numbered_other, numbered_new}
 use Rattle.core_invariant.proofs.Locked.{locked_live}
+use Rattle.core_invariant.proofs.Sides.{same_side-true}
 use Rattle.core_invariant.proofs.Needed.{Ready}
 use Rattle.core_kept.proofs.Prepare.{same_locks, same_work}
-
-pub same_side-refl : (s : Side) → same_side s s ≡ true
-same_side-refl Left = refl
-same_side-refl Right = refl
-
-same_side-true : (s t : Side) → same_side s t ≡ true → s ≡ t
-same_side-true Left Left e = refl
-same_side-true Right Right e = refl
-same_side-true Left Right e = cc
-same_side-true Right Left e = cc
 
 module _ (z : Layout) (m : Memory) (vs : List View) (g : Meaning) (rule : Rule z m vs g) (i k e : ℕ) (side : Side) (v : View) (at : IsItem vs i v) (ready : Ready m v side k e) where
   abbrev stamp : ℕ → ℕ

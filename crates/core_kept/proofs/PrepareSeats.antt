@@ -28,10 +28,12 @@ use Rattle.key_map.proofs.Counting.{count-append}
 use Rattle.core_grace.specs.Holds.{HoldsNode, held_slots, listed, work_nodes, tree_slots, entries_of}
 use Rattle.core_grace.proofs.RuleMoves.{every_push}
 use Rattle.core_links.specs.Bundle.{no_number}
+use Rattle.core_events.specs.Numbered.{shown}
+use Rattle.core_invariant.proofs.Pairs.{pairs_same}
 use Rattle.core_invariant.specs.Meanings.{Meaning}
 use Rattle.core_invariant.specs.Numbers.{number_count}
 use Rattle.core_invariant.specs.Locks.{lock_count, SideRight, IsNodeAt, IsNextAt, IsTakenOut}
-use Rattle.core_invariant.specs.BundleRule.{IsLive, IsHeadOf, IsPending, pending_count, shown}
+use Rattle.core_invariant.specs.BundleRule.{IsLive, IsHeadOf, IsPending, pending_count}
 use Rattle.core_invariant.specs.Readers.{IsReachable, IsLocked, IsWatched, StandsAt, IsPassed, PlaceRight, EntryRight, SourceRight, LinkRight}
 use Rattle.core_invariant.specs.FilledRule.{IsOwnSlotWord}
 use Rattle.core_invariant.specs.SeatRule.{TreeRight, SeatRight}
@@ -49,7 +51,8 @@ use Rattle.core_invariant.proofs.Fronts.{count-fronted, numbered_other, numbered
 use Rattle.core_invariant.proofs.Locked.{locked_live, locked_apart}
 use Rattle.core_invariant.proofs.Needed.{Ready}
 use Rattle.core_kept.proofs.Prepare.{same_locks, same_work, prepared_slots}
-use Rattle.core_kept.proofs.PrepareBundles.{same_side-refl, not_pending, pending_same, new_pending, bundle_now, selects, above_still, pending_head}
+use Rattle.core_invariant.proofs.Sides.{same_side-refl}
+use Rattle.core_kept.proofs.PrepareBundles.{not_pending, pending_same, new_pending, bundle_now, selects, above_still, pending_head}
 
 -- the heads that are known of a locked node once one of them is stored
 node_now : (m : Memory) (side : Side) (k e : ℕ) (h : HeldNode) (c : Bool) → eqb h.node k ≡ c → IsNodeAt m h
@@ -212,8 +215,8 @@ module _ (z : Layout) (m : Memory) (vs : List View) (g : Meaning) (rule : Rule z
         (λ l old. source_now l.node l.child l.side l.source old) seat.links
 
     tree_now : TreeRight m' g' u.reading.section u.reading.tree
-    tree_now = reads_frame m m' g.bundles g'.bundles g.updates (m Stamp) g.tree u.reading.tree u.reading.section
-        (λ t n past here. node_same t n past (read_live z vs g rule.slots (m Stamp) j n u of seat.version here)) seat.version.past seat.tree
+    tree_now = reads_frame m m' g.bundles g'.bundles (λ t. t ≤ m Stamp) g.updates (m Stamp) g.tree u.reading.tree u.reading.section
+        (λ t n past here. node_same t n past (read_live z vs g rule.slots (m Stamp) j n u of seat.version here)) (omega arith) seat.version.past seat.tree
 
     entries_more : (n x : ℕ) → 0 < count x (entries_of g.bundles n) → 0 < count x (entries_of g'.bundles n)
     entries_more n x here = omega (arith, count-fronted g.bundles side k e n x, here)
@@ -274,6 +277,7 @@ module _ (z : Layout) (m : Memory) (vs : List View) (g : Meaning) (rule : Rule z
         seen = own.seen;
         update = record { raised = own.update.raised; first = own.update.first };
         version = own.version;
+        announced = record { low = own.announced.low; read = own.announced.read; least = own.announced.least };
         tree = tree_now i v at h v'.update v'.free locks_same work_same;
         locks = λ j held. own.locks j (subst (λ xs. 0 < count j xs) locks_same held);
         loaded = record {
@@ -332,6 +336,7 @@ module _ (z : Layout) (m : Memory) (vs : List View) (g : Meaning) (rule : Rule z
     seen = of.seen;
     update = of.update;
     version = of.version;
+    announced = of.announced;
     tree = tree_now beside.place u beside.at u.held u.update u.free refl refl;
     locks = of.locks;
     loaded = record {
@@ -371,6 +376,7 @@ module _ (z : Layout) (m : Memory) (vs : List View) (g : Meaning) (rule : Rule z
           (λ n here. node_same (m Stamp) n (omega arith) (linked_live z vs g rule.slots n here)) rule.tree;
       marks = record { root = rule.marks.root; nodes = rule.marks.nodes };
       bundles = (bundle_now z m vs g rule i k e side v at ready);
+      pairs = pairs_same vs i v v' at refl rule.pairs;
       single = single_now;
       seats = all_moved (SeatRight z m g) (SeatRight z m' g') vs i v v' at rule.seats own_now other_now;
     };

@@ -10,6 +10,7 @@ use Rattle.key_map.specs.Lists.{IsItem}
 use Rattle.index_words.proofs.Seats.{sum_kept, all_moved}
 use Rattle.core_trees.specs.NamedTree.{NamedTree}
 use Rattle.core_events.specs.declared.tree_move.TreeMove.{TreeMove}
+use Rattle.core_invariant.proofs.Pairs.{pairs_same}
 use Rattle.core_invariant.specs.Meanings.{Meaning}
 use Rattle.core_invariant.specs.Numbers.{number_count}
 use Rattle.core_invariant.specs.Locks.{lock_count}
@@ -52,6 +53,7 @@ module _ (z : Layout) (m : Memory) (vs : List View) (g : Meaning) (rule : Rule z
       tree = moves.version;
       marks = unmarked_now z m vs g rule i v u move tree at can moves;
       bundles = bundle_now z m vs g rule i v u known move tree at can moves;
+      pairs = pairs_same vs i v v' at refl rule.pairs;
       single = single_after z m vs g rule i v u move tree at moves known;
       seats = all_moved (SeatRight z m g) (SeatRight z m' g') vs i v v' at rule.seats
           (own_now z m vs g rule i v u known move tree at can all moves)

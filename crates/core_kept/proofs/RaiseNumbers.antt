@@ -17,9 +17,10 @@ use Rattle.core_links.specs.Bundle.{IsChain, no_number, select, AgreeAt}
 use Rattle.core_links.proofs.Chains.{select-here, select-behind}
 use Rattle.core_trees.specs.NamedTree.{NamedTree}
 use Rattle.core_events.specs.declared.tree_move.TreeMove.{TreeMove}
+use Rattle.core_events.specs.Numbered.{shown}
 use Rattle.core_invariant.specs.Meanings.{Meaning}
 use Rattle.core_invariant.specs.Histories.{calls_left}
-use Rattle.core_invariant.specs.BundleRule.{IsLive, IsNumbered, TailWritten, Falls, IsPending, shown}
+use Rattle.core_invariant.specs.BundleRule.{IsLive, IsNumbered, TailWritten, Falls, IsPending}
 use Rattle.core_invariant.specs.SeatRule.{SeatRight}
 use Rattle.core_invariant.specs.MeaningMoves.{raised_numbers, with_added}
 use Rattle.core_invariant.specs.Rule.{Rule}

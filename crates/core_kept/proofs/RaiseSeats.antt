@@ -24,6 +24,7 @@ use Rattle.core_grace.specs.Holds.{entries_of, listed}
 use Rattle.core_grace.specs.Slots.{nodes_of, own, is_slot}
 use Rattle.core_trees.specs.NamedTree.{NamedTree}
 use Rattle.core_events.specs.declared.tree_move.TreeMove.{TreeMove}
+use Rattle.core_invariant.proofs.Pairs.{announced_same}
 use Rattle.core_invariant.specs.Meanings.{Meaning}
 use Rattle.core_invariant.specs.Locks.{IsNextAt, MarksRight, IsTakenOut}
 use Rattle.core_invariant.specs.BundleRule.{IsLive, IsPending, pending_count}
@@ -225,6 +226,7 @@ module _ (z : Layout) (m : Memory) (vs : List View) (g : Meaning) (rule : Rule z
     };
     seen = own_seen z m vs g rule i v u known move at can all;
     update = record { raised = (omega arith, omega arith); first = λ none. cc };
+    announced = announced_same s (s + 1) v v' (omega arith) refl own_seat.announced;
     version = record {
       past = IfSome_then v.reading.section own_seat.version.past (λ t past. omega (arith, past));
       opened = own_seat.version.opened;
@@ -289,6 +291,7 @@ module _ (z : Layout) (m : Memory) (vs : List View) (g : Meaning) (rule : Rule z
     section = record { section = of.section.section; announced = of.section.announced; outside = of.section.outside; unlocked = of.section.unlocked; done = of.section.done };
     seen = seen_more z m vs g rule i v u known move at can all y.history of.seen;
     update = record { raised = IfSome_then y.update.raised of.update.raised (λ r is. (is.0, omega (arith, is.1))); first = of.update.first };
+    announced = announced_same s (s + 1) y y (omega arith) refl of.announced;
     version = record { past = IfSome_then y.reading.section of.version.past (λ t past. omega (arith, past)); opened = of.version.opened; bare = of.version.bare; there = of.version.there };
     tree = tree_now z m vs g rule i v u move tree at can moves beside.place y beside.at;
     locks = of.locks;

@@ -21,8 +21,9 @@ use Rattle.core_trees.specs.NamedTree.{NamedTree}
 use Rattle.core_events.specs.declared.tree_move.TreeMove.{TreeMove}
 use Rattle.core_invariant.specs.Meanings.{Meaning, linked_by}
 use Rattle.core_events.specs.Versions.{slots_of}
-use Rattle.core_invariant.specs.BundleRule.{IsLive, IsPending, shown}
+use Rattle.core_invariant.specs.BundleRule.{IsLive, IsPending}
 use Rattle.core_events.specs.UpdateMoves.{raised_view}
+use Rattle.core_events.specs.Numbered.{shown}
 use Rattle.core_invariant.specs.Rule.{Rule}
 use Rattle.core_invariant.proofs.Frames.{every_at}
 use Rattle.core_invariant.proofs.Fronts.{read-frame}

@@ -1,5 +1,5 @@
--- What an event does to the section words of passes: an enter makes the own word odd, a leave even.
-use Rattle.std.proofs.Common.{◌≡◌, ℕ, ◌+◌, ◌-◌, List, cond, Bool, true, false, not, eqb, ◌&&◌, length, set, refl, ap, ◌∙◌, sym, subst, inl, inr, Option, Some, None}
+-- What an event does to the section words and the announcements of passes: an enter makes the own section word odd, a leave even.
+use Rattle.std.proofs.Common.{◌≡◌, ℕ, ◌+◌, List, cond, Bool, true, false, not, eqb, ◌&&◌, length, set, refl, ap, ◌∙◌, sym, subst, inl, inr, Option, Some, None}
 use Rattle.std.specs.List.{slice_get}
 use Rattle.std.proofs.lemmas.Bool.{and_parts, eqb-true, eq-eqb}
 use Rattle.std.proofs.lemmas.Option.{same_Some}
@@ -76,6 +76,8 @@ moves_at t e (Some v) (Some w) is found right met =
     let words_of : (k : Kind) → e.kind ≡ k → words_after k t.words e.word e.value ≡ words_after e.kind t.words e.word e.value
     = λ k same. ap (λ (j : Kind). words_after j t.words e.word e.value) (sym same) in
     let same = same_words z t.words t.views e.seat v e.word w right.size found e.value e.update e.kind need in
+    let other_pass : (x : View) (n : ℕ) → IsItem t.views e.seat x → is_number n x.number ≡ false → is_number n v.number ≡ false
+    = λ x n item other. ap (λ (u : View). is_number n u.number) (sym (same_item t.views e.seat e.seat x v item at refl)) ∙ other in
     record {
       enters = λ kind x n item named.
           let own : x ≡ v = same_item t.views e.seat e.seat x v item at refl in
@@ -85,12 +87,12 @@ moves_at t e (Some v) (Some w) is found right met =
           let own : x ≡ v = same_item t.views e.seat e.seat x v item at refl in
           subst (λ (ws : List ℕ). (is_even (section_of t n) ≡ false) × (is_even (memory z ws (Section n)) ≡ true)) (words_of Leave kind)
           (left_own t e right v at w found n (ap (λ (u : View). u.number) (sym own) ∙ named) (met_of Leave kind));
-      kept = λ enter leave n. same.sections n (inl (enter, leave));
-      others = λ x n item other.
-          same.sections n (inr (ap (λ (u : View). is_number n u.number) (sym (same_item t.views e.seat e.seat x v item at refl)) ∙ other));
-      announced = same.announced;
+      kept = λ enter leave n. same.section n (inl (enter, leave));
+      others = λ x n item other. same.section n (inr (other_pass x n item other));
+      announced = λ other n. same.announcement n (inl other);
+      others_announced = λ x n item other. same.announcement n (inr (other_pass x n item other));
     }
 
--- what an allowed event does to the section words
+-- what an allowed event does to these words
 pub moves_sections : (t : Table) (e : Event) → IsRight t → allowed t e ≡ true → MovesSections t e (after t e)
 moves_sections t e right met = moves_at t e (slice_get t.views e.seat) (word_at t.layout e.word) refl refl right met

@@ -1,4 +1,4 @@
--- The section words and the announcements of passes: an enter and a leave alone store to one, and to their own.
+-- The section words and the announcements of passes: an enter, a leave and an announcement alone store to one, and to their own.
 use Rattle.std.proofs.Common.{◌≡◌, ◌≢◌, ℕ, ◌+◌, ◌<◌, ◌⊎◌, cond, List, [], ◌∷◌, length, Bool, true, false, not, eqb, ltb, ◌&&◌, set, arith, refl, ap, ◌∙◌, sym, subst, inl, inr, Option, Some, None, slice_index}
 use Rattle.std.specs.List.{All, slice_get}
 use Rattle.std.proofs.lemmas.Bool.{and_parts, eqb-true, eq-eqb}
@@ -19,16 +19,18 @@ use Rattle.index_words.proofs.Seats.{at_item, all_moved, one_term, two_terms}
 use Rattle.core_grace.specs.Sections.{is_even, left_word}
 use Rattle.core_grace.specs.Batches.{is_number}
 use Rattle.core_events.specs.declared.event.Kind.{Kind}
-use Rattle.core_events.specs.declared.event.Kind.TheVariants.{MakeSeat, SplitSeat, JoinSeat, Enter, Leave, LookSec, Fill, LoadStamp, LoadHead, LoadTs, LoadPtr, LoadNext, Prepare, Raise, Finalise, TryLock, Unlock, LoadMark, Mark as MarkNode, LoadKeyOrVal}
+use Rattle.core_events.specs.declared.event.Kind.TheVariants.{MakeSeat, SplitSeat, JoinSeat, Enter, Leave, Fill, Prepare, Raise, Finalise, TryLock, Unlock, Mark as MarkNode, Announce, Cut}
 use Rattle.core_events.specs.Moves.{split_left, split_right, joined_with}
 use Rattle.core_events.specs.Needs.{is_outside, is_own_section, may_enter, may_leave, may_fill, nothing_pending}
 use Rattle.core_invariant.specs.Numbers.{number_count, IsSpare}
+use Rattle.core_events.specs.Announcing.{is_own_announced, is_announcement}
+use Rattle.core_events.specs.CutNeeds.{may_cut}
 use Rattle.core_events.specs.UpdateNeeds.{may_prepare, may_raise, may_finalise}
 use Rattle.core_events.specs.LockNeeds.{may_try_lock, may_unlock, may_mark}
 use Rattle.core_events.specs.Steps.{needs, view_after, views_after, words_after, join_found}
 use Rattle.core_invariant.specs.Rule.{InRule}
 use Rattle.core_events.proofs.Tests.{never, stamp_named}
-use Rattle.core_invariant.proofs.Needed.{OwnSection, own_section}
+use Rattle.core_invariant.proofs.Needed.{OwnSection, own_section, OwnAnnounced, own_announced}
 use Rattle.core_invariant.proofs.OneView.{item_from_get, set_same}
 use Rattle.core_invariant.proofs.Frames.{same_item}
 use Rattle.core_invariant.proofs.Joins.{every_append}
@@ -92,6 +94,13 @@ mark_apart v (Section k) x met = absurd (never met)
 mark_apart v (Announced k) x met = absurd (never met)
 mark_apart v (Entry p e) x met = absurd (never met)
 
+cut_apart : (z : Layout) (m : Memory) (vs : List View) (v : View) (w : Word) (x : ℕ) → may_cut z m vs v w x ≡ true → IsApart w
+cut_apart z m vs v (Entry p e) x met = entry_apart e p
+cut_apart z m vs v Stamp x met = absurd (never met)
+cut_apart z m vs v (Section k) x met = absurd (never met)
+cut_apart z m vs v (Announced k) x met = absurd (never met)
+cut_apart z m vs v (Node f k) x met = absurd (never met)
+
 pub own_enter : (v : View) (w : Word) (value : ℕ) → may_enter v w value ≡ true → OwnSection v.number w
 own_enter v w value met =
     let parts = and_parts (is_own_section v.number w && is_outside v) (eqb value (v.section_word + 1)) met in
@@ -106,56 +115,77 @@ own_leave m v w value met =
     let one = and_parts (a && b && c && d) (eqb value (left_word v.section_word)) met in
     own_section v.number w (and_parts a b (and_parts (a && b) c (and_parts (a && b && c) d one.0).0).0).0
 
--- what two memories say of the section words of these passes, and of all announcements
-pub record SameWords (P : ℕ → Type 0) (m m' : Memory) : Type 0 where
-  pub sections : (n : ℕ) → P n → m' (Section n) ≡ m (Section n)
-  pub announced : (n : ℕ) → m' (Announced n) ≡ m (Announced n)
+-- two memories say the same of the section words of some passes, and of the announcements of some
+pub record SameWords (sections announced : ℕ → Type 0) (m m' : Memory) : Type 0 where
+  pub section : (n : ℕ) → sections n → m' (Section n) ≡ m (Section n)
+  pub announcement : (n : ℕ) → announced n → m' (Announced n) ≡ m (Announced n)
 
 -- an event of the kind leaves the section word of the pass
-abbrev pub IsLeft : Kind → View → ℕ → Type 0
-IsLeft kind v n = ((kind ≢ Enter) × (kind ≢ Leave)) ⊎ (is_number n v.number ≡ false)
+abbrev pub LeavesSection : Kind → View → ℕ → Type 0
+LeavesSection kind v n = ((kind ≢ Enter) × (kind ≢ Leave)) ⊎ (is_number n v.number ≡ false)
+
+-- and its announcement
+abbrev pub LeavesAnnouncement : Kind → View → ℕ → Type 0
+LeavesAnnouncement kind v n = (kind ≢ Announce) ⊎ (is_number n v.number ≡ false)
+
+-- a store to the own word of one pass is none to another one's
+not_own : (number : Option ℕ) (own x old n : ℕ) (same : Bool) → number ≡ Some own → eqb n own ≡ same → is_number n number ≡ false → cond same x old ≡ old
+not_own number own x old n true named e other =
+    let is : n ≡ own = eqb-true n own e in
+    absurd (never (sym other ∙ ap (is_number n) named ∙ eq-eqb own n (sym is)))
+not_own number own x old n false named e other = refl
 
 module _ (z : Layout) (words : List ℕ) (vs : List View) (i : ℕ) (v : View) (at : ℕ) (w : Word) (long : length words ≡ word_count z) (found : word_at z at ≡ Some w) (value : ℕ) (o : Option Update) where
   abbrev m : Memory
   m = memory z words
 
-  unchanged : (kind : Kind) → SameWords (IsLeft kind v) m (memory z words)
-  unchanged kind = record { sections = λ n other. refl; announced = λ n. refl }
+  abbrev Same : Kind → Memory → Type 0
+  Same kind = SameWords (LeavesSection kind v) (LeavesAnnouncement kind v) m
 
-  stored : (kind : Kind) (x : ℕ) → IsApart w → SameWords (IsLeft kind v) m (memory z (set words at x))
+  unchanged : (kind : Kind) → Same kind (memory z words)
+  unchanged kind = record { section = λ n other. refl; announcement = λ n other. refl }
+
+  stored : (kind : Kind) (x : ℕ) → IsApart w → Same kind (memory z (set words at x))
   stored kind x apart =
-      subst (SameWords (IsLeft kind v) m) (sym (stored_at z words at w x long found))
-      (record { sections = λ n other. apart.sections m x n; announced = λ n. apart.announced m x n })
+      subst (Same kind) (sym (stored_at z words at w x long found))
+      (record { section = λ n other. apart.sections m x n; announcement = λ n other. apart.announced m x n })
 
-  own_stored : (kind : Kind) (x : ℕ) → OwnSection v.number w → ((n : ℕ) → IsLeft kind v n → is_number n v.number ≡ false) → SameWords (IsLeft kind v) m (memory z (set words at x))
+  own_stored : (kind : Kind) (x : ℕ) → OwnSection v.number w → ((n : ℕ) → LeavesSection kind v n → is_number n v.number ≡ false) → Same kind (memory z (set words at x))
   own_stored kind x own others =
-      subst (SameWords (IsLeft kind v) m) (sym (stored_at z words at w x long found))
-      (subst (λ (u : Word). SameWords (IsLeft kind v) m (written m u x)) (sym own.word)
-      (record { sections = λ n other. not_own n (eqb n own.n) refl (others n other); announced = λ n. refl }))
-    where
-      not_own : (n : ℕ) (b : Bool) → eqb n own.n ≡ b → is_number n v.number ≡ false → cond b x (m (Section n)) ≡ m (Section n)
-      not_own n true e other =
-          let same : n ≡ own.n = eqb-true n own.n e in
-          absurd (never (sym other ∙ ap (is_number n) own.named ∙ eq-eqb own.n n (sym same)))
-      not_own n false e other = refl
+      subst (Same kind) (sym (stored_at z words at w x long found))
+      (subst (λ (u : Word). Same kind (written m u x)) (sym own.word)
+      (record { section = λ n other. not_own v.number own.n x (m (Section n)) n (eqb n own.n) own.named refl (others n other); announcement = λ n other. refl }))
 
-  enter_others : (n : ℕ) → IsLeft Enter v n → is_number n v.number ≡ false
+  announced_stored : (x : ℕ) → OwnAnnounced v.number w → Same Announce (memory z (set words at x))
+  announced_stored x own =
+      subst (Same Announce) (sym (stored_at z words at w x long found))
+      (subst (λ (u : Word). Same Announce (written m u x)) (sym own.word)
+      (record {
+        section = λ n other. refl;
+        announcement = λ n other. not_own v.number own.n x (m (Announced n)) n (eqb n own.n) own.named refl (announce_others n other);
+      }))
+    where
+      announce_others : (n : ℕ) → LeavesAnnouncement Announce v n → is_number n v.number ≡ false
+      announce_others n (inl other) = absurd (other refl)
+      announce_others n (inr other) = other
+
+  enter_others : (n : ℕ) → LeavesSection Enter v n → is_number n v.number ≡ false
   enter_others n (inl neither) = absurd (neither.0 refl)
   enter_others n (inr other) = other
 
-  leave_others : (n : ℕ) → IsLeft Leave v n → is_number n v.number ≡ false
+  leave_others : (n : ℕ) → LeavesSection Leave v n → is_number n v.number ≡ false
   leave_others n (inl neither) = absurd (neither.1 refl)
   leave_others n (inr other) = other
 
-  tried : (kind : Kind) (b : Bool) → IsApart w → SameWords (IsLeft kind v) m (memory z (cond b (set words at value) words))
+  tried : (kind : Kind) (b : Bool) → IsApart w → Same kind (memory z (cond b (set words at value) words))
   tried kind true apart = stored kind value apart
   tried kind false apart = unchanged kind
 
   raise_apart : may_raise z m vs v w value o ≡ true → IsApart w
   raise_apart met = subst IsApart (sym (stamp_named w (raise_needed z m vs v w value o met))) stamp_apart
 
-  -- no event changes another pass's section word, or an announcement
-  pub same_words : (kind : Kind) → needs kind z m vs i v w value o ≡ true → SameWords (IsLeft kind v) m (memory z (words_after kind words at value))
+  -- no event changes another pass's section word, or its announcement
+  pub same_words : (kind : Kind) → needs kind z m vs i v w value o ≡ true → SameWords (LeavesSection kind v) (LeavesAnnouncement kind v) m (memory z (words_after kind words at value))
   same_words Enter met = own_stored Enter value (own_enter v w value met) enter_others
   same_words Leave met = own_stored Leave value (own_leave m v w value met) leave_others
   same_words Fill met = stored Fill value (fill_apart v w met)
@@ -165,17 +195,9 @@ module _ (z : Layout) (words : List ℕ) (vs : List View) (i : ℕ) (v : View) (
   same_words TryLock met = tried TryLock (eqb (slice_index words at) 0) (try_apart v w value met)
   same_words Unlock met = stored Unlock value (unlock_apart m v w value met)
   same_words MarkNode met = stored MarkNode value (mark_apart v w value met)
-  same_words MakeSeat met = unchanged MakeSeat
-  same_words SplitSeat met = unchanged SplitSeat
-  same_words JoinSeat met = unchanged JoinSeat
-  same_words LookSec met = unchanged LookSec
-  same_words LoadStamp met = unchanged LoadStamp
-  same_words LoadHead met = unchanged LoadHead
-  same_words LoadTs met = unchanged LoadTs
-  same_words LoadPtr met = unchanged LoadPtr
-  same_words LoadNext met = unchanged LoadNext
-  same_words LoadMark met = unchanged LoadMark
-  same_words LoadKeyOrVal met = unchanged LoadKeyOrVal
+  same_words Announce met = announced_stored value (own_announced v.number w (and_parts (is_own_announced v.number w) (is_announcement v value) met).0)
+  same_words Cut met = stored Cut value (cut_apart z m vs v w value met)
+  same_words kind met = unchanged kind
 
 -- what holds of each number of a list, under an implication at the numbers that stand in it
 every_in : (P Q : ℕ → Type 0) (xs : List ℕ) → ((n : ℕ) → 0 < count n xs → P n → Q n) → Every P xs → Every Q xs
@@ -209,12 +231,12 @@ module _ (z : Layout) (words : List ℕ) (vs : List View) (right : InRule z word
       tells true e = absurd (twice (named_by v.number e))
       tells false e = e
 
-  spare_words : (m' : Memory) → SameWords (λ n. is_number n v.number ≡ false) old m' → (j : ℕ) (u : View) → IsItem vs j u → IsSpare old u → IsSpare m' u
+  spare_words : (m' : Memory) → SameWords (λ n. is_number n v.number ≡ false) (λ n. is_number n v.number ≡ false) old m' → (j : ℕ) (u : View) → IsItem vs j u → IsSpare old u → IsSpare m' u
   spare_words m' same j u item spare =
       every_in (λ n. (old (Section n) ≡ 0) × (old (Announced n) ≡ 0)) (λ n. (m' (Section n) ≡ 0) × (m' (Announced n) ≡ 0)) u.to_give
-      (λ n some none. (same.sections n (not_given_yet j n u item some) ∙ none.0, same.announced n ∙ none.1)) spare
+      (λ n some none. (same.section n (not_given_yet j n u item some) ∙ none.0, same.announcement n (not_given_yet j n u item some) ∙ none.1)) spare
 
-  all_spare : (m' : Memory) → SameWords (λ n. is_number n v.number ≡ false) old m' → All (IsSpare m') vs
+  all_spare : (m' : Memory) → SameWords (λ n. is_number n v.number ≡ false) (λ n. is_number n v.number ≡ false) old m' → All (IsSpare m') vs
   all_spare m' same =
       subst (All (IsSpare m')) (set_same vs i v of)
       (all_moved (IsSpare old) (IsSpare m') vs i v v of right.spare (spare_words m' same i v of (at_item (IsSpare old) vs i v of right.spare))
@@ -239,29 +261,13 @@ module _ (z : Layout) (words : List ℕ) (vs : List View) (right : InRule z word
 
     views_spare : (kind : Kind) → All (IsSpare m') (views_after kind z old vs i v w value o)
     views_spare MakeSeat = all
-    views_spare Fill = still_spare Fill
-    views_spare LoadKeyOrVal = still_spare LoadKeyOrVal
     views_spare SplitSeat = All-push (IsSpare m') (set vs i (split_left v value)) (split_right v value) (moved_spare (split_left v value) refl) tt
     views_spare JoinSeat = joined_spare (slice_get vs value) refl
-    views_spare Enter = still_spare Enter
-    views_spare Leave = still_spare Leave
-    views_spare LookSec = still_spare LookSec
-    views_spare LoadStamp = still_spare LoadStamp
-    views_spare LoadHead = still_spare LoadHead
-    views_spare LoadTs = still_spare LoadTs
-    views_spare LoadPtr = still_spare LoadPtr
-    views_spare LoadNext = still_spare LoadNext
-    views_spare Prepare = still_spare Prepare
-    views_spare Raise = still_spare Raise
-    views_spare Finalise = still_spare Finalise
-    views_spare TryLock = still_spare TryLock
-    views_spare Unlock = still_spare Unlock
-    views_spare LoadMark = still_spare LoadMark
-    views_spare MarkNode = still_spare MarkNode
+    views_spare kind = still_spare kind
 
   -- the words of a number that is still to be given are 0 after an event whose needs are met
   pub spare_after : (kind : Kind) → needs kind z old vs i v w value o ≡ true → All (IsSpare (memory z (words_after kind words at value))) (views_after kind z old vs i v w value o)
   spare_after kind met =
       let m' = memory z (words_after kind words at value) in
       let same = same_words z words vs i v at w right.size found value o kind met in
-      views_spare m' (all_spare m' (record { sections = λ n other. same.sections n (inr other); announced = same.announced })) kind
+      views_spare m' (all_spare m' (record { section = λ n other. same.section n (inr other); announcement = λ n other. same.announcement n (inr other) })) kind

@@ -15,10 +15,13 @@ use Rattle.key_map.specs.Lists.{IsItem}
 use Rattle.index_words.proofs.Seats.{item_set, beside_item}
 use Rattle.core_events.specs.declared.event.Event.{Event}
 use Rattle.core_events.specs.declared.event.Kind.{Kind}
-use Rattle.core_events.specs.declared.event.Kind.TheVariants.{MakeSeat, SplitSeat, JoinSeat, Enter, Leave, LookSec, Fill, LoadStamp, LoadHead, LoadTs, LoadPtr, LoadNext, Prepare, Raise, Finalise, TryLock, Unlock, LoadMark, Mark as MarkNode, LoadKeyOrVal}
+use Rattle.core_events.specs.declared.event.Kind.TheVariants.{MakeSeat, SplitSeat, JoinSeat, Enter, Leave, LoadStamp, Raise, Announce}
 use Rattle.core_events.specs.Moves.{longer, split_left, split_right, joined_with}
 use Rattle.core_events.specs.Needs.{is_stamp, may_join_found}
-use Rattle.core_events.specs.LoadMoves.{longest}
+use Rattle.core_events.specs.LoadMoves.{longest, stamp_reading}
+use Rattle.core_events.specs.Announcing.{has_announced}
+use Rattle.core_events.specs.SpelledNow.{tree_now}
+use Rattle.core_events.specs.Versions.{tree_nodes}
 use Rattle.core_events.specs.Tables.{Table, held_by}
 use Rattle.core_invariant.specs.Rule.{InRule, IsRight}
 use Rattle.core_events.specs.Steps.{needs, carries, allowed, allowed_at, after, after_at, view_after, views_after, words_after, join_found, raised_from}
@@ -28,7 +31,7 @@ use Rattle.core_invariant.proofs.Frames.{same_item}
 use Rattle.core_invariant.proofs.Joins.{Begins, begins-le, longer_long, longer_begins}
 use Rattle.core_invariant.proofs.Longest.{longest_is}
 use Rattle.core_events.proofs.Tests.{never, not_equal, stamp_named}
-use Rattle.core_kept.proofs.OwnPlaces.{stamp_needed}
+use Rattle.core_events.proofs.Allowed.{stamp_needs}
 use Rattle.core_invariant.proofs.KeptViews.{SeatPart, entered_part, is_still, still_kept}
 
 -- of two beginnings of one history the shorter is a beginning of the longer
@@ -121,8 +124,6 @@ module _ (z : Layout) (words : List ℕ) (vs : List View) (right : InRule z word
 
   pub goes_on : (kind : Kind) → GoesOn vs (views_after kind z m vs i v w value o)
   goes_on MakeSeat = goes_same vs
-  goes_on Fill = still_goes Fill refl
-  goes_on LoadKeyOrVal = still_goes LoadKeyOrVal refl
   goes_on SplitSeat = goes_push vs (set vs i (split_left v value)) (split_right v value) (own_goes (split_left v value) (begins_self v.history.seen)) (length-set vs i (split_left v value))
   goes_on JoinSeat = joined_goes (slice_get vs value) refl
   goes_on Enter =
@@ -131,17 +132,8 @@ module _ (z : Layout) (words : List ℕ) (vs : List View) (right : InRule z word
   goes_on Leave = own_goes (view_after Leave z m vs v w (m w) value o) (begins_self v.history.seen)
   goes_on LoadStamp = own_goes (view_after LoadStamp z m vs v w (m w) value o) (whole_known i v at)
   goes_on Raise = own_goes (view_after Raise z m vs v w (m w) value o) (raised_goes (m w) o)
-  goes_on LookSec = still_goes LookSec refl
-  goes_on LoadHead = still_goes LoadHead refl
-  goes_on LoadTs = still_goes LoadTs refl
-  goes_on LoadPtr = still_goes LoadPtr refl
-  goes_on LoadNext = still_goes LoadNext refl
-  goes_on Prepare = still_goes Prepare refl
-  goes_on Finalise = still_goes Finalise refl
-  goes_on TryLock = still_goes TryLock refl
-  goes_on Unlock = still_goes Unlock refl
-  goes_on LoadMark = still_goes LoadMark refl
-  goes_on MarkNode = still_goes MarkNode refl
+  goes_on Announce = own_goes (view_after Announce z m vs v w (m w) value o) (begins_self v.history.seen)
+  goes_on kind = still_goes kind refl
 
   abbrev loaded_view : View
   loaded_view = view_after LoadStamp z m vs v w (m w) value o
@@ -158,13 +150,13 @@ module _ (z : Layout) (words : List ℕ) (vs : List View) (right : InRule z word
         ];
       })
 
-  loaded_fixed : is_stamp w ≡ true → value ≡ 1 → (x : View) → IsItem (set vs i loaded_view) i x → (x.reading.opened ≡ Some (m Stamp)) × (x.history.found ≡ m Stamp)
-  loaded_fixed stamp one x of =
+  loaded_fixed : is_stamp w ≡ true → has_announced v ≡ true → value ≡ 1 → (x : View) → IsItem (set vs i loaded_view) i x → (x.reading.opened ≡ Some (m Stamp)) × (x.history.found ≡ m Stamp)
+  loaded_fixed stamp told one x of =
       let is : loaded_view ≡ x = same_item (set vs i loaded_view) i i loaded_view x (item_set vs i v loaded_view at) of refl in
       let fixes : eqb value 1 ≡ true = eq-eqb value 1 one in
       let here : m w ≡ m Stamp = ap m (stamp_named w stamp) in
       subst (λ (y : View). (y.reading.opened ≡ Some (m Stamp)) × (y.history.found ≡ m Stamp)) is (
-        ap (λ (b : Bool). cond b (Some (m w)) None) fixes ∙ ap Some here,
+        ap (λ (c : Bool). (stamp_reading v.reading c (m w) (eqb value 1) (tree_nodes (tree_now z m vs))).opened) told ∙ ap (λ (b : Bool). cond b (Some (m w)) None) fixes ∙ ap Some here,
         ap (λ (b : Bool). cond b (m w) v.history.found) fixes ∙ here,
       )
 
@@ -202,7 +194,7 @@ seen_at t e (Some v) (Some w) is found right met =
       kept = goes_on z t.words t.views right e.seat v at w e.value e.update e.kind;
       loaded = λ same. subst (λ (u : Table). (x : View) → IsItem u.views e.seat x → IsWhole u x.history.seen) (sym (table_of LoadStamp same)) (loaded_whole z t.words t.views right e.seat v at w e.value e.update);
       fixed = λ same one. subst (λ (u : Table). (x : View) → IsItem u.views e.seat x → (x.reading.opened ≡ Some (held_by u Stamp)) × (x.history.found ≡ held_by u Stamp)) (sym (table_of LoadStamp same))
-          (loaded_fixed z t.words t.views right e.seat v at w e.value e.update (stamp_needed v w e.value (met_of LoadStamp same)) one);
+          (loaded_fixed z t.words t.views right e.seat v at w e.value e.update (stamp_needs v w e.value (met_of LoadStamp same)).stamp ((stamp_needs v w e.value (met_of LoadStamp same)).fixes one) one);
       split = λ same x y here there.
           split_seen z t.words t.views right e.seat v at w e.value e.update x y here (subst (λ (us : List View). IsItem us (length t.views) y) (views_of SplitSeat same) there);
       joined = λ same u y of there.

@@ -10,7 +10,7 @@ use Rattle.index_words.specs.Words.{Memory, memory, word_at}
 use Rattle.key_map.specs.Lists.{IsItem}
 use Rattle.core_events.specs.declared.event.Event.{Event}
 use Rattle.core_events.specs.declared.event.Kind.{Kind}
-use Rattle.core_events.specs.declared.event.Kind.TheVariants.{MakeSeat, SplitSeat, JoinSeat, Enter, Leave, LookSec, Fill, LoadStamp, LoadHead, LoadTs, LoadPtr, LoadNext, Prepare, Raise, Finalise, TryLock, Unlock, LoadMark, Mark as MarkNode, LoadKeyOrVal}
+use Rattle.core_events.specs.declared.event.Kind.TheVariants.{MakeSeat, SplitSeat, JoinSeat, Enter, Leave, LookSec, Fill, LoadStamp, LoadHead, LoadTs, LoadPtr, LoadNext, Prepare, Raise, Finalise, TryLock, Unlock, LoadMark, Mark as MarkNode, LoadKeyOrVal, Announce, LookAnn, Cut}
 use Rattle.core_events.specs.Tables.{Table, held_by}
 use Rattle.core_invariant.specs.Rule.{InRule, IsRight}
 use Rattle.core_invariant.specs.LinkLaw.{KeepsSelections}
@@ -29,7 +29,8 @@ use Rattle.core_invariant.specs.KeptRule.{After}
 use Rattle.core_kept.proofs.StepLoads.{stamp_law, head_law, number_law, child_law, next_law}
 use Rattle.core_kept.proofs.StepUpdates.{prepare_law, raise_law, finalise_law}
 use Rattle.core_kept.proofs.StepLocks.{lock_law, unlock_law, load_mark_law, mark_law, load_pair_law}
-use Rattle.core_kept.proofs.StepSeats.{split_law, join_law, enter_law, leave_law, look_law, fill_law}
+use Rattle.core_kept.proofs.StepSeats.{split_law, join_law, enter_law, leave_law, look_law, fill_law, announce_law}
+use Rattle.core_kept.proofs.StepCuts.{look_ann_law, cut_law}
 
 module _ (z : Layout) (words : List ℕ) (vs : List View) (right : InRule z words vs) (i : ℕ) (v : View) (at : IsItem vs i v) (live : v.joined ≡ false) (n : ℕ) (w : Word) (found : word_at z n ≡ Some w) (value : ℕ) where
   abbrev m : Memory
@@ -60,6 +61,9 @@ module _ (z : Layout) (words : List ℕ) (vs : List View) (right : InRule z word
   kind_right LoadMark o own met = load_mark_law z words vs right i v at live n w found value o own met
   kind_right MarkNode o own met = mark_law z words vs right i v at live n w found value o own met
   kind_right LoadKeyOrVal o own met = load_pair_law z words vs right i v at live n w found value o own met
+  kind_right Announce o own met = announce_law z words vs right i v at live n w found value o own met
+  kind_right LookAnn o own met = look_ann_law z words vs right i v at live n w found value o own met
+  kind_right Cut o own met = cut_law z words vs right i v at live n w found value o own met
 
 -- the table after an event, and the rule of it
 pub record AfterTable (t u : Table) : Type 0 where

@@ -1,5 +1,5 @@
 -- A load that is allowed keeps the rule.
-use Rattle.std.proofs.Common.{◌≡◌, ℕ, ap, List, true, false, not, eqb, ◌&&◌, ◌||◌, set, Some, None, is_none}
+use Rattle.std.proofs.Common.{◌≡◌, ℕ, ap, List, true, false, not, eqb, ◌&&◌, set, Some, None}
 use Rattle.std.proofs.lemmas.Bool.{and_parts}
 use Rattle.index_words.specs.declared.layout.Layout.{Layout}
 use Rattle.index_words.specs.declared.view.View.{View}
@@ -12,7 +12,6 @@ use Rattle.index_words.specs.Words.{Memory, memory, word_at}
 use Rattle.key_map.specs.Lists.{IsItem}
 use Rattle.core_grace.specs.Sections.{is_even}
 use Rattle.core_events.specs.declared.event.Kind.TheVariants.{LoadStamp, LoadHead, LoadTs, LoadPtr, LoadNext}
-use Rattle.core_events.specs.Needs.{is_stamp}
 use Rattle.core_events.specs.LoadNeeds.{may_load_stamp, is_reachable, may_load_field, may_load_head, is_part, stands_at, may_load_part, may_go_on, may_load_next}
 use Rattle.core_events.specs.LoadMoves.{longest, stamp_loaded, head_loaded, ts_loaded, ptr_loaded, next_loaded}
 use Rattle.core_events.specs.Versions.{tree_nodes}
@@ -20,10 +19,12 @@ use Rattle.core_events.specs.SpelledNow.{tree_now}
 use Rattle.core_invariant.specs.Rule.{InRule}
 use Rattle.core_events.specs.Steps.{views_after}
 use Rattle.core_invariant.proofs.Longest.{longest_is}
-use Rattle.core_kept.proofs.HeadLoads.{load_stamp_kept, load_head_kept}
+use Rattle.core_kept.proofs.StampLoads.{load_stamp_kept}
+use Rattle.core_kept.proofs.HeadLoads.{load_head_kept}
 use Rattle.core_kept.proofs.LoadEntries.{load_ts_kept, load_ptr_kept, load_next_kept}
 use Rattle.core_invariant.proofs.TreeNow.{tree_is}
 use Rattle.core_events.proofs.Tests.{never, not_true, node_there, entry_there}
+use Rattle.core_events.proofs.Allowed.{stamp_needs}
 use Rattle.core_invariant.proofs.Needed.{reach_is, standing, going_on}
 use Rattle.core_invariant.specs.KeptRule.{After, KeepsRuleAt}
 use Rattle.core_invariant.proofs.StepGives.{load_right}
@@ -37,12 +38,8 @@ module _ (z : Layout) (words : List ℕ) (vs : List View) (right : InRule z word
 
   pub stamp_found : (u : Word) → may_load_stamp v u value ≡ true → Gives words (views_after LoadStamp z m vs i v u value None)
   stamp_found Stamp met =
-      let b = not (is_even v.section_word) in
-      let c = is_none v.reading.opened in
-      let one = and_parts (is_stamp Stamp && b && c) (eqb value 0 || eqb value 1) met in
-      let two = and_parts (is_stamp Stamp && b) c one.0 in
       load_right z words vs right (set vs i (stamp_loaded (longest vs) v (m Stamp) (eqb value 1) (tree_nodes (tree_now z m vs))))
-      (load_stamp_kept z m vs right.meaning right.rule i v (longest vs) (eqb value 1) (tree_nodes (tree_now z m vs)) at (not_true (is_even v.section_word) (and_parts (is_stamp Stamp) b two.0).1)
+      (load_stamp_kept z m vs right.meaning right.rule i v (longest vs) (eqb value 1) (tree_nodes (tree_now z m vs)) at (stamp_needs v Stamp value met).inside
       (longest_is z m vs right.meaning right.rule) (ap tree_nodes (tree_is z m vs right.meaning right.rule)))
   stamp_found (Section k) met = absurd (never met)
   stamp_found (Announced k) met = absurd (never met)

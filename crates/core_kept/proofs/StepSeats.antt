@@ -1,7 +1,8 @@
 -- An event of a seat, or of its free slots, that is allowed keeps the rule.
-use Rattle.std.proofs.Common.{◌≡◌, ℕ, ◌+◌, ◌<◌, List, [], ◌∷◌, ◌++◌, length, true, false, not, eqb, ◌&&◌, ◌||◌, inl, inr, set, refl, sym, subst, Option, Some, None, is_none}
+use Rattle.std.proofs.Common.{◌≡◌, ℕ, ◌+◌, ◌<◌, List, [], ◌∷◌, ◌++◌, length, Bool, true, false, not, eqb, cond, ◌≤◌, arith, ap, ◌&&◌, ◌||◌, inl, inr, set, refl, sym, subst, Option, Some, None, is_none}
 use Rattle.std.specs.List.{slice_get}
-use Rattle.std.proofs.lemmas.Bool.{and_parts}
+use Rattle.std.proofs.lemmas.Bool.{and_parts, eqb-true}
+use Rattle.index_words.specs.declared.view.reading.Reading.{Reading}
 use Rattle.index_words.specs.declared.layout.Layout.{Layout}
 use Rattle.index_words.specs.declared.view.View.{View}
 use Rattle.index_words.specs.declared.view.slots.Slots.{Slots}
@@ -13,9 +14,10 @@ use Rattle.key_map.proofs.Counting.{has-count}
 use Rattle.index_words.specs.Views.{spent_view}
 use Rattle.core_grace.specs.Sections.{is_even, left_word}
 use Rattle.core_grace.specs.Batches.{is_number, is_empty, looked}
-use Rattle.core_events.specs.declared.event.Kind.TheVariants.{SplitSeat, JoinSeat, Enter, Leave, LookSec, Fill}
+use Rattle.core_events.specs.declared.event.Kind.TheVariants.{SplitSeat, JoinSeat, Enter, Leave, LookSec, Fill, Announce}
 use Rattle.core_events.specs.Needs.{is_outside, is_own_section, may_enter, may_leave, may_look, may_fill, may_join, may_join_found, may_join_view, nothing_pending, is_stamp, is_lock}
 use Rattle.core_events.specs.FillMoves.{filled_view}
+use Rattle.core_events.specs.Announcing.{may_announce, is_own_announced, is_announcement, announced_view}
 use Rattle.core_events.specs.Moves.{entered, left, split_left, split_right, joined_with}
 use Rattle.core_invariant.specs.Rule.{Rule, InRule}
 use Rattle.core_invariant.specs.LinkLaw.{Kept}
@@ -23,7 +25,9 @@ use Rattle.core_events.specs.Steps.{views_after, join_found}
 use Rattle.core_invariant.specs.SectionRule.{IsIdle}
 use Rattle.core_invariant.proofs.OneView.{item_from_get, seat_at}
 use Rattle.core_events.proofs.Tests.{never, not_equal, either_true, not_true, none_of}
-use Rattle.core_invariant.proofs.Needed.{own_section, outside_idle}
+use Rattle.core_invariant.proofs.Needed.{own_section, own_announced, outside_idle}
+use Rattle.core_invariant.proofs.Joins.{begins-le}
+use Rattle.core_kept.proofs.Announces.{announce_kept}
 use Rattle.core_kept.proofs.EachKind.{enter_kept, leave_kept, look_kept}
 use Rattle.core_invariant.proofs.Idle.{nameless_idle}
 use Rattle.core_kept.proofs.Fills.{node_stored, entry_stored}
@@ -66,6 +70,26 @@ module _ (z : Layout) (words : List ℕ) (vs : List View) (right : InRule z word
       (one_kept (written m w value) (set vs i (left v value))
       (subst (λ u. Rule z (written m u value) (set vs i (left v value)) right.meaning) (sym own.word)
       (leave_kept z m vs right.meaning i own.n value v at right.rule own.named three.1)))
+
+  announce_by : (even : Bool) → is_even v.section_word ≡ even → cond even (eqb value 0) (is_none v.reading.section && eqb value (length v.history.seen + 1)) ≡ true
+      → (v.reading.section ≡ None) × (value ≤ m Stamp + 1)
+  announce_by true even met =
+      let seat = seat_at z m vs right.meaning i v at right.rule in
+      (ap (λ (r : Reading). r.section) (seat.section.outside even), omega (arith, eqb-true value 0 met))
+  announce_by false odd met =
+      let parts = and_parts (is_none v.reading.section) (eqb value (length v.history.seen + 1)) met in
+      let short = begins-le right.meaning.updates v.history.seen (seat_at z m vs right.meaning i v at right.rule).seen.seen in
+      (none_of v.reading.section parts.0, omega (arith, eqb-true value (length v.history.seen + 1) parts.1, short, right.rule.history.long))
+
+  pub announce_right : may_announce v w value ≡ true → Gives (set words n value) (set vs i (announced_view v value))
+  announce_right met =
+      let parts = and_parts (is_own_announced v.number w) (is_announcement v value) met in
+      let own = own_announced v.number w parts.0 in
+      let may = announce_by (is_even v.section_word) refl parts.1 in
+      store_right z words vs n value w right (set vs i (announced_view v value)) found
+      (one_kept (written m w value) (set vs i (announced_view v value))
+      (subst (λ u. Rule z (written m u value) (set vs i (announced_view v value)) right.meaning) (sym own.word)
+      (announce_kept z m vs right.meaning right.rule i own.n value v at own.named may.0 may.1)))
 
   pub look_found : (u : Word) → may_look v u value ≡ true → Gives words (views_after LookSec z m vs i v u value None)
   look_found (Section pass) met =
@@ -139,6 +163,9 @@ leave_law z words vs right i v at live n w found value o own met = leave_right z
 
 pub look_law : KeepsRuleAt LookSec
 look_law z words vs right i v at live n w found value o own met = look_found z words vs right i v at live n w found value w met
+
+pub announce_law : KeepsRuleAt Announce
+announce_law z words vs right i v at live n w found value o own met = announce_right z words vs right i v at live n w found value met
 
 pub fill_law : KeepsRuleAt Fill
 fill_law z words vs right i v at live n w found value o own met = fill_found z words vs right i v at live n w found value w found met

@@ -1,5 +1,5 @@
 -- A store to the own section word keeps the rule.
-use Rattle.std.proofs.Common.{◌≡◌, ℕ, cond, List, false, eqb, set, arith, refl, ap, ◌∙◌, sym, subst, inr, Option, Some, None}
+use Rattle.std.proofs.Common.{◌≡◌, ℕ, ◌+◌, ◌≤◌, cond, List, false, eqb, set, arith, refl, ap, ◌∙◌, sym, subst, inr, Option, Some, None}
 use Rattle.std.proofs.lemmas.Bool.{eq-eqb}
 use Rattle.std.proofs.lemmas.Bool.Decides.{nat_tests}
 use Rattle.index_words.specs.declared.layout.Layout.{Layout}
@@ -20,27 +20,31 @@ use Rattle.core_invariant.specs.Locks.{lock_count}
 use Rattle.core_invariant.specs.BundleRule.{IsPendingAt, pending_count}
 use Rattle.core_invariant.specs.Readers.{VersionRight, PlaceRight, LinkRight}
 use Rattle.core_invariant.specs.FilledRule.{FilledRight}
+use Rattle.core_invariant.specs.PruneRule.{AnnouncedRight}
 use Rattle.core_invariant.specs.SeatRule.{TreeRight, SeatRight}
 use Rattle.core_invariant.specs.Rule.{Rule}
 use Rattle.core_invariant.proofs.Frames.{live_moved, pending_moved, bundle_weaker}
 use Rattle.core_invariant.proofs.Filled.{every_filled, section_apart}
+use Rattle.core_invariant.proofs.Pairs.{announced_idle, pairs_idle}
 use Rattle.core_invariant.proofs.Idle.{idle_nodes, idle_entry, number_apart}
 use Rattle.core_invariant.proofs.OneView.{history_kept, seat_at}
 
 eqb_false_comm : (a b : ℕ) → eqb a b ≡ false → eqb b a ≡ false
 eqb_false_comm a b e = grind (arith, nat_tests)
 
-apart_from : (number : Option ℕ) (n k : ℕ) → number ≡ Some n → is_number k number ≡ false → eqb n k ≡ false
+pub apart_from : (number : Option ℕ) (n k : ℕ) → number ≡ Some n → is_number k number ≡ false → eqb n k ≡ false
 apart_from None n k is other = cc
 apart_from (Some j) n k is other = let same : j ≡ n = cc in subst (λ x. eqb x k ≡ false) same other
 
-own_written : (m : Memory) (number : Option ℕ) (n word : ℕ) → number ≡ Some n → IsOwnWord (λ k. written m (Section n) word (Section k)) number word
-own_written m None n word is = cc
-own_written m (Some k) n word is = let same : k ≡ n = cc in ap (λ b. cond b word (m (Section k))) (eq-eqb k n same)
+-- a word of a pass, where one pass has stored to its own
+pub own_stored : (held : ℕ → ℕ) (number : Option ℕ) (n word : ℕ) → number ≡ Some n → IsOwnWord (λ k. cond (eqb k n) word (held k)) number word
+own_stored held None n word is = cc
+own_stored held (Some k) n word is = let same : k ≡ n = cc in ap (λ b. cond b word (held k)) (eq-eqb k n same)
 
-other_written : (m : Memory) (number : Option ℕ) (n word held : ℕ) → ((k : ℕ) → number ≡ Some k → eqb n k ≡ false) → IsOwnWord (λ k. m (Section k)) number held → IsOwnWord (λ k. written m (Section n) word (Section k)) number held
-other_written m None n word held apart own = own
-other_written m (Some k) n word held apart own = ap (λ b. cond b word (m (Section k))) (eqb_false_comm n k (apart k refl)) ∙ own
+pub other_stored : (held : ℕ → ℕ) (number : Option ℕ) (n word own : ℕ) → ((k : ℕ) → number ≡ Some k → eqb n k ≡ false) → IsOwnWord held number own
+    → IsOwnWord (λ k. cond (eqb k n) word (held k)) number own
+other_stored held None n word own apart is = is
+other_stored held (Some k) n word own apart is = ap (λ b. cond b word (held k)) (eqb_false_comm n k (apart k refl)) ∙ is
 
 module _ (z : Layout) (m : Memory) (vs : List View) (g : Meaning) where
   idle_from : (v w : View) → IsIdle w → HoldsFrom z (linked_by g) HoldsNode (HoldsEntry g.bundles) v w
@@ -58,6 +62,9 @@ module _ (z : Layout) (m : Memory) (vs : List View) (g : Meaning) where
   -- a view that has read nothing
   idle_version : (s : ℕ) (w : View) → IsIdle w → VersionRight z s w.reading
   idle_version s w idle = subst (VersionRight z s) (sym idle.reading) (record { past = tt; opened = tt; bare = λ none. refl; there = λ k some. absurd (omega (arith, some)) })
+
+  idle_announced : (s : ℕ) (w : View) → IsIdle w → w.announced ≤ s + 1 → AnnouncedRight s w
+  idle_announced s w idle low = announced_idle s w low (ap (λ (r : Reading). r.section) idle.reading) (ap (λ (r : Reading). r.least) idle.reading)
 
   idle_tree : (m' : Memory) (w : View) → IsIdle w → TreeRight m' g w.reading.section w.reading.tree
   idle_tree m' w idle = subst (λ (r : Reading). TreeRight m' g r.section r.tree) (sym idle.reading) tt
@@ -88,14 +95,16 @@ module _ (z : Layout) (m : Memory) (vs : List View) (g : Meaning) where
         marks = record { root = rule.marks.root; nodes = rule.marks.nodes };
         bundles = λ k live side. bundle_weaker _ _ _ _ (IsPendingAt vs k) (IsPendingAt (set vs i w) k) _ _
             (λ e. pending_moved vs i k e v w at refl (λ works. works)) (rule.bundles k (live_moved z vs i k v w at (omega arith) live) side);
+        pairs = pairs_idle vs i v w at (ap (λ (x : Reading). x.section) idle.reading) (ap (λ (x : Reading). x.least) idle.reading) rule.pairs;
         single = λ e. omega (arith, sum_kept (pending_count e) vs i v w at refl, rule.single e);
         seats = all_moved (SeatRight z m g) (SeatRight z m' g) vs i v w at rule.seats
             (record {
               layout = own.layout;
-              section = record { section = own_written m v.number n word named; announced = own.section.announced; outside = λ even. idle.reading; unlocked = λ even. idle.held; done = own.section.done };
+              section = record { section = own_stored (λ k. m (Section k)) v.number n word named; announced = own.section.announced; outside = λ even. idle.reading; unlocked = λ even. idle.held; done = own.section.done };
               seen = own.seen;
               update = own.update;
               version = idle_version (m Stamp) w idle;
+              announced = idle_announced (m Stamp) w idle own.announced.low;
               tree = idle_tree m' w idle;
               locks = own.locks;
               loaded = record { nodes = own.loaded.nodes; nexts = own.loaded.nexts };
@@ -108,7 +117,7 @@ module _ (z : Layout) (m : Memory) (vs : List View) (g : Meaning) where
             (λ u beside of. record {
               layout = of.layout;
               section = record {
-                section = other_written m u.number n word u.section_word
+                section = other_stored (λ k. m (Section k)) u.number n word u.section_word
                     (λ k is. apart_from v.number n k named (number_apart z vs i v u k rule.numbers at beside is)) of.section.section;
                 announced = of.section.announced;
                 outside = of.section.outside;
@@ -118,6 +127,7 @@ module _ (z : Layout) (m : Memory) (vs : List View) (g : Meaning) where
               seen = of.seen;
               update = of.update;
               version = of.version;
+              announced = of.announced;
               tree = of.tree;
               locks = of.locks;
               loaded = record { nodes = of.loaded.nodes; nexts = of.loaded.nexts };

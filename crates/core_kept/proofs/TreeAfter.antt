@@ -22,9 +22,10 @@ use Rattle.core_trees.specs.Slots.{occurs}
 use Rattle.core_trees.specs.SpelledAt.{IsSpelledAt, graph_at}
 use Rattle.core_trees.specs.SpelledTree.{Graph, IsSpelled, spells}
 use Rattle.core_trees.proofs.SpelledTree.{spelled-frame}
+use Rattle.core_events.specs.Numbered.{shown}
 use Rattle.core_invariant.specs.Meanings.{Meaning}
 use Rattle.core_invariant.specs.Histories.{calls_left}
-use Rattle.core_invariant.specs.BundleRule.{IsLive, IsPending, shown}
+use Rattle.core_invariant.specs.BundleRule.{IsLive, IsPending}
 use Rattle.core_events.specs.UpdateMoves.{listed_entry}
 use Rattle.core_invariant.specs.MeaningMoves.{raised_numbers, with_added}
 use Rattle.core_events.specs.SpelledNow.{has_number, was_raised, newest, child_now, graph_now, entries_from}

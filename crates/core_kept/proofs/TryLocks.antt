@@ -23,6 +23,7 @@ use Rattle.core_grace.specs.Sections.{is_even}
 use Rattle.core_grace.specs.Holds.{HoldsNode, HoldsEntry, held_slots, listed, work_nodes, tree_slots, entries_of}
 use Rattle.core_grace.specs.Slots.{nodes_of, entries_in, own, own_free, HoldsNone, SlotRule}
 use Rattle.core_grace.proofs.RuleMoves.{every_push}
+use Rattle.core_invariant.proofs.Pairs.{pairs_same}
 use Rattle.core_invariant.specs.Meanings.{Meaning, linked_by}
 use Rattle.core_invariant.specs.Numbers.{number_count}
 use Rattle.core_invariant.specs.Locks.{NamesHolder, lock_count, IsNodeAt, IsNextAt, IsTakenOut}
@@ -256,6 +257,7 @@ module _ (z : Layout) (m : Memory) (vs : List View) (g : Meaning) (rule : Rule z
     seen = own_seat.seen;
     update = own_seat.update;
     version = record { past = own_seat.version.past; opened = own_seat.version.opened; bare = own_seat.version.bare; there = own_seat.version.there };
+    announced = record { low = own_seat.announced.low; read = own_seat.announced.read; least = own_seat.announced.least };
     tree = own_seat.tree;
     locks = λ j locked. elim (eqb_tells j k) as (λ _. (j ≤ z.nodes) × NamesHolder (m' (Node Lock j)) v.number) [
       | inl same ↦ subst (λ x. (x ≤ z.nodes) × NamesHolder (m' (Node Lock x)) v.number) (sym same.1) (reach.0, named_now)
@@ -297,6 +299,7 @@ module _ (z : Layout) (m : Memory) (vs : List View) (g : Meaning) (rule : Rule z
     seen = of.seen;
     update = of.update;
     version = of.version;
+    announced = of.announced;
     tree = of.tree;
     locks = λ j locked. ((of.locks j locked).0, subst (λ x. NamesHolder x u.number) (sym (node_other m Lock Lock k j (n + 1) (locker_apart u j beside locked))) (of.locks j locked).1);
     loaded = record { nodes = of.loaded.nodes; nexts = of.loaded.nexts };
@@ -320,6 +323,7 @@ module _ (z : Layout) (m : Memory) (vs : List View) (g : Meaning) (rule : Rule z
       marks = record { root = rule.marks.root; nodes = rule.marks.nodes };
       bundles = λ j live' side. bundle_weaker _ _ _ _ (IsPendingAt vs j) (IsPendingAt ws j) _ _
           (λ d. pending_moved vs i j d v w at refl (works j)) (rule.bundles j (live_moved z vs i j v w at (omega arith) live') side);
+      pairs = pairs_same vs i v w at refl rule.pairs;
       single = λ d. omega (arith, sum_kept (pending_count d) vs i v w at refl, rule.single d);
       seats = all_moved (SeatRight z m g) (SeatRight z m' g) vs i v w at rule.seats own_now other_now;
     };

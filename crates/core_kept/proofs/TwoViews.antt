@@ -21,6 +21,7 @@ use Rattle.core_grace.specs.Batches.{both}
 use Rattle.core_grace.specs.Holds.{HoldsNode, HoldsEntry, work_nodes}
 use Rattle.core_grace.specs.Slots.{own_free, nodes_of}
 use Rattle.core_grace.proofs.TwoSeats.{IsBare, split_slots, join_slots}
+use Rattle.core_invariant.proofs.Pairs.{pairs_same, pairs_push, pairs_idle}
 use Rattle.core_invariant.specs.Meanings.{Meaning, linked_by}
 use Rattle.core_events.specs.Moves.{split_left, split_right, joined_with, own_number, own_ended}
 use Rattle.core_invariant.specs.Numbers.{number_count}
@@ -82,6 +83,7 @@ module _ (z : Layout) (m : Memory) (vs : List View) (g : Meaning) where
       seen = seat.seen;
       update = seat.update;
       version = seat.version;
+      announced = record { low = seat.announced.low; read = seat.announced.read; least = seat.announced.least };
       tree = seat.tree;
       locks = seat.locks;
       loaded = record { nodes = seat.loaded.nodes; nexts = seat.loaded.nexts };
@@ -97,6 +99,7 @@ module _ (z : Layout) (m : Memory) (vs : List View) (g : Meaning) where
       seen = record { seen = seat.seen.seen; told = refl; known = omega arith; found = omega arith; given = tt };
       update = record { raised = tt; first = λ _. refl };
       version = record { past = tt; opened = tt; bare = λ _. refl; there = λ k some. absurd (omega (arith, some)) };
+      announced = record { low = omega arith; read = tt; least = tt };
       tree = tt;
       locks = λ k some. absurd (omega (arith, some));
       loaded = record { nodes = tt; nexts = tt };
@@ -139,6 +142,7 @@ module _ (z : Layout) (m : Memory) (vs : List View) (g : Meaning) where
               All-push (WorksIf k e) (set vs i w) y (all_moved (WorksIf k e) (WorksIf k e) vs i v w at is.1 (at_item (WorksIf k e) vs i v at is.1) (λ u beside of. of)) (λ some. absurd (omega (arith, some))),
             ))
             (rule.bundles k (alive.0, sym (sum_split (own_free nodes_of k) vs i v w y at (count-take-drop k n v.free.nodes)) ∙ alive.1) side);
+        pairs = pairs_push (set vs i w) y refl refl (pairs_same vs i v w at refl rule.pairs);
         single = λ e. omega (arith, sum_split (pending_count e) vs i v w y at (omega arith), rule.single e);
         seats = All-push (SeatRight z m g) (set vs i w) y (all_moved (SeatRight z m g) (SeatRight z m g) vs i v w at rule.seats seats.0 (λ u beside of. of)) seats.1;
       }
@@ -184,6 +188,7 @@ module _ (z : Layout) (m : Memory) (vs : List View) (g : Meaning) where
     seen = seen_joined g.updates v.history u.history u.number seat.seen other.seen;
     update = seat.update;
     version = record { past = seat.version.past; opened = seat.version.opened; bare = seat.version.bare; there = seat.version.there };
+    announced = record { low = seat.announced.low; read = seat.announced.read; least = seat.announced.least };
     tree = seat.tree;
     locks = seat.locks;
     loaded = record { nodes = seat.loaded.nodes; nexts = seat.loaded.nexts };
@@ -201,6 +206,7 @@ module _ (z : Layout) (m : Memory) (vs : List View) (g : Meaning) where
     seen = record { seen = refl; told = refl; known = omega arith; found = omega arith; given = tt };
     update = record { raised = tt; first = λ _. refl };
     version = record { past = tt; opened = tt; bare = λ _. refl; there = λ k some. absurd (omega (arith, some)) };
+    announced = record { low = omega arith; read = tt; least = tt };
     tree = tt;
     locks = λ k some. absurd (omega (arith, some));
     loaded = record { nodes = tt; nexts = tt };
@@ -250,6 +256,7 @@ module _ (z : Layout) (m : Memory) (vs : List View) (g : Meaning) where
                   (all_moved (WorksIf k e) (WorksIf k e) vs i v w at is.1 (at_item (WorksIf k e) vs i v at is.1) (λ x beside old. old)),
             ))
             (rule.bundles k (alive.0, sym (sum_joined (own_free nodes_of k) vs i j v u w spent_view at of other (omega (arith, count-append k v.free.nodes u.free.nodes))) ∙ alive.1) side);
+        pairs = pairs_idle (set vs i w) j u spent_view (beside_item vs i j u w of other) refl refl (pairs_same vs i v w at refl rule.pairs);
         single = λ e. omega (arith, sum_joined (pending_count e) vs i j v u w spent_view at of other (omega (arith, unpending e)), rule.single e);
         seats = All-set (SeatRight z m g) (set vs i w) j spent_view spent_seat
             (all_moved (SeatRight z m g) (SeatRight z m g) vs i v w at rule.seats (joined_seat v u seat given idle) (λ x beside old. old));

@@ -18,6 +18,7 @@ use Rattle.index_words.proofs.Seats.{Beside, sum_moved, sum_kept, one_term, all_
 use Rattle.key_map.proofs.Counting.{count-append}
 use Rattle.core_grace.specs.Holds.{HoldsNode, HoldsEntry, held_slots, listed, work_nodes, tree_slots}
 use Rattle.core_grace.proofs.RuleMoves.{quiet, same_looks}
+use Rattle.core_invariant.proofs.Pairs.{pairs_same}
 use Rattle.core_invariant.specs.Meanings.{Meaning, linked_by}
 use Rattle.core_invariant.specs.Numbers.{number_count}
 use Rattle.core_invariant.specs.Locks.{NamesHolder, lock_count, IsNodeAt, IsNextAt, IsTakenOut}
@@ -173,6 +174,7 @@ module _ (z : Layout) (m : Memory) (vs : List View) (g : Meaning) (rule : Rule z
     seen = own_seat.seen;
     update = until_by (UpdateRight (m Stamp)) rest v.update (record { raised = tt; first = λ _. refl }) own_seat.update;
     version = record { past = own_seat.version.past; opened = own_seat.version.opened; bare = own_seat.version.bare; there = own_seat.version.there };
+    announced = record { low = own_seat.announced.low; read = own_seat.announced.read; least = own_seat.announced.least };
     tree = own_seat.tree;
     locks = own_locks;
     loaded = record {
@@ -202,6 +204,7 @@ module _ (z : Layout) (m : Memory) (vs : List View) (g : Meaning) (rule : Rule z
     seen = of.seen;
     update = of.update;
     version = of.version;
+    announced = of.announced;
     tree = of.tree;
     locks = λ j some. (
       (of.locks j some).0,
@@ -229,6 +232,7 @@ module _ (z : Layout) (m : Memory) (vs : List View) (g : Meaning) (rule : Rule z
       tree = rule.tree;
       marks = record { root = rule.marks.root; nodes = rule.marks.nodes };
       bundles = λ j live side. bundle_weaker _ _ _ _ (IsPendingAt vs j) (IsPendingAt ws j) _ _ (pending_kept j) (rule.bundles j (live_moved z vs i j v w at (omega arith) live) side);
+      pairs = pairs_same vs i v w at refl rule.pairs;
       single = λ d. omega (arith, sum_kept (pending_count d) vs i v w at (pending_same d), rule.single d);
       seats = all_moved (SeatRight z m g) (SeatRight z m' g) vs i v w at rule.seats own_now other_now;
     };

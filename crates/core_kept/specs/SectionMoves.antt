@@ -1,4 +1,4 @@
--- What an event does to the section words of passes.
+-- What an event does to the section words and the announcements of passes.
 use Rattle.std.specs.Prelude.{◌≡◌, ◌≢◌, ℕ, true, false, Some}
 use Rattle.key_map.specs.Lists.{IsItem}
 use Rattle.index_words.specs.declared.view.View.{View}
@@ -6,7 +6,7 @@ use Rattle.index_words.specs.declared.word.Word.TheVariants.{Section, Announced}
 use Rattle.core_grace.specs.Sections.{is_even}
 use Rattle.core_grace.specs.Batches.{is_number}
 use Rattle.core_events.specs.declared.event.Event.{Event}
-use Rattle.core_events.specs.declared.event.Kind.TheVariants.{Enter, Leave}
+use Rattle.core_events.specs.declared.event.Kind.TheVariants.{Enter, Leave, Announce}
 use Rattle.core_events.specs.Tables.{Table, held_by}
 
 -- the section word of a pass
@@ -20,4 +20,6 @@ pub record MovesSections (t : Table) (e : Event) (u : Table) : Type 0 where
   -- no other kind changes a section word, and no event another pass's
   pub kept : e.kind ≢ Enter → e.kind ≢ Leave → (n : ℕ) → section_of u n ≡ section_of t n
   pub others : (v : View) (n : ℕ) → IsItem t.views e.seat v → is_number n v.number ≡ false → section_of u n ≡ section_of t n
-  pub announced : (n : ℕ) → held_by u (Announced n) ≡ held_by t (Announced n)
+  -- no kind but an announce changes an announcement, and no event another pass's
+  pub announced : e.kind ≢ Announce → (n : ℕ) → held_by u (Announced n) ≡ held_by t (Announced n)
+  pub others_announced : (v : View) (n : ℕ) → IsItem t.views e.seat v → is_number n v.number ≡ false → held_by u (Announced n) ≡ held_by t (Announced n)

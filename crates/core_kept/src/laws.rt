@@ -1,6 +1,6 @@
 // Why each event keeps the rule, by the kinds of events, and what each event keeps of a view. The calls do nothing: their clauses are
 // what is proved.
-ghost use Rattle.core_events.specs.declared.event.Kind.TheVariants.{SplitSeat, JoinSeat, Enter, Leave, LookSec, Fill, LoadStamp, LoadHead, LoadTs, LoadPtr, LoadNext, TryLock, Unlock, LoadMark, Mark, LoadKeyOrVal, Prepare, Raise, Finalise};
+ghost use Rattle.core_events.specs.declared.event.Kind.TheVariants.{SplitSeat, JoinSeat, Enter, Leave, LookSec, Fill, LoadStamp, LoadHead, LoadTs, LoadPtr, LoadNext, TryLock, Unlock, LoadMark, Mark, LoadKeyOrVal, Prepare, Raise, Finalise, Announce, LookAnn, Cut};
 ghost use Rattle.core_invariant.specs.KeptRule.{KeepsRuleAt};
 ghost use Rattle.core_kept.specs.KeepsRule.{KeepsLaw};
 ghost use Rattle.core_kept.specs.SeatLaws.{FirstLaw, MakeLaw, MadeLaw, WholeLaw};
@@ -9,7 +9,8 @@ ghost use Rattle.core_kept.specs.ViewLaws.{SpentLaw, SpareLaw, PlacesLaw, SeenLa
 /// What every allowed event keeps of each view. Nothing is left of a view that was joined into another one. The section
 /// word and the announcement of a number that is still to be given are 0. Each view knows the places of its own
 /// updates. No event makes what a seat has seen shorter. An enter takes the own section word from even to odd, a leave
-/// from odd to even, and no event changes another pass's.
+/// from odd to even, and no event changes another pass's; nor is an announcement changed by another event than one that
+/// announces, or by another pass.
 pub fn views_keep_the_rule()
     ensures spent { SpentLaw }
     ensures spare { SpareLaw }
@@ -18,8 +19,8 @@ pub fn views_keep_the_rule()
     ensures sections { SectionsLaw }
 {}
 
-/// An allowed split or join of seats, enter, leave, look at a section word, or fill of a free slot
-/// keeps the rule, and what the stamp and each section number select.
+/// An allowed split or join of seats, enter, leave, look at a section word, fill of a free slot, or announcement keeps
+/// the rule, and what the stamp and each section number select.
 pub fn seats_keep_the_rule()
     ensures split { KeepsRuleAt SplitSeat }
     ensures join { KeepsRuleAt JoinSeat }
@@ -27,6 +28,7 @@ pub fn seats_keep_the_rule()
     ensures leave { KeepsRuleAt Leave }
     ensures look { KeepsRuleAt LookSec }
     ensures fill { KeepsRuleAt Fill }
+    ensures announce { KeepsRuleAt Announce }
 {}
 
 /// How seats are made. The table with the first view alone meets the rule, and making a seat keeps it. Made one after
@@ -65,6 +67,13 @@ pub fn updates_keep_the_rule()
     ensures prepare { KeepsRuleAt Prepare }
     ensures raise { KeepsRuleAt Raise }
     ensures finalise { KeepsRuleAt Finalise }
+{}
+
+/// An allowed look at an announcement, or cut, keeps the rule, and what the stamp and each section number select. What is
+/// cut off is selected by none of them.
+pub fn cuts_keep_the_rule()
+    ensures look_ann { KeepsRuleAt LookAnn }
+    ensures cut { KeepsRuleAt Cut }
 {}
 
 /// Every allowed event keeps the rule, from every table that meets it: what the laws above show of the kinds, joined.

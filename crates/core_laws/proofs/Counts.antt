@@ -17,7 +17,7 @@ use Rattle.key_map.specs.Lists.{count, has, IsItem}
 use Rattle.core_grace.specs.Sections.{is_even}
 use Rattle.core_events.specs.declared.event.Event.{Event}
 use Rattle.core_events.specs.declared.event.Kind.{Kind}
-use Rattle.core_events.specs.declared.event.Kind.TheVariants.{MakeSeat, SplitSeat, JoinSeat, Enter, Leave, LookSec, Fill, LoadStamp, LoadHead, LoadTs, LoadPtr, LoadNext, Prepare, Raise, Finalise, TryLock, Unlock, LoadMark, Mark as MarkNode, LoadKeyOrVal}
+use Rattle.core_events.specs.declared.event.Kind.TheVariants.{MakeSeat, SplitSeat, JoinSeat, Enter, Leave, LookSec, Fill, LoadStamp, LoadHead, LoadTs, LoadPtr, LoadNext, Prepare, Raise, Finalise, TryLock, Unlock, LoadMark, Mark as MarkNode, LoadKeyOrVal, Announce, LookAnn, Cut}
 use Rattle.core_laws.specs.Counts.{MeetsLock, FindsNoNumber, FindsOtherHead, FindsMark, FixesPlace, RisesWhere, CountsRise, CountsLaw}
 use Rattle.core_events.specs.Tables.{Table, held_by}
 use Rattle.core_invariant.specs.Locks.{lock_count}
@@ -35,7 +35,7 @@ use Rattle.core_invariant.proofs.HeldFacts.{count-locks}
 use Rattle.core_events.proofs.Tests.{never, not_true, not_equal}
 use Rattle.core_laws.proofs.Owners.{found_at}
 use Rattle.core_laws.proofs.ViewTests.{reaches}
-use Rattle.core_laws.proofs.Tallies.{Tally, same_tally, look_tally, enter_tally, ptr_tally, next_tally, prepared_tally, filled_tally, pair_tally, raised_tally, finalised_tally, unlocked_tally, marked_tally}
+use Rattle.core_laws.proofs.Tallies.{Tally, same_tally, look_tally, enter_tally, ptr_tally, next_tally, prepared_tally, filled_tally, pair_tally, raised_tally, finalised_tally, unlocked_tally, marked_tally, ann_tally, cut_tally}
 use Rattle.core_laws.proofs.CountTests.{rises_by, stays_by, both, none_has, has_none, not_false, neither, not_either, moved_says, says_moved, reach_says, same_node, same_entry, same_head}
 use Rattle.core_laws.proofs.SetViews.{set_is, same_is, split_is, join_is}
 
@@ -343,6 +343,9 @@ module _ (t : Table) (e : Event) (right : IsRight t) (v : View) (at : IsItem t.v
   moved_counts JoinSeat is met = still JoinSeat v is (same_tally v) (λ p. cc) (λ p. cc) (λ p. cc) (λ p. cc) (λ p. cc)
   moved_counts Fill is met = still Fill (Moved Fill) is (filled_tally v word e.value) (λ p. cc) (λ p. cc) (λ p. cc) (λ p. cc) (λ p. cc)
   moved_counts LoadKeyOrVal is met = still LoadKeyOrVal (Moved LoadKeyOrVal) is (pair_tally v word (m word)) (λ p. cc) (λ p. cc) (λ p. cc) (λ p. cc) (λ p. cc)
+  moved_counts Announce is met = still Announce (Moved Announce) is (record { counts = refl; looks = refl }) (λ p. cc) (λ p. cc) (λ p. cc) (λ p. cc) (λ p. cc)
+  moved_counts LookAnn is met = still LookAnn (Moved LookAnn) is (ann_tally v word (m word)) (λ p. cc) (λ p. cc) (λ p. cc) (λ p. cc) (λ p. cc)
+  moved_counts Cut is met = still Cut (Moved Cut) is (cut_tally t.layout m v word) (λ p. cc) (λ p. cc) (λ p. cc) (λ p. cc) (λ p. cc)
 
   module _ (w : View) where
     join_tally : (o : Option View) → slice_get t.views e.value ≡ o → e.value ≢ e.seat → slice_get (join_found t.views e.seat v e.value o) e.seat ≡ Some w → Tally v w
@@ -361,28 +364,12 @@ module _ (t : Table) (e : Event) (right : IsRight t) (v : View) (at : IsItem t.v
     pub kind_counts : (kind : Kind) → e.kind ≡ kind → needs kind t.layout m t.views e.seat v word e.value e.update ≡ true
         → slice_get (views_after kind t.layout m t.views e.seat v word e.value e.update) e.seat ≡ Some w → CountsRise t e v w
     kind_counts MakeSeat is met now = absurd (never met)
-    kind_counts Fill is met now = set_counts Fill is met now
-    kind_counts LoadKeyOrVal is met now = set_counts LoadKeyOrVal is met now
     kind_counts SplitSeat is met now =
         subst (CountsRise t e v) (split_is t.views e.seat v at w (split_left v e.value) (split_right v e.value) now)
         (still SplitSeat (split_left v e.value) is (record { counts = refl; looks = refl }) (λ p. cc) (λ p. cc) (λ p. cc) (λ p. cc) (λ p. cc))
     kind_counts JoinSeat is met now =
         still JoinSeat w is (join_tally (slice_get t.views e.value) refl (join_apart met) now) (λ p. cc) (λ p. cc) (λ p. cc) (λ p. cc) (λ p. cc)
-    kind_counts Enter is met now = set_counts Enter is met now
-    kind_counts Leave is met now = set_counts Leave is met now
-    kind_counts LookSec is met now = set_counts LookSec is met now
-    kind_counts LoadStamp is met now = set_counts LoadStamp is met now
-    kind_counts LoadHead is met now = set_counts LoadHead is met now
-    kind_counts LoadTs is met now = set_counts LoadTs is met now
-    kind_counts LoadPtr is met now = set_counts LoadPtr is met now
-    kind_counts LoadNext is met now = set_counts LoadNext is met now
-    kind_counts Prepare is met now = set_counts Prepare is met now
-    kind_counts Raise is met now = set_counts Raise is met now
-    kind_counts Finalise is met now = set_counts Finalise is met now
-    kind_counts TryLock is met now = set_counts TryLock is met now
-    kind_counts Unlock is met now = set_counts Unlock is met now
-    kind_counts LoadMark is met now = set_counts LoadMark is met now
-    kind_counts MarkNode is met now = set_counts MarkNode is met now
+    kind_counts kind is met now = set_counts kind is met now
 
 counts_at : (t : Table) (e : Event) (v w : View) (o : Option Word) → word_at t.layout e.word ≡ o → IsRight t → slice_get t.views e.seat ≡ Some v → allowed_at t e (Some v) o ≡ true
     → slice_get (after_at t e (Some v) o).views e.seat ≡ Some w → CountsRise t e v w

@@ -1,12 +1,11 @@
 -- Numbers fall along a bundle.
-use Rattle.std.proofs.Common.{◌≡◌, ℕ, ◌<◌, Option, Some, subst}
-use Rattle.index_words.specs.declared.view.View.{View}
+use Rattle.std.proofs.Common.{subst}
 use Rattle.index_words.specs.declared.word.Part.TheVariants.{Stamp as Number}
 use Rattle.index_words.specs.declared.word.Word.TheVariants.{Entry}
 use Rattle.core_events.specs.Tables.{held_by}
 use Rattle.core_invariant.specs.Readers.{IsBelow}
 use Rattle.core_invariant.proofs.AtEntries.{stands}
-use Rattle.core_laws.specs.Falls.{FindsBelow, FallsLaw}
+use Rattle.core_laws.specs.Falls.{FallsLaw}
 
 pub falls_law : FallsLaw
 falls_law t i v node side entry found number right at here some watched left above =

@@ -12,6 +12,12 @@ pub mod Owners
 pub mod ViewTests
 -- A seat whose view meets the need of an event may make it, in every table that meets the rule.
 pub mod ViewNeeds
+-- A seat whose view shows that it may announce, take its announcement back, or look at another pass's may do so.
+pub mod AnnounceNeeds
+-- A seat whose view shows that it may cut, since it has walked along the bundle under its lock, may do so.
+pub mod CutNeeds
+-- An allowed cut takes no entry that a section number selects, now or later.
+pub mod Unread
 -- A lock word that is found held by a seat that has not locked the node names another pass.
 pub mod HeldLocks
 -- The kinds of events that change no count of a view.

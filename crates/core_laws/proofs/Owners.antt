@@ -22,7 +22,7 @@ use Rattle.core_grace.specs.Sections.{is_even, left_word}
 use Rattle.core_links.proofs.Chains.{chain-same}
 use Rattle.core_events.specs.declared.event.Event.{Event}
 use Rattle.core_events.specs.declared.event.Kind.{Kind}
-use Rattle.core_events.specs.declared.event.Kind.TheVariants.{MakeSeat, SplitSeat, JoinSeat, Enter, Leave, LookSec, Fill, LoadStamp, LoadHead, LoadTs, LoadPtr, LoadNext, Prepare, Raise, Finalise, TryLock, Unlock, LoadMark, Mark as MarkNode, LoadKeyOrVal}
+use Rattle.core_events.specs.declared.event.Kind.TheVariants.{Enter, Leave, Fill, Prepare, Raise, Finalise, TryLock, Unlock, Mark as MarkNode, Announce, Cut}
 use Rattle.core_events.specs.Tables.{Table, held_by}
 use Rattle.core_invariant.specs.Meanings.{Meaning}
 use Rattle.core_invariant.specs.BundleRule.{IsPending, pending_count}
@@ -33,13 +33,17 @@ use Rattle.core_events.specs.LoadMoves.{locks}
 use Rattle.core_events.specs.LoadNeeds.{is_part, is_reachable}
 use Rattle.core_events.specs.LockNeeds.{is_mark, names_pass, may_try_lock, may_unlock, may_mark}
 use Rattle.core_events.specs.Needs.{is_lock, is_outside, is_own_section, nothing_pending, may_enter, may_leave, may_fill}
+use Rattle.core_events.specs.Announcing.{is_own_announced, is_announcement, may_announce}
+use Rattle.core_events.specs.CutNeeds.{may_cut}
+use Rattle.core_invariant.proofs.Apart.{in_one_bundle}
+use Rattle.core_invariant.proofs.Cuts.{IsCutAt, cut_at}
 use Rattle.core_events.specs.UpdateNeeds.{may_prepare_head, may_prepare, may_raise, may_finalise}
 use Rattle.core_laws.specs.Owners.{HasFreeNode, HasFreeEntry, IsInLockedBundle, IsSteadyFor, IsSteadyField, IsSteadyPart, IsFixed, KeepsOwners, OwnersLaw}
 use Rattle.core_events.specs.Steps.{needs, carries, allowed_at, after_at, words_after}
-use Rattle.core_invariant.proofs.Frames.{every_at}
+use Rattle.core_invariant.proofs.Frames.{every_at, count-middle}
 use Rattle.core_invariant.proofs.OneView.{item_from_get, seat_at}
 use Rattle.core_events.proofs.Tests.{never, not_true, node_there}
-use Rattle.core_invariant.proofs.Needed.{own_section, reach_is, ready_is}
+use Rattle.core_invariant.proofs.Needed.{own_section, own_announced, reach_is, ready_is}
 use Rattle.core_invariant.proofs.Idle.{number_apart}
 use Rattle.core_invariant.proofs.Owned.{once_node, once_entry, held_live, not_in_bundle, in_entries, free_not_live, reachable_live}
 use Rattle.core_invariant.proofs.HeldFacts.{work_holds, locks-count}
@@ -64,12 +68,12 @@ module _ (z : Layout) (m : Memory) (vs : List View) (g : Meaning) (rule : Rule z
   abbrev WritesPart : Part → ℕ → Type 0
   WritesPart Child e = HasFreeEntry v e
   WritesPart Number e = HasFreeEntry v e ⊎ (0 < count e v.update.pending)
-  WritesPart Next e = HasFreeEntry v e
+  WritesPart Next e = HasFreeEntry v e ⊎ IsCutAt z m vs g v e
 
   abbrev pub Writes : Word → Type 0
   Writes Stamp = Unit {0}
   Writes (Section n) = v.number ≡ Some n
-  Writes (Announced n) = ⊥
+  Writes (Announced n) = v.number ≡ Some n
   Writes (Node field k) = WritesField field k
   Writes (Entry part e) = WritesPart part e
 
@@ -125,27 +129,39 @@ module _ (z : Layout) (m : Memory) (vs : List View) (g : Meaning) (rule : Rule z
     number_part e (inr a) (inl b) = pending_in_use i e j v u at of a b
     number_part e (inr a) (inr b) = omega (arith, rule.single e, two_terms (pending_count e) vs i v u at beside, a, b)
 
-    -- an entry of a bundle of a locked node is not free
-    in_bundle_apart : (e : ℕ) → HasFreeEntry v e → IsInLockedBundle m u e → ⊥
-    in_bundle_apart e free here =
+    cut_member : (e : ℕ) → (cut : IsCutAt z m vs g v e) → 0 < count e (g.bundles.bundle cut.side cut.node)
+    cut_member e cut = subst (λ es. 0 < count e es) (sym cut.splits) (count-middle e cut.front cut.back)
+
+    -- the bundle of a locked node as its chain has it is that of the rule
+    locked_member : (e : ℕ) → (here : IsInLockedBundle m u e) → 0 < count e (g.bundles.bundle here.side here.node)
+    locked_member e here =
         let live = locked_live z m vs g rule j here.node u of here.locked in
         let same : here.entries ≡ g.bundles.bundle here.side here.node =
         chain-same (λ d. m (Entry Next d)) (m (Node (Head here.side) here.node)) here.entries (g.bundles.bundle here.side here.node) here.bundle (rule.bundles here.node live here.side).chain in
-        not_in_bundle z vs g rule.slots i here.node e v at free live
-        (in_entries g.bundles here.node e here.side (subst (λ es. 0 < count e es) same here.here))
+        subst (λ es. 0 < count e es) same here.here
+
+    -- an entry of a bundle of a locked node is not free
+    in_bundle_apart : (e : ℕ) → HasFreeEntry v e → IsInLockedBundle m u e → ⊥
+    in_bundle_apart e free here =
+        not_in_bundle z vs g rule.slots i here.node e v at free (locked_live z m vs g rule j here.node u of here.locked) (in_entries g.bundles here.node e here.side (locked_member e here))
 
     part_apart : (p : Part) (e : ℕ) → WritesPart p e → IsSteadyPart p m u e → ⊥
     part_apart Child e writes steady = entry_apart e writes steady
     part_apart Number e writes steady = number_part e writes steady
-    part_apart Next e writes (inl free) = entry_apart e writes free
-    part_apart Next e writes (inr here) = in_bundle_apart e writes here
+    part_apart Next e (inl mine) (inl free) = entry_apart e mine free
+    part_apart Next e (inl mine) (inr here) = in_bundle_apart e mine here
+    part_apart Next e (inr cut) (inl free) = not_in_bundle z vs g rule.slots j cut.node e u of free cut.live (in_entries g.bundles cut.node e cut.side (cut_member e cut))
+    part_apart Next e (inr cut) (inr here) =
+        in_one_bundle z vs g rule.slots cut.node e cut.side (omega (arith, cut.linked)) (cut_member e cut) here.node here.side (locked_live z m vs g rule j here.node u of here.locked)
+        (λ sides nodes. omega (arith, locked_apart z m vs g rule i cut.node v u at beside cut.locked, subst (λ n. IsLocked u n) nodes here.locked)) (locked_member e here)
 
     -- it is no word that another seat alone changes
     pub writes_apart : (w : Word) → Writes w → IsSteadyFor m u w → ⊥
     writes_apart Stamp writes steady = absurd steady
     writes_apart (Section n) writes steady =
         own_number_is n v.number writes (number_apart z vs i v u n rule.numbers at beside steady)
-    writes_apart (Announced n) writes steady = absurd writes
+    writes_apart (Announced n) writes steady =
+        own_number_is n v.number writes (number_apart z vs i v u n rule.numbers at beside steady)
     writes_apart (Node f k) writes steady = field_apart f k writes steady
     writes_apart (Entry p e) writes steady = part_apart p e writes steady
 
@@ -219,7 +235,7 @@ module _ (z : Layout) (words : List ℕ) (vs : List View) (right : InRule z word
   fill_part : (p : Part) (e : ℕ) → HasFreeEntry v e → W (Entry p e)
   fill_part Child e free = free
   fill_part Number e free = inl free
-  fill_part Next e free = free
+  fill_part Next e free = inl free
 
   fill_writes : (u : Word) → may_fill v u ≡ true → W u
   fill_writes (Node f k) met =
@@ -324,6 +340,20 @@ module _ (z : Layout) (words : List ℕ) (vs : List View) (right : InRule z word
   mark_writes (Announced k) met = absurd (never met)
   mark_writes (Entry p e) met = absurd (never met)
 
+  announce_writes : may_announce v w value ≡ true → W w
+  announce_writes met =
+      let own = own_announced v.number w (and_parts (is_own_announced v.number w) (is_announcement v value) met).0 in
+      subst W (sym own.word) own.named
+
+  cut_writes : (u : Word) → may_cut z m vs v u value ≡ true → W u
+  cut_writes (Entry Next e) met = inr (cut_at z m vs right.meaning right.rule i v at e value met).1
+  cut_writes (Entry Child e) met = absurd (never met)
+  cut_writes (Entry Number e) met = absurd (never met)
+  cut_writes Stamp met = absurd (never met)
+  cut_writes (Section k) met = absurd (never met)
+  cut_writes (Announced k) met = absurd (never met)
+  cut_writes (Node f k) met = absurd (never met)
+
   module _ (u : Word) (unwritten : W u → ⊥) where
     stored : (x : ℕ) → W w → memory z (set words n x) u ≡ m u
     stored x writes =
@@ -338,26 +368,18 @@ module _ (z : Layout) (words : List ℕ) (vs : List View) (right : InRule z word
 
     -- a word that the seat may not store to holds after its event what it held
     pub words_kept : (kind : Kind) (o : Option Update) → needs kind z m vs i v w value o ≡ true → memory z (words_after kind words n value) u ≡ m u
-    words_kept MakeSeat o met = refl
-    words_kept SplitSeat o met = refl
-    words_kept JoinSeat o met = refl
     words_kept Enter o met = stored value (enter_writes met)
     words_kept Leave o met = stored value (leave_writes met)
-    words_kept LookSec o met = refl
     words_kept Fill o met = stored value (fill_writes w met)
-    words_kept LoadStamp o met = refl
-    words_kept LoadHead o met = refl
-    words_kept LoadTs o met = refl
-    words_kept LoadPtr o met = refl
-    words_kept LoadNext o met = refl
     words_kept Prepare o met = stored value (prepare_writes w met)
     words_kept Raise o met = stored (slice_index words n + 1) (raise_writes w o met)
     words_kept Finalise o met = stored value (finalise_writes w met)
     words_kept TryLock o met = tried met
     words_kept Unlock o met = stored value (unlock_writes w met)
-    words_kept LoadMark o met = refl
     words_kept MarkNode o met = stored value (mark_writes w met)
-    words_kept LoadKeyOrVal o met = refl
+    words_kept Announce o met = stored value (announce_writes met)
+    words_kept Cut o met = stored value (cut_writes w met)
+    words_kept kind o met = refl
 
 owners_at : (t : Table) (e : Event) (o : Option View) (w : Option Word) → slice_get t.views e.seat ≡ o → word_at t.layout e.word ≡ w → IsRight t → allowed_at t e o w ≡ true → KeepsOwners e.seat t (after_at t e o w)
 owners_at t e None w is found right met = absurd (never met)

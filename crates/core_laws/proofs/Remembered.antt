@@ -26,11 +26,12 @@ use Rattle.core_trees.specs.SpelledAt.{graph_at}
 use Rattle.core_events.specs.Tables.{Table, held_by}
 use Rattle.core_invariant.specs.Meanings.{Meaning}
 use Rattle.core_events.specs.Versions.{top_slot, tree_nodes}
-use Rattle.core_invariant.specs.BundleRule.{IsLive, IsPending, shown}
+use Rattle.core_invariant.specs.BundleRule.{IsLive, IsPending}
 use Rattle.core_invariant.specs.Readers.{IsReachable, EntryRight, BundleLink, SourceRight, LinkRight}
 use Rattle.core_invariant.specs.SeatRule.{SeatRight}
 use Rattle.core_invariant.specs.Rule.{Rule, IsRight}
 use Rattle.core_events.specs.SpelledNow.{child_now}
+use Rattle.core_events.specs.Numbered.{shown}
 use Rattle.core_laws.specs.Remembered.{Remembers, IsHeadStill, Validates, HasTree, IsSelectedAt, IsSelectedIn, IsAsRemembered, RememberedLaw, RemembersSelected, KeepsRemembered}
 use Rattle.core_invariant.proofs.Frames.{Term, term_of, same_item, every_at}
 use Rattle.core_invariant.proofs.OneView.{seat_at}

@@ -11,13 +11,12 @@ use Rattle.index_words.specs.declared.word.Word.{Word}
 use Rattle.index_words.specs.declared.word.Word.TheVariants.{Stamp, Section, Announced, Node, Entry}
 use Rattle.index_words.specs.Views.{no_slots, no_looks}
 use Rattle.index_words.specs.Words.{Memory}
-use Rattle.key_map.specs.Lists.{count}
 use Rattle.core_grace.specs.Batches.{batch_taken, batch_freed, settled, looked, looked_at, all_passed, is_empty}
 use Rattle.core_grace.specs.Sections.{is_even}
 use Rattle.core_events.specs.FillMoves.{filled_view, filled_with, with_filled}
 use Rattle.core_events.specs.LoadMoves.{next_at}
 use Rattle.core_events.specs.Moves.{in_section}
-use Rattle.core_events.specs.Steps.{look_from, ptr_from, next_from, prepared_at, prepared_from, raised_from, finalised_from, unlocked_from, marked_from, pair_from}
+use Rattle.core_events.specs.Steps.{look_from, ptr_from, next_from, prepared_at, prepared_from, raised_from, finalised_from, unlocked_from, marked_from, pair_from, ann_from, cut_from}
 
 -- what of a view a count is
 pub record Tally (v w : View) : Type 0 where
@@ -98,6 +97,20 @@ prepared_tally v (Entry p k) e = same_tally v
 
 pub filled_tally : (v : View) (w : Word) (x : ℕ) → Tally v (filled_view v w x)
 filled_tally v w x = either_tally (is_even v.section_word) v v (with_filled v (filled_with v.reading.filled w x)) (same_tally v) (record { counts = refl; looks = refl })
+
+pub ann_tally : (v : View) (w : Word) (x : ℕ) → Tally v (ann_from v w x)
+ann_tally v (Announced k) x = record { counts = refl; looks = refl }
+ann_tally v Stamp x = same_tally v
+ann_tally v (Section k) x = same_tally v
+ann_tally v (Node f k) x = same_tally v
+ann_tally v (Entry p e) x = same_tally v
+
+pub cut_tally : (z : Layout) (m : Memory) (v : View) (w : Word) → Tally v (cut_from z m v w)
+cut_tally z m v (Entry p e) = record { counts = refl; looks = refl }
+cut_tally z m v Stamp = same_tally v
+cut_tally z m v (Section k) = same_tally v
+cut_tally z m v (Announced k) = same_tally v
+cut_tally z m v (Node f k) = same_tally v
 
 pub pair_tally : (v : View) (w : Word) (x : ℕ) → Tally v (pair_from v w x)
 pair_tally v (Node f k) x = record { counts = refl; looks = refl }

@@ -8,11 +8,11 @@ use Rattle.index_words.specs.Words.{Memory}
 use Rattle.key_map.specs.Lists.{count, IsItem}
 use Rattle.core_grace.specs.Holds.{tree_slots}
 use Rattle.core_links.specs.Bundle.{select}
+use Rattle.core_events.specs.Numbered.{entry_number}
 use Rattle.core_invariant.specs.Meanings.{Meaning}
 use Rattle.core_invariant.specs.BundleRule.{IsLive}
 use Rattle.core_invariant.specs.SeatRule.{SeatRight, TreeRight}
 use Rattle.core_invariant.specs.Rule.{IsRight}
-use Rattle.core_invariant.specs.LinkLaw.{entry_number}
 use Rattle.core_events.specs.SpelledNow.{tree_now}
 use Rattle.core_events.specs.Tables.{Table, held_by}
 use Rattle.core_laws.specs.TreeLaw.{bundles_now, SpellsAt, ReadsMap, SeesMap, SpellsMap}

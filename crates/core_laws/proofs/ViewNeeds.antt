@@ -1,5 +1,5 @@
 -- A seat whose view meets the need of an event may make it, in every table that meets the rule.
-use Rattle.std.proofs.Common.{◌≡◌, ◌≢◌, ℕ, ◌+◌, ◌-◌, ◌<◌, ◌≤◌, ◌⊎◌, List, [], length, true, false, not, eqb, ◌&&◌, ◌||◌, arith, refl, ap, ◌∙◌, sym, subst, inl, inr, Option, Some, None, is_none}
+use Rattle.std.proofs.Common.{◌≡◌, ◌≢◌, ℕ, ◌+◌, ◌<◌, ◌≤◌, ◌⊎◌, List, [], length, true, false, not, eqb, ◌&&◌, ◌||◌, arith, refl, ap, ◌∙◌, sym, subst, inl, inr, Option, Some, None, is_none}
 use Rattle.std.specs.Prelude.{IfSome, nat_lt, nat_le}
 use Rattle.std.specs.List.{slice_get, list_all}
 use Rattle.std.proofs.lemmas.Bool.{eq-eqb, ne_eqb}
@@ -28,11 +28,13 @@ use Rattle.core_grace.specs.Slots.{own, nodes_of, entries_in}
 use Rattle.core_events.specs.declared.event.Kind.{Kind}
 use Rattle.core_events.specs.declared.event.Kind.TheVariants.{SplitSeat, JoinSeat, Enter, Leave, LookSec, Fill, LoadStamp, LoadHead, LoadTs, LoadPtr, LoadNext, Prepare, Finalise, TryLock, Unlock, LoadMark, Mark as MarkNode, LoadKeyOrVal}
 use Rattle.core_events.specs.Tables.{Table}
+use Rattle.core_events.proofs.Tests.{has_announced-is}
 use Rattle.core_invariant.specs.BundleRule.{IsPending}
 use Rattle.core_invariant.specs.Locks.{IsNodeAt, IsTakenOut}
 use Rattle.core_invariant.specs.Readers.{IsLocked}
 use Rattle.core_invariant.specs.Rule.{InRule}
 use Rattle.core_invariant.specs.SeatRule.{SeatRight}
+use Rattle.core_events.specs.Announcing.{has_announced}
 use Rattle.core_events.specs.LoadMoves.{locks, is_above}
 use Rattle.core_events.specs.LoadNeeds.{is_reachable, stands_at, may_go_on, is_part}
 use Rattle.core_events.specs.LockNeeds.{is_pair, names_pass}
@@ -64,19 +66,19 @@ module _ (z : Layout) (words : List ℕ) (vs : List View) (right : InRule z word
   seat : SeatRight z m right.meaning v
   seat = seat_at z m vs right.meaning i v at right.rule
 
-  alive : (P : View → Type 0) → P v → (P spent_view → ⊥) → v.joined ≡ false
+  pub alive : (P : View → Type 0) → P v → (P spent_view → ⊥) → v.joined ≡ false
   alive P holds none = live_of z words vs i v P right at holds none
 
   inside_alive : IsInside v → v.joined ≡ false
   inside_alive inside = alive IsInside inside (λ none. cc)
 
-  named_alive : (n : ℕ) → v.number ≡ Some n → v.joined ≡ false
+  pub named_alive : (n : ℕ) → v.number ≡ Some n → v.joined ≡ false
   named_alive n own = alive (λ (x : View). x.number ≡ Some n) own (λ none. cc)
 
-  locked_alive : (k : ℕ) → IsLocked v k → v.joined ≡ false
+  pub locked_alive : (k : ℕ) → IsLocked v k → v.joined ≡ false
   locked_alive k locked = alive (λ x. IsLocked x k) locked (λ none. omega (arith, none))
 
-  allowed_by : (kind : Kind) (w : Word) (value : ℕ) → v.joined ≡ false → is_there z w ≡ true → carries kind v None ≡ true → needs kind z m vs i v w value None ≡ true
+  pub allowed_by : (kind : Kind) (w : Word) (value : ℕ) → v.joined ≡ false → is_there z w ≡ true → carries kind v None ≡ true → needs kind z m vs i v w value None ≡ true
       → allowed t (event_at z i kind w value) ≡ true
   allowed_by kind w value live there own met =
       ap (λ o. allowed_at t (event_at z i kind w value) o (word_at z (address z w))) is
@@ -177,12 +179,12 @@ module _ (z : Layout) (words : List ℕ) (vs : List View) (right : InRule z word
   fill_may (Section n) value may = absurd may
   fill_may (Announced n) value may = absurd may
 
-  stamp_by : (value : ℕ) → (eqb value 0 || eqb value 1) ≡ true → IsInside v → v.reading.opened ≡ None → allowed t (event_at z i LoadStamp Stamp value) ≡ true
+  stamp_by : (value : ℕ) → (eqb value 0 || (eqb value 1 && has_announced v)) ≡ true → IsInside v → v.reading.opened ≡ None → allowed t (event_at z i LoadStamp Stamp value) ≡ true
   stamp_by value few inside closed =
       let b = not (is_even v.section_word) in
       let c = is_none v.reading.opened in
       allowed_by LoadStamp Stamp value (inside_alive inside) refl refl
-      (both (is_stamp Stamp && b && c) (eqb value 0 || eqb value 1) (both (is_stamp Stamp && b) c (both (is_stamp Stamp) b refl (not_of (is_even v.section_word) inside)) (none_is v.reading.opened closed)) few)
+      (both (is_stamp Stamp && b && c) (eqb value 0 || (eqb value 1 && has_announced v)) (both (is_stamp Stamp && b) c (both (is_stamp Stamp) b refl (not_of (is_even v.section_word) inside)) (none_is v.reading.opened closed)) few)
 
   pub head_may : (k : ℕ) (side : Side) → MayReadHead v k → allowed t (event_at z i LoadHead (Node (Head side) k) 0) ≡ true
   head_may k side may =
@@ -351,7 +353,8 @@ pub may_load_stamp_law : LoadStampLaw
 may_load_stamp_law z v seat may words vs right is = stamp_by z words vs right seat v is 0 refl may.inside may.closed
 
 pub may_fix_law : FixLaw
-may_fix_law z v seat may words vs right is = stamp_by z words vs right seat v is 1 refl may.inside may.closed
+may_fix_law z v seat may words vs right is =
+    stamp_by z words vs right seat v is 1 (has_announced-is v may.announced) may.load.inside may.load.closed
 
 pub may_read_head_law : ReadHeadLaw
 may_read_head_law z v seat k side may words vs right is = head_may z words vs right seat v is k side may

@@ -14,7 +14,7 @@ use Rattle.index_words.specs.Views.{spent_view}
 use Rattle.index_words.specs.Words.{word_at, address, is_there, word_count, nodes_begin, entries_begin, field_at, part_at}
 use Rattle.index_words.proofs.Seats.{at_item}
 use Rattle.index_words.proofs.Store.{address-lt, address-apart, word_there}
-use Rattle.key_map.specs.Lists.{count, has, Every, IsItem}
+use Rattle.key_map.specs.Lists.{count, Every, IsItem}
 use Rattle.core_grace.specs.Batches.{is_number}
 use Rattle.core_grace.specs.Holds.{held_slots, tree_slots}
 use Rattle.core_grace.specs.Sections.{is_even}

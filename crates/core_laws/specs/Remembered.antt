@@ -23,7 +23,8 @@ use Rattle.core_events.specs.Versions.{tree_nodes}
 use Rattle.core_invariant.specs.Locks.{lock_count}
 use Rattle.core_invariant.specs.Rule.{Rule}
 use Rattle.core_events.specs.SpelledNow.{tree_now, child_now}
-use Rattle.core_invariant.specs.LinkLaw.{IsBundleOf, entry_number}
+use Rattle.core_events.specs.Numbered.{entry_number}
+use Rattle.core_invariant.specs.LinkLaw.{IsBundleOf}
 
 -- the seat has not raised, and remembers the link, which it found through the link's bundle, with this entry
 pub record Remembers (v : View) (l : Link) (entry : ℕ) : Type 0 where

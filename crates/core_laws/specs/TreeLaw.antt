@@ -1,11 +1,11 @@
 -- The law on trees: at the stamp, and at each number that a seat reads at, the words spell a search tree whose
 -- contents are the map after so many updates.
-use Rattle.std.specs.Prelude.{◌≡◌, ℕ, ◌+◌, ◌≤◌, List, length, take, IfSome}
+use Rattle.std.specs.Prelude.{◌≡◌, ℕ, ◌≤◌, List, length, take, IfSome}
 use Rattle.key_map.specs.declared.update.Update.{Update}
 use Rattle.index_words.specs.declared.view.View.{View}
 use Rattle.index_words.specs.declared.view.reading.TreeNode.{TreeNode}
-use Rattle.index_words.specs.declared.word.Field.TheVariants.{Key, Val, Head}
-use Rattle.index_words.specs.declared.word.Part.TheVariants.{Child, Next}
+use Rattle.index_words.specs.declared.word.Field.TheVariants.{Key, Val}
+use Rattle.index_words.specs.declared.word.Part.TheVariants.{Child}
 use Rattle.index_words.specs.declared.word.Word.TheVariants.{Stamp, Node, Entry}
 use Rattle.key_map.specs.Lists.{IsItem}
 use Rattle.core_grace.specs.Holds.{Bundles}
@@ -13,14 +13,14 @@ use Rattle.core_trees.specs.NamedTree.{NamedTree}
 use Rattle.core_events.specs.Tables.{Table, held_by}
 use Rattle.core_invariant.specs.Histories.{KnowsAll}
 use Rattle.core_events.specs.Versions.{IsVersion, tree_nodes}
-use Rattle.core_events.specs.SpelledNow.{tree_now, entries_from}
-use Rattle.core_invariant.specs.LinkLaw.{entry_number}
+use Rattle.core_events.specs.SpelledNow.{tree_now, bundle_now}
+use Rattle.core_events.specs.Numbered.{entry_number}
 
 -- the bundle of each link and the number of each entry, as they are read from the words
 abbrev pub bundles_now : Table → Bundles
 bundles_now t = record {
   number = entry_number (held_by t) t.views;
-  bundle = λ side k. entries_from (held_by t Stamp + 1) t.layout.entries (λ e. held_by t (Entry Next e)) (held_by t (Node (Head side) k));
+  bundle = bundle_now t.layout (held_by t);
 }
 
 -- at the number the words spell the tree, which is a search tree; its contents are the map after so many updates

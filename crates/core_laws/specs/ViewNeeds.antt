@@ -1,6 +1,6 @@
 -- What a seat may do, as far as its own view tells: a record for each kind of event, over the view and what the event
 -- is about. Whatever the words and the other views are, the event is then allowed.
-use Rattle.std.specs.Prelude.{◌≡◌, ◌≢◌, ℕ, ◌+◌, ◌^◌, ◌<◌, ◌≤◌, ◌⊎◌, List, [], length, true, false, ◌&&◌, Option, Some, None}
+use Rattle.std.specs.Prelude.{◌≡◌, ◌≢◌, ℕ, ◌+◌, ◌^◌, ◌<◌, ◌≤◌, ◌⊎◌, List, [], length, true, false, ◌&&◌, Option, Some, None, is_some}
 use Rattle.std.specs.List.{slice_get}
 use Rattle.index_words.specs.declared.layout.Layout.{Layout}
 use Rattle.index_words.specs.declared.side.Side.{Side}
@@ -11,7 +11,7 @@ use Rattle.index_words.specs.declared.view.update.LoadedHead.{LoadedHead}
 use Rattle.index_words.specs.declared.word.Field.TheVariants.{Key, Val, Lock, Mark, Head}
 use Rattle.index_words.specs.declared.word.Part.TheVariants.{Child, Stamp as Number, Next}
 use Rattle.index_words.specs.declared.word.Word.{Word}
-use Rattle.index_words.specs.declared.word.Word.TheVariants.{Stamp, Section, Node, Entry}
+use Rattle.index_words.specs.declared.word.Word.TheVariants.{Stamp, Section, Announced, Node, Entry}
 use Rattle.index_words.specs.Words.{address}
 use Rattle.key_map.specs.Lists.{count, Every, IsItem}
 use Rattle.core_grace.specs.Batches.{is_empty}
@@ -19,7 +19,7 @@ use Rattle.core_grace.specs.Holds.{tree_slots}
 use Rattle.core_grace.specs.Sections.{is_even, left_word}
 use Rattle.core_events.specs.declared.event.Event.{Event}
 use Rattle.core_events.specs.declared.event.Kind.{Kind}
-use Rattle.core_events.specs.declared.event.Kind.TheVariants.{SplitSeat, JoinSeat, Enter, Leave, LookSec, Fill, LoadStamp, LoadHead, LoadTs, LoadPtr, LoadNext, Prepare, Finalise, TryLock, Unlock, LoadMark, Mark as MarkNode, LoadKeyOrVal}
+use Rattle.core_events.specs.declared.event.Kind.TheVariants.{SplitSeat, JoinSeat, Enter, Leave, LookSec, Fill, LoadStamp, LoadHead, LoadTs, LoadPtr, LoadNext, Prepare, Finalise, TryLock, Unlock, LoadMark, Mark as MarkNode, LoadKeyOrVal, Announce, LookAnn}
 use Rattle.core_events.specs.Needs.{is_lock}
 use Rattle.core_events.specs.LoadMoves.{is_above}
 use Rattle.core_laws.specs.Owners.{HasFreeNode, HasFreeEntry}
@@ -82,10 +82,32 @@ MayFill v (Node field k) = (is_lock field ≡ false) × HasFreeNode v k
 MayFill v (Entry part e) = HasFreeEntry v e
 MayFill v _ = ⊥
 
--- load of the stamp, also where it fixes a place: inside a section, with no snapshot open
+-- load of the stamp: inside a section, with no snapshot open
 pub record MayLoadStamp (v : View) : Type 0 where
   pub inside : IsInside v
   pub closed : v.reading.opened ≡ None
+
+-- and where it fixes a place: by a seat that has announced
+pub record MayFix (v : View) : Type 0 where
+  pub load : MayLoadStamp v
+  pub announced : 0 < v.announced
+
+-- announce: inside a section, as long as it has no section number, how many updates it has seen
+pub record MayAnnounce (v : View) (n : ℕ) : Type 0 where
+  pub own : v.number ≡ Some n
+  pub inside : IsInside v
+  pub unread : v.reading.section ≡ None
+
+-- take the announcement back: outside a section
+pub record MayTakeBack (v : View) (n : ℕ) : Type 0 where
+  pub own : v.number ≡ Some n
+  pub even : is_even v.section_word ≡ true
+
+-- look at the announcement of another pass: by a seat with a section number
+pub record MayLookAnn (v : View) (pass : ℕ) : Type 0 where
+  pub other : v.number ≢ Some pass
+  pub there : pass < v.layout.passes
+  pub reads : is_some v.reading.section ≡ true
 
 -- load of a head: inside a section, of a node in reach
 pub record MayReadHead (v : View) (k : ℕ) : Type 0 where
@@ -186,7 +208,17 @@ abbrev pub LoadStampLaw : Type 0
 LoadStampLaw = (z : Layout) (v : View) (seat : ℕ) → MayLoadStamp v → May z v (event_at z seat LoadStamp Stamp 0)
 
 abbrev pub FixLaw : Type 0
-FixLaw = (z : Layout) (v : View) (seat : ℕ) → MayLoadStamp v → May z v (event_at z seat LoadStamp Stamp 1)
+FixLaw = (z : Layout) (v : View) (seat : ℕ) → MayFix v → May z v (event_at z seat LoadStamp Stamp 1)
+
+abbrev pub AnnounceLaw : Type 0
+AnnounceLaw =
+    (z : Layout) (v : View) (seat n : ℕ) → MayAnnounce v n → May z v (event_at z seat Announce (Announced n) (length v.history.seen + 1))
+
+abbrev pub TakeBackLaw : Type 0
+TakeBackLaw = (z : Layout) (v : View) (seat n : ℕ) → MayTakeBack v n → May z v (event_at z seat Announce (Announced n) 0)
+
+abbrev pub LookAnnLaw : Type 0
+LookAnnLaw = (z : Layout) (v : View) (seat pass : ℕ) → MayLookAnn v pass → May z v (event_at z seat LookAnn (Announced pass) 0)
 
 abbrev pub ReadHeadLaw : Type 0
 ReadHeadLaw = (z : Layout) (v : View) (seat k : ℕ) (side : Side) → MayReadHead v k → May z v (event_at z seat LoadHead (Node (Head side) k) 0)

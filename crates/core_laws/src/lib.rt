@@ -6,4 +6,6 @@
 
 mod view_laws;
 
-pub use view_laws::{needs_of_views, what_loads_find, where_counts_rise, who_writes_what};
+pub use view_laws::{
+    cuts_take_nothing_read, needs_of_views, what_loads_find, where_counts_rise, who_writes_what,
+};

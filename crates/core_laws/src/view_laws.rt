@@ -1,9 +1,10 @@
 // Laws on the tables that meet the rule. These calls do nothing: their clauses are what is proved.
 ghost use Rattle.core_laws.specs.Counts.{CountsLaw, OtherHeadLaw, TakenLaw, TreeNotRetiredLaw};
+ghost use Rattle.core_laws.specs.Cuts.{CutNeedLaw, UnreadLaw};
 ghost use Rattle.core_laws.specs.Falls.{FallsLaw};
 ghost use Rattle.core_laws.specs.Found.{ReadLaw, StampLaw, OneTreeLaw, BundleLengthLaw};
 ghost use Rattle.core_laws.specs.Owners.{OwnersLaw};
-ghost use Rattle.core_laws.specs.ViewNeeds.{EnterLaw, LeaveLaw, LookLaw, FillLaw, LoadStampLaw, FixLaw, ReadHeadLaw, ReadNumberLaw, ReadChildLaw, ReadNextLaw, PrepareLaw, FinaliseLaw, LockLaw, UnlockLaw, ReadMarkLaw, MarkLaw, ReadKeyLaw, ReadValLaw, SplitLaw, JoinLaw};
+ghost use Rattle.core_laws.specs.ViewNeeds.{EnterLaw, LeaveLaw, LookLaw, FillLaw, LoadStampLaw, FixLaw, AnnounceLaw, TakeBackLaw, LookAnnLaw, ReadHeadLaw, ReadNumberLaw, ReadChildLaw, ReadNextLaw, PrepareLaw, FinaliseLaw, LockLaw, UnlockLaw, ReadMarkLaw, MarkLaw, ReadKeyLaw, ReadValLaw, SplitLaw, JoinLaw};
 
 /// Who writes what. An event of one seat changes no word that another seat alone changes: its section word and its
 /// announcement; each word of its free slots; lock, mark, heads, links and tags of a node that it has locked, and the
@@ -22,6 +23,9 @@ pub fn needs_of_views()
     ensures fill { FillLaw }
     ensures load_stamp { LoadStampLaw }
     ensures fix { FixLaw }
+    ensures announce { AnnounceLaw }
+    ensures take_back { TakeBackLaw }
+    ensures look_ann { LookAnnLaw }
     ensures read_head { ReadHeadLaw }
     ensures read_number { ReadNumberLaw }
     ensures read_child { ReadChildLaw }
@@ -32,10 +36,18 @@ pub fn needs_of_views()
     ensures unlock { UnlockLaw }
     ensures read_mark { ReadMarkLaw }
     ensures mark { MarkLaw }
+    ensures cut { CutNeedLaw }
     ensures read_key { ReadKeyLaw }
     ensures read_val { ReadValLaw }
     ensures split { SplitLaw }
     ensures join { JoinLaw }
+{}
+
+/// What a cut takes is read by nobody. The section number of a seat selects no entry behind the one at which an allowed cut
+/// is, in any bundle of the root or of a node that is not free; nor does a number from the stamp on, as each section number
+/// is that a seat gets later.
+pub fn cuts_take_nothing_read()
+    ensures unread { UnreadLaw }
 {}
 
 /// Where the counts of a view rise. `busy` rises where a try of a lock finds the word held, which another pass then

@@ -1,3 +1,4 @@
 pub mod Compare
 pub mod Chains
 pub mod Places
+pub mod Kept

@@ -1,5 +1,5 @@
 -- The entries of a bundle as plain data, newest first, and the place of the one that a number selects.
-use Rattle.std.specs.Prelude.{◌≡◌, ℕ, ◌<◌, ◌≤◌, List, length, Option, Some, None, slice_index, slice_index_or, All}
+use Rattle.std.specs.Prelude.{◌≡◌, ℕ, ◌+◌, ◌<◌, ◌≤◌, List, length, take, Option, Some, None, slice_index, slice_index_or, All}
 use Rattle.core_links.specs.declared.entry.Entry.{Entry}
 use Rattle.core_links.specs.Bundle.{select, StaysSelected, StaysBehind, IsWalkedTo}
 
@@ -43,3 +43,14 @@ StaysBehindFront t bundle place =
 abbrev pub IsWalkedToPlace : ℕ → List Entry → Option ℕ → Type 0
 IsWalkedToPlace t bundle place =
     (number : ℕ → ℕ) (names : List ℕ) → Names number names bundle → IsWalkedTo number t names (name_at names place)
+
+-- how many entries are kept, from the front: up to and with the first that has a number of at most `least`, or all
+pub record IsKept (least : ℕ) (bundle : List Entry) (kept : ℕ) : Type 0 where
+  pub all : NumberedAbove least bundle → kept ≡ length bundle
+  pub upto : (place : ℕ) → IsFirstPlace least bundle place → kept ≡ place + 1
+
+-- whatever the entries are named, each number from `least` on selects among those that are kept what it selects among all
+abbrev pub KeepsSelected : ℕ → List Entry → ℕ → Type 0
+KeepsSelected least bundle kept =
+    (number : ℕ → ℕ) (names : List ℕ) (t : ℕ) → Names number names bundle → least ≤ t
+    → select number t (take kept names) ≡ select number t names

@@ -1,5 +1,5 @@
 ghost use Rattle.std.specs.Prelude.{◌≡◌, ◌<◌, ◌↔◌, All, IsNone, IfSome};
-ghost use Rattle.core_links.specs.Selection.{IsFirstPlace, IsSelection, IsWalkedToPlace, NumberedAbove, StaysAtPlace, StaysBehindFront};
+ghost use Rattle.core_links.specs.Selection.{IsFirstPlace, IsKept, IsSelection, IsWalkedToPlace, KeepsSelected, NumberedAbove, StaysAtPlace, StaysBehindFront};
 ghost use Rattle.core_links.specs.declared.entry.Entry.{Entry as BundleEntry};
 
 /// An entry of a bundle.
@@ -25,7 +25,20 @@ pub fn select(bundle: &[Entry], t: u64) -> Option<usize>
     first_at_most(bundle, t)
 }
 
-// The same, for a bundle with pending entries too.
+/// How many entries of a bundle are kept, from the front, where nobody reads at a number below `least`: up to and with the
+/// one that `select` gives for it, or all. What stands behind them may be cut off.
+pub fn keep(bundle: &[Entry], least: u64) -> usize
+    requires written { All (λ (e : BundleEntry). 0 < e.stamp) bundle.now }
+    ensures kept { IsKept least bundle.now result }
+    ensures selected { KeepsSelected least bundle.now result }
+{
+    match first_at_most(bundle, least) {
+        Some(place) => place + 1,
+        None => bundle.len(),
+    }
+}
+
+// The place of the first entry whose stamp is at most `t`, in a bundle with pending entries too.
 fn first_at_most(bundle: &[Entry], t: u64) -> Option<usize>
     ensures none { IsNone result → NumberedAbove t bundle.now }
     ensures first { IfSome result (IsFirstPlace t bundle.now) }

@@ -7,4 +7,4 @@ mod chain;
 mod entry;
 
 pub use chain::is_chain;
-pub use entry::{Entry, select};
+pub use entry::{Entry, keep, select};

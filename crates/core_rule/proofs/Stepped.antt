@@ -12,8 +12,9 @@ use Rattle.index_words.specs.Words.{memory, word_at, address}
 use Rattle.core_events.specs.declared.event.Event.{Event}
 use Rattle.core_events.specs.Steps.{allowed, allowed_at, after, after_at, views_after, words_after, IsChange}
 use Rattle.core_events.specs.Tables.{Table, held_by}
+use Rattle.core_events.specs.Numbered.{entry_number}
 use Rattle.core_events.proofs.Allowed.{needed}
-use Rattle.core_invariant.specs.LinkLaw.{KeepsSelections, entry_number}
+use Rattle.core_invariant.specs.LinkLaw.{KeepsSelections}
 use Rattle.core_invariant.specs.Rule.{IsRight}
 use Rattle.core_links.specs.Bundle.{select}
 use Rattle.core_links.proofs.Chains.{chain-same}

@@ -10,6 +10,8 @@ mod state;
 
 pub use core_events::{Event, Kind, TreeMove};
 pub use core_kept::how_seats_are_made;
-pub use core_laws::{needs_of_views, what_loads_find, where_counts_rise, who_writes_what};
+pub use core_laws::{
+    cuts_take_nothing_read, needs_of_views, what_loads_find, where_counts_rise, who_writes_what,
+};
 pub use run::{RunError, run_of};
 pub use state::{State, StepError};

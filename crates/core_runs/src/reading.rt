@@ -7,7 +7,7 @@ use std::alloc::Global;
 use std::str::Split;
 
 /// The kinds by their names.
-const KINDS: [(&str, Kind); 20] = [
+const KINDS: [(&str, Kind); 23] = [
     ("MakeSeat", Kind::MakeSeat),
     ("SplitSeat", Kind::SplitSeat),
     ("JoinSeat", Kind::JoinSeat),
@@ -28,6 +28,9 @@ const KINDS: [(&str, Kind); 20] = [
     ("LoadMark", Kind::LoadMark),
     ("Mark", Kind::Mark),
     ("LoadKeyOrVal", Kind::LoadKeyOrVal),
+    ("Announce", Kind::Announce),
+    ("LookAnn", Kind::LookAnn),
+    ("Cut", Kind::Cut),
 ];
 
 /// A run that was read.

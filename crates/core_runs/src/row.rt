@@ -11,6 +11,7 @@ use std::str::Split;
 #[derive(Clone, Copy)]
 pub(crate) enum Act {
     Begin,
+    End,
     Enter,
     Leave,
     Lock(u32),
@@ -65,7 +66,7 @@ pub(crate) fn doing_of(layout: &Layout, seat: u32, text: &str) -> Option<Doing> 
     let mut words = rest.split(' ');
     let doing = match name {
         "raise" => raise_of(&mut words)?,
-        "begin" | "enter" | "leave" => return simple_act(name, rest),
+        "begin" | "end" | "enter" | "leave" => return simple_act(name, rest),
         _ => Doing::Act(act_of(name, &mut words)?),
     };
     if words.next().is_none() {
@@ -108,6 +109,7 @@ fn simple_act(name: &str, rest: &str) -> Option<Doing> {
     }
     Some(Doing::Act(match name {
         "begin" => Act::Begin,
+        "end" => Act::End,
         "enter" => Act::Enter,
         _ => Act::Leave,
     }))

@@ -4,7 +4,9 @@
 //     test NAME                           begins a test
 //     sizes 1,4,1 1,4,1                   the table at its start, with the nodes, entries and calls of each pass
 //     SEAT KIND WORD VALUE [UPDATE]       an event, which must be allowed
-//     SEAT begin | enter | leave | lock NODE | unlock NODE | head LINK | entry ENTRY CHILD NEXT
+//     SEAT begin                          enter, load of the stamp, announcement of what is seen then, load of the stamp
+//     SEAT end                            leave, and the announcement is taken back
+//     SEAT enter | leave | lock NODE | unlock NODE | head LINK | entry ENTRY CHILD NEXT
 //     SEAT fill NODE KEY VAL LEFT RIGHT | prepare LINK ENTRY CHILD | raise KEY Put VAL | raise KEY Remove
 //     SEAT finalise ENTRY | mark NODE | put LINK ENTRY CHILD KEY VAL | remove LINK ENTRY CHILD NODE KEY
 //     refused SEAT ...                    an event or a raise, which must be refused, with all as it was
@@ -92,6 +94,7 @@ fn does(table: &mut Table, seat: u32, doing: Doing) -> bool {
 fn acts(table: &mut Table, seat: u32, act: Act) -> bool {
     match act {
         Act::Begin => table.begins(seat),
+        Act::End => table.ends(seat),
         Act::Enter => table.enters(seat),
         Act::Leave => table.leaves(seat),
         Act::Lock(node) => table.locks(seat, node),

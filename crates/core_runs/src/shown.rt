@@ -4,7 +4,7 @@ use std::alloc::{AllocError, Global};
 use std::fmt::Debug;
 
 /// The names of all parts.
-const PARTS: [&str; 34] = [
+const PARTS: [&str; 37] = [
     "number",
     "joined",
     "to_give",
@@ -23,7 +23,10 @@ const PARTS: [&str; 34] = [
     "opened",
     "tree",
     "place",
+    "above",
     "links",
+    "least",
+    "looked",
     "filled",
     "held_nodes",
     "held_nexts",
@@ -95,6 +98,8 @@ fn maybe_named(view: &View, name: &str) -> Option<Option<u64>> {
         "number" => view.number.map(u64::from),
         "section" => view.reading.section,
         "opened" => view.reading.opened,
+        "above" => view.reading.above,
+        "least" => view.reading.least,
         "raised" => view.update.raised,
         "added" => view.update.added.map(u64::from),
         _ => return None,
@@ -105,6 +110,7 @@ fn list_named<'v>(view: &'v View, name: &str) -> Option<&'v [u32]> {
     Some(match name {
         "to_give" => view.to_give.as_slice(),
         "ended" => view.history.ended.as_slice(),
+        "looked" => view.reading.looked.as_slice(),
         "taken" => view.update.taken.as_slice(),
         "pending" => view.update.pending.as_slice(),
         "free_nodes" => view.free.nodes.as_slice(),

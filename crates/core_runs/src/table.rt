@@ -134,9 +134,28 @@ impl Table {
         self.does(seat, Kind::Leave, Word::Section(seat), word)
     }
 
-    /// Enters and loads the stamp.
+    fn loads_stamp(&mut self, seat: u32) -> bool {
+        self.does(seat, Kind::LoadStamp, Word::Stamp, 0)
+    }
+
+    /// Announces how many updates the seat has seen.
+    fn announces(&mut self, seat: u32) -> bool {
+        let seen = self.view(seat).map_or(0, |view| view.history.seen.len());
+        let value = (seen as u64).wrapping_add(1);
+        self.does(seat, Kind::Announce, Word::Announced(seat), value)
+    }
+
+    /// Enters, loads the stamp, announces that number, and loads the stamp again.
     pub(crate) fn begins(&mut self, seat: u32) -> bool {
-        self.enters(seat) && self.does(seat, Kind::LoadStamp, Word::Stamp, 0)
+        self.enters(seat)
+            && self.loads_stamp(seat)
+            && self.announces(seat)
+            && self.loads_stamp(seat)
+    }
+
+    /// Leaves, and takes the announcement back.
+    pub(crate) fn ends(&mut self, seat: u32) -> bool {
+        self.leaves(seat) && self.does(seat, Kind::Announce, Word::Announced(seat), 0)
     }
 
     /// Locks a node and loads its mark.
@@ -247,7 +266,7 @@ impl Table {
             && self.raises(seat, key, Change::Put(val))
             && self.finalises(seat, at.entry)
             && self.unlocks(seat, at.link.node)
-            && self.leaves(seat)
+            && self.ends(seat)
     }
 
     /// A whole removal of the node in the old slot, which has at most one child: the child of the turn.
@@ -261,6 +280,6 @@ impl Table {
             && self.marks(seat, old)
             && self.unlocks(seat, old)
             && self.unlocks(seat, at.link.node)
-            && self.leaves(seat)
+            && self.ends(seat)
     }
 }

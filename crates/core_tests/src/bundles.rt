@@ -1,29 +1,33 @@
-use core_links::{Entry, is_chain, select};
+use core_links::{Entry, is_chain, keep, select};
 use std::test::Fail;
 
-/// The place that `t` selects among three entries.
-fn place_among_three(t: u64) -> Option<usize> {
+/// The place that `t` selects among three entries, and how many of them are kept where nobody reads below it.
+fn answers_among_three(t: u64) -> (Option<usize>, usize) {
     let newest = Entry { child: 1, stamp: 7 };
     let middle = Entry { child: 0, stamp: 4 };
     let oldest = Entry { child: 2, stamp: 1 };
-    select(&[newest, middle, oldest], t)
+    let bundle = [newest, middle, oldest];
+    (select(&bundle, t), keep(&bundle, t))
 }
 
 #[test]
-fn selects_the_first_entry_that_is_old_enough(rt: HostRuntime) -> Result<(), Fail> {
-    let rows: [(u64, Option<usize>); 7] = [
-        (9, Some(0)),
-        (7, Some(0)),
-        (6, Some(1)),
-        (4, Some(1)),
-        (3, Some(2)),
-        (1, Some(2)),
-        (0, None),
+fn selects_the_first_entry_that_is_old_enough_and_keeps_all_up_to_it(
+    rt: HostRuntime,
+) -> Result<(), Fail> {
+    let rows: [(u64, Option<usize>, usize); 7] = [
+        (9, Some(0), 1),
+        (7, Some(0), 1),
+        (6, Some(1), 2),
+        (4, Some(1), 2),
+        (3, Some(2), 3),
+        (1, Some(2), 3),
+        (0, None, 3),
     ];
-    for (t, place) in rows {
-        assert_eq!(rt; place_among_three(t), place);
+    for (t, place, kept) in rows {
+        assert_eq!(rt; answers_among_three(t), (place, kept));
     }
     assert_eq!(rt; select(&[], 5), None);
+    assert_eq!(rt; keep(&[], 5), 0);
     Ok(())
 }
 

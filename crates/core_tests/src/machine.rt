@@ -1,6 +1,6 @@
 use core_rule::*;
-use index_words::{Layout, PassSize};
-use std::alloc::Global;
+use index_words::{Change, Layout, PassSize, Update};
+use std::alloc::{AllocError, Global};
 use std::test::Fail;
 
 /// With one such pass the root's words are 3 to 12: its lock is word 5 and its mark word 6.
@@ -63,6 +63,63 @@ fn a_run_ends_with_its_last_event_or_names_the_first_refused_one(
         answer_of(alloc, &[enter(), leave(), leave()], 1),
         Answer::NotAllowed(2)
     );
+    Ok(())
+}
+
+/// The events of a put of key 5 with the value 7, but for one that is left out.
+fn put_events(alloc: Global, left_out: Option<usize>) -> Result<Vec<Event>, AllocError> {
+    let put = Update {
+        client: 0,
+        line: 2,
+        key: 5,
+        change: Change::Put(7),
+    };
+    let raise = Event {
+        seat: 0,
+        kind: Kind::Raise,
+        word: 0,
+        value: 0,
+        update: Some(put),
+    };
+    let events = [
+        enter(),
+        event(Kind::LoadStamp, 0, 0),
+        event(Kind::Announce, 2, 1),
+        event(Kind::LoadStamp, 0, 0),
+        event(Kind::LoadHead, 8, 0),
+        event(Kind::Fill, 13, 5),
+        event(Kind::Fill, 14, 7),
+        event(Kind::Fill, 23, 1),
+        event(Kind::TryLock, 5, 1),
+        event(Kind::LoadMark, 6, 0),
+        event(Kind::LoadHead, 8, 0),
+        event(Kind::Prepare, 8, 1),
+        raise,
+        event(Kind::Finalise, 24, 1),
+        event(Kind::Unlock, 5, 0),
+        leave(),
+        event(Kind::Announce, 2, 0),
+    ];
+    let mut kept = Vec::new(alloc);
+    for (place, event) in events.iter().enumerate() {
+        if left_out != Some(place) {
+            kept.push(*event)?;
+        }
+    }
+    Ok(kept)
+}
+
+#[test]
+fn a_put_without_the_child_of_its_entry_is_refused_at_the_raise(
+    rt: HostRuntime,
+) -> Result<(), Fail> {
+    let alloc = rt.alloc();
+    let put = put_events(alloc, None)?;
+    for (word, value) in [(0, 1), (1, 2), (2, 0), (5, 0), (8, 1), (24, 1)] {
+        assert_eq!(rt; answer_of(alloc, &put, word), Answer::Word(value));
+    }
+    let without = put_events(alloc, Some(7))?;
+    assert_eq!(rt; answer_of(alloc, &without, 0), Answer::NotAllowed(11));
     Ok(())
 }
 

@@ -1,3 +1,4 @@
+pub mod KeyMap
 pub mod Map
 pub mod History
 pub mod PlainMap

@@ -4,7 +4,7 @@ use Rattle.key_map.specs.declared.update.Update.{Update}
 use Rattle.index_words.specs.declared.word.Field.TheVariants.{Key, Val, Lock, Mark, Head}
 use Rattle.index_words.specs.declared.word.Part.TheVariants.{Child, Stamp as Number, Next}
 use Rattle.index_words.specs.declared.word.Word.{Word}
-use Rattle.index_words.specs.declared.word.Word.TheVariants.{Stamp, Section, Node, Entry}
+use Rattle.index_words.specs.declared.word.Word.TheVariants.{Stamp, Section, Announced, Node, Entry}
 use Rattle.core_events.specs.declared.event.Kind.{Kind}
 use Rattle.core_events.specs.declared.event.Kind.TheVariants as kind
 use Rattle.machine_needs.specs.declared.step.Step.{Step}
@@ -25,6 +25,7 @@ plain k w x = record { kind = k; word = w; value = x; update = None }
 
 abbrev pub load_parts : Load → Parts
 load_parts (load.Section pass) = plain kind.LookSec (Section pass) 0
+load_parts (load.Announced pass) = plain kind.LookAnn (Announced pass) 0
 load_parts (load.Head node side) = plain kind.LoadHead (Node (Head side) node) 0
 load_parts (load.Number entry) = plain kind.LoadTs (Entry Number entry) 0
 load_parts (load.Child entry) = plain kind.LoadPtr (Entry Child entry) 0
@@ -36,6 +37,7 @@ load_parts (load.Val node) = plain kind.LoadKeyOrVal (Node Val node) 0
 abbrev pub store_parts : Store → Parts
 store_parts (store.Enter pass value) = plain kind.Enter (Section pass) value
 store_parts (store.Leave pass value) = plain kind.Leave (Section pass) value
+store_parts (store.Announce pass value) = plain kind.Announce (Announced pass) value
 store_parts (store.Fill word value) = plain kind.Fill word value
 store_parts (store.Prepare node side entry) = plain kind.Prepare (Node (Head side) node) entry
 store_parts (store.Finalise entry number) = plain kind.Finalise (Entry Number entry) number
@@ -48,6 +50,7 @@ parts_of (step.Join other) = plain kind.JoinSeat Stamp other
 parts_of (step.LoadStamp fixes) = plain kind.LoadStamp Stamp (cond fixes 1 0)
 parts_of (step.Raise update) = record { kind = kind.Raise; word = Stamp; value = 0; update = Some update }
 parts_of (step.TryLock node value) = plain kind.TryLock (Node Lock node) value
+parts_of (step.Cut entry) = plain kind.Cut (Entry Next entry) 0
 parts_of (step.Load l) = load_parts l
 parts_of (step.Store s) = store_parts s
 

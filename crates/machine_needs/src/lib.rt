@@ -2,6 +2,8 @@
 //! It is a part of the machine of `core_rule`: no crate calls it but those of the machine.
 #![tactic(auto)]
 
+mod announcing_needs;
+mod cut_needs;
 mod load_needs;
 mod lock_needs;
 pub mod needs;

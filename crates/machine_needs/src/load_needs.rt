@@ -22,7 +22,7 @@ pub(crate) fn load_stamp(view: &View, word: Word, value: u64) -> Option<Step>
     if value == 0 {
         return Some(Step::LoadStamp { fixes: false });
     }
-    if value == 1 {
+    if value == 1 && !(view.announced == 0) {
         return Some(Step::LoadStamp { fixes: true });
     }
     None

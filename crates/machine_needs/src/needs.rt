@@ -6,6 +6,8 @@ ghost use Rattle.core_events.specs.declared.event.Kind.TheVariants.{Raise};
 ghost use Rattle.core_events.specs.Steps.{carries, needs, allowed_at};
 ghost use Rattle.machine_needs.specs.StepParts.{parts_of, IsStep};
 
+use crate::announcing_needs::{announce, look_at_announcement};
+use crate::cut_needs::cut;
 use crate::load_needs::{load_child, load_head, load_next, load_number, load_stamp};
 use crate::lock_needs::{load_mark, load_pair, mark, try_lock, unlock};
 use crate::seat_needs::{enter, fill, join, leave, look, split};
@@ -48,6 +50,9 @@ fn plain_step(
         Kind::LoadMark => load_mark(view, word, value),
         Kind::Mark => mark(view, word, value),
         Kind::LoadKeyOrVal => load_pair(view, word, value),
+        Kind::Announce => announce(view, word, value),
+        Kind::LookAnn => look_at_announcement(view, word, value),
+        Kind::Cut => cut(layout, words, views, view, word, value),
     }
 }
 

@@ -17,6 +17,8 @@ pub enum Step {
     Raise { update: Update },
     /// Stores the value where the lock word is 0.
     TryLock { node: u32, value: u64 },
+    /// Ends a bundle behind this entry, and retires the entries that stood there.
+    Cut { entry: u32 },
     /// Loads a word, and changes the view of its seat alone.
     Load(Load),
     /// Stores a word, and changes the view of its seat alone.
@@ -28,6 +30,8 @@ pub enum Step {
 pub enum Load {
     /// The section word of another pass.
     Section { pass: u32 },
+    /// The announcement of another pass.
+    Announced { pass: u32 },
     Head { node: u32, side: Side },
     /// The stamp of an entry.
     Number { entry: u32 },
@@ -45,6 +49,8 @@ pub enum Store {
     Enter { pass: u32, value: u64 },
     /// The own section word, which is even then.
     Leave { pass: u32, value: u64 },
+    /// The own announcement: a number plus 1, or 0 where it is taken back.
+    Announce { pass: u32, value: u64 },
     /// A word of an own free slot.
     Fill { word: Word, value: u64 },
     /// The head of a bundle: the entry.
@@ -63,8 +69,8 @@ impl Store {
         ensures { result ≡ (store_parts self).value }
     {
         match self {
-            Store::Enter { value, .. } | Store::Leave { value, .. } | Store::Fill { value, .. } =>
-                value,
+            Store::Enter { value, .. } | Store::Leave { value, .. } => value,
+            Store::Announce { value, .. } | Store::Fill { value, .. } => value,
             Store::Prepare { entry, .. } => u64::from(entry),
             Store::Finalise { number, .. } => number,
             Store::Unlock { .. } => 0,

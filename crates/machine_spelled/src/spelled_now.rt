@@ -2,10 +2,9 @@
 ghost use Rattle.std.specs.Prelude.{◌≡◌, OnOk, IfOk, ◌+◌, ◌++◌, nat_lt, nat_le, ◌&&◌, cond, Some, None, []};
 ghost use Rattle.index_words.specs.Words.{memory};
 ghost use Rattle.key_map.specs.Lists.{has};
-ghost use Rattle.index_words.specs.declared.word.Part.TheVariants.{Next as NextPart};
 ghost use Rattle.index_words.specs.declared.word.Word.TheVariants.{Node as NodeWord, Entry as EntryWord};
 ghost use Rattle.core_events.specs.Versions.{top_slot, tree_nodes};
-ghost use Rattle.core_events.specs.SpelledNow.{was_raised as raised_in, has_number as numbered, child_now, tree_now, entries_from};
+ghost use Rattle.core_events.specs.SpelledNow.{was_raised as raised_in, has_number as numbered, child_now, tree_now};
 ghost use Rattle.machine_spelled.specs.Sights.{memory_of, more_of, tree_seen};
 ghost use Rattle.core_events.specs.UpdateMoves.{listed_entry};
 
@@ -177,20 +176,4 @@ pub fn nodes_now(
     let top = old_child(&sight, Side::Right, 0);
     push_nodes(&sight, depth, top, &mut nodes)?;
     Ok(nodes)
-}
-
-/// Puts at most so many entries of a bundle behind the list, from its head on.
-pub(crate) fn push_entries(
-    sight: &Sight<'_>,
-    most: u64,
-    head: u64,
-    entries: &mut Items<u32>,
-) -> Result<(), NoMemory>
-    ensures { OnOk result (entries.new ≡ entries.old ++ entries_from most sight.now.layout.now.entries (λ e. memory_of sight.now (EntryWord NextPart e)) head) }
-{
-    if most == 0 || head == 0 || head > u64::from(sight.layout.entries) {
-        return Ok(());
-    }
-    entries.push(head as u32)?;
-    push_entries(sight, most - 1, part_of(sight, Part::Next, head), entries)
 }

@@ -1,14 +1,14 @@
 // What a raise moves: the slots that it brings in and takes out.
-ghost use Rattle.std.specs.Prelude.{◌≡◌, ◌++◌, ◌+◌, ◌<◌, ◌^◌, ◌⊎◌, cond, true, Some, None, IfOk, IfSome, OnOk};
+ghost use Rattle.std.specs.Prelude.{◌≡◌, ◌++◌, ◌⊎◌, cond, true, Some, None, IfOk, IfSome, OnOk};
 ghost use Rattle.index_words.specs.Words.{memory};
 ghost use Rattle.key_map.specs.Lists.{has};
-ghost use Rattle.index_words.specs.declared.word.Word.TheVariants.{Stamp as StampWord};
 ghost use Rattle.core_grace.specs.Holds.{listed};
 ghost use Rattle.core_events.specs.UpdateMoves.{listed_entry};
 ghost use Rattle.core_events.specs.TreeMoves.{node_entries, tree_move as move_by, is_tree_step as makes_step};
 ghost use Rattle.machine_spelled.specs.Sights.{memory_of};
 
-use crate::spelled_now::{Sight, field_of, push_entries};
+use crate::bundles_now::push_entries;
+use crate::spelled_now::{Sight, field_of};
 use crate::tree_steps::{Heads, Taken, plan_of, whole};
 use core_events::TreeMove;
 use core_events::reads::held;
@@ -50,17 +50,16 @@ fn push_node(node: Option<u32>, list: &mut Items<u32>) -> Result<(), NoMemory>
 }
 
 fn push_bundles(sight: &Sight<'_>, node: Option<u32>, list: &mut Items<u32>) -> Result<(), NoMemory>
-    requires { memory_of sight.now StampWord + 1 < 2 ^ 64 }
     ensures { OnOk result (list.new ≡ list.old ++ node_entries sight.now.layout.now (memory_of sight.now) (listed node)) }
 {
     let Some(node) = node else {
         return Ok(());
     };
-    let most = held(sight.layout, sight.words, Word::Stamp) + 1;
+    let behind = held(sight.layout, sight.words, Word::Stamp);
     let left = field_of(sight, Field::Head(Side::Left), u64::from(node));
     let right = field_of(sight, Field::Head(Side::Right), u64::from(node));
-    push_entries(sight, most, left, list)?;
-    push_entries(sight, most, right, list)
+    push_entries(sight, behind, left, list)?;
+    push_entries(sight, behind, right, list)
 }
 
 fn own_added(slots: &[u32], added: Option<u64>) -> Option<u32>
@@ -94,7 +93,6 @@ fn taken_list(alloc: Global, taken: Taken) -> Result<Items<u32>, NoMemory>
 }
 
 fn entry_list(alloc: Global, sight: &Sight<'_>, taken: Taken) -> Result<Items<u32>, NoMemory>
-    requires { memory_of sight.now StampWord + 1 < 2 ^ 64 }
     ensures { IfOk result (λ list. list ≡ node_entries sight.now.layout.now (memory_of sight.now) (listed taken.replaced) ++ node_entries sight.now.layout.now (memory_of sight.now) (listed taken.successor)) }
 {
     let mut list = Items::new(alloc);
@@ -112,8 +110,7 @@ pub fn tree_move(
     view: &View,
     update: Update,
 ) -> Result<TreeMove, NoMemory>
-    requires met { makes_step layout.now (memory layout.now words.now) views.now view.now update ≡ true }
-    requires small { memory layout.now words.now StampWord + 1 < 2 ^ 64 }
+    requires { makes_step layout.now (memory layout.now words.now) views.now view.now update ≡ true }
     ensures { IfOk result (λ move. move ≡ move_by layout.now (memory layout.now words.now) views.now view.now update) }
 {
     let sight = Sight {

@@ -3,9 +3,10 @@ use Rattle.std.specs.Prelude.{ℕ}
 use Rattle.index_words.specs.declared.view.View.{View}
 use Rattle.index_words.specs.declared.word.Field.TheVariants.{Key, Val, Mark, Head}
 use Rattle.index_words.specs.declared.word.Part.TheVariants.{Child, Stamp as Number, Next}
-use Rattle.index_words.specs.declared.word.Word.TheVariants.{Section, Node, Entry}
+use Rattle.index_words.specs.declared.word.Word.TheVariants.{Section, Announced, Node, Entry}
 use Rattle.index_words.specs.Words.{Memory}
 use Rattle.core_grace.specs.Batches.{looked}
+use Rattle.core_events.specs.Announcing.{announced_view, ann_loaded}
 use Rattle.core_events.specs.FillMoves.{filled_view}
 use Rattle.core_events.specs.LoadMoves.{head_loaded, ts_loaded, ptr_loaded, next_loaded}
 use Rattle.core_events.specs.LockMoves.{unlocked_view, with_mark, mark_loaded, pair_loaded}
@@ -19,6 +20,7 @@ use Rattle.machine_needs.specs.declared.step.Store.TheVariants as store
 -- for a table of so many passes, whose words are `m`
 abbrev pub loaded : Load → ℕ → Memory → View → View
 loaded (load.Section pass) passes m v = looked passes v pass (m (Section pass))
+loaded (load.Announced pass) passes m v = ann_loaded v pass (m (Announced pass))
 loaded (load.Head node side) passes m v = head_loaded v node side (m (Node (Head side) node)) (m (Entry Number (m (Node (Head side) node))))
 loaded (load.Number entry) passes m v = ts_loaded v entry (m (Entry Number entry))
 loaded (load.Child entry) passes m v = ptr_loaded v (m (Entry Child entry))
@@ -30,6 +32,7 @@ loaded (load.Val node) passes m v = pair_loaded v Val node (m (Node Val node))
 abbrev pub stored : Store → ℕ → View → View
 stored (store.Enter pass value) passes v = entered passes v value
 stored (store.Leave pass value) passes v = left v value
+stored (store.Announce pass value) passes v = announced_view v value
 stored (store.Fill word value) passes v = filled_view v word value
 stored (store.Prepare node side entry) passes v = prepared v side node entry
 stored (store.Finalise entry number) passes v = finalised v entry

@@ -7,6 +7,7 @@ ghost use Rattle.machine_steps.specs.OwnViews.{loaded, stored};
 use core_events::reads::{held, number_of};
 use index_words::{Field, Layout, NoMemory, Part, Side, View, Word};
 use machine_needs::step::{Load, Store};
+use machine_views::announcing::{announce, look_at_announcement};
 use machine_views::fill_words::fill;
 use machine_views::loads::{load_child, load_head, load_next, load_number};
 use machine_views::locks::{load_key, load_mark, load_val, mark, unlock};
@@ -45,6 +46,10 @@ pub(crate) fn after_load(
         Load::Section { pass } => {
             let found = held(layout, words, Word::Section(pass));
             look(alloc, view, layout.passes, pass, found)?;
+        }
+        Load::Announced { pass } => {
+            let found = held(layout, words, Word::Announced(pass));
+            look_at_announcement(view, pass, found)?;
         }
         Load::Head { node, side } => find_head(alloc, layout, words, view, node, side)?,
         Load::Number { entry } => {
@@ -90,6 +95,7 @@ pub(crate) fn after_store(
     match store {
         Store::Enter { value, .. } => enter(alloc, view, passes, value)?,
         Store::Leave { value, .. } => leave(alloc, view, value),
+        Store::Announce { value, .. } => announce(view, value),
         Store::Fill { word, value } => fill(alloc, view, word, value)?,
         Store::Prepare { node, side, entry } => prepare(alloc, view, side, node, entry)?,
         Store::Finalise { entry, .. } => finalise(alloc, view, entry),

@@ -15,7 +15,7 @@ use core_events::reads::held;
 use index_words::{Items, Layout, NoMemory, Update, View, Word};
 use machine_spelled::spelled_now::nodes_now;
 use machine_spelled::tree_moves::tree_move;
-use machine_views::loads::load_stamp;
+use machine_views::stamp_loads::load_stamp;
 use machine_views::updates::raise;
 use std::alloc::Global;
 

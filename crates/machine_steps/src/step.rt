@@ -13,6 +13,8 @@ use crate::stamp_seats::{load_stamp_seat, raise_seat};
 use core_events::reads::held;
 use index_words::{Field, Layout, NoMemory, View, Word};
 use machine_needs::step::Step;
+use machine_spelled::bundles_now::entries_behind;
+use machine_views::cuts::cut;
 use machine_views::locks::try_lock;
 use std::alloc::Global;
 
@@ -31,6 +33,7 @@ pub fn store(words: &mut Vec<u64>, at: u64, step: Step)
             }
         }
         Step::Raise { .. } => words[at as usize] += 1,
+        Step::Cut { .. } => words[at as usize] = 0,
         Step::Split { .. } | Step::Join { .. } | Step::LoadStamp { .. } | Step::Load(_) => {}
     }
 }
@@ -59,6 +62,11 @@ pub fn change(
             let found = held(layout, words, Word::Node(Field::Lock, node));
             let view = &mut views[at];
             try_lock(view, node, value, found)
+        }
+        Step::Cut { entry } => {
+            let back = entries_behind(alloc, layout, words, entry)?;
+            let view = &mut views[at];
+            cut(alloc, view, entry, back.as_slice())
         }
         Step::Load(load) => {
             let view = &mut views[at];

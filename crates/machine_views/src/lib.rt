@@ -2,8 +2,11 @@
 //! those of the machine.
 #![tactic(auto)]
 
+pub mod announcing;
+pub mod cuts;
 pub mod fill_words;
 pub mod loads;
 pub mod locks;
 pub mod moves;
+pub mod stamp_loads;
 pub mod updates;

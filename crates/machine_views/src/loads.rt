@@ -3,12 +3,12 @@ ghost use Rattle.std.specs.Prelude.{◌≡◌, ◌==◌, ◌&&◌, OnOk, OnErr, 
 ghost use Rattle.index_words.specs.Words.{same_side as same_sides};
 ghost use Rattle.key_map.specs.Lists.{has};
 ghost use Rattle.core_events.specs.UpdateMoves.{known_at};
-ghost use Rattle.core_events.specs.LoadMoves.{risen as risen_count, stamp_loaded, has_other_source, has_moved as link_has_moved, remembered_if, bundle_link, stored_by as is_stored_by, found_again, side_found, found_at, head_loaded, stamp_known, side_known, node_known, place_known, ts_loaded, is_selected as selects, ptr_loaded, kept_if, next_loaded};
+ghost use Rattle.core_events.specs.LoadMoves.{risen as risen_count, has_other_source, has_moved as link_has_moved, remembered_if, bundle_link, stored_by as is_stored_by, found_again, side_found, found_at, head_loaded, stamp_known, side_known, node_known, place_known, ts_loaded, is_selected as selects, ptr_loaded, kept_if, next_loaded};
 
 use core_events::reads::{is_above, is_locked, is_pending};
 use index_words::{
     Held, HeldNext, HeldNode, HeldSide, Items, Link, LinkSource, LoadedHead, NoMemory, Place, Side,
-    TreeNode, Update, View,
+    View,
 };
 use std::alloc::Global;
 
@@ -17,32 +17,6 @@ pub(crate) fn risen(count: u64) -> u64
     ensures { result ≡ risen_count count }
 {
     if count == u64::MAX { count } else { count + 1 }
-}
-
-/// The view after a load of the stamp. `known` is the whole history, and `nodes` are those of the tree.
-pub fn load_stamp(
-    view: &mut View,
-    known: Items<Update>,
-    stamp: u64,
-    fixes: bool,
-    nodes: Items<TreeNode>,
-)
-    ensures { view.new ≡ stamp_loaded known view.old stamp fixes nodes }
-{
-    view.history.seen = known;
-    if fixes {
-        view.history.found = stamp;
-        view.history.looks = risen(view.history.looks);
-    }
-    view.reading.section = Some(stamp);
-    view.reading.opened = if fixes { Some(stamp) } else { None };
-    view.reading.tree = nodes;
-    view.reading.place = Place::Nowhere;
-    view.reading.above = None;
-    view.reading.links.clear();
-    view.reading.left_turn = None;
-    view.reading.right_turn = None;
-    view.reading.filled.clear();
 }
 
 pub(crate) fn same_side(one: Side, other: Side) -> bool

@@ -4,6 +4,7 @@ ghost use Rattle.core_events.specs.LockMoves.{just_locked as new_lock, place_loc
 ghost use Rattle.index_words.specs.declared.word.Field.TheVariants.{Key, Val};
 
 use crate::loads::risen;
+use crate::moves::go_nowhere;
 use core_events::reads::{is_in, is_reachable};
 use index_words::{Held, HeldNext, HeldNode, HeldSide, Items, NoMemory, Place, Updating, View};
 use std::alloc::Global;
@@ -137,12 +138,7 @@ pub fn unlock(alloc: Global, view: &mut View, node: u32)
 {
     forget_node(alloc, &mut view.held, node);
     end_update(alloc, &mut view.update, &view.held.nodes);
-    view.reading.place = Place::Nowhere;
-    view.reading.above = None;
-    view.reading.links.clear();
-    view.reading.left_turn = None;
-    view.reading.right_turn = None;
-    view.reading.filled.clear();
+    go_nowhere(&mut view.reading);
 }
 
 fn node_with_mark(held: HeldNode, node: u32, mark: u64) -> HeldNode

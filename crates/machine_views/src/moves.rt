@@ -2,11 +2,23 @@
 ghost use Rattle.std.specs.Prelude.{◌≡◌, ◌≤◌, ◌++◌, OnOk, OnErr, IfOk, length, take, Some};
 ghost use Rattle.core_grace.specs.Batches.{both, looked};
 ghost use Rattle.machine_views.specs.Gains.{with_gain};
-ghost use Rattle.core_events.specs.Moves.{entered, left, split_left, split_right, longer, own_number, own_ended, joined_with};
+ghost use Rattle.core_events.specs.Moves.{nowhere, entered, left, split_left, split_right, longer, own_number, own_ended, joined_with};
 
 use core_grace::{current_looks, look_at, settle};
 use index_words::{EndedPlace, Items, NoMemory, Place, Reading, SeenHistory, Slots, Update, View};
 use std::alloc::{AllocError, Global};
+
+/// Stands nowhere, and knows no link and no word that it has filled.
+pub(crate) fn go_nowhere(reading: &mut Reading)
+    ensures { reading.new ≡ nowhere reading.old }
+{
+    reading.place = Place::Nowhere;
+    reading.above = None;
+    reading.links.clear();
+    reading.left_turn = None;
+    reading.right_turn = None;
+    reading.filled.clear();
+}
 
 /// The view inside a section. Where no batch waits, the retired slots become the batch. After a refusal the
 /// view is unchanged.
@@ -17,12 +29,7 @@ pub fn enter(alloc: Global, view: &mut View, passes: u32, word: u64) -> Result<(
     let looks = current_looks(alloc, view)?;
     settle(alloc, view, looks, passes)?;
     view.section_word = word;
-    view.reading.place = Place::Nowhere;
-    view.reading.above = None;
-    view.reading.links.clear();
-    view.reading.left_turn = None;
-    view.reading.right_turn = None;
-    view.reading.filled.clear();
+    go_nowhere(&mut view.reading);
     Ok(())
 }
 

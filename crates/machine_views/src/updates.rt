@@ -5,9 +5,10 @@ ghost use Rattle.core_events.specs.UpdateMoves.{without, without_all, prepared, 
 ghost use Rattle.machine_views.specs.Gains.{lengthened};
 
 use crate::loads::hold_head;
+use crate::moves::go_nowhere;
 use core_events::TreeMove;
 use core_events::reads::is_in;
-use index_words::{Items, LoadedHead, NoMemory, Place, Side, Slots, Update, View};
+use index_words::{Items, LoadedHead, NoMemory, Side, Slots, Update, View};
 use std::alloc::Global;
 
 fn keep_others(numbers: &mut Vec<u32>, number: u32)
@@ -131,12 +132,7 @@ pub fn raise(
     view.history.seen = seen;
     view.history.mine = mine;
     view.history.left -= 1;
-    view.reading.place = Place::Nowhere;
-    view.reading.above = None;
-    view.reading.links.clear();
-    view.reading.left_turn = None;
-    view.reading.right_turn = None;
-    view.reading.filled.clear();
+    go_nowhere(&mut view.reading);
     view.update.raised = Some(place);
     view.update.added = moved.added;
     view.update.pending = pending;

@@ -2,8 +2,7 @@
 use Rattle.std.proofs.Common.{◌≡◌, ℕ, ◌+◌, ◌-◌, ◌<◌, ◌≤◌, List, [], ◌++◌, Option, Some, None, length, take, drop, arith, append_assoc, append-nil, refl, sym, subst, length-append, length-take-le, length-drop, ◌∙◌, ap}
 use Rattle.std.proofs.Math.Seq.{take-add}
 use Rattle.std.proofs.lemmas.List.{take_all}
-use Rattle.outside_io.specs.Source.{IsRead, EndsExactly, IsReadToEnd}
-use Rattle.outside_io.specs.Sink.{IsTaken}
+use Rattle.outside_io.specs.Streams.{IsRead, EndsExactly, IsReadToEnd, IsTaken}
 
 -- two pieces that were taken one after the other
 pub taken_both : (before between now : Option (List ℕ)) (xs ys : List ℕ) → IsTaken before between xs → IsTaken between now ys → IsTaken before now (xs ++ ys)

@@ -2,7 +2,7 @@
 -- A source and a sink that fail by a plan.
 use Rattle.std.specs.Prelude.{ℕ, ◌-◌, ◌==◌, List, ◌++◌, take, drop, min, nat_le, if◌then◌else◌, Option, Some, None, Result, Ok, Err}
 use Rattle.outside_io.specs.declared.failed.Failed.{Failed}
-use Rattle.outside_io.specs.Faults.{one_more}
+use Rattle.outside_io.specs.Streams.{one_more}
 
 -- what is left, the most bytes of a read, the reads that fail, counted from 1, and how many reads and
 -- faults there were

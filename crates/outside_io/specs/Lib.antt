@@ -1,8 +1,5 @@
-pub mod Faults
-pub mod Source
-pub mod Sink
-pub mod Reading
+pub mod Streams
 pub mod Failing
 pub mod Memory
 pub mod ReadErrors
-pub mod Streams
+pub mod StandardStreams

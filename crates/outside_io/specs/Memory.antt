@@ -2,7 +2,7 @@
 -- What contracts see of a sink in memory.
 use Rattle.std.specs.Prelude.{ℕ, List, ◌++◌, Result, Ok, Err, length, ◌-◌}
 use Rattle.outside_io.specs.declared.failed.Failed.{Failed}
-use Rattle.outside_io.specs.Faults.{one_more}
+use Rattle.outside_io.specs.Streams.{one_more}
 
 -- a sink in memory: what it has taken, the room that is left, and how often it has failed
 pub record Store : Type 0 where

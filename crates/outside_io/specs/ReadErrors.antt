@@ -3,7 +3,7 @@
 use Rattle.std.specs.Prelude.{ℕ, ◌≤◌, List, Option}
 use Rattle.outside_io.specs.declared.reading.ReadError.{ReadError}
 use Rattle.outside_io.specs.declared.reading.ReadError.TheVariants.{Fault, TooLong, NoMemory}
-use Rattle.outside_io.specs.Reading.{Gave, IsOver}
+use Rattle.outside_io.specs.Streams.{Gave, IsOver}
 
 -- too long exactly where more than `limit` bytes were given; a fault and want of memory only where no more were
 abbrev pub IsReadError : ℕ → Option (List ℕ) → Option (List ℕ) → ReadError → Type 0

@@ -1,6 +1,6 @@
 // A sink that fails where it is told to.
 ghost use Rattle.std.specs.Prelude.{◌≡◌, ◌<◌, ◌≤◌, ◌↔◌, ◌⊎◌, Some, None, [], length, Contains, IsErr, IfOk, IfSome};
-ghost use Rattle.outside_io.specs.Faults.{one_more};
+ghost use Rattle.outside_io.specs.Streams.{one_more};
 ghost use Rattle.outside_io.specs.Failing.{SinkPlan, sink_plan, let_in, after_piece};
 
 use crate::{Failed, Sink};

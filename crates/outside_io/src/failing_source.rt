@@ -1,7 +1,6 @@
 // A source that fails where it is told to.
 ghost use Rattle.std.specs.Prelude.{◌≡◌, ◌<◌, ◌≤◌, ◌↔◌, Some, length, take, min, Contains, IsErr, IfOk};
-ghost use Rattle.outside_io.specs.Faults.{one_more};
-ghost use Rattle.outside_io.specs.Source.{EndsExactly};
+ghost use Rattle.outside_io.specs.Streams.{one_more, EndsExactly};
 ghost use Rattle.outside_io.specs.Failing.{Plan, plan, after_read};
 
 use crate::memory::copy_start;

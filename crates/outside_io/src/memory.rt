@@ -1,6 +1,6 @@
 // A source and a sink in memory.
 ghost use Rattle.std.specs.Prelude.{◌≡◌, ◌≤◌, ◌↔◌, Some, Ok, [], ◌++◌, length, take, drop, min, IfOk, IsOk};
-ghost use Rattle.outside_io.specs.Source.{EndsExactly};
+ghost use Rattle.outside_io.specs.Streams.{EndsExactly};
 ghost use Rattle.outside_io.specs.Memory.{Store, store, after_write};
 
 use crate::{Failed, Sink, Source};

@@ -1,7 +1,6 @@
 // All of the input, up to a limit.
 ghost use Rattle.std.specs.Prelude.{◌≡◌, ◌≤◌, vec_len, IfOk, IfErr, IsErrOf};
-ghost use Rattle.outside_io.specs.Faults.{one_more};
-ghost use Rattle.outside_io.specs.Source.{IsReadToEnd};
+ghost use Rattle.outside_io.specs.Streams.{one_more, IsReadToEnd};
 ghost use Rattle.outside_io.specs.ReadErrors.{IsReadError};
 
 use crate::{Failed, Source};

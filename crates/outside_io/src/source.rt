@@ -1,7 +1,6 @@
 // Where bytes come from.
 ghost use Rattle.std.specs.Prelude.{◌≡◌, ◌≤◌, ℕ, List, Option, length, take, IfOk, OnOk, OnErr};
-ghost use Rattle.outside_io.specs.Faults.{one_more};
-ghost use Rattle.outside_io.specs.Source.{IsRead, EndsExactly};
+ghost use Rattle.outside_io.specs.Streams.{one_more, IsRead, EndsExactly};
 
 use crate::Failed;
 

@@ -1,7 +1,7 @@
 // The standard input and output of the process: the edge where nothing is known of the bytes. Their code is
 // that of `streams`, which is proved for readers and writers whose bytes are known.
 ghost use Rattle.std.specs.Prelude.{◌≡◌, ◌<◌, ◌≤◌, None, length, IfOk};
-ghost use Rattle.outside_io.specs.Streams.{count_after};
+ghost use Rattle.outside_io.specs.StandardStreams.{count_after};
 
 use crate::streams::{read_counted, write_counted};
 use crate::{Failed, Sink, Source};

@@ -1,7 +1,7 @@
 // Reads and writes of a reader and a writer of the standard library, whose failures are counted.
 ghost use Rattle.std.specs.Prelude.{◌≡◌, ◌<◌, ◌≤◌, length, IfOk};
 ghost use Rattle.std.specs.Io.KnownBytes.{ReadConsumes, WriteAppends};
-ghost use Rattle.outside_io.specs.Streams.{count_after};
+ghost use Rattle.outside_io.specs.StandardStreams.{count_after};
 
 use crate::Failed;
 use std::io::{Read, Write};

@@ -1,7 +1,6 @@
 // A whole piece of bytes.
 ghost use Rattle.std.specs.Prelude.{◌≡◌, ◌≤◌, OnOk, OnErr};
-ghost use Rattle.outside_io.specs.Faults.{one_more};
-ghost use Rattle.outside_io.specs.Sink.{IsTaken, TakesStart};
+ghost use Rattle.outside_io.specs.Streams.{one_more, IsTaken, TakesStart};
 
 use crate::{Failed, Sink};
 

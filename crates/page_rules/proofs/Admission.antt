@@ -3,11 +3,11 @@ use Rattle.std.proofs.Common.{◌≡◌, ℕ, ◌<◌, Bool, true, false, cond, 
 use Rattle.std.specs.Ordering.{is_lt}
 use Rattle.std.proofs.lemmas.Bool.{cases_Bool, and_from, and_parts, not-true, not_from_false, false_from_ne_true, both_ways}
 use Rattle.std.proofs.lemmas.Map.Keys.{Less-from_sorted}
-use Rattle.key_names.specs.Names.{byte_order, Rises, name_at}
+use Rattle.key_names.specs.Names.{byte_order, Rises, name_at, begins_with}
 use Rattle.bucket_terms.specs.declared.list_query.ListQuery.{ListQuery}
 use Rattle.bucket_terms.specs.declared.token_point.TokenPoint.{TokenPoint}
 use Rattle.bucket_terms.specs.declared.token_point.TokenPoint.TheVariants.{Key as AtKey, Group as AtGroup}
-use Rattle.bucket_terms.specs.Entries.{begins_with, is_above, is_admitted}
+use Rattle.bucket_terms.specs.Listing.{is_above, is_admitted}
 use Rattle.page_rules.proofs.NameOrder.{above_trans, not_above_back, begins_between}
 
 -- a name of a higher rank is above one of a lower rank

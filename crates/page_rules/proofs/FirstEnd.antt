@@ -7,7 +7,8 @@ use Rattle.std.specs.Option.{option_map}
 use Rattle.memchr.specs.Find.{OccursAt, FindsNeedle}
 use Rattle.memchr.proofs.lemmas.MatchLemmas.{OccursAt-part, OccursAt-from_part}
 use Rattle.bucket_terms.specs.declared.list_query.ListQuery.{ListQuery}
-use Rattle.bucket_terms.specs.Entries.{begins_with, first_end, group_len}
+use Rattle.key_names.specs.Names.{begins_with}
+use Rattle.bucket_terms.specs.Listing.{first_end, group_len}
 use Rattle.page_rules.proofs.Groups.{begins_fits}
 use Rattle.page_rules.proofs.NameOrder.{begins_take, begins_from_take}
 

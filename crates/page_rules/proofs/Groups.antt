@@ -5,7 +5,8 @@ use Rattle.std.proofs.lemmas.Bool.Decides.{nat_tests}
 use Rattle.std.proofs.lemmas.List.{take-take, drop-drop, drop-take, length-drop, length-take}
 use Rattle.std.specs.Cmp.Lexicographic.{pointwise, as_long}
 use Rattle.bucket_terms.specs.declared.list_query.ListQuery.{ListQuery}
-use Rattle.bucket_terms.specs.Entries.{begins_with, first_end, group_len}
+use Rattle.key_names.specs.Names.{begins_with}
+use Rattle.bucket_terms.specs.Listing.{first_end, group_len}
 
 pub begins_fits : (text front : List ℕ) → begins_with text front ≡ true → length front ≤ length text
 begins_fits text front h = omega (arith, as_long _ front (take (length front) text) h, length-take (length front) text)

@@ -2,15 +2,16 @@
 use Rattle.std.proofs.Common.{◌≡◌, ℕ, zero, suc, ◌+◌, ◌-◌, ◌<◌, ◌&&◌, true, false, not, nat_lt, List, [], ◌∷◌, ◌++◌, length, get_or, take, Option, Some, None, refl, sym, ◌∙◌, ap, subst, inl, inr, arith}
 use Rattle.std.proofs.lemmas.Bool.{cases_Bool, cases_lt, and_from, and_parts, MatchBool-at_true, MatchBool-at_false, lt-ltb, ltb-true, true_from_ne_false, both_ways, not-true}
 use Rattle.std.proofs.lemmas.List.{take-append-drop, take_all, append-nil, length-take, length-drop, get_or-take, get_or-drop}
-use Rattle.key_names.specs.Names.{Rises, name_at}
+use Rattle.key_names.specs.Names.{Rises, name_at, begins_with}
 use Rattle.key_map.specs.declared.pair.Pair.{Pair}
 use Rattle.key_map.specs.Map.{IsMap}
 use Rattle.bucket_terms.specs.declared.list_query.ListQuery.{ListQuery}
 use Rattle.bucket_terms.specs.declared.token_point.TokenPoint.{TokenPoint}
 use Rattle.bucket_terms.specs.declared.page.PageEntry.{PageEntry}
 use Rattle.bucket_terms.specs.declared.page.Page.{Page}
-use Rattle.bucket_terms.specs.Entries.{begins_with, is_above, group_len, entry_by, entry_of, group_text, entries_of}
-use Rattle.bucket_terms.specs.Page.{entry_point, last_point, page_point, cut_at, page_of}
+use Rattle.bucket_terms.specs.Listing.{is_above, group_len, entry_by, entry_of, group_text, entries_of, entry_point, page_point, page_of}
+use Rattle.bucket_terms.specs.PageParts.{last_point, cut_at}
+use Rattle.bucket_terms.proofs.PagePoints.{last_point-is}
 use Rattle.page_rules.specs.PageLaw.{LeavesTheRest, AreChained, all_entries, BeginsAll, entry_text, RiseByText}
 use Rattle.page_rules.proofs.NameOrder.{not_above_back, begins_between, begins_own, begins_trans}
 use Rattle.page_rules.proofs.Groups.{group_same}
@@ -41,6 +42,7 @@ module _ (dir : List (List ℕ)) (query : ListQuery) (m : List Pair) (rises : Ri
       let all = entries_of dir query point m in
       let below : suc k < length all = ltb-true _ _ (and_parts _ _ truncated).1 in
       ap (λ b. take (suc k) all ++ entries_of dir query (page_point dir (record { entries = take (suc k) all; truncated = b })) m) truncated
+      ∙ ap (λ o. take (suc k) all ++ entries_of dir query o m) (sym (last_point-is dir (take (suc k) all)))
       ∙ left_at point k (omega arith)
 
   -- a page that may have entries and is not truncated has all

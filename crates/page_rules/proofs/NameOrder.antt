@@ -3,7 +3,8 @@ use Rattle.std.proofs.Common.{◌≡◌, ℕ, zero, suc, true, false, List, [], 
 use Rattle.std.proofs.lemmas.Bool.Decides.{nat_tests}
 use Rattle.std.proofs.lemmas.Bool.{false_from_ne_true, both_ways}
 use lib.Pointwise.{bytes_decides}
-use Rattle.bucket_terms.specs.Entries.{begins_with, is_above}
+use Rattle.key_names.specs.Names.{begins_with}
+use Rattle.bucket_terms.specs.Listing.{is_above}
 
 -- ---- the order
 

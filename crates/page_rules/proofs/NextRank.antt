@@ -7,11 +7,11 @@ use Rattle.std.specs.Ordering.{ordering_reverse}
 use Rattle.std.specs.Cmp.Lexicographic.{nat_list_cmp_total}
 use Rattle.std.proofs.lemmas.Bool.{cases_lt, and_left, both_ways, false_from_ne_true, lt-ltb, le-ltb}
 use Rattle.std.proofs.lemmas.Bool.Decides.{nat_tests}
-use Rattle.key_names.specs.Names.{byte_order, Rises, name_at}
+use Rattle.key_names.specs.Names.{byte_order, Rises, name_at, begins_with}
 use Rattle.key_names.specs.Ranks.{is_before, is_upto, is_upto_prefix, StandFirst}
 use Rattle.bucket_terms.specs.declared.list_query.ListQuery.{ListQuery}
 use Rattle.bucket_terms.specs.declared.token_point.TokenPoint.TheVariants.{Key as AtKey, Group as AtGroup}
-use Rattle.bucket_terms.specs.Entries.{begins_with, is_above, is_admitted}
+use Rattle.bucket_terms.specs.Listing.{is_above, is_admitted}
 use Rattle.page_rules.specs.Cursor.{GoesOnAt}
 use Rattle.page_rules.proofs.NameOrder.{above_trans, above_irreflexive, not_above_back}
 use Rattle.page_rules.proofs.Admission.{above_by_rank}

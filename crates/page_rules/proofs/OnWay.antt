@@ -4,15 +4,15 @@ use Rattle.std.specs.Option.{IfSome}
 use Rattle.std.proofs.lemmas.Bool.{cases_Bool, cases_lt, and_from, and_left, and_right, and_parts, both_ways, false_from_ne_true, lt-ltb, le-ltb, le-leb, lt-leb, leb-true, leb-false}
 use Rattle.std.proofs.lemmas.Bool.Decides.{nat_tests}
 use Rattle.std.proofs.lemmas.List.{append-nil, take_all, take_at, length-append}
-use Rattle.key_names.specs.Names.{Rises, name_at}
+use Rattle.key_names.specs.Names.{Rises, name_at, begins_with}
 use Rattle.key_names.specs.Ranks.{is_before}
 use Rattle.key_map.specs.declared.pair.Pair.{Pair}
 use Rattle.key_map.specs.Map.{IsMap, RisesFrom, first_from}
 use Rattle.bucket_terms.specs.declared.list_query.ListQuery.{ListQuery}
 use Rattle.bucket_terms.specs.declared.token_point.TokenPoint.{TokenPoint}
 use Rattle.bucket_terms.specs.declared.page.PageEntry.{PageEntry}
-use Rattle.bucket_terms.specs.Entries.{begins_with, is_under, entry_of, listing, entries_of}
-use Rattle.bucket_terms.specs.Page.{cut_at, page_of, entry_point}
+use Rattle.bucket_terms.specs.Listing.{is_under, entry_of, entries_of, page_of, entry_point}
+use Rattle.bucket_terms.specs.PageParts.{listing, cut_at}
 use Rattle.page_rules.specs.Cursor.{page_so_far, GoesOnAt, pairs_from}
 use Rattle.page_rules.proofs.NameOrder.{begins_not_below}
 use Rattle.page_rules.proofs.Admission.{above_by_rank, not_begins_above}
@@ -116,7 +116,7 @@ admitted_from dir query point rank x on under =
 -- where the listing from a point goes on at a rank, its entries are those of the pairs from there on
 pub entries_from : (dir : List (List ℕ)) (query : ListQuery) (point : Option TokenPoint) (rank : ℕ) (m : List Pair) → GoesOnAt dir query point rank
     → entries_of dir query point m ≡ listing dir query (pairs_from rank m)
-unfolding entries_of
+unfolding entries_of listing
 entries_from dir query point rank m on =
     listing_congr dir query (admits dir query point) (λ x. nat_le rank x.key) m (λ x under. admitted_from dir query point rank x on under)
 

@@ -9,8 +9,9 @@ use Rattle.key_map.proofs.MapLaws.{RisesFrom-lower}
 use Rattle.bucket_terms.specs.declared.list_query.ListQuery.{ListQuery}
 use Rattle.bucket_terms.specs.declared.token_point.TokenPoint.{TokenPoint}
 use Rattle.bucket_terms.specs.declared.page.PageEntry.{PageEntry}
-use Rattle.bucket_terms.specs.Entries.{begins_with, is_above, is_admitted, is_under, entry_by, entry_of, group_text, is_same_group, listing, entries_of}
-use Rattle.bucket_terms.specs.Page.{entry_point}
+use Rattle.key_names.specs.Names.{begins_with}
+use Rattle.bucket_terms.specs.Listing.{is_above, is_admitted, is_under, entry_by, entry_of, group_text, is_same_group, entries_of, entry_point}
+use Rattle.bucket_terms.specs.PageParts.{listing}
 use Rattle.page_rules.proofs.Rolled.{filter_congr, filter-filter}
 use Rattle.page_rules.proofs.NameOrder.{above_irreflexive, not_above_back, begins_between, begins_own}
 use Rattle.page_rules.proofs.Admission.{above_by_rank, admitted_above}
@@ -75,7 +76,7 @@ pub record BeginsWith (dir : List (List ℕ)) (query : ListQuery) (point : Optio
 -- a pair that is not listed from either point does not count
 entries_skip : (dir : List (List ℕ)) (query : ListQuery) (point : Option TokenPoint) (x : Pair) (t : List Pair) → (is_under dir query x ≡ true → admits dir query point x ≡ false)
     → entries_of dir query point (x ∷ t) ≡ entries_of dir query point t
-unfolding entries_of
+unfolding entries_of listing
 entries_skip dir query point x t none =
     let rest = filter (admits dir query point) t in
     let choice : Bool → List PageEntry = λ b. listing dir query (cond b (x ∷ rest) rest) in
@@ -94,7 +95,7 @@ behind_listed dir query point p x h behind =
 
 entries_behind : (dir : List (List ℕ)) (query : ListQuery) (point : Option TokenPoint) (p : Pair) (t : List Pair) → admits dir query point p ≡ true
     → listing dir query (filter (is_behind dir query (entry_of dir query p)) (filter (admits dir query point) t)) ≡ entries_of dir query (Some (entry_point dir (entry_of dir query p))) t
-unfolding entries_of
+unfolding entries_of listing
 entries_behind dir query point p t h =
     let behind = is_behind dir query (entry_of dir query p) in
     let both : (x : Pair) → (admits dir query point x && behind x) ≡ behind x =

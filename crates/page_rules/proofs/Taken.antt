@@ -4,15 +4,15 @@ use Rattle.std.specs.Option.{IfSome, IsSome, option_map_or}
 use Rattle.std.specs.Bool.{⊤}
 use Rattle.std.proofs.lemmas.Bool.{and_from, and_left, and_right, and_parts, lt-ltb, le-ltb, false≢true}
 use Rattle.std.proofs.lemmas.List.{append_assoc, take-take}
-use Rattle.key_names.specs.Names.{Rises, name_at}
+use Rattle.key_names.specs.Names.{Rises, name_at, begins_with}
 use Rattle.key_names.specs.Ranks.{is_before}
 use Rattle.key_map.specs.declared.pair.Pair.{Pair}
 use Rattle.key_map.specs.Map.{IsMap, first_from}
 use Rattle.bucket_terms.specs.declared.list_query.ListQuery.{ListQuery}
 use Rattle.bucket_terms.specs.declared.token_point.TokenPoint.{TokenPoint}
 use Rattle.bucket_terms.specs.declared.page.PageEntry.{PageEntry}
-use Rattle.bucket_terms.specs.Entries.{begins_with, is_under, group_len, entry_by, entry_of, listing, entries_of}
-use Rattle.bucket_terms.specs.Page.{page_of, entry_point}
+use Rattle.bucket_terms.specs.Listing.{is_under, group_len, entry_by, entry_of, entries_of, page_of, entry_point}
+use Rattle.bucket_terms.specs.PageParts.{listing}
 use Rattle.page_rules.specs.Cursor.{CursorView, page_so_far, GoesOnAt, pairs_from, IsOnWay, IsNext, adds, look_ups_left, Took, IsOver}
 use Rattle.page_rules.specs.CursorInside.{IsOpenAt, IsCursor}
 use Rattle.page_rules.specs.PageLaw.{entry_text}

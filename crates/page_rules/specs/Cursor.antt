@@ -9,8 +9,8 @@ use Rattle.bucket_terms.specs.declared.list_query.ListQuery.{ListQuery}
 use Rattle.bucket_terms.specs.declared.token_point.TokenPoint.{TokenPoint}
 use Rattle.bucket_terms.specs.declared.page.PageEntry.{PageEntry}
 use Rattle.bucket_terms.specs.declared.page.Page.{Page}
-use Rattle.bucket_terms.specs.Entries.{is_admitted, is_under, entry_of, listing, entries_of}
-use Rattle.bucket_terms.specs.Page.{page_of, entry_point}
+use Rattle.bucket_terms.specs.Listing.{is_admitted, is_under, entry_of, entries_of, page_of, entry_point}
+use Rattle.bucket_terms.specs.PageParts.{listing}
 
 pub record CursorView : Type 0 where
   pub dir : List (List ℕ)

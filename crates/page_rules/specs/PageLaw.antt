@@ -10,8 +10,7 @@ use Rattle.bucket_terms.specs.declared.token_point.TokenPoint.{TokenPoint}
 use Rattle.bucket_terms.specs.declared.page.PageEntry.{PageEntry}
 use Rattle.bucket_terms.specs.declared.page.PageEntry.TheVariants.{Key, Group}
 use Rattle.bucket_terms.specs.declared.page.Page.{Page}
-use Rattle.bucket_terms.specs.Entries.{is_above, group_text, entries_of}
-use Rattle.bucket_terms.specs.Page.{page_of, page_point}
+use Rattle.bucket_terms.specs.Listing.{is_above, group_text, entries_of, page_of, page_point}
 
 -- a truncated page's entries, followed by those from its point on, are the entries of the query
 abbrev pub LeavesTheRest : List (List ℕ) → ListQuery → Option TokenPoint → List Pair → Page → Type 0

@@ -49,7 +49,7 @@ impl<'a> PageCursor<'a> {
     ghost use Rattle.key_map.specs.Map.{IsMap};
     ghost use Rattle.key_map.specs.declared.pair.Pair.{Pair};
     ghost use Rattle.bucket_terms.specs.declared.token_point.TokenPoint.{TokenPoint};
-    ghost use Rattle.bucket_terms.specs.Page.{page_of};
+    ghost use Rattle.bucket_terms.specs.Listing.{page_of};
     ghost use Rattle.bucket_terms.specs.PageInRange.{IsInRange};
     ghost use Rattle.page_rules.specs.Cursor.{IsNew, IsOnWay, IsOver, Took, page_so_far};
 

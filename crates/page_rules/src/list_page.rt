@@ -2,8 +2,8 @@ ghost use Rattle.std.specs.Prelude.{◌≡◌, IfOk, map, filter};
 ghost use Rattle.std.specs.Option.{option_copied};
 ghost use Rattle.key_names.specs.Names.{name_at};
 ghost use Rattle.key_map.specs.Map.{IsMap};
-ghost use Rattle.bucket_terms.specs.Entries.{is_admitted, is_under, entry_of, entries_of};
-ghost use Rattle.bucket_terms.specs.Page.{cut_at, page_of};
+ghost use Rattle.bucket_terms.specs.Listing.{is_admitted, is_under, entry_of, entries_of, page_of};
+ghost use Rattle.bucket_terms.specs.PageParts.{cut_at};
 ghost use Rattle.bucket_terms.specs.PageInRange.{IsInRange};
 ghost use Rattle.page_rules.specs.PageLaw.{LeavesTheRest, BeginsAll, RiseByText};
 

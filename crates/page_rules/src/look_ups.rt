@@ -2,7 +2,7 @@
 ghost use Rattle.std.specs.Prelude.{◌≡◌, IfOk};
 ghost use Rattle.std.specs.Option.{option_copied};
 ghost use Rattle.key_map.specs.Map.{IsMap};
-ghost use Rattle.bucket_terms.specs.Page.{page_of};
+ghost use Rattle.bucket_terms.specs.Listing.{page_of};
 ghost use Rattle.bucket_terms.specs.PageInRange.{IsInRange};
 
 use crate::PageCursor;

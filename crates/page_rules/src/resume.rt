@@ -2,8 +2,7 @@
 ghost use Rattle.std.specs.Prelude.{◌≡◌, ◌≤◌, not, false, Some, length};
 ghost use Rattle.std.specs.Option.{option_copied};
 ghost use Rattle.key_names.specs.Ranks.{is_before, StandFirst};
-ghost use Rattle.bucket_terms.specs.Entries.{is_admitted};
-ghost use Rattle.bucket_terms.specs.Page.{entry_point};
+ghost use Rattle.bucket_terms.specs.Listing.{is_admitted, entry_point};
 ghost use Rattle.bucket_terms.specs.PageInRange.{IsEntryInRange};
 ghost use Rattle.page_rules.specs.PageLaw.{entry_text};
 ghost use Rattle.page_rules.specs.Cursor.{GoesOnAt};

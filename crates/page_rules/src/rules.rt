@@ -4,7 +4,7 @@ ghost use Rattle.std.specs.Prelude.{◌≡◌, ◌<◌, length, take};
 ghost use Rattle.std.specs.Option.{option_copied};
 ghost use Rattle.key_names.specs.Names.{name_at};
 ghost use Rattle.bucket_terms.specs.PageInRange.{IsEntryInRange};
-ghost use Rattle.bucket_terms.specs.Entries.{is_above, is_admitted, is_under, group_len, entry_of, is_same_group};
+ghost use Rattle.bucket_terms.specs.Listing.{is_above, is_admitted, is_under, group_len, entry_of, is_same_group};
 
 use bucket_terms::{ListQuery, PageEntry, TokenPoint};
 use key_map::Pair;

@@ -1,2 +1,3 @@
 pub mod TextBytes
-pub mod OnePointLaws
+pub mod Sized
+pub mod OneTokenLaws

@@ -6,15 +6,15 @@ use Rattle.base64.specs.GeneralPurpose.{IsBytes}
 use lib.Utf8.{scalar, scalars, scalar_cases, encode, encodes}
 
 -- the same, element by element
-abbrev AreBytes : List ℕ → Type 0
+abbrev pub AreBytes : List ℕ → Type 0
 AreBytes [] = Unit {0}
 AreBytes (b ∷ bs) = (b < 256) × AreBytes bs
 
-appended : (xs ys : List ℕ) → AreBytes xs → AreBytes ys → AreBytes (xs ++ ys)
+pub appended : (xs ys : List ℕ) → AreBytes xs → AreBytes ys → AreBytes (xs ++ ys)
 appended [] ys h k = k
 appended (x ∷ xs) ys h k = (h.0, appended xs ys h.1 k)
 
-by_index : (bs : List ℕ) → AreBytes bs → IsBytes bs
+pub by_index : (bs : List ℕ) → AreBytes bs → IsBytes bs
 by_index [] h i = lit< tt
 by_index (b ∷ bs) h zero = h.0
 by_index (b ∷ bs) h (suc i) = by_index bs h.1 i
@@ -43,5 +43,5 @@ chars_bytes (c ∷ cs) h =
     let parts = both_true (scalar c) (scalars cs) h in
     appended (encode c) (encodes cs) (char_bytes c (below_last c parts.0)) (chars_bytes cs parts.1)
 
-pub text_bytes : (text : List ℕ) → IsUtf8 text → IsBytes text
-text_bytes text utf8 = by_index text (subst AreBytes utf8.1.1 (chars_bytes utf8.0 utf8.1.0))
+pub text_bytes : (text : List ℕ) → IsUtf8 text → AreBytes text
+text_bytes text utf8 = subst AreBytes utf8.1.1 (chars_bytes utf8.0 utf8.1.0)

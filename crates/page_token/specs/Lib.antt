@@ -1,1 +1,1 @@
-pub mod OnePoint
+pub mod OneToken

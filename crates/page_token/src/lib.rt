@@ -1,7 +1,9 @@
-//! Continuation tokens: the text under which a listing goes on, and the point that a text stands for. The layers above
-//! write a token into the answer of a truncated page, and read the one that a request hands back.
+//! Continuation tokens: the text under which a listing goes on, and the token whose text it is: a point, and the prefix
+//! and delimiter that it belongs to. The layers above write a token into the answer of a truncated page, and read the
+//! one that a request hands back.
 #![tactic(auto)]
 
+mod cutting;
 mod reading;
 mod token_error;
 mod writing;

@@ -1,7 +1,7 @@
 // A client over a plain pass: updates for which no slot is left, the query of a next page, and what a gate is told.
 // What sessions are answered else is compared by tests/rows.py.
 ghost use Rattle.std.specs.Prelude.{◌≤◌, [], All, length, IfOk};
-ghost use Rattle.request_lines.specs.Limits.{most_requests};
+ghost use Rattle.request_lines.specs.InputParts.{most_requests};
 ghost use Rattle.request_lines.specs.Session.{request_lines};
 ghost use Rattle.request_lines.specs.SessionLaws.{Rise, IsAskable};
 ghost use Rattle.bucket_terms.specs.declared.reply.Placed.{Placed as PlacedReply};
@@ -166,7 +166,7 @@ fn gives_the_next_query(rt: HostRuntime) -> Result<(), Fail> {
     let alloc = rt.alloc();
     let first = format!(in alloc; "{FOUR_KEYS}LIST delimiter=/&max-keys=1\n")?;
     let query = next_of(&rt, alloc, first.as_str())?.ok_or("no next page")?;
-    assert_eq!(rt; query.token.as_str(), "UGEv");
+    assert_eq!(rt; query.token.as_str(), "MlAwMDAwMDAwMS9hLw");
     assert_eq!(rt; query.delimiter.as_str(), "/");
     assert_eq!(rt; (query.max_keys, query.url), (1, false));
     let behind_a_head = format!(in alloc; "{first}HEAD b\n")?;

@@ -148,7 +148,7 @@ finalise_step z v seat n plan slots place done entry h apart is =
         taken = h.taken;
         pending = ap (without entry) here ∙ without-first entry (drop (done + 1) xs) once;
       };
-      keeps = record { layout = refl; joined = refl; number = refl; announced = refl; history = refl; counts = refl; free = refl; retired = refl; batch = refl };
+      keeps = record { layout = refl; joined = refl; number = refl; history = refl; counts = refl; free = refl; retired = refl; batch = refl };
     }
 
 pub finalise_end : FinaliseEndLaw
@@ -197,7 +197,7 @@ mark_step z v seat n plan done node h is =
         idle = h.idle;
         marked = marks-more node (take done (out_of plan)) (take (done + 1) (out_of plan)) (take-got (out_of plan) done node is) v.held.nodes h.marked;
       };
-      keeps = record { layout = refl; joined = refl; number = refl; announced = refl; history = refl; counts = refl; free = refl; retired = refl; batch = refl };
+      keeps = record { layout = refl; joined = refl; number = refl; history = refl; counts = refl; free = refl; retired = refl; batch = refl };
     }
 
 -- a plan locks a node at least

@@ -106,7 +106,6 @@ keeps_owned u v w a b = record {
   layout = b.layout ∙ a.layout;
   joined = b.joined ∙ a.joined;
   number = b.number ∙ a.number;
-  announced = b.announced ∙ a.announced;
   history = b.history ∙ a.history;
   counts = b.counts ∙ a.counts;
   free = b.free ∙ a.free;

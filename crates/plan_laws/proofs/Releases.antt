@@ -1,4 +1,4 @@
--- A pass gives its locks back, and leaves its section.
+-- A pass gives its locks back, leaves its section, and takes its announcement back.
 use Rattle.std.specs.List.{slice_get}
 use Rattle.std.proofs.lemmas.List.{drop_all}
 use Rattle.std.proofs.Common.{◌≡◌, ℕ, zero, suc, ◌+◌, ◌<◌, ◌≤◌, List, [], ◌∷◌, length, take, drop, Bool, true, false, not, cond, eqb, refl, ap, sym, ◌∙◌, subst, arith, Some, None}
@@ -12,11 +12,12 @@ use Rattle.key_map.specs.Lists.{count, Every}
 use Rattle.core_grace.specs.Holds.{held_slots}
 use Rattle.core_grace.specs.Sections.{is_even, left_word}
 use Rattle.core_events.specs.LockMoves.{unlocked_view, other_nodes, update_until}
+use Rattle.core_laws.proofs.AnnounceNeeds.{may_take_back_law}
 use Rattle.core_laws.proofs.ViewNeeds.{may_leave_law, may_unlock_law}
 use Rattle.core_updates.specs.declared.plan.Plan.{Plan}
 use Rattle.core_updates.specs.Plans.{locks_of}
 use Rattle.plan_laws.specs.Tries.{IsTrying}
-use Rattle.plan_laws.specs.Releases.{IsReleasing, GiveUpLaw, GiveAllUpLaw, NothingLockedLaw, UnlockPlaceLaw, UnlockEndLaw, TakesFirstLaw, UnlockStepLaw, LeaveStepLaw}
+use Rattle.plan_laws.specs.Releases.{IsReleasing, GiveUpLaw, GiveAllUpLaw, NothingLockedLaw, UnlockPlaceLaw, UnlockEndLaw, TakesFirstLaw, UnlockStepLaw, LeaveStepLaw, TakeBackStepLaw}
 use Rattle.plan_laws.proofs.Fills.{got-none}
 use Rattle.plan_laws.proofs.Items.{drop-got}
 
@@ -126,7 +127,7 @@ unlock_step z v seat n node rest r =
             (others-every (λ (h : HeldNode). 0 < count h.node v.update.taken → h.mark ≡ Some 1) node v.held.nodes r.marked);
         ended = λ none'. ap (λ (hs : List HeldNode). update_until hs v.update) (no-node (other_nodes node v.held.nodes) (left_over ∙ none'));
       };
-      keeps = record { layout = refl; joined = refl; number = refl; announced = refl; history = refl; counts = refl; free = refl; retired = refl; batch = refl };
+      keeps = record { layout = refl; joined = refl; number = refl; history = refl; counts = refl; free = refl; retired = refl; batch = refl };
     }
   where
     first : (k m : ℕ) → 0 < cond (eqb k k) 1 0 + m
@@ -143,7 +144,7 @@ leave_step z v seat n r =
     let bare : v.held.nodes ≡ [] = no-node v.held.nodes r.locked in
     record {
       may = may_leave_law z v seat n (record { own = r.own; inside = r.inside; unlocked = bare });
-      rests = record {
+      has_left = record {
         live = r.live;
         own = r.own;
         outside = left_even v.section_word r.inside;
@@ -151,8 +152,18 @@ leave_step z v seat n r =
         unlocked = bare;
         update = r.ended refl;
       };
-      keeps = record { layout = refl; joined = refl; number = refl; announced = refl; history = refl; counts = refl; free = refl; retired = refl; batch = refl };
+      keeps = record { layout = refl; joined = refl; number = refl; history = refl; counts = refl; free = refl; retired = refl; batch = refl };
     }
+
+pub take_back_step : TakeBackStepLaw
+take_back_step z v seat n left = record {
+  may = may_take_back_law z v seat n (record { own = left.own; even = left.outside });
+  rests = record {
+    has_left = record { live = left.live; own = left.own; outside = left.outside; reading = left.reading; unlocked = left.unlocked; update = left.update };
+    unannounced = refl;
+  };
+  keeps = record { layout = refl; joined = refl; number = refl; history = refl; counts = refl; free = refl; retired = refl; batch = refl };
+}
 
 pub nothing_locked : NothingLockedLaw
 nothing_locked v n live own inside bare idle = record {

@@ -10,6 +10,7 @@ use Rattle.index_words.specs.declared.word.Word.TheVariants.{Node}
 use Rattle.index_words.specs.Views.{no_update}
 use Rattle.index_words.proofs.Seats.{at_item, one_term}
 use Rattle.key_map.specs.History.{own_places}
+use Rattle.index_words.specs.declared.word.Word.TheVariants.{Stamp}
 use Rattle.key_map.specs.Lists.{count, Every, IsItem}
 use Rattle.key_map.proofs.PlacesLaws.{places_within}
 use Rattle.core_grace.specs.Holds.{held_slots, tree_slots}
@@ -20,6 +21,9 @@ use Rattle.core_trees.specs.TreeStep.{subtree_at}
 use Rattle.core_trees.proofs.Updates.{subtree_at-left, subtree_at-right, subtree_at-here}
 use Rattle.core_events.specs.Tables.{Table, held_by}
 use Rattle.core_events.specs.Versions.{top_slot, tree_nodes}
+use Rattle.core_events.specs.SpelledNow.{tree_now}
+use Rattle.core_events.specs.LoadMoves.{stamp_reading}
+use Rattle.core_events.proofs.Tests.{has_announced-is}
 use Rattle.core_invariant.specs.Meanings.{linked_by}
 use Rattle.core_invariant.specs.OwnPlaces.{KnowsPlaces}
 use Rattle.core_invariant.specs.Rule.{IsRight}
@@ -155,11 +159,14 @@ searched t i n number v plan entries right at r section seen bare unretired know
     }
 
 pub none_retired : NoneRetiredLaw
-none_retired t i v fixes right at k (inl root) =
+none_retired t i v fixes right at told k (inl root) =
     let total : sum_by (own nodes_of 0) t.views + (linked_by right.meaning).nodes 0 ≡ 0 = right.rule.slots.nodes.one 0 in
     let none' : count 0 v.retired.nodes ≡ 0 = omega (arith, total, one_term (own nodes_of 0) t.views i v at) in
     subst (λ x. count x v.retired.nodes ≡ 0) (sym root) none'
-none_retired t i v fixes right at k (inr there) = tree_not_retired t i v k right at there
+none_retired t i v fixes right at told k (inr there) =
+    tree_not_retired t i v k right at
+    (subst (λ (c : Bool). 0 < count k (tree_slots (stamp_reading v.reading c (held_by t Stamp) fixes (tree_nodes (tree_now t.layout (held_by t) t.views))).tree))
+    (has_announced-is v told) there)
 
 pub slots_some : SlotsSomeLaw
 slots_some t i v slots right at free =

@@ -33,7 +33,6 @@ pub record KeepsOwned (v w : View) : Type 0 where
   pub layout : w.layout ≡ v.layout
   pub joined : w.joined ≡ v.joined
   pub number : w.number ≡ v.number
-  pub announced : w.announced ≡ v.announced
   pub history : w.history ≡ v.history
   pub counts : w.counts ≡ v.counts
   pub free : w.free ≡ v.free

@@ -1,16 +1,18 @@
--- The end of an update, and of a try that fails: the locks are given back, one after another, and the section is left.
+-- The end of an update, and of a try that fails: the locks are given back, one after another, the section is left, and the
+-- announcement is taken back.
 use Rattle.std.specs.Prelude.{◌≡◌, ℕ, ◌+◌, ◌<◌, ◌≤◌, List, [], ◌∷◌, take, drop, true, false, Some, None}
 use Rattle.std.specs.List.{slice_get}
 use Rattle.index_words.specs.declared.layout.Layout.{Layout}
 use Rattle.index_words.specs.declared.view.View.{View}
 use Rattle.index_words.specs.declared.view.update.HeldNode.{HeldNode}
 use Rattle.index_words.specs.declared.word.Field.TheVariants.{Lock}
-use Rattle.index_words.specs.declared.word.Word.TheVariants.{Section, Node}
+use Rattle.index_words.specs.declared.word.Word.TheVariants.{Section, Announced, Node}
 use Rattle.index_words.specs.Views.{no_reading, no_update}
 use Rattle.key_map.specs.Lists.{count, Every}
 use Rattle.core_grace.specs.Holds.{held_slots}
 use Rattle.core_grace.specs.Sections.{is_even, left_word}
-use Rattle.core_events.specs.declared.event.Kind.TheVariants.{Leave, Unlock}
+use Rattle.core_events.specs.declared.event.Kind.TheVariants.{Leave, Unlock, Announce}
+use Rattle.core_events.specs.Announcing.{announced_view}
 use Rattle.core_events.specs.LockMoves.{unlocked_view}
 use Rattle.core_events.specs.Moves.{left}
 use Rattle.core_laws.specs.ViewNeeds.{May, IsInside, event_at}
@@ -73,7 +75,7 @@ abbrev pub TakesFirstLaw : Type 0
 TakesFirstLaw = (nodes : List ℕ) (done place : ℕ) → TakesFirst nodes done place
 
 -- outside a section, with nothing read, locked or under way
-pub record IsResting (v : View) (n : ℕ) : Type 0 where
+pub record HasLeft (v : View) (n : ℕ) : Type 0 where
   pub live : v.joined ≡ false
   pub own : v.number ≡ Some n
   pub outside : is_even v.section_word ≡ true
@@ -81,11 +83,25 @@ pub record IsResting (v : View) (n : ℕ) : Type 0 where
   pub unlocked : v.held.nodes ≡ []
   pub update : v.update ≡ no_update
 
+-- and with nothing announced
+pub record IsResting (v : View) (n : ℕ) : Type 0 where
+  pub has_left : HasLeft v n
+  pub unannounced : v.announced ≡ 0
+
 -- with no lock left the section may be left
 pub record LeavesLast (z : Layout) (v : View) (seat n : ℕ) : Type 0 where
   pub may : May z v (event_at z seat Leave (Section n) (left_word v.section_word))
-  pub rests : IsResting (left v (left_word v.section_word)) n
+  pub has_left : HasLeft (left v (left_word v.section_word)) n
   pub keeps : KeepsOwned v (left v (left_word v.section_word))
 
 abbrev pub LeaveStepLaw : Type 0
 LeaveStepLaw = (z : Layout) (v : View) (seat n : ℕ) → IsReleasing v n [] → LeavesLast z v seat n
+
+-- behind the section the announcement may be taken back
+pub record TakesBack (z : Layout) (v : View) (seat n : ℕ) : Type 0 where
+  pub may : May z v (event_at z seat Announce (Announced n) 0)
+  pub rests : IsResting (announced_view v 0) n
+  pub keeps : KeepsOwned v (announced_view v 0)
+
+abbrev pub TakeBackStepLaw : Type 0
+TakeBackStepLaw = (z : Layout) (v : View) (seat n : ℕ) → HasLeft v n → TakesBack z v seat n

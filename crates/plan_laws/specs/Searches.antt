@@ -48,10 +48,10 @@ PairsFoundLaw =
 abbrev pub HasNoneRetired : View → Type 0
 HasNoneRetired v = (k : ℕ) → (k ≡ 0) ⊎ (0 < count k (tree_slots v.reading.tree)) → count k v.retired.nodes ≡ 0
 
--- so it is behind a load of the stamp
+-- so it is behind a load of the stamp by a seat that has announced
 abbrev pub NoneRetiredLaw : Type 0
 NoneRetiredLaw =
-    (t : Table) (i : ℕ) (v : View) (fixes : Bool) → IsRight t → IsItem t.views i v
+    (t : Table) (i : ℕ) (v : View) (fixes : Bool) → IsRight t → IsItem t.views i v → 0 < v.announced
     → HasNoneRetired (stamp_loaded (longest t.views) v (held_by t Stamp) fixes (tree_nodes (tree_now t.layout (held_by t) t.views)))
 
 -- a pass that reads a plan's tree at the number of updates that it has seen, has taken out none of its nodes, has locked none, and

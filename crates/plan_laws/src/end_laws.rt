@@ -3,7 +3,7 @@
 ghost use Rattle.plan_laws.specs.Answers.{AnswerLaw, PreparedOwnsLaw, FourEntriesLaw};
 ghost use Rattle.plan_laws.specs.Frames.{StepsKeepLaw, KeepsPassLaw, KeepsTryLaw, KeepsOwnedLaw};
 ghost use Rattle.plan_laws.specs.Raises.{RaiseStepLaw, FinaliseStepLaw, FinaliseEndLaw, MarkStepLaw, MarkEndLaw};
-ghost use Rattle.plan_laws.specs.Releases.{GiveUpLaw, GiveAllUpLaw, NothingLockedLaw, UnlockStepLaw, UnlockPlaceLaw, UnlockEndLaw, TakesFirstLaw, LeaveStepLaw};
+ghost use Rattle.plan_laws.specs.Releases.{GiveUpLaw, GiveAllUpLaw, NothingLockedLaw, UnlockStepLaw, UnlockPlaceLaw, UnlockEndLaw, TakesFirstLaw, LeaveStepLaw, TakeBackStepLaw};
 
 /// A seat that is ready for its plan may raise, at the place behind the stamp. Then the numbers of its entries are
 /// written, and the nodes that went out are marked.
@@ -15,8 +15,8 @@ pub fn updates_raise()
     ensures marked { MarkEndLaw }
 {}
 
-/// A try may give up before it fills its slots. It gives its locks back, as an update does at its end, and leaves its
-/// section.
+/// A try may give up before it fills its slots. It gives its locks back, as an update does at its end, leaves its section,
+/// and takes its announcement back.
 pub fn locks_are_given_back()
     ensures give_up { GiveUpLaw }
     ensures give_all_up { GiveAllUpLaw }
@@ -26,6 +26,7 @@ pub fn locks_are_given_back()
     ensures unlock_end { UnlockEndLaw }
     ensures first_locks { TakesFirstLaw }
     ensures leave { LeaveStepLaw }
+    ensures take_back { TakeBackStepLaw }
 {}
 
 /// What the steps leave as it was.

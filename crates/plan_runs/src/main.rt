@@ -5,6 +5,7 @@
 
 mod input;
 mod machine;
+mod prune;
 mod seat;
 mod turn;
 mod update;
@@ -100,6 +101,7 @@ fn print_report(rt: &HostRuntime, number: usize, report: &Report) -> io::Result<
             Some(val) => println!(rt; "raised {number} {at} put {key} {val} {was}"),
             None => println!(rt; "raised {number} {at} remove {key} {was}"),
         },
+        Report::Cut { entry, next } => println!(rt; "cut {number} {entry} {next}"),
         Report::Tried {
             outcome,
             at,

@@ -25,10 +25,15 @@ pub(crate) enum Step {
     Leave,
     /// Loads the stamp; with `fix` it opens a snapshot.
     LoadStamp { fix: bool },
+    /// Announces how many updates the pass has seen.
+    Announce,
+    /// Takes the announcement back.
+    TakeBack,
     /// Makes the plan of the update.
     Plan,
     Walk(WalkStep),
     Update(UpdateStep),
+    Prune(PruneStep),
     /// Tells how a try has ended.
     Tell(Outcome),
 }
@@ -68,6 +73,18 @@ pub(crate) enum UpdateStep {
     Unlock,
 }
 
+/// A step of an update that has written its numbers: it cuts the bundles of the links that it changed.
+#[derive(Clone, Copy)]
+pub(crate) enum PruneStep {
+    /// Looks at the announcement of a pass, and of those behind it.
+    Look(u32),
+    /// Walks along the bundle of a link that the plan changes.
+    Bundle(usize),
+    Number,
+    Next,
+    Cut(u32),
+}
+
 /// How a try has ended.
 #[derive(Clone, Copy, Debug, PartialEq, Eq)]
 pub(crate) enum Outcome {
@@ -93,6 +110,11 @@ pub(crate) enum Report {
         /// The value of a put.
         val: Option<u64>,
         was: bool,
+    },
+    /// A bundle ends with this entry, and this one stood behind it.
+    Cut {
+        entry: u32,
+        next: u64,
     },
     Tried {
         outcome: Outcome,
@@ -137,6 +159,7 @@ impl Seat {
             Step::Update(UpdateStep::Unlock),
             Step::Tell(outcome),
             Step::Leave,
+            Step::TakeBack,
         ])
     }
 }

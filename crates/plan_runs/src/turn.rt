@@ -1,5 +1,6 @@
 // One turn of a pass: its next step, or the beginning of its next request.
 use crate::machine::{Machine, Stop};
+use crate::prune::prune_step;
 use crate::seat::{Outcome, Report, Request, Seat, Step, UpdateStep, WalkStep};
 use crate::update::{make_plan, update_step};
 use crate::walk::walk_step;
@@ -38,7 +39,7 @@ fn begin(machine: &Machine, seat: &mut Seat) -> Result<(), Stop> {
         Request::Remove { key } => begin_update(machine, seat, key, Change::Remove),
         Request::Open => {
             seat.at = seat.at.saturating_add(1);
-            seat.then(&[Step::Enter, Step::LoadStamp { fix: true }])
+            begin_section(seat, true)
         }
         Request::Get { key } => {
             seat.at = seat.at.saturating_add(1);
@@ -53,7 +54,7 @@ fn begin(machine: &Machine, seat: &mut Seat) -> Result<(), Stop> {
         }
         Request::Close => {
             seat.at = seat.at.saturating_add(1);
-            seat.then(&[Step::Leave])
+            seat.then(&[Step::Leave, Step::TakeBack])
         }
     }
 }
@@ -78,7 +79,18 @@ fn begin_try(machine: &Machine, seat: &mut Seat) -> Result<(), Stop> {
     if let Some(slots) = slots(machine, seat.number) {
         seat.slots = slots;
     }
-    seat.then(&[Step::Enter, Step::LoadStamp { fix: false }, Step::Plan])
+    seat.then(&[Step::Plan])?;
+    begin_section(seat, false)
+}
+
+// Enters, and reads at what the load behind the announcement finds.
+fn begin_section(seat: &mut Seat, fix: bool) -> Result<(), Stop> {
+    seat.then(&[
+        Step::Enter,
+        Step::LoadStamp { fix: false },
+        Step::Announce,
+        Step::LoadStamp { fix },
+    ])
 }
 
 /// The first free node and the first four free entries of a pass. None where there are fewer.
@@ -113,9 +125,12 @@ fn one_step(
         Step::LoadStamp { fix } => {
             machine.step(alloc, number, Kind::LoadStamp, Word::Stamp, u64::from(fix))
         }
+        Step::Announce => announce(alloc, machine, number),
+        Step::TakeBack => machine.step(alloc, number, Kind::Announce, Word::Announced(number), 0),
         Step::Plan => make_plan(machine, seat),
         Step::Walk(step) => return walk_step(alloc, machine, seat, step),
         Step::Update(step) => return update_step(alloc, machine, seat, step),
+        Step::Prune(step) => return prune_step(alloc, machine, seat, step),
         Step::Tell(outcome) => return tell(machine, seat, outcome),
     };
     done?;
@@ -131,6 +146,20 @@ fn store_section(
     let own = Word::Section(number);
     let word = machine.word(own).saturating_add(1);
     machine.step(alloc, number, kind, own, word)
+}
+
+fn announce(alloc: Global, machine: &mut Machine, number: u32) -> Result<(), Stop> {
+    let seen = machine
+        .view(number)
+        .map_or(0, |view| view.history.seen.len() as u64);
+    let value = seen.saturating_add(1);
+    machine.step(
+        alloc,
+        number,
+        Kind::Announce,
+        Word::Announced(number),
+        value,
+    )
 }
 
 fn tell(machine: &Machine, seat: &mut Seat, outcome: Outcome) -> Result<Option<Report>, Stop> {

@@ -1,6 +1,6 @@
 // The steps of an update, by its plan.
 use crate::machine::{Machine, Stop};
-use crate::seat::{Outcome, Report, Seat, Step, UpdateStep, WalkStep};
+use crate::seat::{Outcome, PruneStep, Report, Seat, Step, UpdateStep, WalkStep};
 use crate::walk::remembered_link;
 use core_rule::Kind;
 use core_trees::Link;
@@ -312,10 +312,13 @@ fn raise(
     machine.raise(alloc, seat.number, update)?;
     seat.then(&[
         Step::Update(UpdateStep::Finalise),
+        Step::Prune(PruneStep::Look(0)),
+        Step::Prune(PruneStep::Bundle(0)),
         Step::Update(UpdateStep::Mark(0)),
         Step::Update(UpdateStep::Unlock),
         Step::Tell(Outcome::Done),
         Step::Leave,
+        Step::TakeBack,
     ])?;
     Ok(Some(Report::Raised {
         at: machine.word(Word::Stamp),

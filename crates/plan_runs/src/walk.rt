@@ -31,7 +31,7 @@ pub(crate) fn remembered_link(view: &View, at: Link) -> Option<Known> {
 }
 
 // The entry at which the view stands, 0 for none.
-fn entry_at(view: &View) -> u32 {
+pub(crate) fn entry_at(view: &View) -> u32 {
     match view.reading.place {
         Place::Entry { entry, .. } => u32::try_from(entry).unwrap_or(0),
         _ => 0,

@@ -5,9 +5,10 @@ use Rattle.bucket_terms.specs.declared.list_query.ListQuery.{ListQuery}
 use Rattle.request_lines.specs.declared.cause.Cause.{Cause}
 use Rattle.request_lines.specs.declared.parameter.Name.{Name}
 use Rattle.request_lines.specs.declared.parameter.Name.TheVariants.{Prefix, Delimiter, MaxKeys, StartAfter, ContinuationToken, EncodingType}
-use Rattle.request_lines.specs.Reads.{◌>>=◌}
+use Rattle.request_lines.specs.Texts.{◌>>=◌}
 use Rattle.request_lines.specs.Asking.{Asking, asking_with}
-use Rattle.request_lines.specs.Queries.{Parameter, parameters_read, is_name, is_url, as_it_is, most_entries, plain_query, query_or}
+use Rattle.request_lines.specs.NamedQueries.{Parameter, parameters_read, is_name, is_url, as_it_is, query_or}
+use Rattle.request_lines.specs.Queries.{most_entries, plain_query}
 
 abbrev pub nothing_asked : Asking
 nothing_asked = record { query = plain_query; names = []; cause = None }

@@ -12,10 +12,9 @@ use Rattle.request_lines.specs.declared.session.Session.{Session}
 use Rattle.request_lines.specs.declared.session_error.InputError.{InputError}
 use Rattle.request_lines.specs.declared.session_error.SessionError.{SessionError}
 use Rattle.request_lines.specs.declared.session_error.SessionError.TheVariants as errors
-use Rattle.request_lines.specs.Lines.{texts_of}
-use Rattle.request_lines.specs.Grammar.{reading_of}
+use Rattle.request_lines.specs.InputParts.{texts_of, error_at, asked_at}
+use Rattle.request_lines.specs.Input.{reading_of, begins_client, name_by, record_by}
 use Rattle.request_lines.specs.Counting.{none_counted, counted_with, cause_by_counts, request_by_counts}
-use Rattle.request_lines.specs.Input.{error_at, begins_client, asked_at, name_by, record_by}
 
 -- a line that is not empty: its number, counted from 1 over all lines, what it says or its own cause, and
 -- what the lines before it have asked

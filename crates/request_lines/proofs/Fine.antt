@@ -1,34 +1,35 @@
 -- What is read has a name that an object may have, or a query that a listing takes.
 use Rattle.std.proofs.Common.{◌≤◌, ◌≡◌, ℕ, Bool, true, false, ◌&&◌, List, [], ◌∷◌, length, Option, Some, None, Result, Ok, Err, IfOk, subst, refl, arith, rules, min, sym}
 use Rattle.std.specs.Prelude.{if◌then◌else◌, ◌==◌, nat_lt, nat_le}
-use Rattle.std.specs.Option.{option_or}
+use Rattle.std.specs.Option.{option_or, option_map_or}
 use Rattle.std.specs.Str.{IsUtf8, is_utf8}
 use Rattle.std.proofs.lemmas.Str.{IsUtf8-from_is_utf8, IsUtf8-nil}
 use Rattle.std.proofs.lemmas.Bool.Decides.{nat_tests}
 use Rattle.percent_encoding.specs.Percent.{percent_decode}
-use Rattle.key_names.specs.Names.{IsFine}
+use Rattle.key_names.specs.Names.{IsFine, most_name_bytes}
 use Rattle.bucket_terms.specs.declared.list_query.ListQuery.{ListQuery}
 use Rattle.request_lines.specs.declared.cause.Cause.{Cause}
 use Rattle.request_lines.specs.declared.command.Command.{Command}
+use Rattle.request_lines.specs.declared.command.Command.TheVariants as says
 use Rattle.request_lines.specs.declared.line_error.LineError.{LineError}
 use Rattle.request_lines.specs.declared.parameter.Name.{Name}
 use Rattle.request_lines.specs.declared.parameter.Name.TheVariants as names
 use Rattle.request_lines.specs.declared.verb.Verb.{Verb}
 use Rattle.request_lines.specs.declared.verb.Verb.TheVariants as verbs
-use Rattle.request_lines.specs.Lines.{fields_of}
-use Rattle.request_lines.specs.Reads.{◌>>=◌}
+use Rattle.request_lines.specs.InputParts.{fields_of}
+use Rattle.request_lines.specs.Texts.{◌>>=◌, unescaped, escapes_are_whole, key_read, numbers_read, etag_read}
 use Rattle.request_lines.specs.ReadAnswers.{Reads}
-use Rattle.request_lines.specs.Texts.{unescaped, escapes_are_whole, name_of, key_read, numbers_read, etag_read}
 use Rattle.request_lines.specs.Causes.{earliest, place_of}
-use Rattle.request_lines.specs.declared.cause.Cause.TheVariants.{KeyTooLong}
-use Rattle.request_lines.specs.Queries as q
+use Rattle.request_lines.specs.declared.cause.Cause.TheVariants.{EmptyKey, KeyTooLong, UnknownVerb}
+use Rattle.request_lines.specs.Queries.{query_read, plain_query, is_max_keys, most_entries}
+use Rattle.request_lines.specs.NamedQueries as q
 use Rattle.std.specs.Str.Parse.{digits_value}
 use Rattle.request_lines.specs.Asking as k
 use Rattle.request_lines.proofs.AskedAll.{nothing_asked, query_by}
 use Rattle.request_lines.specs.Asking.{asking_with, with_parameter, name_cause, parameter_cause, is_long_for}
-use Rattle.request_lines.specs.Queries.{parameter_read, parameters_read, query_read}
+use Rattle.request_lines.specs.NamedQueries.{parameter_read, parameters_read}
 use Rattle.request_lines.proofs.QueryLaws.{query_read_by}
-use Rattle.request_lines.specs.Grammar.{put_read, delete_read, head_read, list_read, read_fields, read_verb, verb_of, read_line, reading_of}
+use Rattle.request_lines.specs.Input.{put_read, read_fields, verb_of, read_line, reading_of}
 use Rattle.request_lines.specs.Fine.{IsFineQuery, IsFineCommand}
 
 -- what is read has this property
@@ -57,8 +58,7 @@ unescaped_text : (text : List ℕ) → Gives IsUtf8 (unescaped text)
 unfolding unescaped
 unescaped_text text = if_gives IsUtf8 (escapes_are_whole text && is_utf8 (percent_decode text)) _ _ (λ whole. IsUtf8-from_is_utf8 (percent_decode text) (search rules)) (λ _. tt)
 
-name_fine : (name : List ℕ) → IsUtf8 name → Gives IsFine (name_of name)
-unfolding name_of
+name_fine : (name : List ℕ) → IsUtf8 name → Gives IsFine (if length name == 0 then Err EmptyKey else if nat_lt most_name_bytes (length name) then Err KeyTooLong else Ok name)
 name_fine name utf8 = if_gives IsFine (length name == 0) _ _ (λ _. tt) (λ some.
     if_gives IsFine (nat_lt 1024 (length name)) _ _ (λ _. tt) (λ short. record { not_empty = grind (arith, nat_tests); short = grind (arith, nat_tests); text = utf8 }))
 
@@ -73,17 +73,15 @@ put_fine key size etag modified =
     then_gives (λ _. Unit {0}) IsFineCommand (numbers_read size modified) _ (any _) (λ _ _.
     then_gives (λ _. Unit {0}) IsFineCommand (etag_read etag) _ (any _) (λ _ _. fine)))
 
-delete_fine : (key : List ℕ) → IsFineReading (delete_read key)
-unfolding delete_read
+delete_fine : (key : List ℕ) → IsFineReading (key_read key >>= (λ name. Ok (says.Delete name)))
 delete_fine key = then_gives IsFine IsFineCommand (key_read key) _ (key_fine key) (λ name fine. fine)
 
-head_fine : (key : List ℕ) → IsFineReading (head_read key)
-unfolding head_read
+head_fine : (key : List ℕ) → IsFineReading (key_read key >>= (λ name. Ok (says.Head name)))
 head_fine key = then_gives IsFine IsFineCommand (key_read key) _ (key_fine key) (λ name fine. fine)
 
 -- ---- queries
 
-plain_query_fine : IsFineQuery q.plain_query
+plain_query_fine : IsFineQuery plain_query
 plain_query_fine = record {
   short_prefix = omega arith;
   short_delimiter = omega arith;
@@ -197,7 +195,7 @@ fine_with query seen (Some names.MaxKeys) value utf8 none fine =
       delimiter = fine.delimiter;
       start_after = fine.start_after;
       token = fine.token;
-      entries = most_small (q.is_max_keys value) (digits_value 10 value);
+      entries = most_small (is_max_keys value) (digits_value 10 value);
     }
 
 asking_fine : (a : k.Asking) (p : q.Parameter) → IsUtf8 p.value → IsFineAsking a → IsFineAsking (asking_with a p)
@@ -226,13 +224,12 @@ query_by_fine : (a : k.Asking) (ps : List q.Parameter) → AreTexts ps → IsFin
 query_by_fine a [] texts fine = query_or_fine a.cause a.query fine
 query_by_fine a (p ∷ ps) texts fine = query_by_fine (asking_with a p) ps texts.1 (asking_fine a p texts.0 fine)
 
-query_fine : (text : List ℕ) → Gives IsFineQuery (q.query_read text)
+query_fine : (text : List ℕ) → Gives IsFineQuery (query_read text)
 query_fine text = subst (Gives IsFineQuery) (sym (query_read_by text)) (then_gives AreTexts IsFineQuery (q.parameters_read (q.pieces_of text)) _ (parameters_texts (q.pieces_of text))
     (λ ps texts. query_by_fine nothing_asked ps texts (λ none. plain_query_fine)))
 
-list_fine : (text : List ℕ) → IsFineReading (list_read text)
-unfolding list_read
-list_fine text = then_gives IsFineQuery IsFineCommand (q.query_read text) _ (query_fine text) (λ query fine. fine)
+list_fine : (text : List ℕ) → IsFineReading (query_read text >>= (λ query. Ok (says.List query)))
+list_fine text = then_gives IsFineQuery IsFineCommand (query_read text) _ (query_fine text) (λ query fine. fine)
 
 -- ---- lines
 
@@ -247,7 +244,7 @@ fields_fine verbs.List (query ∷ []) = list_fine query
 fields_fine verbs.Next [] = tt
 fields_fine verb fields = tt
 
-verb_fine : (verb : Option Verb) (fields : List (List ℕ)) → IsFineReading (read_verb verb fields)
+verb_fine : (verb : Option Verb) (fields : List (List ℕ)) → IsFineReading (option_map_or (λ (v : Verb). read_fields v fields) verb (Err UnknownVerb))
 verb_fine None fields = tt
 verb_fine (Some verb) fields = fields_fine verb fields
 

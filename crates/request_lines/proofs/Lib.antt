@@ -1,5 +1,6 @@
 pub mod FirstByte
 pub mod AskedAll
+pub mod ByNames
 pub mod QueryLaws
 pub mod TextLaws
 pub mod ShortNumbers

@@ -9,14 +9,16 @@ use Rattle.request_lines.specs.declared.counts.Counts.{Counts}
 use Rattle.request_lines.specs.declared.session.Session.{Session}
 use Rattle.request_lines.specs.declared.session_error.SessionError.{SessionError}
 use Rattle.request_lines.specs.declared.session_error.SessionError.TheVariants as errors
-use Rattle.request_lines.specs.Lines.{texts_of}
-use Rattle.request_lines.specs.Grammar.{reading_of, is_client, is_put, clients_in, requests_in, puts_in, entries_behind, limit_cause}
+use Rattle.request_lines.specs.InputParts.{texts_of, clients_in, requests_in, puts_in}
+use Rattle.request_lines.specs.Input.{reading_of, is_client, is_put, entries_behind, limit_cause}
 use Rattle.std.proofs.lemmas.List.{drop-map}
 use Rattle.std.proofs.lemmas.List.Sums.{sum_by-append}
 use Rattle.request_lines.specs.Counting as k
 use Rattle.request_lines.specs.Counting.{counted, counted_with}
-use Rattle.request_lines.specs.Input.{Line, said, error_at, begins_client, name_by, record_by}
+use Rattle.request_lines.specs.Input.{Line, said, begins_client, name_by, record_by}
+use Rattle.request_lines.specs.InputParts.{error_at}
 use Rattle.request_lines.specs.Input as i
+use Rattle.request_lines.specs.InputParts as p
 use Rattle.request_lines.specs.Refusal.{IsRefused}
 use Rattle.request_lines.proofs.CountedLines as l
 
@@ -208,7 +210,7 @@ refusal_same bytes =
 
 part_same : (lines : List Line) → l.part_of (map with_counts lines) ≡ i.part_of lines
 part_same lines =
-    ap (λ asked. record { requests = asked }) (chosen_same i.asked_of l.asked_of lines (λ line. ap (i.asked_at line.number) (request_same line.before line.reading)))
+    ap (λ asked. record { requests = asked }) (chosen_same i.asked_of l.asked_of lines (λ line. ap (p.asked_at line.number) (request_same line.before line.reading)))
 
 all_parts : (pieces : List (List Line)) → map l.part_of (map (map with_counts) pieces) ≡ map i.part_of pieces
 all_parts [] = refl
@@ -234,24 +236,25 @@ split_mapped (line ∷ lines) = by_test (begins line) (split_mapped lines)
     by_test true is = ap (λ pieces. [] ∷ pieces) is
     by_test false is = ap (onto_first (with_counts line)) is ∙ onto_mapped line (slice_split begins lines)
 
-parts_same : (lines : List Line) → l.parts_of (map with_counts lines) ≡ i.parts_of lines
-unfolding l.parts_of i.parts_of
+parts_same : (lines : List Line) → l.parts_of (map with_counts lines) ≡ p.parts_of lines
+unfolding l.parts_of p.parts_of
 parts_same lines =
     ap (λ pieces. map l.part_of (drop 1 pieces)) (split_mapped lines)
     ∙ ap (map l.part_of) (drop-map (map with_counts) 1 (slice_split begins lines))
     ∙ all_parts (drop 1 (slice_split begins lines))
 
-names_same : (lines : List Line) → l.names_of (map with_counts lines) ≡ i.names_of lines
-unfolding l.names_of i.names_of
+names_same : (lines : List Line) → l.names_of (map with_counts lines) ≡ p.names_of lines
+unfolding l.names_of p.names_of
 names_same lines = chosen_same (λ (line : Line). name_by line.reading) (λ (line : l.Line). name_by line.reading) lines (λ line. refl)
 
-records_same : (lines : List Line) → l.records_of (map with_counts lines) ≡ i.records_of lines
-unfolding l.records_of i.records_of
+records_same : (lines : List Line) → l.records_of (map with_counts lines) ≡ p.records_of lines
+unfolding l.records_of p.records_of
 records_same lines = chosen_same (λ (line : Line). record_by line.reading) (λ (line : l.Line). record_by line.reading) lines (λ line. refl)
 
 -- ---- the session
 
 pub session_is : (bytes : List ℕ) (session : Session) → l.IsSessionOf bytes session → i.IsSessionOf bytes session
+unfolding p.parts_of p.names_of p.records_of
 session_is bytes session is = record {
   faultless = sym (refusal_same bytes) ∙ is.faultless;
   clients = is.clients ∙ ap l.parts_of (sym (all_counted bytes)) ∙ parts_same (i.input_lines bytes);

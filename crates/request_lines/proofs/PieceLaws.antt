@@ -9,9 +9,10 @@ use Rattle.std.specs.List.{slice_split}
 use Rattle.request_lines.specs.Pieces.{piece_asked, TakesPiece}
 use Rattle.request_lines.specs.Asking.{Asking, asking_with}
 use Rattle.request_lines.proofs.AskedAll.{nothing_asked, query_by, pieces_asked}
-use Rattle.request_lines.specs.Queries.{Parameter, parameter_read, parameters_read, query_read, query_or, pieces_of, without_mark}
+use Rattle.request_lines.specs.NamedQueries.{Parameter, parameter_read, parameters_read, query_or, pieces_of}
+use Rattle.request_lines.specs.Queries.{query_read, without_mark}
 use Rattle.request_lines.proofs.QueryLaws.{query_read_by}
-use Rattle.request_lines.specs.Reads.{◌>>=◌}
+use Rattle.request_lines.specs.Texts.{◌>>=◌}
 use Rattle.request_lines.specs.ReadAnswers.{Fails}
 
 -- a first piece, and those behind it

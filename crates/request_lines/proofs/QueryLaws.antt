@@ -13,8 +13,10 @@ use Rattle.request_lines.specs.declared.parameter.Name.TheVariants as names
 use Rattle.request_lines.specs.Asking.{Asking, asking_with, with_name, with_parameter, name_cause, parameter_cause, stands_in, is_long_for, value_cause}
 use Rattle.request_lines.proofs.AskedAll.{nothing_asked, query_by, given, with_all}
 use Rattle.request_lines.specs.Causes.{place_of, earliest}
-use Rattle.request_lines.specs.Queries.{Parameter, place_of_name, is_name, is_same_name, is_too_long, is_list_type, is_max_keys, is_encoding, is_fetch_owner, repeats, have, parameter_causes, plain_query, parameters_read, pieces_of, query_or, query_of, query_read, query_asked, value_of, as_it_is, is_url, most_entries}
-use Rattle.request_lines.specs.Reads.{◌>>=◌}
+use Rattle.request_lines.specs.NamedQueries.{Parameter, place_of_name, is_name, is_same_name, is_too_long, is_list_type, is_encoding, is_fetch_owner, repeats, have, parameters_read, pieces_of, query_or, query_of, query_asked, query_by_names, value_of, as_it_is, is_url}
+use Rattle.request_lines.specs.Queries.{is_max_keys, parameter_causes, plain_query, query_read, most_entries}
+use Rattle.request_lines.proofs.ByNames.{query_same}
+use Rattle.request_lines.specs.Texts.{◌>>=◌}
 
 -- ---- tests of lists
 
@@ -393,8 +395,8 @@ query_by_is ps =
 
 -- reading a query gives what a reader keeps of its parameters
 pub query_read_by : (text : List ℕ) → query_read text ≡ (parameters_read (pieces_of text) >>= query_by nothing_asked)
-unfolding query_read
-query_read_by text = by_parameters (parameters_read (pieces_of text))
+unfolding query_by_names
+query_read_by text = query_same text ∙ by_parameters (parameters_read (pieces_of text))
   where
     by_parameters : (read : Result (List Parameter) Cause) → (read >>= query_of) ≡ (read >>= query_by nothing_asked)
     by_parameters (Ok ps) = sym (query_by_is ps)

@@ -16,9 +16,9 @@ use Rattle.std.proofs.lemmas.List.Splits.{slice_split_at, slice_split_none}
 use Rattle.std.proofs.lemmas.Str.{is_utf8-from_IsUtf8, IsUtf8-from_ascii}
 use Rattle.std.proofs.lemmas.Str.Parse.{IsNumeralModel, numerals_by_value, tells_all_ascii_digits}
 use Rattle.request_lines.specs.declared.command.Command.TheVariants as says
-use Rattle.request_lines.specs.Lines.{fields_of}
-use Rattle.request_lines.specs.Texts.{name_of, key_read, is_number, is_small, numbers_read, etag_read, is_tag, is_tag_byte, unquoted}
-use Rattle.request_lines.specs.Grammar.{reading_of, read_line, read_fields, put_read, delete_read}
+use Rattle.request_lines.specs.InputParts.{fields_of}
+use Rattle.request_lines.specs.Texts.{key_read, is_number, is_small, numbers_read, etag_read, is_tag, is_tag_byte, unquoted}
+use Rattle.request_lines.specs.Input.{reading_of, read_line, read_fields, put_read}
 use Rattle.request_lines.specs.Sample.{four_digits, sample_name}
 use Rattle.request_lines.specs.SampleSession.{sample_record}
 use Rattle.request_lines.proofs.SampleQueries.{query_text, list_line}
@@ -156,7 +156,7 @@ name_length client i digit =
 
 -- the key of a name is the name
 key_plain : (name : List ℕ) → IsPlainText name → length name ≡ 7 → key_read name ≡ Ok name
-unfolding key_read name_of
+unfolding key_read
 key_plain name plain size =
     let none : list_any (λ b. b == 37) name ≡ false = list_any_none (λ b. b == 37) name (fails is_plain (λ b. b == 37) plain_no_escape name plain) in
     rw (unescaped_plain name none (inside_utf8 name (inside_plain name plain)), size) refl
@@ -234,7 +234,7 @@ put_reading client i digit small =
     ∙ put_by_parts name (decimal i) i (name_read client i digit) (numbers_written i small)
 
 delete_by_key : (name : List ℕ) → key_read name ≡ Ok name → read_line (codes "DELETE" ∷ name ∷ []) ≡ Ok (says.Delete name)
-unfolding delete_read read_line read_fields
+unfolding read_line read_fields
 delete_by_key name key = rw key refl
 
 pub delete_reading : (client i : ℕ) → client < 10 → reading_of (delete_line client i) ≡ Ok (says.Delete (sample_name client i))

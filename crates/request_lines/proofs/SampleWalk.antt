@@ -15,13 +15,12 @@ use Rattle.request_lines.specs.declared.counts.Counts.{Counts}
 use Rattle.bucket_terms.specs.declared.record.Record.{Record}
 use Rattle.request_lines.specs.declared.session.Asked.{Asked}
 use Rattle.request_lines.specs.declared.session.ClientPart.{ClientPart}
-use Rattle.request_lines.specs.Lines.{texts_of}
-use Rattle.request_lines.specs.Grammar.{reading_of, read_line, read_fields, is_client}
+use Rattle.request_lines.specs.InputParts.{texts_of}
+use Rattle.request_lines.specs.Input.{reading_of, read_line, read_fields, is_client, IsSessionOf}
 use Rattle.request_lines.specs.Counting.{counted, limit_by_counts}
 use Rattle.request_lines.specs.Reading.{Progress, no_progress, all_ended, kept, taken, error_of_text}
 use Rattle.request_lines.specs.Sample.{sample_name, sample_line, sample_lines, sample_text}
 use Rattle.request_lines.specs.SampleSession.{sample_query, sample_record, one_if_put, sample_puts, sample_request, sample_requests, sample_named, sample_recorded, sample_names, sample_records, sample_clients_parts, sample_clients_names, sample_clients_records, sample_session}
-use Rattle.request_lines.specs.Input.{IsSessionOf}
 use Rattle.request_lines.proofs.LineCounts.{session_is}
 use Rattle.request_lines.proofs.InputLaws.{IsHalfway, halfway_start, halfway_more, halfway_end}
 use Rattle.request_lines.proofs.SampleLines.{IsInside, read_by_fields, inside_no_feeds, strip_plain, put_line, delete_line, inside_put, inside_delete, inside_list, name_length, put_reading, delete_reading}

@@ -22,10 +22,10 @@ use Rattle.request_lines.specs.declared.session.ClientPart.{ClientPart}
 use Rattle.request_lines.specs.declared.session.Session.{Session}
 use Rattle.request_lines.specs.declared.session_error.SessionError.{SessionError}
 use Rattle.request_lines.specs.declared.cause.Cause.TheVariants.{NoClient}
-use Rattle.request_lines.specs.Grammar.{is_client, reading_of}
+use Rattle.request_lines.specs.Input.{is_client, reading_of}
 use Rattle.request_lines.specs.Fine.{IsFineCommand}
 use Rattle.request_lines.specs.Counting.{IsWithin, counted, limit_by_counts, cause_by_counts}
-use Rattle.request_lines.specs.Input.{error_at}
+use Rattle.request_lines.specs.InputParts.{error_at}
 use Rattle.request_lines.specs.Reading.{Progress, no_progress, all_ended, kept, taken, error_of_text}
 use Rattle.request_lines.specs.Session.{request_line, request_lines}
 use Rattle.request_lines.specs.SessionLaws.{all_requests, requested_name, record_place, asked_name, asked_place, HasNames, HasRecords, IsFineRequest, IsServed, HasRequests, Rise, HasLineNumber, HasLines, IsSmall}

@@ -13,7 +13,7 @@ use Rattle.std.proofs.lemmas.List.Sums.{fails_before_first, prefix_len-le-length
 use Rattle.std.specs.Str.Parse.{ParsesUnsigned, digits_value}
 use Rattle.std.proofs.lemmas.Str.Parse.{IsNumeralModel, numerals_by_value, tells_all_ascii_digits, parse_digits}
 use Rattle.std.proofs.lemmas.Bool.Decides.{nat_tests}
-use Rattle.request_lines.specs.Lines.{texts_of}
+use Rattle.request_lines.specs.InputParts.{texts_of}
 use Rattle.request_lines.specs.declared.cause.Cause.TheVariants.{BadEscape}
 use Rattle.request_lines.specs.Texts.{escapes_are_whole, unescaped, is_number, is_small}
 use Rattle.request_lines.specs.Queries.{without_mark}

@@ -10,7 +10,8 @@ use Rattle.request_lines.specs.declared.cause.Cause.TheVariants.{KeyTooLong, Unk
 use Rattle.request_lines.specs.declared.parameter.Name.{Name}
 use Rattle.request_lines.specs.declared.parameter.Name.TheVariants.{ListType, Prefix, Delimiter, MaxKeys, StartAfter, ContinuationToken, EncodingType, FetchOwner}
 use Rattle.request_lines.specs.Causes.{earliest}
-use Rattle.request_lines.specs.Queries.{Parameter, place_of_name, is_list_type, is_max_keys, is_encoding, is_fetch_owner, is_url, most_entries}
+use Rattle.request_lines.specs.NamedQueries.{Parameter, place_of_name, is_list_type, is_encoding, is_fetch_owner, is_url}
+use Rattle.request_lines.specs.Queries.{is_max_keys, most_entries}
 
 -- whether the name is among these
 abbrev pub stands_in : List Name → Name → Bool

@@ -8,8 +8,9 @@ use Rattle.request_lines.specs.declared.cause.Cause.TheVariants.{NoClient, TooMa
 use Rattle.request_lines.specs.declared.command.Command.{Command}
 use Rattle.request_lines.specs.declared.command.Command.TheVariants as says
 use Rattle.request_lines.specs.declared.counts.Counts.{Counts}
-use Rattle.request_lines.specs.Grammar.{is_client}
-use Rattle.request_lines.specs.Limits.{most_clients, most_requests, most_listed, most_keys}
+use Rattle.request_lines.specs.Input.{is_client}
+use Rattle.request_lines.specs.InputParts.{most_clients, most_requests, most_listed}
+use Rattle.request_lines.specs.Queries.{most_keys}
 
 -- before the first line
 abbrev pub none_counted : Counts

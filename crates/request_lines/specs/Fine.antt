@@ -4,7 +4,7 @@ use Rattle.std.specs.Prelude.{◌≤◌, length}
 use Rattle.std.specs.Str.{IsUtf8}
 use Rattle.key_names.specs.Names.{IsFine, most_name_bytes}
 use Rattle.bucket_terms.specs.declared.list_query.ListQuery.{ListQuery}
-use Rattle.request_lines.specs.Limits.{most_keys}
+use Rattle.request_lines.specs.Queries.{most_keys}
 use Rattle.request_lines.specs.declared.command.Command.{Command}
 use Rattle.request_lines.specs.declared.command.Command.TheVariants as says
 

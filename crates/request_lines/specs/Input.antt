@@ -1,18 +1,100 @@
--- The session of a whole input, and its refusal.
-use Rattle.std.specs.Prelude.{◌≡◌, ℕ, ◌+◌, ◌==◌, Bool, false, List, [], ◌∷◌, ◌++◌, length, map, drop, Option, Some, None, Result, Ok, Err, slice_get, if◌then◌else◌}
+-- What a line says, by cases on its verb and its fields; the session of a whole input, or its refusal.
+use Rattle.std.specs.Prelude.{◌≡◌, ℕ, ◌+◌, ◌==◌, ◌&&◌, not, nat_lt, Bool, true, false, List, [], ◌∷◌, ◌++◌, length, map, drop, Option, Some, None, Result, Ok, Err, codes, count_by, slice_get, if◌then◌else◌}
 use Rattle.std.specs.List.{slice_split, filter_map}
+use Rattle.std.specs.Option.{option_map, option_map_or}
+use Rattle.std.specs.Str.{is_utf8, bytes_eq}
+use Rattle.std.specs.Str.Lines.{strip_carriage_return}
 use Rattle.bucket_terms.specs.declared.record.Record.{Record}
 use Rattle.bucket_terms.specs.declared.request.Request.{Request}
 use Rattle.bucket_terms.specs.declared.request.Request.TheVariants as asks
 use Rattle.request_lines.specs.declared.cause.Cause.{Cause}
+use Rattle.request_lines.specs.declared.cause.Cause.TheVariants.{NotUtf8, UnknownVerb, WrongFields, NoClient, TooManyClients, TooManyLines, TooManyEntries}
 use Rattle.request_lines.specs.declared.command.Command.{Command}
 use Rattle.request_lines.specs.declared.command.Command.TheVariants as says
 use Rattle.request_lines.specs.declared.session.Asked.{Asked}
 use Rattle.request_lines.specs.declared.session.ClientPart.{ClientPart}
 use Rattle.request_lines.specs.declared.session.Session.{Session}
 use Rattle.request_lines.specs.declared.session_error.InputError.{InputError}
-use Rattle.request_lines.specs.Lines.{texts_of}
-use Rattle.request_lines.specs.Grammar.{reading_of, is_client, puts_in, limit_cause}
+use Rattle.request_lines.specs.declared.verb.Verb.{Verb}
+use Rattle.request_lines.specs.declared.verb.Verb.TheVariants as verbs
+use Rattle.request_lines.specs.Queries.{plain_query, query_read}
+use Rattle.request_lines.specs.Texts.{◌>>=◌, key_read, numbers_read, etag_read}
+
+-- the most bytes of an input: 64 MiB
+abbrev pub most_input_bytes : ℕ
+most_input_bytes = 67108864
+
+-- ---- one line
+
+-- the verb of this text, in upper case
+abbrev pub verb_of : List ℕ → Option Verb
+verb_of text =
+    if bytes_eq text (codes "CLIENT") then Some verbs.Client
+    else if bytes_eq text (codes "PUT") then Some verbs.Put
+    else if bytes_eq text (codes "DELETE") then Some verbs.Delete
+    else if bytes_eq text (codes "HEAD") then Some verbs.Head
+    else if bytes_eq text (codes "LIST") then Some verbs.List
+    else if bytes_eq text (codes "NEXT") then Some verbs.Next
+    else None
+
+-- a PUT line with these fields
+unfoldable pub put_read : List ℕ → List ℕ → List ℕ → List ℕ → Result Command Cause
+put_read key size etag modified = do
+  name ← key_read key
+  numbers ← numbers_read size modified
+  tag ← etag_read etag
+  Ok (says.Put name (record { size = numbers.0; etag = tag; modified = numbers.1 }))
+
+-- a line of this verb, with these fields behind it
+unfoldable pub read_fields : Verb → List (List ℕ) → Result Command Cause
+read_fields verbs.Client [] = Ok says.Client
+read_fields verbs.Put (key ∷ size ∷ etag ∷ modified ∷ []) = put_read key size etag modified
+read_fields verbs.Delete (key ∷ []) = key_read key >>= (λ name. Ok (says.Delete name))
+read_fields verbs.Head (key ∷ []) = key_read key >>= (λ name. Ok (says.Head name))
+read_fields verbs.List [] = Ok (says.List plain_query)
+read_fields verbs.List (text ∷ []) = query_read text >>= (λ query. Ok (says.List query))
+read_fields verbs.Next [] = Ok says.Next
+read_fields verb fields = Err WrongFields
+
+-- a line with these fields, of which the first is its verb
+unfoldable pub read_line : List (List ℕ) → Result Command Cause
+read_line [] = Err UnknownVerb
+read_line (verb ∷ fields) = option_map_or (λ (v : Verb). read_fields v fields) (verb_of verb) (Err UnknownVerb)
+
+-- what a line says, or the first cause that it has alone, whatever came before it. It is cut into fields at each space, so
+-- two spaces in a row have an empty field between them.
+unfoldable pub reading_of : List ℕ → Result Command Cause
+reading_of text = if is_utf8 text then read_line (slice_split (λ b. b == 32) text) else Err NotUtf8
+
+-- ---- limits
+
+abbrev pub is_client : Command → Bool
+is_client says.Client = true
+is_client command = false
+
+abbrev pub is_put : Command → Bool
+is_put (says.Put name fields) = true
+is_put command = false
+
+-- the entries that the pages of these lines can have, together. A LIST line can have as many as its page, a
+-- NEXT line as many as its client's last LIST line; `last` is that of the lines before these, or 0.
+abbrev pub entries_behind : (last : ℕ) → List Command → ℕ
+entries_behind last [] = 0
+entries_behind last (says.List query ∷ commands) = query.max_keys + entries_behind query.max_keys commands
+entries_behind last (says.Next ∷ commands) = last + entries_behind last commands
+entries_behind last (says.Client ∷ commands) = entries_behind 0 commands
+entries_behind last (command ∷ commands) = entries_behind last commands
+
+-- the first cause that the last of these lines has after the others
+unfoldable pub limit_cause : List Command → Command → Option Cause
+limit_cause commands last =
+    if not (is_client last) && count_by is_client commands == 0 then Some NoClient
+    else if is_client last && nat_lt 32 (count_by is_client commands) then Some TooManyClients
+    else if nat_lt 200000 (count_by (λ command. not (is_client command)) commands) then Some TooManyLines
+    else if nat_lt 4000000 (entries_behind 0 commands) then Some TooManyEntries
+    else None
+
+-- ---- the lines of an input
 
 -- a line that is not empty: its number, counted from 1 over all lines, what it says or its own cause, and
 -- what the lines before it say
@@ -33,8 +115,10 @@ lines_from number before (text ∷ texts) =
     else record { number = number; reading = reading_of text; before = before }
     ∷ lines_from (number + 1) (before ++ said (reading_of text)) texts
 
+-- the input is cut at each line feed, and one carriage return at the end of a line is dropped. What stands behind the last
+-- line feed is a line too, perhaps an empty one.
 unfoldable pub input_lines : List ℕ → List Line
-input_lines bytes = lines_from 1 [] (texts_of bytes)
+input_lines bytes = lines_from 1 [] (map strip_carriage_return (slice_split (λ b. b == 10) bytes))
 
 -- ---- refusal
 
@@ -43,14 +127,10 @@ abbrev pub cause_after : List Command → Result Command Cause → Option Cause
 cause_after before (Err cause) = Some cause
 cause_after before (Ok command) = limit_cause (before ++ command ∷ []) command
 
-abbrev pub error_at : ℕ → Option Cause → Option InputError
-error_at number None = None
-error_at number (Some cause) = Some (record { line = number; cause = cause })
-
-abbrev pub error_of : Line → Option InputError
-error_of line = error_at line.number (cause_after line.before line.reading)
-
 -- the refusal of an input: the first line that has a cause, with its first cause
+abbrev pub error_of : Line → Option InputError
+error_of line = option_map (λ cause. record { line = line.number; cause = cause }) (cause_after line.before line.reading)
+
 unfoldable pub refusal_of : List ℕ → Option InputError
 refusal_of bytes = slice_get (filter_map error_of (input_lines bytes)) 0
 
@@ -63,19 +143,12 @@ begins_client (Err cause) = false
 
 -- the request of a line. The record of a PUT line has as many records before it as there are PUT lines.
 abbrev pub request_by : List Command → Result Command Cause → Option Request
-request_by before (Ok (says.Put name fields)) = Some (asks.Put name (puts_in before))
+request_by before (Ok (says.Put name fields)) = Some (asks.Put name (count_by is_put before))
 request_by before (Ok (says.Delete name)) = Some (asks.Delete name)
 request_by before (Ok (says.Head name)) = Some (asks.Head name)
 request_by before (Ok (says.List query)) = Some (asks.List query)
 request_by before (Ok says.Next) = Some asks.Next
 request_by before reading = None
-
-abbrev pub asked_at : ℕ → Option Request → Option Asked
-asked_at number None = None
-asked_at number (Some request) = Some (record { line = number; request = request })
-
-abbrev pub asked_of : Line → Option Asked
-asked_of line = asked_at line.number (request_by line.before line.reading)
 
 -- the name of a PUT, DELETE or HEAD line, and the record of a PUT line
 abbrev pub name_by : Result Command Cause → Option (List ℕ)
@@ -89,23 +162,16 @@ record_by (Ok (says.Put name fields)) = Some fields
 record_by reading = None
 
 -- the part of a client whose lines these are
+abbrev pub asked_of : Line → Option Asked
+asked_of line = option_map (λ request. record { line = line.number; request = request }) (request_by line.before line.reading)
+
 abbrev pub part_of : List Line → ClientPart
 part_of lines = record { requests = filter_map asked_of lines }
 
--- the parts of the clients: the lines are cut at each line that begins one. No client has the lines
--- before the first of these.
-unfoldable pub parts_of : List Line → List ClientPart
-parts_of lines = map part_of (drop 1 (slice_split (λ (l : Line). begins_client l.reading) lines))
-
-unfoldable pub names_of : List Line → List (List ℕ)
-names_of lines = filter_map (λ (l : Line). name_by l.reading) lines
-
-unfoldable pub records_of : List Line → List Record
-records_of lines = filter_map (λ (l : Line). record_by l.reading) lines
-
--- the session is that of the input
+-- the session is that of the input: its lines are cut at each line that begins a client, and no client has the lines
+-- before the first of these
 pub record IsSessionOf (bytes : List ℕ) (session : Session) : Type 0 where
   pub faultless : refusal_of bytes ≡ None
-  pub clients : session.clients ≡ parts_of (input_lines bytes)
-  pub names : session.names ≡ names_of (input_lines bytes)
-  pub records : session.records ≡ records_of (input_lines bytes)
+  pub clients : session.clients ≡ map part_of (drop 1 (slice_split (λ (l : Line). begins_client l.reading) (input_lines bytes)))
+  pub names : session.names ≡ filter_map (λ (l : Line). name_by l.reading) (input_lines bytes)
+  pub records : session.records ≡ filter_map (λ (l : Line). record_by l.reading) (input_lines bytes)

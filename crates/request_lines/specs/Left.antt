@@ -3,7 +3,7 @@
 use Rattle.std.specs.Prelude.{◌≡◌, ℕ, ◌+◌, ◌==◌, List, [], ◌∷◌, length, Option, Some, None}
 use Rattle.std.specs.Borrow.{Bor}
 use Rattle.std.specs.List.{slice_split}
-use Rattle.request_lines.specs.Lines.{texts_of}
+use Rattle.request_lines.specs.InputParts.{texts_of}
 
 -- how much is left: nothing, or these bytes, of which the last part may have none
 abbrev pub size_left : Option (Bor (List ℕ)) → ℕ

@@ -1,13 +1,11 @@
 pub mod Asking
 pub mod Causes
-pub mod Limits
-pub mod Lines
-pub mod Reads
 pub mod Texts
 pub mod Queries
-pub mod Grammar
+pub mod NamedQueries
 pub mod Counting
 pub mod Input
+pub mod InputParts
 pub mod Session
 pub mod Interned
 pub mod Left

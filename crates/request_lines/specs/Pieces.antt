@@ -5,9 +5,9 @@ use Rattle.request_lines.specs.declared.cause.Cause.{Cause}
 use Rattle.request_lines.specs.declared.line_error.LineError.{LineError}
 use Rattle.request_lines.specs.declared.line_error.LineError.TheVariants as errors
 use Rattle.request_lines.specs.declared.query as code
-use Rattle.request_lines.specs.Reads.{◌>>=◌}
+use Rattle.request_lines.specs.Texts.{◌>>=◌}
 use Rattle.request_lines.specs.Asking.{Asking, asking_with}
-use Rattle.request_lines.specs.Queries.{Parameter, parameter_read}
+use Rattle.request_lines.specs.NamedQueries.{Parameter, parameter_read}
 
 -- what is kept of the parameters so far
 abbrev pub asking : code.Asking.Asking → Asking

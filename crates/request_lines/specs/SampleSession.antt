@@ -1,3 +1,4 @@
+-- Helper: the headline does not rest on this file.
 -- What the generated session asks: the session of its text.
 use Rattle.std.specs.Prelude.{ℕ, zero, suc, ◌+◌, ◌*◌, ◌%◌, ◌==◌, List, [], ◌∷◌, ◌++◌, codes, if◌then◌else◌}
 use Rattle.std.specs.Fmt.{decimal}
@@ -10,6 +11,10 @@ use Rattle.request_lines.specs.declared.session.ClientPart.{ClientPart}
 use Rattle.request_lines.specs.declared.session.Session.{Session}
 use Rattle.request_lines.specs.Queries.{plain_query}
 use Rattle.request_lines.specs.Sample.{sample_name}
+
+-- the most requests of a client
+abbrev pub most_sample_requests : ℕ
+most_sample_requests = 40000
 
 -- what the names of a client begin with, and no other's
 abbrev pub sample_prefix : ℕ → List ℕ

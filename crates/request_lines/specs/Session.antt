@@ -1,3 +1,4 @@
+-- Helper: the headline does not rest on this file.
 -- The request lines of a client, as the legal run speaks of them.
 use Rattle.std.specs.Prelude.{List, map}
 use Rattle.bucket_terms.specs.LegalRun.{RequestLine}

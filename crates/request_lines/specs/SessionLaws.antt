@@ -9,7 +9,7 @@ use Rattle.key_names.specs.Names.{IsFine}
 use Rattle.request_lines.specs.declared.session.Asked.{Asked}
 use Rattle.request_lines.specs.declared.session.ClientPart.{ClientPart}
 use Rattle.request_lines.specs.declared.session.Session.{Session}
-use Rattle.request_lines.specs.Limits.{most_clients, most_requests}
+use Rattle.request_lines.specs.InputParts.{most_clients, most_requests}
 use Rattle.request_lines.specs.Fine.{IsFineQuery}
 use Rattle.request_lines.specs.Session.{request_line, request_lines}
 

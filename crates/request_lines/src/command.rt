@@ -2,9 +2,9 @@
 ghost use Rattle.std.specs.Prelude.{◌≡◌, [], ◌∷◌, Ok, IfOk, MatchOption};
 ghost use Rattle.request_lines.specs.declared.command.Command.TheVariants as says;
 ghost use Rattle.request_lines.specs.declared.verb.Verb.TheVariants as verbs;
-ghost use Rattle.request_lines.specs.Grammar.{read_fields, read_line, reading_of, list_read};
+ghost use Rattle.request_lines.specs.Input.{read_fields, read_line, reading_of};
 ghost use Rattle.request_lines.specs.Fine.{IsFineCommand};
-ghost use Rattle.request_lines.specs.Lines.{fields_of};
+ghost use Rattle.request_lines.specs.InputParts.{fields_of, list_read};
 ghost use Rattle.request_lines.specs.Left.{parts_left, IsNotOne};
 ghost use Rattle.request_lines.specs.ReadAnswers.{Reads};
 
@@ -34,7 +34,7 @@ pub(crate) enum Command {
 }
 
 /// What a line says, whatever came before it.
-#[tactic(auto, unfolding(crate::specs::Grammar::reading_of))]
+#[tactic(auto, unfolding(crate::specs::Input::reading_of))]
 pub(crate) fn command_of(alloc: Global, text: &[u8]) -> Result<Command, LineError>
     ensures reading { Reads result (reading_of text.now) }
     ensures fine { IfOk result IsFineCommand }
@@ -45,7 +45,7 @@ pub(crate) fn command_of(alloc: Global, text: &[u8]) -> Result<Command, LineErro
     said(alloc, line)
 }
 
-#[tactic(auto, unfolding(crate::specs::Grammar::read_line))]
+#[tactic(auto, unfolding(crate::specs::Input::read_line))]
 fn said(alloc: Global, line: &str) -> Result<Command, LineError>
     ensures { Reads result (read_line (fields_of line.now)) }
 {
@@ -69,7 +69,7 @@ fn with_fields(alloc: Global, verb: Verb, left: Option<&str>) -> Result<Command,
     }
 }
 
-#[tactic(auto, unfolding(crate::specs::Grammar::read_fields))]
+#[tactic(auto, unfolding(crate::specs::Input::read_fields))]
 fn client(left: Option<&str>) -> Result<Command, LineError>
     ensures { Reads result (read_fields verbs.Client (parts_left 32 left.entry)) }
 {
@@ -79,7 +79,7 @@ fn client(left: Option<&str>) -> Result<Command, LineError>
     }
 }
 
-#[tactic(auto, unfolding(crate::specs::Grammar::read_fields))]
+#[tactic(auto, unfolding(crate::specs::Input::read_fields))]
 fn next(left: Option<&str>) -> Result<Command, LineError>
     ensures { Reads result (read_fields verbs.Next (parts_left 32 left.entry)) }
 {
@@ -89,7 +89,7 @@ fn next(left: Option<&str>) -> Result<Command, LineError>
     }
 }
 
-#[tactic(auto, unfolding(crate::specs::Grammar::read_fields))]
+#[tactic(auto, unfolding(crate::specs::Input::read_fields))]
 fn put(alloc: Global, left: Option<&str>) -> Result<Command, LineError>
     ensures { Reads result (read_fields verbs.Put (parts_left 32 left.entry)) }
 {
@@ -99,7 +99,7 @@ fn put(alloc: Global, left: Option<&str>) -> Result<Command, LineError>
     }
 }
 
-#[tactic(auto, unfolding(crate::specs::Grammar::read_fields, crate::specs::Grammar::delete_read))]
+#[tactic(auto, unfolding(crate::specs::Input::read_fields))]
 fn delete(alloc: Global, left: Option<&str>) -> Result<Command, LineError>
     ensures { Reads result (read_fields verbs.Delete (parts_left 32 left.entry)) }
 {
@@ -110,7 +110,7 @@ fn delete(alloc: Global, left: Option<&str>) -> Result<Command, LineError>
     Ok(Command::Delete { name })
 }
 
-#[tactic(auto, unfolding(crate::specs::Grammar::read_fields, crate::specs::Grammar::head_read))]
+#[tactic(auto, unfolding(crate::specs::Input::read_fields))]
 fn head(alloc: Global, left: Option<&str>) -> Result<Command, LineError>
     ensures { Reads result (read_fields verbs.Head (parts_left 32 left.entry)) }
 {
@@ -134,7 +134,7 @@ fn only_field(left: Option<&str>) -> Option<&str>
     }
 }
 
-#[tactic(auto, unfolding(crate::specs::Grammar::read_fields))]
+#[tactic(auto, unfolding(crate::specs::Input::read_fields))]
 fn list(alloc: Global, left: Option<&str>) -> Result<Command, LineError>
     ensures { Reads result (read_fields verbs.List (parts_left 32 left.entry)) }
 {
@@ -148,7 +148,6 @@ fn list(alloc: Global, left: Option<&str>) -> Result<Command, LineError>
 }
 
 // The LIST line with this query.
-#[tactic(auto, unfolding(crate::specs::Grammar::list_read))]
 fn list_of(alloc: Global, text: &str) -> Result<Command, LineError>
     ensures { Reads result (list_read text.now) }
 {

@@ -3,6 +3,7 @@ ghost use Rattle.std.specs.Prelude.{◌≡◌, ◌<◌, ◌++◌, ◌∷◌, [],
 ghost use Rattle.request_lines.specs.declared.line_error.LineError.TheVariants.{NoMemory as OutOfMemory};
 ghost use Rattle.request_lines.specs.Interned.{AreRanks, HaveNumbers, IsKnownAs, name_of};
 
+use crate::keyed::BehindInput;
 use crate::leads::{Numbered, sorted};
 use crate::line_error::LineError;
 use crate::names::Names;
@@ -14,7 +15,7 @@ use std::marker::Model;
 /// The names of the lines so far. A name's number is its place among the distinct names, in the order in which they came.
 #[derive(Debug, Drop)]
 pub(crate) struct Interner {
-    known: IndexSet<Text>,
+    known: IndexSet<Text, BehindInput>,
     // For each line the number of its name.
     order: Vec<usize>,
 }
@@ -31,11 +32,12 @@ impl Model for Interner {
 }
 
 impl Interner {
-    pub(crate) fn new(alloc: Global) -> Interner
+    /// Before the first line of this input.
+    pub(crate) fn new(alloc: Global, input: &[u8]) -> Interner
         ensures { result ≡ [] }
     {
         Interner {
-            known: IndexSet::new(alloc),
+            known: IndexSet::with_hasher(alloc, BehindInput::of(input)),
             order: Vec::new(alloc),
         }
     }
@@ -66,7 +68,11 @@ impl Interner {
 }
 
 // The number of a name among the known ones, which it joins where it is new.
-fn number_of(alloc: Global, known: &mut IndexSet<Text>, name: &Text) -> Result<usize, LineError>
+fn number_of(
+    alloc: Global,
+    known: &mut IndexSet<Text, BehindInput>,
+    name: &Text,
+) -> Result<usize, LineError>
     ensures number { IfOk result (λ number. IsKnownAs known.old.keys known.new.keys name.now number) }
     ensures kept { OnErr result (known.new.keys ≡ known.old.keys) }
     ensures memory { IsOkUnless result OutOfMemory }

@@ -1,12 +1,13 @@
 //! A session's text, read line by line: which clients there are, what each of them asks, and the first fault.
 //! The layers above use `read_session`, what `specs/Session.antt` says of every session, and the grammar of
-//! `specs/Grammar.antt`.
+//! `specs/Input.antt`.
 #![tactic(auto)]
 
 mod cause;
 mod command;
 mod counts;
 mod interner;
+mod keyed;
 mod leads;
 mod limits;
 mod line_error;

@@ -1,7 +1,7 @@
 // The parameters of a query (Amazon S3 API reference, ListObjectsV2: URI request parameters).
 ghost use Rattle.std.specs.Prelude.{◌≡◌};
 ghost use Rattle.request_lines.specs.Asking as kept;
-ghost use Rattle.request_lines.specs.Queries as spec;
+ghost use Rattle.request_lines.specs.NamedQueries as spec;
 
 /// The name of a parameter.
 #[derive(Clone, Copy, Debug, PartialEq, Eq)]

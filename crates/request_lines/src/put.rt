@@ -2,7 +2,7 @@
 ghost use Rattle.std.specs.Prelude.{◌≡◌, [], ◌∷◌, Err, MatchOption};
 ghost use Rattle.request_lines.specs.declared.cause.Cause.TheVariants.{WrongFields};
 ghost use Rattle.request_lines.specs.declared.verb.Verb.TheVariants as verbs;
-ghost use Rattle.request_lines.specs.Grammar as spec;
+ghost use Rattle.request_lines.specs.Input as spec;
 ghost use Rattle.request_lines.specs.Left.{parts_left};
 ghost use Rattle.request_lines.specs.ReadAnswers.{Reads};
 
@@ -23,7 +23,7 @@ pub(crate) struct PutFields<'a> {
 }
 
 /// These fields, where there are four.
-#[tactic(auto, unfolding(crate::specs::Grammar::read_fields))]
+#[tactic(auto, unfolding(crate::specs::Input::read_fields))]
 pub(crate) fn put_fields(left: Option<&str>) -> Option<PutFields<'_>>
     ensures { MatchOption result (spec.read_fields verbs.Put (parts_left 32 left.entry) ≡ Err WrongFields)
         (λ f. parts_left 32 left.entry ≡ f.key.now ∷ f.size.now ∷ f.etag.now ∷ f.modified.now ∷ []) }
@@ -52,7 +52,7 @@ pub(crate) fn put_fields(left: Option<&str>) -> Option<PutFields<'_>>
 }
 
 /// The PUT line with these fields.
-#[tactic(auto, unfolding(crate::specs::Grammar::put_read))]
+#[tactic(auto, unfolding(crate::specs::Input::put_read))]
 pub(crate) fn put_of(alloc: Global, fields: PutFields<'_>) -> Result<Command, LineError>
     ensures { let f = fields.entry in Reads result (spec.put_read f.key.now f.size.now f.etag.now f.modified.now) }
 {

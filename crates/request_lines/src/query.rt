@@ -3,8 +3,9 @@ ghost use Rattle.std.specs.Prelude.{◌≡◌, [], true, false, min, OnOk, IsOkU
 ghost use Rattle.std.specs.Str.Parse.{digits_value};
 ghost use Rattle.request_lines.specs.declared.line_error.LineError.TheVariants.{NoMemory as OutOfMemory};
 ghost use Rattle.request_lines.specs.Asking as kept;
-ghost use Rattle.request_lines.specs.Limits.{most_keys};
-ghost use Rattle.request_lines.specs.Queries as spec;
+ghost use Rattle.request_lines.specs.Queries.{most_keys};
+ghost use Rattle.request_lines.specs.NamedQueries as spec;
+ghost use Rattle.request_lines.specs.Queries as asks;
 ghost use Rattle.request_lines.specs.Pieces.{asking, parameter as as_parameter, TakesPiece};
 ghost use Rattle.request_lines.specs.ReadAnswers.{Reads, ReadsAs};
 
@@ -36,7 +37,7 @@ pub(crate) struct Parameter {
 
 /// A listing of everything.
 pub(crate) fn plain_query(alloc: Global) -> ListQuery
-    ensures { result ≡ spec.plain_query }
+    ensures { result ≡ asks.plain_query }
 {
     ListQuery {
         prefix: empty(alloc),
@@ -56,7 +57,7 @@ fn empty(alloc: Global) -> Text
 
 /// The query that this text writes.
 pub(crate) fn query_of(alloc: Global, text: &str) -> Result<ListQuery, LineError>
-    ensures { Reads result (spec.query_read text.now) }
+    ensures { Reads result (asks.query_read text.now) }
 {
     let mut so_far = Asking {
         query: plain_query(alloc),
@@ -74,7 +75,7 @@ pub(crate) fn query_of(alloc: Global, text: &str) -> Result<ListQuery, LineError
 
 impl Asking {
     // Takes the next piece, which may be empty.
-    #[tactic(auto, unfolding(crate::specs::Pieces::piece_asked, crate::specs::Queries::parameter_read))]
+    #[tactic(auto, unfolding(crate::specs::Pieces::piece_asked, crate::specs::NamedQueries::parameter_read))]
     fn take_piece(&mut self, alloc: Global, piece: &str) -> Result<(), LineError>
         ensures { TakesPiece (asking self.old) piece.now (asking self.new) result }
     {
@@ -126,7 +127,7 @@ impl Asking {
 
 // A query without one `?` at its front.
 fn without_mark(text: &str) -> &str
-    ensures { result.now ≡ spec.without_mark text.now }
+    ensures { result.now ≡ asks.without_mark text.now }
 {
     match text.strip_prefix('?') {
         Some(query) => query,
@@ -135,7 +136,7 @@ fn without_mark(text: &str) -> &str
 }
 
 // The parameter of a piece, which is cut at its first `=`.
-#[tactic(auto, unfolding(crate::specs::Queries::parameter_read))]
+#[tactic(auto, unfolding(crate::specs::NamedQueries::parameter_read))]
 fn parameter_of(alloc: Global, piece: &str) -> Result<Parameter, LineError>
     ensures { ReadsAs as_parameter result (spec.parameter_read piece.now) }
 {
@@ -183,8 +184,8 @@ fn is_too_long(name: Name, value: &str) -> bool
 // The most entries of a page, at most 1,000. None where the text is no such number.
 #[tactic(auto, unfolding(crate::specs::Queries::is_max_keys, crate::specs::Texts::is_small))]
 fn max_keys(value: &str) -> Option<u32>
-    ensures { MatchOption result (spec.is_max_keys value.now ≡ false)
-        (λ n. (spec.is_max_keys value.now ≡ true) × (n ≡ min (digits_value 10 value.now) most_keys)) }
+    ensures { MatchOption result (asks.is_max_keys value.now ≡ false)
+        (λ n. (asks.is_max_keys value.now ≡ true) × (n ≡ min (digits_value 10 value.now) most_keys)) }
 {
     if !is_number(value) {
         return None;
@@ -217,8 +218,8 @@ fn set(query: &mut ListQuery, name: Option<Name>, value: Text) -> Option<Cause>
 
 // Values for `max-keys`: the number, or 1,000 where that is less.
 fn set_max_keys(query: &mut ListQuery, value: &str) -> Option<Cause>
-    ensures query { query.new ≡ record query.old { max_keys = spec.most_entries value.now } }
-    ensures cause { result ≡ (if spec.is_max_keys value.now then None else Some Cause.BadMaxKeys) }
+    ensures query { query.new ≡ record query.old { max_keys = asks.most_entries value.now } }
+    ensures cause { result ≡ (if asks.is_max_keys value.now then None else Some Cause.BadMaxKeys) }
 {
     match max_keys(value) {
         Some(most) => {

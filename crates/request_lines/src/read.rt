@@ -1,8 +1,7 @@
 ghost use Rattle.std.specs.Prelude.{◌≡◌, ◌<◌, ◌≤◌, ◌==◌, ◌∷◌, length, IfOk};
 ghost use Rattle.std.specs.List.{position};
-ghost use Rattle.request_lines.specs.Limits.{most_input_bytes};
-ghost use Rattle.request_lines.specs.Lines.{texts_of};
-ghost use Rattle.request_lines.specs.Input.{IsSessionOf};
+ghost use Rattle.request_lines.specs.Input.{most_input_bytes, IsSessionOf};
+ghost use Rattle.request_lines.specs.InputParts.{texts_of};
 ghost use Rattle.request_lines.specs.Refusal.{IsRefused};
 ghost use Rattle.request_lines.specs.SessionLaws.{HasNames, HasRecords, HasRequests, HasLines, IsSmall};
 ghost use Rattle.request_lines.specs.Left.{texts_left, size_left};
@@ -32,7 +31,7 @@ pub fn read_session(alloc: Global, bytes: &[u8]) -> Result<Session, SessionError
     ensures lines { IfOk result HasLines }
     ensures small { IfOk result IsSmall }
 {
-    let mut reader = Reader::new(alloc);
+    let mut reader = Reader::new(alloc, bytes);
     let mut number: u32 = 0;
     let mut left = Some(bytes);
     while let Some(lines) = left {

@@ -28,8 +28,8 @@ pub(crate) struct Reader {
 }
 
 impl Reader {
-    /// Before the first line.
-    pub(crate) fn new(alloc: Global) -> Reader
+    /// Before the first line of this input.
+    pub(crate) fn new(alloc: Global, input: &[u8]) -> Reader
         ensures start { progress result ≡ no_progress }
         ensures within { IsWithin result.counts }
     {
@@ -37,7 +37,7 @@ impl Reader {
             counts: Counts::none(),
             ended: Vec::new(alloc),
             current: Requests::new(alloc),
-            names: Interner::new(alloc),
+            names: Interner::new(alloc, input),
             records: Vec::new(alloc),
         }
     }

@@ -1,10 +1,9 @@
 // The generated session.
 ghost use Rattle.std.specs.Prelude.{◌≡◌, ◌<◌, ◌≤◌, ◌++◌, codes, length, IfOk, OnOk};
 ghost use Rattle.std.specs.String.{string_bytes};
-ghost use Rattle.request_lines.specs.Input.{IsSessionOf};
-ghost use Rattle.request_lines.specs.Limits.{most_input_bytes};
-ghost use Rattle.request_lines.specs.SampleSession.{sample_session};
-ghost use Rattle.request_lines.specs.Sample.{most_sample_requests, sample_text, sample_lines, sample_line, sample_put, sample_delete, sample_list, sample_name};
+ghost use Rattle.request_lines.specs.Input.{IsSessionOf, most_input_bytes};
+ghost use Rattle.request_lines.specs.SampleSession.{sample_session, most_sample_requests};
+ghost use Rattle.request_lines.specs.Sample.{sample_text, sample_lines, sample_line, sample_put, sample_delete, sample_list, sample_name};
 
 use key_names::NoMemory;
 use std::alloc::Global;

@@ -31,7 +31,7 @@ pub struct Session {
 }
 
 impl ClientPart {
-    ghost use Rattle.bucket_terms.specs.LegalRun.{updates_in};
+    ghost use Rattle.bucket_terms.specs.RunParts.{updates_in};
     ghost use Rattle.request_lines.specs.Session.{request_lines};
 
     /// How many of the requests are updates: PUT and DELETE lines.

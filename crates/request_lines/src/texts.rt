@@ -29,7 +29,7 @@ const TAG_BYTES: [u8; 256] = [
 ];
 
 /// The name of a key.
-#[tactic(auto, unfolding(crate::specs::Texts::key_read, crate::specs::Texts::name_of))]
+#[tactic(auto, unfolding(crate::specs::Texts::key_read))]
 pub(crate) fn key_of(alloc: Global, key: &str) -> Result<Text, LineError>
     ensures { Reads result (spec.key_read key.now) }
 {

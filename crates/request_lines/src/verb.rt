@@ -1,5 +1,5 @@
 ghost use Rattle.std.specs.Prelude.{◌≡◌};
-ghost use Rattle.request_lines.specs.Grammar.{verb_of};
+ghost use Rattle.request_lines.specs.Input.{verb_of};
 
 /// The first field of a line.
 #[derive(Clone, Copy, Debug, PartialEq, Eq)]

@@ -13,7 +13,8 @@ use Rattle.bucket_terms.specs.declared.request.Request.TheVariants.{Put, Delete,
 use Rattle.bucket_terms.specs.declared.reply.Reply.{Reply}
 use Rattle.bucket_terms.specs.declared.reply.Reply.TheVariants.{Put as PutReply, Deleted, Found, Missing, Listed, BadToken, NoSlot}
 use Rattle.bucket_terms.specs.declared.reply.Placed.{Placed}
-use Rattle.bucket_terms.specs.LegalRun.{RequestLine, Setting, Answered, IsOf, update_at, IsPlacedBelow, HasUsedItsSlots, is_earlier_of, IsRight, AreAnswered, answered_lines, last_listing}
+use Rattle.bucket_terms.specs.LegalRun.{RequestLine, Setting, Answered, IsOf, update_at, HasUsedItsSlots, IsRight, AreAnswered, answered_lines, last_listing}
+use Rattle.bucket_terms.specs.RunParts.{IsPlacedBelow, is_earlier_of}
 use Rattle.sample_laws.specs.Alone.{map_behind, map_alone, updates_on, updates_alone, reply_on, replies_alone}
 use Rattle.sample_laws.specs.Own.{own_pairs, updates_of, IsOwnRequest, AreOwnRequests, IsNamed}
 use Rattle.sample_laws.specs.Finds.{FindsAlone}
@@ -46,7 +47,7 @@ used-le s line =
 module _ (s : Setting) (prefix : List ℕ) (rising : Rises s.dir) (split : (t : ℕ) → own_pairs s.dir prefix (after s.updates t) ≡ own_map s t)
     (few : length (updates_of s.client s.updates) < s.slots) where
   no_want : (line : ℕ) → HasUsedItsSlots s line → ⊥
-  no_want line used = let made = used.made in absurd (omega (arith, used-le s line))
+  no_want line used = absurd (omega (arith, used, used-le s line))
 
   -- a right answer has a place, and follows from what was there before
   right_follows : (last : Option Reply) (line : ℕ) (request : Request) (o : Option ℕ) (reply : Reply) (a : Answered) (p : ℕ)
@@ -63,12 +64,12 @@ module _ (s : Setting) (prefix : List ℕ) (rising : Rises s.dir) (split : (t : 
       (q, (refl, follows_none s prefix rising split p q line name a (ap (λ (l : RequestLine). l.line) same) own none (at q refl).1))
   right_follows last line (Delete name) None NoSlot a p right own same at = absurd (no_want line right)
   right_follows last line (Head name) (Some q) (Found val) a p right own same at =
-      (q, (refl, follows_head s prefix rising split p q name (Found val) a (ap (λ (l : RequestLine). l.request) same) own right (at q refl).1))
+      (q, (refl, follows_head s prefix rising split p q name (Some val) a (ap (λ (l : RequestLine). l.request) same) own right (at q refl).1))
   right_follows last line (Head name) (Some q) Missing a p right own same at =
-      (q, (refl, follows_head s prefix rising split p q name Missing a (ap (λ (l : RequestLine). l.request) same) own right (at q refl).1))
+      (q, (refl, follows_head s prefix rising split p q name None a (ap (λ (l : RequestLine). l.request) same) own right (at q refl).1))
   right_follows last line (ListRequest asked) (Some q) (Listed query page) a p right own same at =
       (q, (refl, follows_list s prefix rising split p q asked query page a (ap (λ (l : RequestLine). l.request) same) own right (at q refl).1))
-  right_follows last line (ListRequest asked) None BadToken a p right own same at = absurd (right.given own.1)
+  right_follows last line (ListRequest asked) None BadToken a p right own same at = absurd (right None own.1)
   right_follows last line Next o reply a p right own same at = absurd own
   right_follows last line request o reply a p right own same at = absurd right
 

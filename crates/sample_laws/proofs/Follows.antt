@@ -13,6 +13,7 @@ use Rattle.key_map.specs.declared.update.Change.TheVariants.{Put as PutVal, Remo
 use Rattle.key_map.specs.Map.{map_has, map_get, map_put, map_remove}
 use Rattle.key_map.specs.History.{updated, after}
 use Rattle.key_map.proofs.MapLaws.{map_remove-absent}
+use Rattle.bucket_terms.proofs.Finds.{map_has-none}
 use Rattle.bucket_terms.specs.declared.list_query.ListQuery.{ListQuery}
 use Rattle.bucket_terms.specs.declared.token_point.TokenPoint.{TokenPoint}
 use Rattle.bucket_terms.specs.declared.page.Page.{Page}
@@ -20,11 +21,11 @@ use Rattle.bucket_terms.specs.declared.request.Request.{Request}
 use Rattle.bucket_terms.specs.declared.request.Request.TheVariants.{Put, Delete, Head, List as ListRequest}
 use Rattle.bucket_terms.specs.declared.reply.Reply.{Reply}
 use Rattle.bucket_terms.specs.declared.reply.Reply.TheVariants.{Put as PutReply, Deleted, Listed}
-use Rattle.bucket_terms.specs.Entries.{is_under, is_admitted, entry_of, is_same_group, listing, entries_of}
+use Rattle.bucket_terms.specs.Listing.{is_under, is_admitted, entry_of, is_same_group, entries_of, page_of}
+use Rattle.bucket_terms.specs.PageParts.{listing, cut_at}
 use Rattle.std.specs.List.{dedup}
-use Rattle.bucket_terms.specs.Page.{page_of, cut_at}
-use Rattle.bucket_terms.specs.Answer.{head_answer, head_by}
-use Rattle.bucket_terms.specs.LegalRun.{Setting, Answered, IsOf, IsPointOf, update_at, PutStands, RemovalStands, FoundNone, AnswersHead, AnswersList, IsChangeOf}
+use Rattle.bucket_terms.specs.RunParts.{head_answer, head_by}
+use Rattle.bucket_terms.specs.LegalRun.{Setting, Answered, IsOf, IsPointOf, update_at, UpdateStands, Finds, Lists, IsChangeOf}
 use Rattle.sample_laws.specs.Alone.{rank_of, map_behind, updates_on, reply_on}
 use Rattle.sample_laws.specs.Own.{is_own, own_pairs, IsNamed}
 use Rattle.sample_laws.proofs.Parts.{made_by, map_has-part, map_get-part, filter-within}
@@ -81,7 +82,7 @@ module _ (s : Setting) (prefix : List ℕ) (rising : Rises s.dir) (split : (t : 
       let high = strict u here of in
       absurd (omega arith)
 
-  pub follows_put : (p q line val : ℕ) (name : List ℕ) (was : Bool) (a : Answered) → IsTrue (begins_with name prefix) → PutStands s line name val was q
+  pub follows_put : (p q line val : ℕ) (name : List ℕ) (was : Bool) (a : Answered) → IsTrue (begins_with name prefix) → UpdateStands s line name (PutVal val) was q
       → ((v : Update) → update_at s q ≡ Some v → IsOf s line v → p < q) → Stays s p q ⊎ Adds s p q a → Follows s p q (Put name val) (PutReply was)
   follows_put p q line val name was a begins stands strict (inl stays) =
       absurd (not_stays p q line stands.key (record { client = s.client; line = line; key = stands.key; change = PutVal val }) stays stands.update (record { by = refl; for_line = refl }) strict)
@@ -97,7 +98,7 @@ module _ (s : Setting) (prefix : List ℕ) (rising : Rises s.dir) (split : (t : 
         named = subst (IsRank s.dir name) (sym rank) stands.rank;
       }
 
-  pub follows_removal : (p q line : ℕ) (name : List ℕ) (a : Answered) → IsTrue (begins_with name prefix) → RemovalStands s line name q
+  pub follows_removal : (p q line : ℕ) (name : List ℕ) (a : Answered) → IsTrue (begins_with name prefix) → UpdateStands s line name Remove true q
       → ((v : Update) → update_at s q ≡ Some v → IsOf s line v → p < q) → Stays s p q ⊎ Adds s p q a → Follows s p q (Delete name) Deleted
   follows_removal p q line name a begins stands strict (inl stays) =
       absurd (not_stays p q line stands.key (record { client = s.client; line = line; key = stands.key; change = Remove }) stays stands.update (record { by = refl; for_line = refl }) strict)
@@ -107,7 +108,7 @@ module _ (s : Setting) (prefix : List ℕ) (rising : Rises s.dir) (split : (t : 
       let rank = rank_of-is s.dir name stands.key rising stands.rank in
       let mine = own_rank s.dir prefix name stands.key begins stands.rank in
       let had : map_has (rank_of s.dir name) (own_map s p) ≡ true =
-      ap (λ (key : ℕ). map_has key (own_map s p)) rank ∙ sym (had_own p q stands.key a adds mine) ∙ stands.before in
+      ap (λ (key : ℕ). map_has key (own_map s p)) rank ∙ sym (had_own p q stands.key a adds mine) ∙ sym stands.before in
       record {
         same_reply = refl;
         pairs = grown p q a adds ∙ ap (updated (own_map s p)) is_u ∙ ap (λ (key : ℕ). map_remove key (own_map s p)) (sym rank);
@@ -126,22 +127,23 @@ module _ (s : Setting) (prefix : List ℕ) (rising : Rises s.dir) (split : (t : 
       not_there (v ∷ us) zero u here all of = all zero v (omega arith) (subst (IsOf s line) (sym (same_Some v u here)) of)
       not_there (v ∷ us) (suc i) u here all of = not_there us i u here (λ k d below. all (suc k) d (omega arith)) of
 
-  pub follows_none : (p q line : ℕ) (name : List ℕ) (a : Answered) → a.asked.line ≡ line → IsTrue (begins_with name prefix) → FoundNone s line name q
+  pub follows_none : (p q line : ℕ) (name : List ℕ) (a : Answered) → a.asked.line ≡ line → IsTrue (begins_with name prefix) → Finds s name q None × All (λ (u : Update). ¬ (IsOf s line u)) s.updates
       → Stays s p q ⊎ Adds s p q a → Follows s p q (Delete name) Deleted
-  follows_none p q line name a same begins found (inr adds) = absurd (no_update_of p q line a adds same found.none)
+  follows_none p q line name a same begins found (inr adds) = absurd (no_update_of p q line a adds same found.1)
   follows_none p q line name a same begins found (inl stays) =
-      let rank = rank_of-is s.dir name found.key rising found.rank in
-      let mine = own_rank s.dir prefix name found.key begins found.rank in
+      let missing = found.0 in
+      let rank = rank_of-is s.dir name missing.key rising missing.rank in
+      let mine = own_rank s.dir prefix name missing.key begins missing.rank in
       let absent : map_has (rank_of s.dir name) (own_map s p) ≡ false =
       ap (λ (key : ℕ). map_has key (own_map s p)) rank
-      ∙ ap (λ (us : List Update). map_has found.key (made_by us)) (sym stays.same)
-      ∙ sym (has_own found.key q mine) ∙ found.absent in
+      ∙ ap (λ (us : List Update). map_has missing.key (made_by us)) (sym stays.same)
+      ∙ sym (has_own missing.key q mine) ∙ map_has-none missing.key (after s.updates q) missing.value in
       let size = ap (length {A = Update}) stays.same in
       record {
         same_reply = refl;
         pairs = ap made_by stays.same ∙ sym (map_remove-absent (rank_of s.dir name) (own_map s p) absent);
         count = size ∙ (omega arith) ∙ ap (λ (b : Bool). length (own_upto s p) + cond b 1 0) (sym absent);
-        named = subst (IsRank s.dir name) (sym rank) found.rank;
+        named = subst (IsRank s.dir name) (sym rank) missing.rank;
       }
 
   -- a look adds no update
@@ -151,14 +153,14 @@ module _ (s : Setting) (prefix : List ℕ) (rising : Rises s.dir) (split : (t : 
   stays_count : (p q : ℕ) → Stays s p q → length (own_upto s q) ≡ length (own_upto s p) + 0
   stays_count p q stays = let size = ap (length {A = Update}) stays.same in omega arith
 
-  pub follows_head : (p q : ℕ) (name : List ℕ) (reply : Reply) (a : Answered) → a.asked.request ≡ Head name → IsTrue (begins_with name prefix) → AnswersHead s name q reply
-      → Stays s p q ⊎ Adds s p q a → Follows s p q (Head name) reply
-  follows_head p q name reply a same begins answers (inr adds) = absurd (no_change (Head name) p q a same (λ u h. h) adds)
-  follows_head p q name reply a same begins answers (inl stays) =
+  pub follows_head : (p q : ℕ) (name : List ℕ) (value : Option ℕ) (a : Answered) → a.asked.request ≡ Head name → IsTrue (begins_with name prefix) → Finds s name q value
+      → Stays s p q ⊎ Adds s p q a → Follows s p q (Head name) (head_by value)
+  follows_head p q name value a same begins answers (inr adds) = absurd (no_change (Head name) p q a same (λ u h. h) adds)
+  follows_head p q name value a same begins answers (inl stays) =
       let rank = rank_of-is s.dir name answers.key rising answers.rank in
       let mine = own_rank s.dir prefix name answers.key begins answers.rank in
       record {
-        same_reply = answers.answer
+        same_reply = ap head_by (sym answers.value)
             ∙ ap head_by (map_get-part (is_own s.dir prefix) answers.key (after s.updates q) mine ∙ ap (map_get answers.key) (split q ∙ ap made_by stays.same))
             ∙ ap (λ (key : ℕ). head_answer key (own_map s p)) (sym rank);
         pairs = ap made_by stays.same;
@@ -167,15 +169,15 @@ module _ (s : Setting) (prefix : List ℕ) (rising : Rises s.dir) (split : (t : 
       }
 
   pub follows_list : (p q : ℕ) (asked query : ListQuery) (page : Page) (a : Answered) → a.asked.request ≡ ListRequest asked → (asked.prefix ≡ prefix) × (asked.token ≡ [])
-      → AnswersList s asked q query page → Stays s p q ⊎ Adds s p q a → Follows s p q (ListRequest asked) (Listed query page)
+      → (point : Option TokenPoint) × (IsPointOf asked point × Lists s q asked point query page) → Stays s p q ⊎ Adds s p q a → Follows s p q (ListRequest asked) (Listed query page)
   follows_list p q asked query page a same own answers (inr adds) = absurd (no_change (ListRequest asked) p q a same (λ u h. h) adds)
   follows_list p q asked query page a same own answers (inl stays) =
-      let from_start : page ≡ page_of s.dir asked None (after s.updates q) = by_point answers.point answers.from_token answers.same_page in
+      let from_start : page ≡ page_of s.dir asked None (after s.updates q) = by_point answers.0 answers.1.0 answers.1.1.1 in
       let own_page = page-own s.dir asked (after s.updates q)
       ∙ ap (λ (text : List ℕ). page_of s.dir asked None (own_pairs s.dir text (after s.updates q))) own.0
       ∙ ap (page_of s.dir asked None) (split q ∙ ap made_by stays.same) in
       record {
-        same_reply = ap (λ (asked' : ListQuery). Listed asked' page) answers.same_query ∙ ap (Listed asked) (from_start ∙ own_page);
+        same_reply = ap (λ (asked' : ListQuery). Listed asked' page) answers.1.1.0 ∙ ap (Listed asked) (from_start ∙ own_page);
         pairs = ap made_by stays.same;
         count = stays_count p q stays;
         named = tt;
@@ -183,4 +185,4 @@ module _ (s : Setting) (prefix : List ℕ) (rising : Rises s.dir) (split : (t : 
     where
       by_point : (point : Option TokenPoint) → IsPointOf asked point → page ≡ page_of s.dir asked point (after s.updates q) → page ≡ page_of s.dir asked None (after s.updates q)
       by_point None from same = same
-      by_point (Some point) from same = absurd (no_token point asked.token own.1 from)
+      by_point (Some point) from same = absurd (no_token (record { point = point; bound = from.0 }) asked.token own.1 from.1.1)

@@ -1,6 +1,6 @@
 -- The worked rows.
 pub mod Rows
--- The rank of a name, and the token of a point.
+-- The rank of a name, and the text of a token.
 pub mod Ranks
 -- The pairs of some keys, in maps that change.
 pub mod Parts

@@ -9,7 +9,8 @@ use Rattle.key_map.specs.History.{after}
 use Rattle.bucket_terms.specs.declared.request.Request.{Request}
 use Rattle.bucket_terms.specs.declared.request.Request.TheVariants.{Put, Delete, Head, List as ListRequest, Next}
 use Rattle.bucket_terms.specs.declared.reply.Placed.{Placed}
-use Rattle.bucket_terms.specs.LegalRun.{RequestLine, Setting, Answered, Run, IsLegal, IsMadeBy, IsChangeOf, answered_lines, lines_of, replies_of, setting_of}
+use Rattle.bucket_terms.specs.LegalRun.{RequestLine, Setting, Answered, Run, IsLegal, IsMadeBy, IsChangeOf, answered_lines, lines_of, replies_of}
+use Rattle.bucket_terms.specs.RunParts.{setting_of}
 use Rattle.sample_laws.specs.Own.{is_own, own_pairs, updates_of, IsOwnRequest, AreApart}
 use Rattle.sample_laws.specs.Finds.{map_of, IsAsAlone, HaveSlots, OwnNamesLaw}
 use Rattle.sample_laws.proofs.Parts.{made_by, part-after, filter-same}

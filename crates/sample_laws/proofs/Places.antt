@@ -10,7 +10,8 @@ use Rattle.std.proofs.lemmas.List.Elements.{All-nil, All-push, All-weaker}
 use Rattle.std.proofs.lemmas.Option.{same_Some}
 use Rattle.key_map.specs.declared.update.Update.{Update}
 use Rattle.bucket_terms.specs.declared.reply.Placed.{Placed}
-use Rattle.bucket_terms.specs.LegalRun.{RequestLine, Setting, Answered, IsOf, update_at, IsPlacedUpTo, IsPlacedBelow, KeepsOrder, AreAnswered, answered_lines, IsMadeBy}
+use Rattle.bucket_terms.specs.LegalRun.{RequestLine, Setting, Answered, IsOf, update_at, KeepsOrder, AreAnswered, answered_lines, IsMadeBy}
+use Rattle.bucket_terms.specs.RunParts.{IsPlacedUpTo, IsPlacedBelow}
 use Rattle.sample_laws.specs.Own.{updates_of}
 
 -- ---- some item of a list

@@ -1,5 +1,5 @@
--- The rank of a name in a directory, a name's own keys, and the token of a point.
-use Rattle.std.proofs.Common.{◌≡◌, ℕ, zero, suc, ◌+◌, ◌<◌, Bool, true, false, not, cond, List, [], ◌∷◌, ◌++◌, length, get_or, nat_lt, nat_eq, sym, ap, ◌∙◌, subst, arith}
+-- The rank of a name in a directory, a name's own keys, and the text of a token.
+use Rattle.std.proofs.Common.{◌≡◌, ℕ, zero, suc, ◌+◌, ◌<◌, Bool, true, false, not, cond, List, [], ◌∷◌, Option, Some, None, ◌++◌, length, get_or, nat_lt, nat_eq, sym, ap, ◌∙◌, subst, arith}
 use Rattle.std.specs.Bool.{IsTrue}
 use Rattle.std.specs.declared.cmp.Ordering.TheVariants.{Less, Equal}
 use Rattle.std.specs.List.Sorted.{IsStrictlySortedBy}
@@ -12,8 +12,9 @@ use lib.Pointwise.{bytes_decides}
 use Rattle.base64.specs.Rfc4648.{encode_symbols}
 use Rattle.key_names.specs.Names.{byte_order, Rises, IsRank, begins_with}
 use Rattle.bucket_terms.specs.declared.token_point.TokenPoint.{TokenPoint}
-use Rattle.bucket_terms.specs.declared.token_point.TokenPoint.TheVariants.{Key, Group}
-use Rattle.bucket_terms.specs.Token.{IsTokenOf}
+use Rattle.bucket_terms.specs.declared.token.Token.{Token}
+use Rattle.bucket_terms.specs.declared.token.Bound.{Bound}
+use Rattle.bucket_terms.specs.Listing.{IsTokenOf, token_text, point_letter, point_text}
 use Rattle.sample_laws.specs.Alone.{rank_of}
 use Rattle.sample_laws.specs.Own.{is_own}
 
@@ -51,7 +52,10 @@ full_text t a [] rest e = cc
 full_text t a (b ∷ []) rest e = cc
 full_text t a (b ∷ c ∷ m) rest e = cc
 
--- the empty text is the token of no point
-pub no_token : (point : TokenPoint) (token : List ℕ) → token ≡ [] → IsTokenOf point token → ⊥
-no_token (Key key) token empty of = full_text _ 75 key _ (sym empty ∙ of.spelled)
-no_token (Group group) token empty of = full_text _ 80 group _ (sym empty ∙ of.spelled)
+-- the empty text is that of no token
+pub no_token : (token : Token) (text : List ℕ) → text ≡ [] → IsTokenOf token text → ⊥
+no_token token text empty of = by_bound token.point token.bound (sym empty ∙ of.spelled)
+  where
+    by_bound : (point : TokenPoint) (bound : Option Bound) → [] ≡ token_text (record { point = point; bound = bound }) → ⊥
+    by_bound point None spelled = full_text _ (point_letter point) (point_text point) _ spelled
+    by_bound point (Some bound) spelled = full_text _ 50 _ _ spelled

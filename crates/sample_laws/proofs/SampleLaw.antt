@@ -2,7 +2,8 @@
 use Rattle.std.proofs.Common.{◌≡◌, ℕ, zero, suc, ◌*◌, ◌<◌, List, [], length, map, refl, sym, ap, ◌∙◌, subst, arith, All}
 use Rattle.std.specs.List.{sum_by}
 use Rattle.std.proofs.lemmas.List.{length_push}
-use Rattle.bucket_terms.specs.LegalRun.{RequestLine, IsLegal, default_slots, lines_of}
+use Rattle.bucket_terms.specs.LegalRun.{RequestLine, IsLegal, lines_of}
+use Rattle.bucket_terms.specs.RunParts.{default_slots}
 use Rattle.sample_laws.specs.Alone.{map_alone, updates_alone, replies_alone}
 use Rattle.sample_laws.specs.Own.{IsNamed}
 use Rattle.sample_laws.specs.Finds.{HaveSlots}
@@ -10,8 +11,8 @@ use Rattle.sample_laws.specs.Totals.{listed_in}
 use Rattle.request_lines.specs.declared.session.ClientPart.{ClientPart}
 use Rattle.request_lines.specs.Session.{request_lines}
 use Rattle.request_lines.specs.SampleSession.{sample_prefix, sample_session}
-use Rattle.sample_laws.specs.Sample.{sample_parts, sample_done, sample_summary}
-use Rattle.sample_laws.specs.SampleLaw.{SampleLaw, SampleAloneLaw, SampleInputLaw}
+use Rattle.sample_laws.specs.SampleLaw.{sample_parts, SampleLaw, SampleAloneLaw, SampleInputLaw}
+use Rattle.sample_laws.specs.Sample.{sample_done, sample_summary}
 use Rattle.sample_laws.proofs.OwnNames.{own_names}
 use Rattle.sample_laws.proofs.Summaries.{summaries, summary_is}
 use Rattle.sample_laws.proofs.SampleNames.{sample_apart, part_is, sample_line, first_lines}

@@ -14,7 +14,8 @@ use Rattle.sample_laws.specs.Alone.{rank_of}
 use Rattle.sample_laws.specs.Own.{IsOwnRequest, AreOwnRequests, AreApart}
 use Rattle.request_lines.specs.Session.{request_line}
 use Rattle.request_lines.specs.SampleSession.{sample_prefix, sample_query, sample_puts, sample_request, sample_asked, sample_requests}
-use Rattle.sample_laws.specs.Sample.{sample_parts, sample_number}
+use Rattle.sample_laws.specs.SampleLaw.{sample_parts}
+use Rattle.sample_laws.specs.Sample.{sample_number}
 
 -- ---- prefixes
 

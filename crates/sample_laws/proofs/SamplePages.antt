@@ -5,8 +5,8 @@ use Rattle.std.proofs.lemmas.List.{length-take, length-map}
 use Rattle.key_map.specs.declared.pair.Pair.{Pair}
 use Rattle.bucket_terms.specs.declared.page.PageEntry.{PageEntry}
 use Rattle.bucket_terms.specs.declared.page.PageEntry.TheVariants.{Key}
-use Rattle.bucket_terms.specs.Entries.{is_under, is_admitted, entry_of, is_same_group, listing, entries_of, group_len}
-use Rattle.bucket_terms.specs.Page.{page_of}
+use Rattle.bucket_terms.specs.Listing.{is_under, is_admitted, entry_of, is_same_group, entries_of, group_len, page_of}
+use Rattle.bucket_terms.specs.PageParts.{listing}
 use Rattle.key_names.specs.Names.{name_at}
 use Rattle.sample_laws.specs.Own.{is_own}
 use Rattle.request_lines.specs.SampleSession.{sample_prefix, sample_query}

@@ -10,7 +10,8 @@ use Rattle.key_map.specs.declared.update.Update.{Update}
 use Rattle.bucket_terms.specs.declared.request.Request.{Request}
 use Rattle.bucket_terms.specs.declared.request.Request.TheVariants.{Put, Delete, Head, List as ListRequest, Next}
 use Rattle.bucket_terms.specs.declared.reply.Placed.{Placed}
-use Rattle.bucket_terms.specs.LegalRun.{RequestLine, Setting, Answered, update_at, AreAnswered, answered_lines, IsMadeBy, IsChangeOf, is_update, updates_in}
+use Rattle.bucket_terms.specs.LegalRun.{RequestLine, Setting, Answered, update_at, AreAnswered, answered_lines, IsMadeBy, IsChangeOf, is_update}
+use Rattle.bucket_terms.specs.RunParts.{updates_in}
 use Rattle.sample_laws.specs.Own.{updates_of}
 use Rattle.sample_laws.proofs.Places.{take_next, take_past, updates_of-push, none_between, own_upto, AreMadeBy, IsFront, front_placed, front_refused, order_at, own_here, none_left}
 

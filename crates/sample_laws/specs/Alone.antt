@@ -10,8 +10,8 @@ use Rattle.bucket_terms.specs.declared.request.Request.{Request}
 use Rattle.bucket_terms.specs.declared.request.Request.TheVariants.{Put, Delete, Head, List as ListRequest, Next}
 use Rattle.bucket_terms.specs.declared.reply.Reply.{Reply}
 use Rattle.bucket_terms.specs.declared.reply.Reply.TheVariants.{Put as PutReply, Deleted, Listed, BadToken}
-use Rattle.bucket_terms.specs.Page.{page_of}
-use Rattle.bucket_terms.specs.Answer.{head_answer}
+use Rattle.bucket_terms.specs.Listing.{page_of}
+use Rattle.bucket_terms.specs.RunParts.{head_answer}
 use Rattle.bucket_terms.specs.LegalRun.{RequestLine}
 
 -- the rank of a name: how many names stand in front of it

@@ -5,7 +5,8 @@ use Rattle.key_map.specs.declared.pair.Pair.{Pair}
 use Rattle.key_map.specs.declared.update.Update.{Update}
 use Rattle.key_map.specs.History.{after}
 use Rattle.bucket_terms.specs.declared.reply.Placed.{Placed}
-use Rattle.bucket_terms.specs.LegalRun.{RequestLine, Run, IsLegal, lines_of, replies_of, updates_in}
+use Rattle.bucket_terms.specs.LegalRun.{RequestLine, Run, IsLegal, lines_of, replies_of}
+use Rattle.bucket_terms.specs.RunParts.{updates_in}
 use Rattle.sample_laws.specs.Alone.{map_behind, map_alone, updates_alone, replies_alone}
 use Rattle.sample_laws.specs.Own.{own_pairs, updates_of, IsNamed, AreApart}
 use Rattle.sample_laws.specs.Totals.{summary_of, summary_alone}

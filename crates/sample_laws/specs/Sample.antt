@@ -1,16 +1,9 @@
 -- The summary of the generated session, as a function of the number of requests alone.
-use Rattle.std.specs.Prelude.{ℕ, zero, suc, ◌+◌, ◌*◌, ◌%◌, ◌==◌, cond, min, List, [], length, map, if◌then◌else◌}
+use Rattle.std.specs.Prelude.{ℕ, zero, suc, ◌+◌, ◌*◌, ◌%◌, ◌==◌, cond, min, List, [], length, if◌then◌else◌}
 use Rattle.key_map.specs.declared.pair.Pair.{Pair}
-use Rattle.key_map.specs.Map.{map_has, map_put, map_remove}
+use Rattle.key_map.specs.KeyMap.{map_has, map_put, map_remove}
 use Rattle.bucket_terms.specs.declared.summary.Summary.{Summary}
-use Rattle.bucket_terms.specs.LegalRun.{RequestLine}
 use Rattle.request_lines.specs.Sample.{sample_clients}
-use Rattle.request_lines.specs.SampleSession.{sample_session}
-use Rattle.request_lines.specs.Session.{request_lines}
-
--- the requests of the four clients, with their lines
-abbrev pub sample_parts : ℕ → List (List RequestLine)
-sample_parts n = map request_lines (sample_session n).clients
 
 -- what a client has done: the map, whose keys are the numbers in its names, the entries that it was told, and its updates
 pub record Done : Type 0 where

@@ -2,14 +2,19 @@
 -- The summary of the generated session.
 use Rattle.std.specs.Prelude.{◌≡◌, ℕ, ◌<◌, List, length, map, All}
 use Rattle.key_names.specs.Names.{Rises, HoldsEachOnce}
-use Rattle.bucket_terms.specs.LegalRun.{RequestLine, Run, IsLegal, default_slots, lines_of}
+use Rattle.bucket_terms.specs.LegalRun.{RequestLine, Run, IsLegal, lines_of}
+use Rattle.bucket_terms.specs.RunParts.{default_slots}
 use Rattle.request_lines.specs.declared.session.Session.{Session}
 use Rattle.request_lines.specs.Input.{IsSessionOf}
 use Rattle.request_lines.specs.SampleSession.{sample_session}
 use Rattle.request_lines.specs.Session.{request_lines}
 use Rattle.sample_laws.specs.Own.{IsNamed}
 use Rattle.sample_laws.specs.Totals.{summary_of, summary_alone}
-use Rattle.sample_laws.specs.Sample.{sample_parts, sample_summary}
+use Rattle.sample_laws.specs.Sample.{sample_summary}
+
+-- the requests of the four clients, with their lines
+abbrev pub sample_parts : ℕ → List (List RequestLine)
+sample_parts n = map request_lines (sample_session n).clients
 
 -- the summary that the number of requests gives is the sums over the four clients of what each has alone, in any
 -- directory that has their names

@@ -1,5 +1,5 @@
 -- The words are one form at most.
-use Rattle.std.proofs.Common.{◌≡◌, ℕ, true, List, [], ◌∷◌, codes, Option, Some, None, sym, ap, subst, ◌∙◌, arith}
+use Rattle.std.proofs.Common.{◌≡◌, ℕ, true, List, [], ◌∷◌, codes, Option, Some, None, inl, inr, sym, ap, subst, ◌∙◌, arith}
 use Rattle.std.specs.Prelude.{MatchOption}
 use Rattle.std.specs.Fmt.{decimal}
 use Rattle.std.specs.Str.{all_ascii_digits}
@@ -7,7 +7,9 @@ use Rattle.std.specs.Str.Parse.{digits_value}
 use Rattle.std.proofs.lemmas.Fmt.{digits_value-decimal}
 use Rattle.std.proofs.lemmas.Str.Parse.{IsNumeralModel, numerals_by_value, tells_all_ascii_digits}
 use Rattle.command_words.specs.declared.form.Form.{Form}
-use Rattle.command_words.specs.Words.{IsForm, IsSample}
+use Rattle.command_words.specs.declared.form.Form.TheVariants.{Run, Sample}
+use Rattle.command_words.specs.Program.{IsForm}
+use Rattle.command_words.specs.Words.{IsSample, HasForm}
 
 numerals : IsNumeralModel (λ digits. all_ascii_digits digits ≡ true) (digits_value 10)
 numerals = numerals_by_value _ tells_all_ascii_digits
@@ -26,3 +28,8 @@ found_form words found form is all = subst (λ (o : Option Form). MatchOption o 
 pub found_none : (words : List (List ℕ)) (found : Option Form) (form : Form) → found ≡ None
     → MatchOption found ((f : Form) → ¬ (IsForm words f)) (IsForm words) → IsForm words form → ⊥
 found_none words found form is all = subst (λ (o : Option Form). MatchOption o ((f : Form) → ¬ (IsForm words f)) (IsForm words)) is all form
+
+-- where no form is the words', they are none
+pub no_form : (words : List (List ℕ)) → ((form : Form) → ¬ (IsForm words form)) → ¬ (HasForm words)
+no_form words none (inl run) = none Run run
+no_form words none (inr sample) = none (Sample sample.0) sample.1

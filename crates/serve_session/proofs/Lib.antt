@@ -5,3 +5,5 @@ pub mod Sessions
 pub mod Sent
 pub mod Sampled
 pub mod Forms
+-- The text of an input of one client is determined, and so is the refusal of an input.
+pub mod OneText

@@ -4,7 +4,8 @@ use Rattle.std.proofs.lemmas.Option.{slice_get-get_or}
 use Rattle.key_map.specs.declared.update.Update.{Update}
 use Rattle.bucket_terms.specs.declared.record.Record.{Record}
 use Rattle.bucket_terms.specs.declared.reply.Placed.{Placed}
-use Rattle.bucket_terms.specs.LegalRun.{RequestLine, Run, IsLegal, lines_of, replies_of, setting_of}
+use Rattle.bucket_terms.specs.LegalRun.{RequestLine, Run, IsLegal, lines_of, replies_of}
+use Rattle.bucket_terms.specs.RunParts.{setting_of}
 use Rattle.request_lines.specs.SessionLaws.{HasRecordBelow}
 use Rattle.answer_text.specs.InRange.{IsReplyOf}
 use Rattle.client_run.specs.Listing.{HasPageInRange}

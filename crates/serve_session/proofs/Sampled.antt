@@ -4,27 +4,25 @@ use Rattle.std.specs.Prelude.{◌==◌}
 use Rattle.std.specs.List.{sum_by}
 use Rattle.std.proofs.lemmas.Bool.{cases_Bool}
 use Rattle.key_names.specs.Names.{HoldsEachOnce}
-use Rattle.bucket_terms.specs.declared.record.Record.{Record}
 use Rattle.bucket_terms.specs.declared.summary.Summary.{Summary}
-use Rattle.bucket_terms.specs.LegalRun.{Run, IsLegal}
-use Rattle.request_lines.specs.declared.session.ClientPart.{ClientPart}
+use Rattle.bucket_terms.specs.LegalRun.{Run, IsLegal, slots_of}
 use Rattle.request_lines.specs.declared.session.Session.{Session}
 use Rattle.request_lines.specs.Input.{IsSessionOf}
+use Rattle.request_lines.specs.Sample.{sample_text}
 use Rattle.request_lines.specs.SampleSession.{sample_session}
-use Rattle.sample_laws.specs.Sample.{sample_parts, sample_done, sample_summary}
-use Rattle.sample_laws.specs.SampleLaw.{SampleLaw}
+use Rattle.serve_session.specs.Sampled.{HoldsOfSampleRun}
+use Rattle.serve_session.specs.Served.{HoldsOfSample}
+use Rattle.sample_laws.specs.SampleLaw.{sample_parts, SampleLaw}
+use Rattle.sample_laws.specs.Sample.{sample_done, sample_summary}
 use Rattle.sample_laws.specs.Totals.{listed_by, summary_of}
 use Rattle.client_threads.specs.Clients.{RanEach}
 use Rattle.client_threads.specs.Runs.{parts_of}
-use Rattle.client_threads.specs.Slots.{slots_of}
 use Rattle.client_threads.proofs.Clients.{each_legal}
 
--- an input has one session
-pub one_session : (bytes : List ℕ) (a b : Session) → IsSessionOf bytes a → IsSessionOf bytes b → a ≡ b
-one_session bytes a b first second =
-    ap (λ (cs : List ClientPart). record { clients = cs; names = a.names; records = a.records }) (first.clients ∙ sym second.clients)
-    ∙ ap (λ (ns : List (List ℕ)). record { clients = b.clients; names = ns; records = a.records }) (first.names ∙ sym second.names)
-    ∙ ap (λ (rs : List Record). record { clients = b.clients; names = b.names; records = rs }) (first.records ∙ sym second.records)
+-- what holds of a run of the defined session holds of one of the generated input's
+pub sampled : (n : ℕ) (P : Run → Type 0) → IsSessionOf (sample_text n) (sample_session n) → HoldsOfSampleRun n P → HoldsOfSample n P
+sampled n P of_text ran =
+    (sample_session n, (of_text, record { dir = ran.dir; names = ran.names; text = record { run = ran.run; legal = ran.legal; holds = ran.holds } }))
 
 -- a run of the clients of the generated session is a legal run of it
 pub record RanSample (n : ℕ) (dir : List (List ℕ)) (run : Run) : Type 0 where

@@ -2,7 +2,7 @@
 use Rattle.std.proofs.Common.{◌≡◌, ℕ, List, [], ◌∷◌, Option, Some, None, subst}
 use Rattle.serde.specs.Event.{Log, Logs, map_begins, map_ends}
 use Rattle.serde_json.specs.Events.{members_len, SendsValue, SendsMembers}
-use Rattle.answer_text.specs.Objects.{Member, members_there, object_of}
+use Rattle.answer_text.specs.Lines.{Member, members_there, object_of}
 use Rattle.serve_session.specs.Sending.{SendsAll}
 
 pub members_sent : (ms : List (Option Member)) (old last new : Log) → SendsAll ms old last → Logs last new map_ends → SendsMembers (members_there ms) old new

@@ -8,29 +8,27 @@ use Rattle.key_names.specs.Names.{HoldsEachOnce}
 use Rattle.key_map.specs.declared.update.Update.{Update}
 use Rattle.bucket_terms.specs.declared.record.Record.{Record}
 use Rattle.bucket_terms.specs.declared.reply.Placed.{Placed}
-use Rattle.bucket_terms.specs.LegalRun.{IsLegal, Run, RequestLine}
+use Rattle.bucket_terms.specs.LegalRun.{IsLegal, Run, RequestLine, slots_of}
 use Rattle.request_lines.specs.declared.session.ClientPart.{ClientPart}
 use Rattle.request_lines.specs.declared.session.Session.{Session}
 use Rattle.request_lines.specs.Session.{request_lines}
-use Rattle.answer_text.specs.Lines.{session_text}
+use Rattle.answer_text.specs.Lines.{line_of, session_text}
+use Rattle.answer_text.specs.Shown.{last_data}
 use Rattle.client_threads.specs.Clients.{RanEach}
 use Rattle.serve_session.specs.Served.{HoldsOfInput, HoldsOfSession, HoldsOfRun}
-use Rattle.client_threads.specs.Slots.{slots_of}
-use Rattle.serve_session.specs.Texts.{end_text}
 use Rattle.client_threads.proofs.Clients.{each_legal}
-use Rattle.serve_session.proofs.Lines.{text_parts}
 
 -- ---- the run of the session
 
 pub run_holds : (session : Session) (dir names : List (List ℕ)) (P : Run → List ℕ → Type 0) → HoldsEachOnce session.names dir
-    → HoldsOfRun dir session.records (map request_lines session.clients) (slots_of (map request_lines session.clients)) P → HoldsOfSession slots_of session P
+    → HoldsOfRun dir session.records session.clients P → HoldsOfSession session P
 run_holds session dir names P holds text = record { dir = dir; names = holds; text = text }
 
 -- a run of the clients, with the parts of what is written as a call was given them
 pub written : (dir : List (List ℕ)) (records given : List Record) (clients : List ClientPart) (updates shown : List Update) (replies : List (List Placed)) (P : Run → List ℕ → Type 0)
     → given ≡ records → shown ≡ updates → RanEach dir (map request_lines clients) (slots_of (map request_lines clients)) (record { updates = updates; replies = replies })
     → P (record { updates = shown; replies = replies }) (session_text dir given (record { updates = shown; replies = replies }))
-    → HoldsOfRun dir records (map request_lines clients) (slots_of (map request_lines clients)) P
+    → HoldsOfRun dir records clients P
 written dir records given clients updates shown replies P same_records same_updates ran holds =
     let run : Run = record { updates = shown; replies = replies } in
     let parts = map request_lines clients in
@@ -57,18 +55,18 @@ legal_none dir = record {
 }
 
 pub none_holds : (session : Session) (dir : List (List ℕ)) (P : Run → List ℕ → Type 0) → (length session.clients == 0) ≡ true
-    → HoldsEachOnce session.names dir → P no_run (end_text dir []) → HoldsOfSession slots_of session P
+    → HoldsEachOnce session.names dir → P no_run (line_of (last_data 0)) → HoldsOfSession session P
 none_holds session dir P is names holds = record {
   dir = dir;
   names = names;
-  text = subst (λ (cs : List ClientPart). HoldsOfRun dir session.records (map request_lines cs) (slots_of (map request_lines cs)) P) (sym (no_client session.clients is))
-      (record { run = no_run; legal = legal_none dir; holds = subst (P no_run) (text_parts dir session.records [] []) holds });
+  text = subst (λ (cs : List ClientPart). HoldsOfRun dir session.records cs P) (sym (no_client session.clients is))
+      (record { run = no_run; legal = legal_none dir; holds = holds });
 }
 
 -- what holds of a run and its text, and more, holds of it
-pub input_first : (slots : List (List RequestLine) → ℕ → ℕ) (before after : Option (List ℕ)) (P Q : Run → List ℕ → Type 0)
-    → HoldsOfInput slots before after (λ (run : Run) (text : List ℕ). P run text × Q run text) → HoldsOfInput slots before after P
-input_first slots before after P Q both = record {
+pub input_first : (before after : Option (List ℕ)) (P Q : Run → List ℕ → Type 0)
+    → HoldsOfInput before after (λ (run : Run) (text : List ℕ). P run text × Q run text) → HoldsOfInput before after P
+input_first before after P Q both = record {
   input = both.input;
   session = both.session;
   has_read = both.has_read;

@@ -19,10 +19,9 @@ use Rattle.bucket_terms.specs.declared.request.Request.TheVariants.{Put, Delete,
 use Rattle.bucket_terms.specs.declared.reply.Reply.{Reply}
 use Rattle.bucket_terms.specs.declared.reply.Reply.TheVariants.{Put as PutReply, Deleted, Found, Missing, Listed, BadToken, NoSlot}
 use Rattle.bucket_terms.specs.declared.reply.Placed.{Placed}
-use Rattle.bucket_terms.specs.Entries.{is_under, is_admitted, group_len, entry_by, entry_of, is_same_group, listing, entries_of}
-use Rattle.bucket_terms.specs.Page.{page_of}
+use Rattle.bucket_terms.specs.Listing.{is_under, is_admitted, group_len, entry_by, entry_of, is_same_group, entries_of, page_of}
+use Rattle.bucket_terms.specs.PageParts.{listing}
 use Rattle.bucket_terms.specs.PageInRange.{IsInRange}
-use Rattle.bucket_terms.specs.Answer.{head_by}
 use Rattle.bucket_terms.specs.LegalRun.{RequestLine, Setting, Answered, AreAnswered, IsRight, IsChangeOf, IsMadeBy, answered_lines, last_listing}
 use Rattle.key_names.specs.Names.{name_at}
 use Rattle.answer_text.specs.InRange.{HasRecord, IsPageOf, IsReplyOf}
@@ -84,10 +83,6 @@ module _ (count : ℕ) where
       ]
 
 module _ (dir : List (List ℕ)) (records : List Record) where
-  found_recorded : (o : Option ℕ) → IfSome o (λ val. val < length records) → IsReplyOf dir records (head_by o)
-  found_recorded (Some val) h = h
-  found_recorded None h = tt
-
   entry_recorded : (p : Pair) (o : Option ℕ) → p.val < length records → HasRecord records (entry_by o p)
   entry_recorded p (Some len) h = tt
   entry_recorded p None h = h
@@ -117,13 +112,13 @@ module _ (dir : List (List ℕ)) (records : List Record) where
     reply_recorded last line request at BadToken right page = tt
     reply_recorded last line request at NoSlot right page = tt
     reply_recorded last line (Head name) (Some n) (Found val) right page =
-        subst (IsReplyOf dir records) (sym right.answer) (found_recorded _ (below_get (length records) right.key (after s.updates n) (below_after (length records) s.updates n puts)))
+        subst (λ (o : Option ℕ). IfSome o (λ v. v < length records)) right.value (below_get (length records) right.key (after s.updates n) (below_after (length records) s.updates n puts))
     reply_recorded last line (ListRequest query) (Some n) (Listed query' page') right page =
-        page_recorded query right.point (after s.updates n) page' (below_after (length records) s.updates n puts)
-        (right.same_page ∙ ap (λ (d : List (List ℕ)). page_of d query right.point (after s.updates n)) same) page
+        page_recorded query right.0 (after s.updates n) page' (below_after (length records) s.updates n puts)
+        (right.1.1.1 ∙ ap (λ (d : List (List ℕ)). page_of d query right.0 (after s.updates n)) same) page
     reply_recorded last line Next (Some n) (Listed query' page') right page =
-        page_recorded right.next.query (Some right.next.point) (after s.updates n) page' (below_after (length records) s.updates n puts)
-        (right.same_page ∙ ap (λ (d : List (List ℕ)). page_of d right.next.query (Some right.next.point) (after s.updates n)) same) page
+        page_recorded right.0.query (Some right.0.point) (after s.updates n) page' (below_after (length records) s.updates n puts)
+        (right.1.1.1 ∙ ap (λ (d : List (List ℕ)). page_of d right.0.query (Some right.0.point) (after s.updates n)) same) page
     reply_recorded last line (Put name v) None (Found val) right page = absurd right
     reply_recorded last line (Put name v) (Some n) (Found val) right page = absurd right
     reply_recorded last line (Delete name) None (Found val) right page = absurd right

@@ -4,3 +4,4 @@ pub mod Texts
 pub mod Sending
 pub mod Summaries
 pub mod Sampled
+pub mod OneText

@@ -4,7 +4,7 @@ use Rattle.std.specs.Prelude.{◌≡◌, List, [], ◌∷◌, Option, Some, None
 use Rattle.serde.specs.Event.{Log, Logs, field_key}
 use Rattle.serde.specs.declared.name.Case.TheVariants.{AsIs}
 use Rattle.serde_json.specs.Events.{SendsValue}
-use Rattle.answer_text.specs.Objects.{Member}
+use Rattle.answer_text.specs.Lines.{Member}
 
 -- a name and its value, or nothing
 abbrev pub SendsMember : Option Member → Log → Log → Type 0

@@ -1,16 +1,16 @@
 -- What a call of `serve` has read and written, by how it ended.
 use Rattle.std.specs.Prelude.{◌≡◌, ℕ, ◌≤◌, ◌⊎◌, List, [], length, map, Option, Some}
 use Rattle.key_names.specs.Names.{HoldsEachOnce}
-use Rattle.outside_io.specs.Faults.{one_more}
-use Rattle.outside_io.specs.Source.{IsReadToEnd}
+use Rattle.outside_io.specs.Streams.{one_more, IsReadToEnd}
 use Rattle.bucket_terms.specs.declared.record.Record.{Record}
 use Rattle.bucket_terms.specs.declared.reply.Placed.{Placed}
-use Rattle.bucket_terms.specs.LegalRun.{RequestLine, Run, IsLegal}
+use Rattle.bucket_terms.specs.LegalRun.{RequestLine, Run, IsLegal, slots_of}
+use Rattle.request_lines.specs.declared.session.Asked.{Asked}
+use Rattle.request_lines.specs.declared.session.ClientPart.{ClientPart}
 use Rattle.request_lines.specs.declared.session.Session.{Session}
 use Rattle.request_lines.specs.declared.session_error.InputError.{InputError}
-use Rattle.request_lines.specs.Input.{IsSessionOf, refusal_of}
-use Rattle.request_lines.specs.Limits.{most_input_bytes}
-use Rattle.request_lines.specs.Session.{request_lines}
+use Rattle.request_lines.specs.Input.{IsSessionOf, refusal_of, most_input_bytes}
+use Rattle.request_lines.specs.Sample.{sample_text}
 use Rattle.answer_text.specs.Lines.{session_text}
 use Rattle.serve_session.specs.declared.status.Status.{Status}
 use Rattle.serve_session.specs.declared.status.Status.TheVariants.{BadWords, BadInput, TooLong, ReadFault}
@@ -20,37 +20,42 @@ pub record HasRead (before after : Option (List ℕ)) (input : List ℕ) : Type 
   pub all : IsReadToEnd before after input
   pub within : length input ≤ most_input_bytes
 
--- this is true of one legal run of these clients' lines, each client with so many node slots, and of its text
-pub record HoldsOfRun (dir : List (List ℕ)) (records : List Record) (parts : List (List RequestLine)) (slots : ℕ → ℕ) (P : Run → List ℕ → Type 0) : Type 0 where
+-- the request lines of each client
+abbrev pub client_lines : List ClientPart → List (List RequestLine)
+client_lines clients = map (λ (part : ClientPart). map (λ (asked : Asked). record { line = asked.line; request = asked.request }) part.requests) clients
+
+-- this is true of one legal run of these clients, and of its text
+pub record HoldsOfRun (dir : List (List ℕ)) (records : List Record) (clients : List ClientPart) (P : Run → List ℕ → Type 0) : Type 0 where
   pub run : Run
-  pub legal : IsLegal dir parts slots run
+  pub legal : IsLegal dir (client_lines clients) (slots_of (client_lines clients)) run
   pub holds : P run (session_text dir records run)
 
--- this is true of one legal run of the session and of its text. The session's names, each once and in byte
--- order, are the directory; `slots` gives the node slots of each client by the lines of all.
-pub record HoldsOfSession (slots : List (List RequestLine) → ℕ → ℕ) (session : Session) (P : Run → List ℕ → Type 0) : Type 0 where
+-- the same of the session, whose names, each once and in byte order, are the directory
+pub record HoldsOfSession (session : Session) (P : Run → List ℕ → Type 0) : Type 0 where
   pub dir : List (List ℕ)
   pub names : HoldsEachOnce session.names dir
-  pub text : HoldsOfRun dir session.records (map request_lines session.clients) (slots (map request_lines session.clients)) P
+  pub text : HoldsOfRun dir session.records session.clients P
+
+-- an input was read, and this is true of one legal run of its session and of its text
+pub record HoldsOfInput (before after : Option (List ℕ)) (P : Run → List ℕ → Type 0) : Type 0 where
+  pub input : List ℕ
+  pub session : Session
+  pub has_read : HasRead before after input
+  pub of_input : IsSessionOf input session
+  pub text : HoldsOfSession session P
+
+-- this is true of one legal run of the generated session with `n` requests of each client
+abbrev pub HoldsOfSample : ℕ → (Run → Type 0) → Type 0
+HoldsOfSample n P = (session : Session) × (IsSessionOf (sample_text n) session × HoldsOfSession session (λ run _. P run))
 
 -- the replies of the run are those that a runner has now, whose count of runs was `old` before and is one more; where
 -- there is no client there are none
 abbrev pub IsRunOf : (old new : ℕ) → List (List Placed) → Run → Type 0
 IsRunOf old new replied run = (run.replies ≡ []) ⊎ ((new ≡ one_more old) × (run.replies ≡ replied))
 
--- an input was read, and this is true of one legal run of its session and of its text
-pub record HoldsOfInput (slots : List (List RequestLine) → ℕ → ℕ) (before after : Option (List ℕ)) (P : Run → List ℕ → Type 0) : Type 0 where
-  pub input : List ℕ
-  pub session : Session
-  pub has_read : HasRead before after input
-  pub of_input : IsSessionOf input session
-  pub text : HoldsOfSession slots session P
-
 -- the input was read and is refused: this is its first faulty line, with its first cause
-pub record RefusedInput (before after : Option (List ℕ)) (e : InputError) : Type 0 where
-  pub input : List ℕ
-  pub has_read : HasRead before after input
-  pub refused : refusal_of input ≡ Some e
+abbrev pub RefusedInput : Option (List ℕ) → Option (List ℕ) → InputError → Type 0
+RefusedInput before after e = (input : List ℕ) × (HasRead before after input × (refusal_of input ≡ Some e))
 
 -- serving ended before there was anything to write
 abbrev pub EndsUnwritten : Status → Type 0

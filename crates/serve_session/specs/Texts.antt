@@ -1,17 +1,35 @@
 -- Helper: the headline does not rest on this file.
--- The parts of a run's text.
-use Rattle.std.specs.Prelude.{ℕ, List, ◌++◌, length}
+-- The parts of a run's text, and the members of a summary.
+use Rattle.std.specs.Prelude.{◌≡◌, ℕ, List, [], ◌∷◌, ◌++◌, All, codes, Option}
 use Rattle.std.specs.List.{flat_map}
-use Rattle.key_map.specs.declared.update.Update.{Update}
 use Rattle.bucket_terms.specs.declared.record.Record.{Record}
 use Rattle.bucket_terms.specs.declared.reply.Placed.{Placed}
-use Rattle.answer_text.specs.Objects.{line_of}
-use Rattle.answer_text.specs.Lines.{reply_lines, journal_lines, last_data}
+use Rattle.bucket_terms.specs.declared.summary.Summary.{Summary}
+use Rattle.serde_json.specs.Data.{Data}
+use Rattle.answer_text.specs.InRange.{IsReplyOf}
+use Rattle.answer_text.specs.Lines.{Member, always, object_of, whole}
+use Rattle.answer_text.specs.Shown.{reply_lines}
+use Rattle.run_text.specs.declared.pieces.Piece.{Piece}
+use Rattle.run_text.specs.Pieces.{pieces_text, IsPieceOf}
 
 -- the replies of each client, one client after another
 abbrev pub all_reply_lines : List (List ℕ) → List Record → List (List Placed) → List ℕ
 all_reply_lines dir records lists = flat_map (reply_lines dir records) lists
 
--- the journal and the last line
-abbrev pub end_text : List (List ℕ) → List Update → List ℕ
-end_text dir updates = journal_lines dir 1 updates ++ line_of (last_data (length updates))
+-- the replies of these clients come behind the pieces
+pub record AddsClients (old : List Piece) (lists : List (List Placed)) (new : List Piece) : Type 0 where
+  pub text : (dir : List (List ℕ)) (records : List Record) → pieces_text dir records new ≡ pieces_text dir records old ++ all_reply_lines dir records lists
+  pub in_range : (dir : List (List ℕ)) (records : List Record) → All (IsPieceOf dir records) old
+      → All (All (λ (p : Placed). IsReplyOf dir records p.reply)) lists → All (IsPieceOf dir records) new
+
+-- the members of a summary, in the byte order of their names
+abbrev pub summary_members : Summary → List (Option Member)
+summary_members summary =
+    always (codes "Keys") (whole summary.keys)
+    ∷ always (codes "Listed") (whole summary.listed)
+    ∷ always (codes "Requests") (whole summary.requests)
+    ∷ always (codes "Updates") (whole summary.updates)
+    ∷ []
+
+abbrev pub summary_data : Summary → Data
+summary_data summary = object_of (summary_members summary)

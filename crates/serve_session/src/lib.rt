@@ -4,14 +4,15 @@
 //! and written. The layer above hands it the input, the output and what runs the clients.
 #![tactic(auto)]
 
+mod laws;
 mod running;
 mod sample;
 mod serving;
 mod status;
-mod stop;
 mod summary;
 mod writing;
 
+pub use laws::one_text;
 pub use serving::serve;
 pub use status::Status;
 pub use summary::summary_line;

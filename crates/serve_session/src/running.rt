@@ -1,20 +1,17 @@
 // The run of a session: its clients over one shared index, by a runner.
 ghost use Rattle.std.specs.Prelude.{◌≡◌, ◌⊎◌, OnOk, IsErrOf};
-ghost use Rattle.outside_io.specs.Faults.{one_more};
-ghost use Rattle.outside_io.specs.Sink.{IsTaken, TakesStart};
+ghost use Rattle.outside_io.specs.Streams.{one_more, IsTaken, TakesStart};
 ghost use Rattle.request_lines.specs.SessionLaws.{HasNames, HasRequests, HasLines, IsSmall};
 ghost use Rattle.serve_session.specs.Served.{HoldsOfSession, HoldsOfRun, IsRunOf};
-ghost use Rattle.client_threads.specs.Slots.{slots_of};
-ghost use Rattle.client_threads.specs.Runs.{parts_of};
 ghost use Rattle.client_threads.specs.Sizes.{CanServe};
 
-use crate::stop::Stop;
-use crate::writing::{write_end, write_run};
+use crate::writing::{write_last, write_run};
 use client_run::Gate;
 use client_threads::{Runner, directory_of, history_of};
 use key_names::Directory;
 use outside_io::Sink;
 use request_lines::{Names, Session};
+use run_text::Stop;
 use std::alloc::Global;
 use std::sync::Wait;
 use std::thread::Threads;
@@ -32,9 +29,9 @@ pub(crate) fn run_session<K: Sink, G: Gate + Sync, R: Runner<G>, Rt: Threads + W
     requires requests { HasRequests session }
     requires lines { HasLines session }
     requires small { IsSmall session }
-    ensures wrote { OnOk result (HoldsOfSession slots_of session (λ run text. IsTaken (K.taken sink.old) (K.taken sink.new) text × IsRunOf (R.runs runner.old) (R.runs runner.new) (R.replied runner.new) run)) }
-    ensures start { IsErrOf result Stop.Fault → HoldsOfSession slots_of session (λ _ text. TakesStart (K.taken sink.old) (K.taken sink.new) text) }
-    ensures no_memory { IsErrOf result Stop.NoMemory → (sink.new ≡ sink.old) ⊎ HoldsOfSession slots_of session (λ _ text. TakesStart (K.taken sink.old) (K.taken sink.new) text) }
+    ensures wrote { OnOk result (HoldsOfSession session (λ run text. IsTaken (K.taken sink.old) (K.taken sink.new) text × IsRunOf (R.runs runner.old) (R.runs runner.new) (R.replied runner.new) run)) }
+    ensures start { IsErrOf result Stop.Fault → HoldsOfSession session (λ _ text. TakesStart (K.taken sink.old) (K.taken sink.new) text) }
+    ensures no_memory { IsErrOf result Stop.NoMemory → (sink.new ≡ sink.old) ⊎ HoldsOfSession session (λ _ text. TakesStart (K.taken sink.old) (K.taken sink.new) text) }
     ensures fault { IsErrOf result Stop.Fault → K.faults sink.new ≡ one_more (K.faults sink.old) }
     ensures quiet { ¬ (IsErrOf result Stop.Fault) → K.faults sink.new ≡ K.faults sink.old }
 {
@@ -45,7 +42,7 @@ pub(crate) fn run_session<K: Sink, G: Gate + Sync, R: Runner<G>, Rt: Threads + W
     } = session;
     let dir = directory_of(alloc, names)?;
     if clients.is_empty() {
-        return write_end(alloc, sink, &dir, &[]);
+        return write_last(alloc, sink, 0);
     }
     // The names are the directory's from here on.
     let session = Session {
@@ -67,14 +64,14 @@ fn run_clients<K: Sink, G: Gate + Sync, R: Runner<G>, Rt: Threads + Wait + Sync>
     runner: &mut R,
 ) -> Result<(), Stop>
     requires can { CanServe dir.now session.now }
-    ensures wrote { OnOk result (HoldsOfRun dir.now session.now.records (parts_of session.now.clients) (slots_of (parts_of session.now.clients)) (λ run text. IsTaken (K.taken sink.old) (K.taken sink.new) text × IsRunOf (R.runs runner.old) (R.runs runner.new) (R.replied runner.new) run)) }
-    ensures start { IsErrOf result Stop.Fault → HoldsOfRun dir.now session.now.records (parts_of session.now.clients) (slots_of (parts_of session.now.clients)) (λ _ text. TakesStart (K.taken sink.old) (K.taken sink.new) text) }
-    ensures no_memory { IsErrOf result Stop.NoMemory → (sink.new ≡ sink.old) ⊎ HoldsOfRun dir.now session.now.records (parts_of session.now.clients) (slots_of (parts_of session.now.clients)) (λ _ text. TakesStart (K.taken sink.old) (K.taken sink.new) text) }
+    ensures wrote { OnOk result (HoldsOfRun dir.now session.now.records session.now.clients (λ run text. IsTaken (K.taken sink.old) (K.taken sink.new) text × IsRunOf (R.runs runner.old) (R.runs runner.new) (R.replied runner.new) run)) }
+    ensures start { IsErrOf result Stop.Fault → HoldsOfRun dir.now session.now.records session.now.clients (λ _ text. TakesStart (K.taken sink.old) (K.taken sink.new) text) }
+    ensures no_memory { IsErrOf result Stop.NoMemory → (sink.new ≡ sink.old) ⊎ HoldsOfRun dir.now session.now.records session.now.clients (λ _ text. TakesStart (K.taken sink.old) (K.taken sink.new) text) }
     ensures fault { IsErrOf result Stop.Fault → K.faults sink.new ≡ one_more (K.faults sink.old) }
     ensures quiet { ¬ (IsErrOf result Stop.Fault) → K.faults sink.new ≡ K.faults sink.old }
 {
     let updates = history_of(rt, alloc, session, dir, gate, runner)?;
     let records = session.records.as_slice();
     let clients = session.clients.len() as u32;
-    write_run::<K, G, R>(alloc, sink, dir, records, clients, runner, &updates)
+    write_run::<K, G, R, Rt>(rt, alloc, sink, dir, records, clients, runner, &updates)
 }

@@ -1,17 +1,18 @@
 // The run of the generated session.
 ghost use Rattle.std.specs.Prelude.{◌≡◌, ◌<◌, ◌≤◌, ◌⊎◌, IfOk, OnOk, IsErrOf};
-ghost use Rattle.outside_io.specs.Faults.{one_more};
-ghost use Rattle.outside_io.specs.Sink.{IsTaken, TakesStart};
-ghost use Rattle.request_lines.specs.Sample.{most_sample_requests};
+ghost use Rattle.outside_io.specs.Streams.{one_more, IsTaken, TakesStart};
+ghost use Rattle.request_lines.specs.SampleSession.{most_sample_requests};
+ghost use Rattle.request_lines.specs.Input.{IsSessionOf};
+ghost use Rattle.request_lines.specs.Sample.{sample_text};
 ghost use Rattle.request_lines.specs.SampleSession as spec;
 ghost use Rattle.request_lines.specs.SessionLaws.{HasNames, HasRequests, HasLines, IsSmall};
 ghost use Rattle.sample_laws.specs.Sample.{sample_summary};
 ghost use Rattle.serve_session.specs.declared.status.Status.TheVariants.{Done as IsDone};
-ghost use Rattle.serve_session.specs.Sampled.{HoldsOfSample};
+ghost use Rattle.serve_session.specs.Sampled.{HoldsOfSampleRun};
+ghost use Rattle.serve_session.specs.Served.{HoldsOfSample};
 ghost use Rattle.serve_session.specs.Summaries.{summary_text};
 
 use crate::Status;
-use crate::stop::Stop;
 use crate::summary::summary_line;
 use bucket_terms::Summary;
 use client_run::Gate;
@@ -19,6 +20,7 @@ use client_threads::{Runner, directory_of, history_of, summary_of};
 use key_names::NoMemory;
 use outside_io::{Sink, write_all};
 use request_lines::{Names, Session, SessionError, read_session, sample_input};
+use run_text::Stop;
 use std::alloc::Global;
 use std::sync::Wait;
 use std::thread::Threads;
@@ -50,6 +52,7 @@ pub(crate) fn serve_sample<K: Sink, G: Gate + Sync, R: Runner<G>, Rt: Threads + 
 }
 
 // The same, and why it ended before its end.
+#[tactic(auto, using(crate::proofs::Sampled::sampled))]
 fn run_sample<K: Sink, G: Gate + Sync, R: Runner<G>, Rt: Threads + Wait + Sync>(
     rt: &Rt,
     alloc: Global,
@@ -91,7 +94,7 @@ fn run_summed<G: Gate + Sync, R: Runner<G>, Rt: Threads + Wait + Sync>(
     requires lines { HasLines session }
     requires small { IsSmall session }
     ensures summary { IfOk result (λ summary. summary ≡ sample_summary n) }
-    ensures ran { OnOk result (HoldsOfSample n (λ run. (R.runs runner.new ≡ one_more (R.runs runner.old)) × (run.replies ≡ R.replied runner.new))) }
+    ensures ran { OnOk result (HoldsOfSampleRun n (λ run. (R.runs runner.new ≡ one_more (R.runs runner.old)) × (run.replies ≡ R.replied runner.new))) }
 {
     let Session {
         clients,
@@ -116,6 +119,7 @@ fn sample_session(alloc: Global, n: u32) -> Result<Session, NoMemory>
     requires some { 0 < n }
     requires most { n ≤ most_sample_requests }
     ensures session { IfOk result (λ session. session ≡ spec.sample_session n) }
+    ensures of_text { OnOk result (IsSessionOf (sample_text n) (spec.sample_session n)) }
     ensures names { IfOk result HasNames }
     ensures requests { IfOk result HasRequests }
     ensures lines { IfOk result HasLines }

@@ -1,28 +1,24 @@
 // The whole of the program but for the real input and output.
 ghost use Rattle.std.specs.Prelude.{◌≡◌, ◌⊎◌, ◌≤◌, ℕ};
-ghost use Rattle.outside_io.specs.Faults.{one_more};
-ghost use Rattle.outside_io.specs.Reading.{Gave, IsOver};
-ghost use Rattle.outside_io.specs.Sink.{IsTaken, TakesStart};
+ghost use Rattle.outside_io.specs.Streams.{one_more, Gave, IsOver, IsTaken, TakesStart};
 ghost use Rattle.command_words.specs.Words.{IsRun, IsSample, HasForm};
 ghost use Rattle.request_lines.specs.declared.session_error.InputError.{InputError};
 ghost use Rattle.serve_session.specs.declared.status.Status.TheVariants.{Done as IsDone, BadWords as HasBadWords};
-ghost use Rattle.request_lines.specs.Limits.{most_input_bytes};
+ghost use Rattle.request_lines.specs.Input.{most_input_bytes};
 ghost use Rattle.sample_laws.specs.Sample.{sample_summary};
-ghost use Rattle.serve_session.specs.Sampled.{HoldsOfSample};
-ghost use Rattle.serve_session.specs.Served.{HoldsOfInput, RefusedInput, EndsUnwritten, IsRunOf};
-ghost use Rattle.client_threads.specs.Slots.{slots_of};
+ghost use Rattle.serve_session.specs.Served.{HoldsOfInput, HoldsOfSample, RefusedInput, EndsUnwritten, IsRunOf};
 ghost use Rattle.serve_session.specs.Summaries.{summary_text};
 
 use crate::Status;
 use crate::running::run_session;
 use crate::sample::serve_sample;
-use crate::stop::Stop;
 use client_run::Gate;
 use client_threads::Runner;
 use command_words::{Form, form_of};
 use key_names::Text;
 use outside_io::{ReadError, Sink, Source, read_all};
 use request_lines::{MAX_INPUT_BYTES, SessionError, read_session};
+use run_text::Stop;
 use std::alloc::Global;
 use std::sync::Wait;
 use std::thread::Threads;
@@ -51,8 +47,8 @@ pub fn serve<S: Source, K: Sink, G: Gate + Sync, R: Runner<G>, Rt: Threads + Wai
     gate: &G,
     runner: &mut R,
 ) -> Status
-    ensures headline { IsRun words.now → result ≡ IsDone → HoldsOfInput slots_of (S.rest source.old) (S.rest source.new) (λ _ text. IsTaken (K.taken sink.old) (K.taken sink.new) text) }
-    ensures runner { IsRun words.now → result ≡ IsDone → HoldsOfInput slots_of (S.rest source.old) (S.rest source.new) (λ run text. IsTaken (K.taken sink.old) (K.taken sink.new) text × IsRunOf (R.runs runner.old) (R.runs runner.new) (R.replied runner.new) run) }
+    ensures headline { IsRun words.now → result ≡ IsDone → HoldsOfInput (S.rest source.old) (S.rest source.new) (λ _ text. IsTaken (K.taken sink.old) (K.taken sink.new) text) }
+    ensures runner { IsRun words.now → result ≡ IsDone → HoldsOfInput (S.rest source.old) (S.rest source.new) (λ run text. IsTaken (K.taken sink.old) (K.taken sink.new) text × IsRunOf (R.runs runner.old) (R.runs runner.new) (R.replied runner.new) run) }
     ensures sample { (n : ℕ) → IsSample words.now n → result ≡ IsDone → IsTaken (K.taken sink.old) (K.taken sink.new) (summary_text (sample_summary n)) }
     ensures sample_runner { (n : ℕ) → IsSample words.now n → result ≡ IsDone → HoldsOfSample n (λ run. (R.runs runner.new ≡ one_more (R.runs runner.old)) × (run.replies ≡ R.replied runner.new)) }
     ensures sample_ends { (n : ℕ) → IsSample words.now n → (result ≡ IsDone) ⊎ ((result ≡ Status.WriteFault) ⊎ (result ≡ Status.NoMemory)) }
@@ -66,12 +62,12 @@ pub fn serve<S: Source, K: Sink, G: Gate + Sync, R: Runner<G>, Rt: Threads + Wai
     ensures read_fault { result ≡ Status.ReadFault → Gave (S.rest source.old) (S.rest source.new) (λ n. n ≤ most_input_bytes) }
     ensures read_fault_only_where_faulted { result ≡ Status.ReadFault → S.faults source.new ≡ one_more (S.faults source.old) }
     ensures no_other_read_fault { ¬ (result ≡ Status.ReadFault) → S.faults source.new ≡ S.faults source.old }
-    ensures write_fault { IsRun words.now → result ≡ Status.WriteFault → HoldsOfInput slots_of (S.rest source.old) (S.rest source.new) (λ _ text. TakesStart (K.taken sink.old) (K.taken sink.new) text) }
+    ensures write_fault { IsRun words.now → result ≡ Status.WriteFault → HoldsOfInput (S.rest source.old) (S.rest source.new) (λ _ text. TakesStart (K.taken sink.old) (K.taken sink.new) text) }
     ensures sample_write_fault { (n : ℕ) → IsSample words.now n → result ≡ Status.WriteFault → TakesStart (K.taken sink.old) (K.taken sink.new) (summary_text (sample_summary n)) }
     ensures write_fault_only_where_faulted { result ≡ Status.WriteFault → K.faults sink.new ≡ one_more (K.faults sink.old) }
     ensures no_other_write_fault { ¬ (result ≡ Status.WriteFault) → K.faults sink.new ≡ K.faults sink.old }
     ensures no_memory_source { result ≡ Status.NoMemory → Gave (S.rest source.old) (S.rest source.new) (λ n. n ≤ most_input_bytes) }
-    ensures no_memory { IsRun words.now → result ≡ Status.NoMemory → (sink.new ≡ sink.old) ⊎ HoldsOfInput slots_of (S.rest source.old) (S.rest source.new) (λ _ text. TakesStart (K.taken sink.old) (K.taken sink.new) text) }
+    ensures no_memory { IsRun words.now → result ≡ Status.NoMemory → (sink.new ≡ sink.old) ⊎ HoldsOfInput (S.rest source.old) (S.rest source.new) (λ _ text. TakesStart (K.taken sink.old) (K.taken sink.new) text) }
     ensures sample_no_memory { (n : ℕ) → IsSample words.now n → result ≡ Status.NoMemory → sink.new ≡ sink.old }
 {
     match form_of(alloc, words) {
@@ -91,8 +87,8 @@ fn serve_input<S: Source, K: Sink, G: Gate + Sync, R: Runner<G>, Rt: Threads + W
     gate: &G,
     runner: &mut R,
 ) -> Status
-    ensures headline { result ≡ IsDone → HoldsOfInput slots_of (S.rest source.old) (S.rest source.new) (λ _ text. IsTaken (K.taken sink.old) (K.taken sink.new) text) }
-    ensures runner { result ≡ IsDone → HoldsOfInput slots_of (S.rest source.old) (S.rest source.new) (λ run text. IsTaken (K.taken sink.old) (K.taken sink.new) text × IsRunOf (R.runs runner.old) (R.runs runner.new) (R.replied runner.new) run) }
+    ensures headline { result ≡ IsDone → HoldsOfInput (S.rest source.old) (S.rest source.new) (λ _ text. IsTaken (K.taken sink.old) (K.taken sink.new) text) }
+    ensures runner { result ≡ IsDone → HoldsOfInput (S.rest source.old) (S.rest source.new) (λ run text. IsTaken (K.taken sink.old) (K.taken sink.new) text × IsRunOf (R.runs runner.old) (R.runs runner.new) (R.replied runner.new) run) }
     ensures reads { ¬ (result ≡ HasBadWords) }
     ensures nothing_written { EndsUnwritten result → sink.new ≡ sink.old }
     ensures bad_input { (e : InputError) → result ≡ Status.BadInput e → RefusedInput (S.rest source.old) (S.rest source.new) e }
@@ -100,11 +96,11 @@ fn serve_input<S: Source, K: Sink, G: Gate + Sync, R: Runner<G>, Rt: Threads + W
     ensures read_fault { result ≡ Status.ReadFault → Gave (S.rest source.old) (S.rest source.new) (λ n. n ≤ most_input_bytes) }
     ensures read_fault_only_where_faulted { result ≡ Status.ReadFault → S.faults source.new ≡ one_more (S.faults source.old) }
     ensures no_other_read_fault { ¬ (result ≡ Status.ReadFault) → S.faults source.new ≡ S.faults source.old }
-    ensures write_fault { result ≡ Status.WriteFault → HoldsOfInput slots_of (S.rest source.old) (S.rest source.new) (λ _ text. TakesStart (K.taken sink.old) (K.taken sink.new) text) }
+    ensures write_fault { result ≡ Status.WriteFault → HoldsOfInput (S.rest source.old) (S.rest source.new) (λ _ text. TakesStart (K.taken sink.old) (K.taken sink.new) text) }
     ensures write_fault_only_where_faulted { result ≡ Status.WriteFault → K.faults sink.new ≡ one_more (K.faults sink.old) }
     ensures no_other_write_fault { ¬ (result ≡ Status.WriteFault) → K.faults sink.new ≡ K.faults sink.old }
     ensures no_memory_source { result ≡ Status.NoMemory → Gave (S.rest source.old) (S.rest source.new) (λ n. n ≤ most_input_bytes) }
-    ensures no_memory { result ≡ Status.NoMemory → (sink.new ≡ sink.old) ⊎ HoldsOfInput slots_of (S.rest source.old) (S.rest source.new) (λ _ text. TakesStart (K.taken sink.old) (K.taken sink.new) text) }
+    ensures no_memory { result ≡ Status.NoMemory → (sink.new ≡ sink.old) ⊎ HoldsOfInput (S.rest source.old) (S.rest source.new) (λ _ text. TakesStart (K.taken sink.old) (K.taken sink.new) text) }
 {
     let input = match read_all(alloc, source, MAX_INPUT_BYTES) {
         Ok(input) => input,

@@ -2,9 +2,10 @@
 ghost use Rattle.std.specs.Prelude.{◌≡◌, IfOk, OnOk};
 ghost use Rattle.serde_json.specs.Events.{SendsValue};
 ghost use Rattle.answer_text.specs.MemberOrder.{StandInOrder};
-ghost use Rattle.answer_text.specs.Objects.{always, whole};
+ghost use Rattle.answer_text.specs.Lines.{always, whole};
 ghost use Rattle.serve_session.specs.Sending.{SendsMember};
-ghost use Rattle.serve_session.specs.Summaries.{summary_members, summary_data, summary_text};
+ghost use Rattle.serve_session.specs.Texts.{summary_members, summary_data};
+ghost use Rattle.serve_session.specs.Summaries.{summary_text};
 
 use bucket_terms::Summary;
 use key_names::{NoMemory, Text};

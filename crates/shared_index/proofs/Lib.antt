@@ -2,3 +2,5 @@
 pub mod OwnFacts
 -- Which index a key or a note is of, and the keys of an index.
 pub mod KeyHomes
+-- A snapshot that was opened, to its caller.
+pub mod Begun

@@ -18,4 +18,4 @@ pub own_stand : (v : View) (n : ℕ) → IsLiveView v → v.number ≡ Some n �
 own_stand v n live number = subst (λ o. IfSome o (λ k. v.history.mine ≡ own_places k v.history.seen)) number (knows v live).own
 
 pub rest_closed : (v : View) → IsLiveView v → AtRest v → v.reading.opened ≡ None
-rest_closed v live rest = ap (λ (r : Reading). r.opened) (rest_reading v live rest.even)
+rest_closed v live rest = ap (λ (r : Reading). r.opened) (rest_reading v live rest.outside.even)

@@ -1,5 +1,5 @@
 -- What opening a snapshot leaves.
-use Rattle.std.proofs.Common.{◌≡◌, ℕ, ◌+◌, length, cond, eqb, Bool, true, false, arith, refl, ap, ◌∙◌, subst, length-append}
+use Rattle.std.proofs.Common.{◌≡◌, ℕ, ◌+◌, length, cond, eqb, Bool, true, false, arith, refl, ap, ◌∙◌, length-append}
 use Rattle.std.proofs.lemmas.Bool.{eqb-true, and_parts}
 use Rattle.index_words.specs.declared.view.View.{View}
 use Rattle.index_words.specs.declared.view.history.SeenHistory.{SeenHistory}
@@ -7,9 +7,9 @@ use Rattle.index_words.specs.Views.{no_slots, no_looks}
 use Rattle.core_events.specs.LoadMoves.{risen}
 use Rattle.core_events.specs.Moves.{entered, in_section}
 use Rattle.core_grace.specs.Batches.{all_passed, batch_freed, batch_taken, is_empty, settled}
-use Rattle.core_invariant.proofs.KeptViews.{SeatPart, entered_part}
-use Rattle.table_steps.specs.Gives.{HasOpened}
-use Rattle.table_steps.specs.Passes.{Extends, Inside}
+use Rattle.table_steps.specs.Passes.{Pass, Inside}
+use Rattle.table_steps.specs.Stamps.{HasOpened}
+use Rattle.table_steps.proofs.ReadSections.{opened_extends, within_history}
 use Rattle.snapshot_read.specs.Snapshots.{ReadsAt, HasBegun, owned_nodes, owned_entries}
 
 -- how many slots a view owns
@@ -44,27 +44,27 @@ taken_owned v = by_test (is_empty v.batch) refl
 pub entered_owned : (passes word : ℕ) (v : View) → owned (entered passes v word) ≡ owned v
 entered_owned passes word v = settled_owned passes (batch_taken (in_section v word)) ∙ taken_owned (in_section v word)
 
-module _ (v w : View) (at : ℕ) (opened : HasOpened v 1 at w) where
-  history : opened.inside.history ≡ v.history
-  history = ap (λ (u : View). u.history) opened.entered ∙ ap (λ (p : SeatPart). p.history) (entered_part v.layout.passes (v.section_word + 1) v)
+module _ (p : Pass) (w : View) (at : ℕ) (opened : HasOpened p 1 at w) where
+  abbrev v : View
+  v = p.view
 
   owns : owned w ≡ owned v
-  owns = ap owned opened.loaded.view ∙ ap owned opened.entered ∙ entered_owned v.layout.passes (v.section_word + 1) v
+  owns = ap owned opened.reads.view ∙ entered_owned v.layout.passes (v.section_word + 1) v
 
   pub begins : HasBegun v w at
   begins = record {
-    seen = subst (λ (h : SeenHistory). Extends h.seen w.history.seen) history opened.loaded.extends;
-    whole = opened.loaded.whole;
-    found = ap (λ (u : View). u.history.found) opened.loaded.view;
-    looks = ap (λ (u : View). u.history.looks) opened.loaded.view ∙ ap (λ (h : SeenHistory). risen h.looks) history;
-    mine = ap (λ (u : View). u.history.mine) opened.loaded.view ∙ ap (λ (h : SeenHistory). h.mine) history;
-    left = ap (λ (u : View). u.history.left) opened.loaded.view ∙ ap (λ (h : SeenHistory). h.left) history;
+    seen = opened_extends p 1 at w opened;
+    whole = opened.seen.whole;
+    found = ap (λ (u : View). u.history.found) opened.reads.view;
+    looks = ap (λ (u : View). u.history.looks) opened.reads.view ∙ ap (λ (h : SeenHistory). risen h.looks) (within_history v);
+    mine = ap (λ (u : View). u.history.mine) opened.reads.view ∙ ap (λ (h : SeenHistory). h.mine) (within_history v);
+    left = ap (λ (u : View). u.history.left) opened.reads.view ∙ ap (λ (h : SeenHistory). h.left) (within_history v);
     nodes = ap (λ (o : Owned). o.nodes) owns;
     entries = ap (λ (o : Owned). o.entries) owns;
   }
 
   pub begun_reads : Inside w → ReadsAt w at
   begun_reads inside = record {
-    opened = ap (λ (u : View). u.reading.opened) opened.loaded.view;
+    opened = ap (λ (u : View). u.reading.opened) opened.reads.view;
     inside = inside;
   }

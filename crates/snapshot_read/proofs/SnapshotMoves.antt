@@ -1,5 +1,5 @@
 -- What loads leave of an open snapshot and of its tree.
-use Rattle.std.proofs.Common.{◌≡◌, ℕ, ap, ◌∙◌, sym, subst}
+use Rattle.std.proofs.Common.{ℕ, ap, ◌∙◌, sym, subst}
 use Rattle.index_words.specs.declared.view.View.{View}
 use Rattle.core_trees.specs.NamedTree.{NamedTree}
 use Rattle.bundle_reads.specs.Reads.{HasRead}

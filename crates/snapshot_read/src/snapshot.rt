@@ -2,10 +2,8 @@
 ghost use Rattle.std.specs.Prelude.{◌≡◌, ℕ, Some};
 ghost use Rattle.key_map.specs.History.{after};
 ghost use Rattle.key_map.specs.Map.{first_from};
-ghost use Rattle.core_events.specs.Moves.{left};
-ghost use Rattle.core_grace.specs.Sections.{left_word};
-ghost use Rattle.table_steps.specs.Gives.{HasOpened};
 ghost use Rattle.table_steps.specs.Passes.{AtRest, IsSamePass};
+ghost use Rattle.table_steps.specs.Stamps.{outside_again, HasOpened, IsFoundAt};
 ghost use Rattle.bundle_reads.specs.Reads.{HasRead};
 ghost use Rattle.snapshot_read.specs.Snapshots.{ReadsAt, IsReading, HasBegun};
 ghost use Rattle.snapshot_read.specs.Looks.{IsAnswer, waits_after};
@@ -23,7 +21,8 @@ use table_steps::TablePass;
 pub fn begin(pass: &mut TablePass<'_>) -> u64
     requires rest { AtRest pass.old.view }
     ensures same { IsSamePass pass.old pass.new }
-    ensures opened { HasOpened pass.old.view 1 result pass.new.view }
+    ensures event { IsFoundAt pass.old 1 result pass.new.view }
+    ensures opened { HasOpened pass.old 1 result pass.new.view }
     ensures begun { HasBegun pass.old.view pass.new.view result }
     ensures reads { ReadsAt pass.new.view result }
 {
@@ -34,7 +33,7 @@ pub fn begin(pass: &mut TablePass<'_>) -> u64
 pub fn end(pass: &mut TablePass<'_>)
     requires reads { IsReading pass.old.view }
     ensures same { IsSamePass pass.old pass.new }
-    ensures view { pass.new.view ≡ left pass.old.view (left_word pass.old.view.section_word) }
+    ensures view { pass.new.view ≡ outside_again pass.old.view }
     ensures rest { AtRest pass.new.view }
 {
     pass.close_section();

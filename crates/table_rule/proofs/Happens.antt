@@ -12,7 +12,7 @@ use Rattle.key_map.specs.declared.update.Update.{Update}
 use Rattle.atomic_table.specs.Table.{State, Me, Allows, keeps as nothing}
 use Rattle.core_events.specs.declared.event.Event.{Event}
 use Rattle.core_events.specs.declared.event.Kind.{Kind}
-use Rattle.core_events.specs.declared.event.Kind.TheVariants.{MakeSeat, SplitSeat, JoinSeat, Enter, Leave, LookSec, Fill, LoadStamp, LoadHead, LoadTs, LoadPtr, LoadNext, Prepare, Raise, Finalise, TryLock, Unlock, LoadMark, Mark as MarkNode, LoadKeyOrVal}
+use Rattle.core_events.specs.declared.event.Kind.TheVariants.{MakeSeat, SplitSeat, JoinSeat, Enter, Leave, LookSec, Fill, LoadStamp, LoadHead, LoadTs, LoadPtr, LoadNext, Prepare, Raise, Finalise, TryLock, Unlock, LoadMark, Mark as MarkNode, LoadKeyOrVal, Announce, LookAnn, Cut}
 use Rattle.core_invariant.specs.Rule.{InRule}
 use Rattle.core_events.specs.Steps.{allowed, after, after_at, words_after, views_after, view_after}
 use Rattle.core_events.specs.Tables.{Table}
@@ -52,6 +52,9 @@ load_moves Finalise is = tt
 load_moves TryLock is = tt
 load_moves Unlock is = tt
 load_moves MarkNode is = tt
+load_moves Announce is = tt
+load_moves LookAnn is = tt
+load_moves Cut is = tt
 
 pub store_moves : (kind : Kind) → IsStore kind → IsMove kind
 store_moves Enter is = tt
@@ -74,6 +77,9 @@ store_moves LoadMark is = tt
 store_moves LoadKeyOrVal is = tt
 store_moves Raise is = tt
 store_moves TryLock is = tt
+store_moves Announce is = tt
+store_moves LookAnn is = tt
+store_moves Cut is = tt
 
 -- the word after an event with this value, of the word found
 abbrev pub word_of : Kind → ℕ → ℕ → ℕ
@@ -86,6 +92,8 @@ word_of Finalise value n = value
 word_of TryLock value n = cond (eqb n 0) value n
 word_of Unlock value n = value
 word_of MarkNode value n = value
+word_of Announce value n = value
+word_of Cut value n = value
 word_of _ value n = n
 
 pub load_word : (kind : Kind) (value n : ℕ) → IsLoad kind → word_of kind value n ≡ n
@@ -109,6 +117,9 @@ load_word Finalise value n is = absurd is
 load_word TryLock value n is = absurd is
 load_word Unlock value n is = absurd is
 load_word MarkNode value n is = absurd is
+load_word LookAnn value n is = refl
+load_word Announce value n is = absurd is
+load_word Cut value n is = absurd is
 
 pub store_word : (kind : Kind) (value n : ℕ) → IsStore kind → word_of kind value n ≡ value
 store_word Enter value n is = refl
@@ -131,6 +142,9 @@ store_word LoadMark value n is = absurd is
 store_word LoadKeyOrVal value n is = absurd is
 store_word Raise value n is = absurd is
 store_word TryLock value n is = absurd is
+store_word Announce value n is = refl
+store_word Cut value n is = refl
+store_word LookAnn value n is = absurd is
 
 -- the words after an event of such a kind are those before with this word anew
 same_words : (words : List ℕ) (at : ℕ) → words ≡ set words at (slice_index words at)
@@ -150,6 +164,9 @@ words_moved Finalise words at value is = refl
 words_moved TryLock words at value is = tried_words (eqb (slice_index words at) 0) words at value
 words_moved Unlock words at value is = refl
 words_moved MarkNode words at value is = refl
+words_moved Announce words at value is = refl
+words_moved Cut words at value is = refl
+words_moved LookAnn words at value is = same_words words at
 words_moved LookSec words at value is = same_words words at
 words_moved LoadStamp words at value is = same_words words at
 words_moved LoadHead words at value is = same_words words at
@@ -173,6 +190,9 @@ views_moved Finalise z m vs i v w value o is = refl
 views_moved TryLock z m vs i v w value o is = refl
 views_moved Unlock z m vs i v w value o is = refl
 views_moved MarkNode z m vs i v w value o is = refl
+views_moved Announce z m vs i v w value o is = refl
+views_moved LookAnn z m vs i v w value o is = refl
+views_moved Cut z m vs i v w value o is = refl
 views_moved LookSec z m vs i v w value o is = refl
 views_moved LoadStamp z m vs i v w value o is = refl
 views_moved LoadHead z m vs i v w value o is = refl

@@ -6,7 +6,7 @@ use Rattle.index_words.specs.declared.layout.Layout.{Layout}
 use Rattle.index_words.specs.declared.view.View.{View}
 use Rattle.core_events.specs.declared.event.Event.{Event}
 use Rattle.core_events.specs.declared.event.Kind.{Kind}
-use Rattle.core_events.specs.declared.event.Kind.TheVariants.{Enter, Leave, LookSec, Fill, LoadStamp, LoadHead, LoadTs, LoadPtr, LoadNext, Prepare, Finalise, Unlock, LoadMark, Mark, LoadKeyOrVal}
+use Rattle.core_events.specs.declared.event.Kind.TheVariants.{Enter, Leave, LookSec, Fill, LoadStamp, LoadHead, LoadTs, LoadPtr, LoadNext, Prepare, Finalise, Unlock, LoadMark, Mark, LoadKeyOrVal, Announce, LookAnn, Cut}
 use Rattle.core_invariant.specs.Rule.{InRule}
 use Rattle.core_events.specs.Steps.{allowed, after}
 use Rattle.core_events.specs.Tables.{Table}
@@ -47,6 +47,7 @@ IsLoad LoadPtr = ⊤
 IsLoad LoadNext = ⊤
 IsLoad LoadMark = ⊤
 IsLoad LoadKeyOrVal = ⊤
+IsLoad LookAnn = ⊤
 IsLoad _ = ⊥
 
 -- the kinds that store their value
@@ -58,4 +59,6 @@ IsStore Prepare = ⊤
 IsStore Finalise = ⊤
 IsStore Unlock = ⊤
 IsStore Mark = ⊤
+IsStore Announce = ⊤
+IsStore Cut = ⊤
 IsStore _ = ⊥

@@ -88,7 +88,6 @@ module _ (v u w : View) (seen : List Update) (z : Layout) (note : u ≡ note_vie
         word = ap (λ (y : View). y.section_word) is ∙ keeps.word;
         left = ap (λ (y : View). y.history.left) is ∙ keeps.left;
         opened = ap (λ (y : View). y.reading.opened) is ∙ keeps.opened;
-        announced = ap (λ (y : View). y.announced) is ∙ keeps.announced;
         slots = record {
           free = free_is ∙ keeps.slots.free;
           batch = ap (λ (y : View). y.batch) is ∙ keeps.slots.batch;

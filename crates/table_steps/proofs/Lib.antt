@@ -15,3 +15,5 @@ pub mod HeldLoads
 pub mod LoadBounds
 pub mod LoadSteps
 pub mod LockSteps
+pub mod StampSteps
+pub mod ReadSections

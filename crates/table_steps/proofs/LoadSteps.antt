@@ -50,7 +50,6 @@ pub record OwnPart : Type 0 where
   pub word : ℕ
   pub opened : Option ℕ
   pub history : SeenHistory
-  pub announced : ℕ
   pub raised : Option ℕ
   pub free : Slots
   pub batch : Slots
@@ -64,7 +63,6 @@ own_part v = record {
   word = v.section_word;
   opened = v.reading.opened;
   history = v.history;
-  announced = v.announced;
   raised = v.update.raised;
   free = v.free;
   batch = v.batch;
@@ -83,7 +81,6 @@ keeps_same v w k held same locked keeps =
       word = ap (λ (p : OwnPart). p.word) same ∙ keeps.word;
       left = ap (λ (p : OwnPart). p.history.left) same ∙ keeps.left;
       opened = ap (λ (p : OwnPart). p.opened) same ∙ keeps.opened;
-      announced = ap (λ (p : OwnPart). p.announced) same ∙ keeps.announced;
       slots = record {
         free = ap (λ (p : OwnPart). p.free) same ∙ keeps.slots.free;
         batch = ap (λ (p : OwnPart). p.batch) same ∙ keeps.slots.batch;

@@ -25,7 +25,6 @@ fresh_keeps z n node entry size k fresh there few = record {
   word = sym fresh.word;
   left = sym fresh.left;
   opened = sym fresh.opened;
-  announced = refl;
   slots = record {
     free = ap (λ ns. record { nodes = ns; entries = from_up entry size.entries }) (sym fresh.nodes) ∙ ap (λ es. record { nodes = k.slots.free.nodes; entries = es }) (sym fresh.entries);
     batch = sym fresh.batch;
@@ -45,7 +44,7 @@ fresh_keeps z n node entry size k fresh there few = record {
 
 -- and the pass is at rest
 pub fresh_rest : (z : Layout) (n node entry : ℕ) (size : PassSize) → AtRest (pass_view z n node entry size)
-fresh_rest z n node entry size = record { even = refl; unlocked = refl; unannounced = refl }
+fresh_rest z n node entry size = record { outside = record { even = refl; unlocked = refl }; unannounced = refl }
 
 -- the numbers of the keys: each number of a pass of the table once
 not_counted : (k n : ℕ) (sizes : List PassSize) → k < n → count k (numbers_from n sizes) ≡ 0

@@ -155,7 +155,6 @@ module _ (v w : View) (u : Update) (new out : List ℕ) (at : ℕ) (gives : HasR
     word = ap (λ (y : View). y.section_word) gives.view ∙ keeps.word;
     left = ap (λ (y : View). y.history.left) gives.view ∙ ap (λ n. n - 1) keeps.left;
     opened = ap (λ (y : View). y.reading.opened) gives.view ∙ keeps.opened;
-    announced = ap (λ (y : View). y.announced) gives.view ∙ keeps.announced;
     slots = slots_kept;
     node_room = subst (λ (z : Layout). z.nodes ≤ k.slots.node_room) (sym layout) keeps.node_room;
     entry_room = subst (λ (z : Layout). z.entries ≤ k.slots.entry_room) (sym layout) keeps.entry_room;

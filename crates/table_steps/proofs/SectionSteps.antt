@@ -1,21 +1,20 @@
 -- Each step of a section: that it may be made, what it leaves in the view, and that what is kept at run time still is what
 -- the view says.
-use Rattle.std.proofs.Common.{◌≡◌, ◌≢◌, ℕ, ◌+◌, ◌<◌, ◌≤◌, ◌==◌, ◌++◌, length, drop, cond, Bool, true, false, ltb, ◌&&◌, arith, refl, ap, ◌∙◌, sym, subst, Option, Some, None}
+use Rattle.std.proofs.Common.{◌≡◌, ◌≢◌, ℕ, ◌+◌, ◌<◌, ◌≤◌, cond, Bool, true, false, ltb, ◌&&◌, arith, refl, ap, ◌∙◌, sym, subst, Option, Some, None}
 use Rattle.std.proofs.lemmas.Bool.Decides.{nat_tests}
-use Rattle.std.proofs.lemmas.List.{take-append-drop}
 use Rattle.index_words.specs.declared.layout.Layout.{Layout}
 use Rattle.index_words.specs.declared.view.View.{View}
 use Rattle.index_words.specs.declared.view.history.SeenHistory.{SeenHistory}
 use Rattle.index_words.specs.declared.word.Word.{Word}
-use Rattle.index_words.specs.declared.word.Word.TheVariants.{Stamp, Section}
-use Rattle.index_words.specs.Words.{Memory, memory, is_there}
+use Rattle.index_words.specs.declared.word.Word.TheVariants.{Section}
+use Rattle.index_words.specs.Words.{is_there}
 use Rattle.core_grace.specs.Batches.{is_empty, looked}
 use Rattle.core_grace.specs.Sections.{is_even, left_word}
 use Rattle.core_events.specs.declared.event.Event.{Event}
-use Rattle.core_events.specs.declared.event.Kind.TheVariants.{Enter, Leave, LookSec, Fill, LoadStamp}
+use Rattle.core_events.specs.declared.event.Kind.TheVariants.{Enter, Leave, LookSec, Fill}
 use Rattle.core_events.specs.FillMoves.{filled_view, filled_with, with_filled}
 use Rattle.core_events.specs.Moves.{entered, left, in_section, nowhere}
-use Rattle.core_laws.specs.ViewNeeds.{event_at, May, MayFill}
+use Rattle.core_laws.specs.ViewNeeds.{event_at, IsOutside, May, MayFill}
 use Rattle.core_invariant.proofs.KeptViews.{SeatPart, part_of, entered_part}
 use Rattle.core_laws.proofs.ViewNeeds.{may_enter_law, may_leave_law, may_look_law, may_fill_law}
 use Rattle.pass_slots.specs.Owned.{KeptSlots, KeepsSlots, HasRoomOf}
@@ -29,27 +28,15 @@ use Rattle.core_grace.proofs.RuleMoves.{every_weaker}
 use Rattle.table_steps.specs.HeldWords.{KeepsHeld, KeepsNode}
 use Rattle.table_steps.specs.Kept.{Keeps}
 use Rattle.table_steps.specs.Made.{KeepsOwn}
-use Rattle.table_steps.specs.Passes.{AtRest, Inside, Extends}
+use Rattle.table_steps.specs.Passes.{Inside}
 use Rattle.table_steps.specs.declared.kept.Kept.{Kept}
-use Rattle.index_words.specs.declared.view.slots.Looks.{Looks}
-use Rattle.key_map.specs.History.{after}
-use Rattle.core_laws.specs.Found.{FindsStamp}
-use Rattle.core_events.specs.LoadMoves.{longest, stamp_loaded}
-use Rattle.core_events.specs.SpelledNow.{tree_now}
-use Rattle.core_events.specs.Versions.{tree_nodes}
-use Rattle.core_laws.proofs.Found.{stamp_law}
-use Rattle.pass_slots.specs.Owned.{KeepsLooks}
-use Rattle.table_rule.specs.Running.{table}
-use Rattle.table_rule.proofs.Lists.{item_at}
-use Rattle.table_steps.specs.Gives.{HasLoadedStamp}
-use Rattle.table_steps.proofs.Own.{own_longer}
 use Rattle.table_steps.proofs.Views.{Work, IsStill, work_still, entered_work, looked_work, looked_part, filled_part, filled_still}
 use Rattle.core_grace.proofs.Parity.{odd_next, even_left}
 
-still_raised : (v w : View) (k : Kept) → IsStill v w → Keeps v k → IfSome w.update.raised (λ at. at ≡ k.raised)
+pub still_raised : (v w : View) (k : Kept) → IsStill v w → Keeps v k → IfSome w.update.raised (λ at. at ≡ k.raised)
 still_raised v w k still keeps = subst (λ (u : Updating). IfSome u.raised (λ at. at ≡ k.raised)) (sym still.update) keeps.raised
 
-still_held : (v w : View) (k : Kept) → w.layout ≡ v.layout → IsStill v w → Keeps v k → KeepsHeld w.layout w.held k.held
+pub still_held : (v w : View) (k : Kept) → w.layout ≡ v.layout → IsStill v w → Keeps v k → KeepsHeld w.layout w.held k.held
 still_held v w k layout still keeps = subst (λ (z : Layout). KeepsHeld z w.held k.held) (sym layout) (subst (λ (h : ViewHeld). KeepsHeld v.layout h k.held) (sym still.held) keeps.held)
 
 -- a view with the same parts, and its own section word, open snapshot and slots, is kept with these
@@ -62,7 +49,6 @@ keeps_opened v w k word opened slots keeps same kept room still = record {
   word = ap (λ (p : SeatPart). p.word) same;
   left = ap (λ (p : SeatPart). p.history.left) same ∙ keeps.left;
   opened = ap (λ (p : SeatPart). p.opened) same;
-  announced = ap (λ (p : SeatPart). p.owner.announced) same ∙ keeps.announced;
   slots = kept;
   node_room = subst (λ (z : Layout). z.nodes ≤ slots.node_room) (sym layout) (subst (λ n. v.layout.nodes ≤ n) (sym room.nodes) keeps.node_room);
   entry_room = subst (λ (z : Layout). z.entries ≤ slots.entry_room) (sym layout) (subst (λ n. v.layout.entries ≤ n) (sym room.entries) keeps.entry_room);
@@ -90,7 +76,6 @@ cleared w k keeps none = record {
   word = keeps.word;
   left = keeps.left;
   opened = keeps.opened;
-  announced = keeps.announced;
   slots = keeps.slots;
   node_room = keeps.node_room;
   entry_room = keeps.entry_room;
@@ -140,28 +125,32 @@ module _ (home : Home) (s : Sat) (k : Kept) (keeps : Keeps s.view k) (of : IsOf 
   abbrev pub enter_event : Event
   enter_event = event_at z s.seat Enter (Section k.number) (k.section_word + 1)
 
-  pub enter_asks : AtRest v → Asks home s (Section k.number) enter_event
-  enter_asks rest = record {
+  pub enter_asks : IsOutside v → Asks home s (Section k.number) enter_event
+  enter_asks outside = record {
     of = of;
     there = own_there;
     seat = refl;
     word = refl;
     may = subst (λ n. May z v (event_at z s.seat Enter (Section k.number) (n + 1))) keeps.word
-        (may_enter_law z v s.seat k.number (record { own = keeps.number; outside = record { even = rest.even; unlocked = rest.unlocked } }));
+        (may_enter_law z v s.seat k.number (record { own = keeps.number; outside = outside }));
   }
 
   pub enter_view : (w : View) → Stored z enter_event v w → w ≡ entered z.passes v (k.section_word + 1)
   enter_view w h = happened_view z enter_event v w h.0 (Section k.number) own_there refl tt h.1
 
-  pub enter_inside : AtRest v → (w : View) → Stored z enter_event v w → Inside w
-  enter_inside rest w h =
+  enter_part : (w : View) → Stored z enter_event v w → part_of w ≡ part_of (in_section v (k.section_word + 1))
+  enter_part w h = ap part_of (enter_view w h) ∙ entered_part z.passes (k.section_word + 1) v
+
+  pub enter_announced : (w : View) → Stored z enter_event v w → w.announced ≡ v.announced
+  enter_announced w h = ap (λ (p : SeatPart). p.announced) (enter_part w h)
+
+  pub enter_inside : IsOutside v → (w : View) → Stored z enter_event v w → Inside w
+  enter_inside outside w h =
       let word : ℕ = k.section_word + 1 in
       let is = enter_view w h in
-      let part = ap part_of is ∙ entered_part z.passes word v in
       record {
-        odd = ap (λ (p : SeatPart). is_even p.word) part ∙ odd_next k.section_word (subst (λ n. is_even n ≡ true) keeps.word rest.even);
-        unlocked = ap (λ (u : View). u.held.nodes) is ∙ ap (λ (u : Work). u.held.nodes) (entered_work z.passes word v) ∙ rest.unlocked;
-        unannounced = ap (λ (p : SeatPart). p.owner.announced) part ∙ rest.unannounced;
+        odd = ap (λ (p : SeatPart). is_even p.word) (enter_part w h) ∙ odd_next k.section_word (subst (λ n. is_even n ≡ true) keeps.word outside.even);
+        unlocked = ap (λ (u : View). u.held.nodes) is ∙ ap (λ (u : Work). u.held.nodes) (entered_work z.passes word v) ∙ outside.unlocked;
       }
 
   pub enter_keeps : (w : View) (slots : KeptSlots) → Stored z enter_event v w → ((u : View) → KeepsSlots u k.slots → u.number ≡ Some k.number → KeepsSlots (Rattle.core_grace.specs.Batches.settled z.passes (Rattle.core_grace.specs.Batches.batch_taken u)) slots) → HasRoomOf k.slots slots
@@ -191,13 +180,12 @@ module _ (home : Home) (s : Sat) (k : Kept) (keeps : Keeps s.view k) (of : IsOf 
   pub leave_view : (w : View) → Stored z leave_event v w → w ≡ left v (left_word k.section_word)
   leave_view w h = happened_view z leave_event v w h.0 (Section k.number) own_there refl tt h.1
 
-  pub leave_rest : Inside v → (w : View) → Stored z leave_event v w → AtRest w
-  leave_rest inside w h =
+  pub leave_outside : Inside v → (w : View) → Stored z leave_event v w → IsOutside w
+  leave_outside inside w h =
       let is = leave_view w h in
       record {
         even = ap (λ (u : View). is_even u.section_word) is ∙ even_left k.section_word (subst (λ n. is_even n ≡ false) keeps.word inside.odd);
         unlocked = ap (λ (u : View). u.held.nodes) is ∙ inside.unlocked;
-        unannounced = ap (λ (u : View). u.announced) is ∙ inside.unannounced;
       }
 
   pub leave_keeps : Inside v → (w : View) → Stored z leave_event v w
@@ -217,8 +205,8 @@ module _ (home : Home) (s : Sat) (k : Kept) (keeps : Keeps s.view k) (of : IsOf 
     abbrev pub look_event : Event
     look_event = event_at z s.seat LookSec (Section other) 0
 
-    pub look_asks : AtRest v → other ≢ k.number → (is_empty v.batch && is_empty v.retired) ≡ false → Asks home s (Section other) look_event
-    look_asks rest apart waiting = record {
+    pub look_asks : IsOutside v → other ≢ k.number → (is_empty v.batch && is_empty v.retired) ≡ false → Asks home s (Section other) look_event
+    look_asks outside apart waiting = record {
       of = of;
       there = other_there;
       seat = refl;
@@ -226,7 +214,7 @@ module _ (home : Home) (s : Sat) (k : Kept) (keeps : Keeps s.view k) (of : IsOf 
       may = may_look_law z v s.seat other (record {
         other = λ same. apart (sym (some_number k.number other (sym keeps.number ∙ same)));
         there = there;
-        outside = record { even = rest.even; unlocked = rest.unlocked };
+        outside = outside;
         waiting = waiting;
       });
     }
@@ -239,15 +227,17 @@ module _ (home : Home) (s : Sat) (k : Kept) (keeps : Keeps s.view k) (of : IsOf 
         happened_view z look_event v w n (Section other) other_there refl tt h
         ∙ ap (looked z.passes v other) (happened_word z look_event v w n (Section other) other_there refl tt h)
 
-    pub look_rest : AtRest v → (w : View) (n : ℕ) → Happened z look_event v n w → AtRest w
-    look_rest rest w n h =
-        let is = look_view w n h in
-        let part = ap part_of is ∙ looked_part z other n v in
-        record {
-          even = ap (λ (p : SeatPart). is_even p.word) part ∙ rest.even;
-          unlocked = ap (λ (u : View). u.held.nodes) is ∙ ap (λ (u : Work). u.held.nodes) (looked_work z.passes other n v) ∙ rest.unlocked;
-          unannounced = ap (λ (p : SeatPart). p.owner.announced) part ∙ rest.unannounced;
-        }
+    look_part : (w : View) (n : ℕ) → Happened z look_event v n w → part_of w ≡ part_of v
+    look_part w n h = ap part_of (look_view w n h) ∙ looked_part z other n v
+
+    pub look_outside : IsOutside v → (w : View) (n : ℕ) → Happened z look_event v n w → IsOutside w
+    look_outside outside w n h = record {
+      even = ap (λ (p : SeatPart). is_even p.word) (look_part w n h) ∙ outside.even;
+      unlocked = ap (λ (u : View). u.held.nodes) (look_view w n h) ∙ ap (λ (u : Work). u.held.nodes) (looked_work z.passes other n v) ∙ outside.unlocked;
+    }
+
+    pub look_announced : (w : View) (n : ℕ) → Happened z look_event v n w → w.announced ≡ v.announced
+    look_announced w n h = ap (λ (p : SeatPart). p.announced) (look_part w n h)
 
     pub look_keeps : (w : View) (n : ℕ) (slots : KeptSlots) → Happened z look_event v n w → ((u : View) → KeepsSlots u k.slots → u.number ≡ Some k.number → KeepsSlots (looked z.passes u other n) slots) → HasRoomOf k.slots slots
         → Keeps w (record { number = k.number; section_word = k.section_word; left = k.left; opened = k.opened; slots = slots; updates = k.updates; raised = k.raised; held = k.held })
@@ -278,69 +268,3 @@ module _ (home : Home) (s : Sat) (k : Kept) (keeps : Keeps s.view k) (of : IsOf 
         let u : View = filled_view v word value in
         subst (λ (x : View). Keeps x k) (sym (fill_gives w h))
         (keeps_moved v u k k.section_word k.slots keeps (part_moved v u k.section_word (filled_part z v word value) keeps.word) (filled_slots v word value k.slots keeps.slots) (same_room k.slots) (filled_still v word value))
-
-  -- a load of the stamp
-  module _ (fixes : ℕ) (w : View) (n : ℕ) (h : Happened z (event_at z s.seat LoadStamp Stamp fixes) v n w) where
-    abbrev m : Memory
-    m = memory z h.words
-
-    found : FindsStamp (table z h.words h.views) v
-    found = stamp_law (table z h.words h.views) s.seat v h.rule (item_at h.views s.seat v h.seat)
-
-    stamp_is : m Stamp ≡ n
-    stamp_is = happened_word z (event_at z s.seat LoadStamp Stamp fixes) v w n Stamp refl refl tt h
-
-    w_is : w ≡ stamp_loaded (longest h.views) v n (fixes == 1) (tree_nodes (tree_now z m h.views))
-    w_is =
-        happened_view z (event_at z s.seat LoadStamp Stamp fixes) v w n Stamp refl refl tt h
-        ∙ ap (λ x. stamp_loaded (longest h.views) v x (fixes == 1) (tree_nodes (tree_now z m h.views))) stamp_is
-
-    seen_is : w.history.seen ≡ longest h.views
-    seen_is = ap (λ (u : View). u.history.seen) w_is
-
-    longer : Extends v.history.seen w.history.seen
-    longer = (
-      drop (length v.history.seen) (longest h.views),
-      seen_is ∙ sym (take-append-drop (length v.history.seen) (longest h.views)) ∙ ap (λ us. us ++ drop (length v.history.seen) (longest h.views)) (sym found.extends),
-    )
-
-    pub stamp_gives : HasLoadedStamp v fixes n w
-    stamp_gives = record {
-      extends = longer;
-      whole = ap length seen_is ∙ found.whole ∙ stamp_is;
-      tree = tree_now z m h.views;
-      lawful = found.lawful;
-      contents_are = found.contents_are ∙ ap (after (longest h.views)) stamp_is ∙ ap (λ us. after us n) (sym seen_is);
-      view = w_is ∙ ap (λ us. stamp_loaded us v n (fixes == 1) (tree_nodes (tree_now z m h.views))) (sym seen_is);
-    }
-
-    pub stamp_inside : Inside v → Inside w
-    stamp_inside inside = record {
-      odd = ap (λ (u : View). is_even u.section_word) w_is ∙ inside.odd;
-      unlocked = ap (λ (u : View). u.held.nodes) w_is ∙ inside.unlocked;
-      unannounced = ap (λ (u : View). u.announced) w_is ∙ inside.unannounced;
-    }
-
-    pub stamp_keeps : Keeps w (record k { opened = cond (fixes == 1) (Some n) None })
-    stamp_keeps =
-        let layout : w.layout ≡ v.layout = ap (λ (u : View). u.layout) w_is in
-        record {
-          number = ap (λ (u : View). u.number) w_is ∙ keeps.number;
-          there = subst (λ (y : Layout). k.number < y.passes) (sym layout) keeps.there;
-          few = subst (λ (y : Layout). y.passes ≤ 32) (sym layout) keeps.few;
-          word = ap (λ (u : View). u.section_word) w_is ∙ keeps.word;
-          left = ap (λ (u : View). u.history.left) w_is ∙ keeps.left;
-          opened = ap (λ (u : View). u.reading.opened) w_is;
-          announced = ap (λ (u : View). u.announced) w_is ∙ keeps.announced;
-          slots = record {
-            free = ap (λ (u : View). u.free) w_is ∙ keeps.slots.free;
-            batch = ap (λ (u : View). u.batch) w_is ∙ keeps.slots.batch;
-            retired = ap (λ (u : View). u.retired) w_is ∙ keeps.slots.retired;
-            looks = subst (λ (g : Looks). KeepsLooks g k.slots.shown) (sym (ap (λ (u : View). u.grace) w_is)) keeps.slots.looks;
-          };
-          node_room = subst (λ (y : Layout). y.nodes ≤ k.slots.node_room) (sym layout) keeps.node_room;
-          entry_room = subst (λ (y : Layout). y.entries ≤ k.slots.entry_room) (sym layout) keeps.entry_room;
-          own = own_longer v.history w.history k.updates (ap (λ (u : View). u.history.mine) w_is) (ap (λ (u : View). u.history.left) w_is) longer keeps.own;
-          raised = still_raised v w k (record { held = ap (λ (u : View). u.held) w_is; update = ap (λ (u : View). u.update) w_is }) keeps;
-          held = still_held v w k layout (record { held = ap (λ (u : View). u.held) w_is; update = ap (λ (u : View). u.update) w_is }) keeps;
-        }

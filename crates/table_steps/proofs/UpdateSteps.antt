@@ -51,7 +51,6 @@ keeps_worked v w k slots held keeps same kept room raised locked = record {
   word = ap (λ (p : SeatPart). p.word) same ∙ keeps.word;
   left = ap (λ (p : SeatPart). p.history.left) same ∙ keeps.left;
   opened = ap (λ (p : SeatPart). p.opened) same ∙ keeps.opened;
-  announced = ap (λ (p : SeatPart). p.owner.announced) same ∙ keeps.announced;
   slots = kept;
   node_room = subst (λ (z : Layout). z.nodes ≤ slots.node_room) (sym layout) (subst (λ n. v.layout.nodes ≤ n) (sym room.nodes) keeps.node_room);
   entry_room = subst (λ (z : Layout). z.entries ≤ slots.entry_room) (sym layout) (subst (λ n. v.layout.entries ≤ n) (sym room.entries) keeps.entry_room);

@@ -16,7 +16,6 @@ pub record Keeps (v : View) (k : Kept) : Type 0 where
   pub word : v.section_word ≡ k.section_word
   pub left : v.history.left ≡ k.left
   pub opened : v.reading.opened ≡ k.opened
-  pub announced : v.announced ≡ 0
   pub slots : KeepsSlots v k.slots
   pub node_room : v.layout.nodes ≤ k.slots.node_room
   pub entry_room : v.layout.entries ≤ k.slots.entry_room

@@ -3,6 +3,7 @@ pub mod Made
 pub mod HeldWords
 pub mod Kept
 pub mod Gives
+pub mod Stamps
 pub mod Updates
 pub mod Raises
 pub mod Retires

@@ -1,8 +1,9 @@
 -- A pass as plain data, and the states in which its calls may be made.
-use Rattle.std.specs.Prelude.{◌≡◌, ℕ, List, [], ◌++◌, true, false}
+use Rattle.std.specs.Prelude.{◌≡◌, ℕ, List, [], ◌++◌, false}
 use Rattle.index_words.specs.declared.view.View.{View}
 use Rattle.key_map.specs.declared.update.Update.{Update}
 use Rattle.core_grace.specs.Sections.{is_even}
+use Rattle.core_laws.specs.ViewNeeds.{IsOutside}
 use Rattle.atomic_table.specs.Seated.{TableId}
 use Rattle.table_rule.specs.Homes.{Home}
 
@@ -27,15 +28,13 @@ pub record IsSamePass (p q : Pass) : Type 0 where
 
 -- at rest: outside a section, with no lock held and nothing announced
 pub record AtRest (v : View) : Type 0 where
-  pub even : is_even v.section_word ≡ true
-  pub unlocked : v.held.nodes ≡ []
+  pub outside : IsOutside v
   pub unannounced : v.announced ≡ 0
 
 -- inside a section, with no lock held
 pub record Inside (v : View) : Type 0 where
   pub odd : is_even v.section_word ≡ false
   pub unlocked : v.held.nodes ≡ []
-  pub unannounced : v.announced ≡ 0
 
 -- what was seen goes on
 abbrev pub Extends : List Update → List Update → Type 0

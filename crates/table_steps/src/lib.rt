@@ -14,6 +14,7 @@ mod open;
 mod own_updates;
 mod pass;
 mod raises;
+mod reading;
 mod retires;
 mod sections;
 mod settled;

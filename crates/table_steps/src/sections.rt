@@ -6,10 +6,10 @@ ghost use Rattle.core_grace.specs.Batches.{is_empty, looked};
 ghost use Rattle.core_grace.specs.Sections.{left_word};
 ghost use Rattle.core_events.specs.FillMoves.{filled_view};
 ghost use Rattle.core_events.specs.Moves.{entered, left};
-ghost use Rattle.core_laws.specs.ViewNeeds.{MayFill};
+ghost use Rattle.core_laws.specs.ViewNeeds.{IsOutside, MayFill};
 ghost use Rattle.table_rule.specs.Running.{Happened, Stored};
 ghost use Rattle.table_steps.specs.Gives.{entering, leaving, looking, filling};
-ghost use Rattle.table_steps.specs.Passes.{AtRest, Inside, IsSamePass};
+ghost use Rattle.table_steps.specs.Passes.{Inside, IsSamePass};
 
 use crate::pass::TablePass;
 use core_grace::left_word as word_after_leaving;
@@ -29,10 +29,11 @@ fn forget(opened: &mut Option<u64>)
 impl<'t> TablePass<'t> {
     /// Enters a section: the own section word becomes odd. Where no batch waits the retired slots become the batch.
     pub fn enter(&mut self)
-        requires rest { AtRest self.old.view }
+        requires outside { IsOutside self.old.view }
         ensures same { IsSamePass self.old self.new }
         ensures event { Stored self.old.view.layout (entering self.old) self.old.view self.new.view }
         ensures view { self.new.view ≡ entered self.old.view.layout.passes self.old.view (self.old.view.section_word + 1) }
+        ensures announced { self.new.view.announced ≡ self.old.view.announced }
         ensures inside { Inside self.new.view }
     {
         let table = self.table;
@@ -51,7 +52,8 @@ impl<'t> TablePass<'t> {
         ensures same { IsSamePass self.old self.new }
         ensures event { Stored self.old.view.layout (leaving self.old) self.old.view self.new.view }
         ensures view { self.new.view ≡ left self.old.view (left_word self.old.view.section_word) }
-        ensures rest { AtRest self.new.view }
+        ensures announced { self.new.view.announced ≡ self.old.view.announced }
+        ensures outside { IsOutside self.new.view }
     {
         let table = self.table;
         let word = word_after_leaving(self.kept.section_word);
@@ -65,14 +67,15 @@ impl<'t> TablePass<'t> {
 
     /// Looks at the section word of another pass, for the sake of the slots that wait to become free.
     pub fn look_sec(&mut self, other: u32) -> u64
-        requires rest { AtRest self.old.view }
+        requires outside { IsOutside self.old.view }
         requires other { other ≢ self.old.number }
         requires there { other < self.old.view.layout.passes }
         requires waiting { (is_empty self.old.view.batch && is_empty self.old.view.retired) ≡ false }
         ensures same { IsSamePass self.old self.new }
         ensures event { Happened self.old.view.layout (looking self.old other) self.old.view result self.new.view }
         ensures view { self.new.view ≡ looked self.old.view.layout.passes self.old.view other result }
-        ensures rest { AtRest self.new.view }
+        ensures announced { self.new.view.announced ≡ self.old.view.announced }
+        ensures outside { IsOutside self.new.view }
     {
         let table = self.table;
         let word = table

@@ -18,21 +18,22 @@ use Rattle.key_map.specs.History.{after}
 use Rattle.key_map.specs.Map.{pair}
 use Rattle.core_invariant.proofs.TreeReads.{after_length}
 use Rattle.core_events.specs.FillMoves.{filled_view}
-use Rattle.core_events.specs.LoadMoves.{bundle_link, stamp_loaded, head_loaded}
+use Rattle.core_events.specs.LoadMoves.{bundle_link, head_loaded}
 use Rattle.core_events.specs.LockMoves.{nothing_loaded}
 use Rattle.core_events.specs.Moves.{entered}
 use Rattle.core_events.specs.UpdateMoves.{prepared}
-use Rattle.core_laws.specs.ViewNeeds.{HasFilled, MayFill, MayPrepare}
+use Rattle.core_laws.specs.ViewNeeds.{HasFilled, IsInside, MayFill, MayLoadStamp, MayPrepare, MayReadHead}
 use Rattle.core_events.specs.Versions.{tree_nodes}
 use Rattle.core_trees.specs.NamedTree.{NamedTree, Null, Branch, contents}
 use Rattle.core_updates.specs.Held.{HoldsGrow, HoldsHead, CanRaise, MayRaise}
 use Rattle.core_updates.specs.Ready.{update_of}
 use Rattle.core_updates.proofs.HeldReady.{grow_from_view}
 use Rattle.table_rule.proofs.Lists.{item_at, some_same}
-use Rattle.table_steps.specs.Gives.{HasLoadedStamp}
+use Rattle.table_steps.specs.Passes.{Pass}
+use Rattle.table_steps.specs.Stamps.{reading_at, with_seen, CanAnnounce, HasSeen, ReadsNow}
 use Rattle.table_steps.specs.Loads.{HasLoadedHead}
 use Rattle.table_steps.specs.Raises.{HasNew}
-use Rattle.table_tests.specs.FirstPut.{at_start, at_root, at_locked_root}
+use Rattle.table_tests.specs.FirstPut.{at_start, at_seen, at_announced, at_root, at_locked_root}
 
 pub one_above : 0 < 1
 one_above = omega arith
@@ -49,23 +50,47 @@ no_nodes (Branch slot key val left right) none = absurd (omega (arith, ap length
 none_after : (us : List Update) → after us 0 ≡ []
 none_after us = no_items (after us 0) (omega (arith, after_length us 0))
 
-module _ (e s h : View) (n head : ℕ) (is : e ≡ entered 2 at_start 1) (loaded : HasLoadedStamp e 0 n s) (found : HasLoadedHead s 0 Right head h) (none : n ≡ 0) (null : head ≡ 0) where
-  abbrev inside : View
-  inside = entered 2 at_start 1
+-- the first load, by a pass that has entered and announced nothing
+module _ (e : View) (is : e ≡ entered 2 at_start 1) where
+  pub may_see : MayLoadStamp e
+  may_see = subst MayLoadStamp (sym is) (record { inside = refl; closed = refl })
 
-  stamp_is : s ≡ stamp_loaded [] inside 0 false []
-  stamp_is =
-      let seen : s.history.seen ≡ [] = no_items s.history.seen (loaded.whole ∙ none) in
-      let map : contents loaded.tree ≡ [] = loaded.contents_are ∙ ap (after s.history.seen) none ∙ none_after s.history.seen in
-      loaded.view ∙ ap (λ (us : List Update). stamp_loaded us e n false (tree_nodes loaded.tree)) seen
-      ∙ ap (λ (v : View). stamp_loaded [] v n false (tree_nodes loaded.tree)) is
-      ∙ ap (λ k. stamp_loaded [] inside k false (tree_nodes loaded.tree)) none
-      ∙ ap (λ (ns : List TreeNode). stamp_loaded [] inside 0 false ns) (no_nodes loaded.tree map)
+  pub found_none : (s : View) (n : ℕ) → HasSeen e n s → (e.announced ≡ 0 → s ≡ with_seen s.history.seen e) → n ≡ 0 → s ≡ at_seen
+  found_none s n seen unread none =
+      unread (ap (λ (u : View). u.announced) is)
+      ∙ ap (λ (us : List Update). with_seen us e) (no_items s.history.seen (seen.whole ∙ none))
+      ∙ ap (with_seen []) is
 
-  pub found_root : h ≡ at_root
-  found_root =
-      found.view ∙ ap (λ (v : View). head_loaded v 0 Right head found.number) stamp_is
-      ∙ ap (λ k. head_loaded (stamp_loaded [] inside 0 false []) 0 Right k found.number) null
+pub can_announce : (p : Pass) → p.view ≡ at_seen → p.view.number ≡ Some p.number → CanAnnounce p (Some 0)
+can_announce p is own = (
+  record { own = own; inside = subst IsInside (sym is) refl; unread = ap (λ (u : View). u.reading.section) is },
+  ap (λ (u : View). length u.history.seen) (sym is),
+)
+
+-- the second load, and the load of the root's head
+module _ (a s : View) (n : ℕ) (is : a ≡ at_announced) (seen : HasSeen a n s) (reads : 0 < a.announced → ReadsNow a 0 n s) where
+  pub may_read : MayLoadStamp a
+  may_read = subst MayLoadStamp (sym is) (record { inside = refl; closed = refl })
+
+  now : ReadsNow a 0 n s
+  now = reads (subst (λ (u : View). 0 < u.announced) (sym is) one_above)
+
+  stamp_is : n ≡ 0 → s ≡ reading_at [] at_announced 0 false []
+  stamp_is none =
+      let us : s.history.seen ≡ [] = no_items s.history.seen (seen.whole ∙ none) in
+      let map : contents now.tree ≡ [] = now.contents_are ∙ ap (after s.history.seen) none ∙ none_after s.history.seen in
+      now.view ∙ ap (λ (xs : List Update). reading_at xs a n false (tree_nodes now.tree)) us
+      ∙ ap (λ (v : View). reading_at [] v n false (tree_nodes now.tree)) is
+      ∙ ap (λ k. reading_at [] at_announced k false (tree_nodes now.tree)) none
+      ∙ ap (λ (ns : List TreeNode). reading_at [] at_announced 0 false ns) (no_nodes now.tree map)
+
+  pub may_load_root : n ≡ 0 → MayReadHead s 0
+  may_load_root none = subst (λ (u : View). MayReadHead u 0) (sym (stamp_is none)) (record { inside = refl; reach = inl refl })
+
+  pub found_root : (h : View) (head : ℕ) → HasLoadedHead s 0 Right head h → n ≡ 0 → head ≡ 0 → h ≡ at_root
+  found_root h head found none null =
+      found.view ∙ ap (λ (v : View). head_loaded v 0 Right head found.number) (stamp_is none)
+      ∙ ap (λ k. head_loaded (reading_at [] at_announced 0 false []) 0 Right k found.number) null
 
 -- with the key filled, and with the value too
 abbrev pub at_key : View

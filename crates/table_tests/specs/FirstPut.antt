@@ -11,11 +11,13 @@ use Rattle.index_words.specs.declared.word.Word.TheVariants.{Node, Entry}
 use Rattle.index_words.specs.Words.{is_there}
 use Rattle.key_map.specs.declared.pass.PassSize.{PassSize}
 use Rattle.core_events.specs.FillMoves.{filled_view}
-use Rattle.core_events.specs.LoadMoves.{stamp_loaded, head_loaded}
+use Rattle.core_events.specs.Announcing.{announced_view}
+use Rattle.core_events.specs.LoadMoves.{head_loaded}
 use Rattle.core_events.specs.LockMoves.{locked_view, mark_loaded}
 use Rattle.core_events.specs.Moves.{entered}
 use Rattle.core_events.specs.Openings.{pass_view}
 use Rattle.core_laws.specs.ViewNeeds.{MayFill}
+use Rattle.table_steps.specs.Stamps.{with_seen, reading_at}
 
 -- one node, the entries of one update, and one call
 abbrev pub one_update : PassSize
@@ -27,9 +29,16 @@ two_passes = record { passes = 2; nodes = 2; entries = 8; calls = 2 }
 abbrev pub at_start : View
 at_start = pass_view two_passes 0 1 1 one_update
 
--- in its section the pass found no update, and no child at the root
+-- in its section the pass has seen no update
+abbrev pub at_seen : View
+at_seen = with_seen [] (entered 2 at_start 1)
+
+-- it has announced so, and has found no update at its second load, and no child at the root
+abbrev pub at_announced : View
+at_announced = announced_view at_seen 1
+
 abbrev pub at_root : View
-at_root = head_loaded (stamp_loaded [] (entered 2 at_start 1) 0 false []) 0 Right 0 0
+at_root = head_loaded (reading_at [] at_announced 0 false []) 0 Right 0 0
 
 -- it has filled node 1 with key 5 and value 7, and entry 1, which leads to it
 abbrev pub at_pair : View

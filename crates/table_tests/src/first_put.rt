@@ -1,7 +1,7 @@
 // The first put of a table by single steps, and what another pass reads at its stages. All numbers were worked by hand.
 ghost use Rattle.std.specs.Prelude.{◌≡◌, true, IfOk};
 ghost use Rattle.key_map.specs.Lists.{Every};
-ghost use Rattle.table_tests.specs.FirstPut.{at_start, at_root, at_pair, at_locked_root, other_words, after_clears, MayStore};
+ghost use Rattle.table_tests.specs.FirstPut.{at_start, at_seen, at_root, at_pair, at_locked_root, other_words, after_clears, MayStore};
 ghost use Rattle.snapshot_read.specs.Snapshots.{IsReading};
 ghost use Rattle.table_steps.specs.Passes.{AtRest, IsPassOf};
 
@@ -35,12 +35,22 @@ fn opened(alloc: Global) -> Result<(SharedTable, PassKey, PassKey), NoMemory>
     }
 }
 
-/// Enters a section, and tells whether there is no update and no child at the root.
-fn finds_nothing(pass: &mut TablePass<'_>) -> bool
+/// Enters a section, and tells whether there is no update yet.
+fn sees_nothing(pass: &mut TablePass<'_>) -> bool
     requires start { pass.old.view ≡ at_start }
-    ensures { result ≡ true → pass.new.view ≡ at_root }
+    ensures { result ≡ true → pass.new.view ≡ at_seen }
 {
     pass.enter();
+    pass.load_stamp() == 0
+}
+
+/// Announces that it has seen no update, and tells whether there is none still, and no child at the root.
+fn reads_nothing(pass: &mut TablePass<'_>) -> bool
+    requires seen { pass.old.view ≡ at_seen }
+    ensures { result ≡ true → pass.new.view ≡ at_root }
+{
+    pass.number_fact();
+    pass.announce(Some(0));
     pass.load_stamp() == 0 && pass.load_head(0, Side::Right) == 0
 }
 
@@ -123,7 +133,7 @@ fn put_by_steps(pass: &mut TablePass<'_>, other: &mut TablePass<'_>) -> Read
     let raised = look(other);
     pass.finalise(1);
     pass.unlock(0);
-    pass.leave();
+    pass.close_section();
     let ended = [try_next_from(other, 0), try_next_from(other, 6)];
     end(other);
     Read {
@@ -139,7 +149,8 @@ fn a_reader_waits_at_an_entry_until_it_has_its_number(rt: HostRuntime) -> Result
     let (table, one, two) = opened(rt.alloc())?;
     let mut pass = table.attach(one);
     let mut other = table.attach(two);
-    assert!(rt; finds_nothing(&mut pass));
+    assert!(rt; sees_nothing(&mut pass));
+    assert!(rt; reads_nothing(&mut pass));
     fill(&mut pass);
     assert!(rt; locks_root(&mut pass));
     let read = Read {

@@ -3,6 +3,8 @@
 #![tactic(auto)]
 
 #[cfg(test)]
+mod announcing;
+#[cfg(test)]
 mod first_put;
 #[cfg(test)]
 mod loads;

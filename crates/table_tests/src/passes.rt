@@ -2,13 +2,13 @@
 ghost use Rattle.std.specs.Prelude.{All, IfOk};
 ghost use Rattle.table_steps.specs.Closes.{AreAllKeys};
 ghost use Rattle.table_steps.specs.Notes.{IsNoteOf};
-ghost use Rattle.table_steps.specs.Passes.{AtRest, Inside, IsPassOf, IsSamePass};
+ghost use Rattle.table_steps.specs.Passes.{IsPassOf};
 
 use index_words::{Layout, NoMemory, PassSize};
 use std::alloc::Global;
 use std::test::Fail;
 use std::thread::{Threads, join, map_vec};
-use table_steps::{Note, PassKey, SharedTable, TablePass};
+use table_steps::{Note, PassKey, SharedTable};
 
 pub(crate) const SIZE: PassSize = PassSize {
     nodes: 1,
@@ -30,17 +30,6 @@ pub(crate) fn opened(
     }
 }
 
-/// Opens a section, and answers the stamp.
-fn open_section(pass: &mut TablePass<'_>) -> u64
-    requires rest { AtRest pass.old.view }
-    ensures same { IsSamePass pass.old pass.new }
-    ensures inside { Inside pass.new.view }
-{
-    pass.facts();
-    pass.enter();
-    pass.load_stamp()
-}
-
 /// Opens and closes a section so often, and answers how often the stamp was found 0.
 fn work(table: &SharedTable, key: PassKey, turns: u32) -> (PassKey, u32)
     requires of { IsPassOf table.now key }
@@ -49,16 +38,16 @@ fn work(table: &SharedTable, key: PassKey, turns: u32) -> (PassKey, u32)
     let mut pass = table.attach(key);
     let mut zeros = 0u32;
     for _ in 0..turns {
-        if open_section(&mut pass) == 0 {
+        if pass.open_section() == 0 {
             zeros = zeros.wrapping_add(1);
         }
-        pass.leave();
+        pass.close_section();
     }
     (pass.detach(), zeros)
 }
 
 #[test]
-fn four_passes_enter_and_leave_at_once(rt: HostRuntime) -> Result<(), Fail> {
+fn four_passes_open_and_close_sections_at_once(rt: HostRuntime) -> Result<(), Fail> {
     let (table, keys) = opened(rt.alloc(), &[SIZE; 4])?;
     let done = map_vec(
         &rt,
@@ -75,7 +64,7 @@ fn four_passes_enter_and_leave_at_once(rt: HostRuntime) -> Result<(), Fail> {
 
 /// `bench/steps` times it.
 #[test]
-fn a_pass_enters_and_leaves_ten_million_times(rt: HostRuntime) -> Result<(), Fail> {
+fn a_pass_opens_and_closes_ten_million_sections(rt: HostRuntime) -> Result<(), Fail> {
     let (table, mut keys) = opened(rt.alloc(), &[SIZE; 2])?;
     let Some(key) = keys.pop() else {
         panic!(rt; "a table of two passes has no key")

@@ -82,7 +82,6 @@ fn end_in_stages(
 ) -> Behind
     requires raised { (at : ℕ) × HasFinalised pass.old.view pass.old.number plan.now slots.now at 0 }
     requires apart { AreApart slots.now }
-    requires unannounced { pass.old.view.announced ≡ 0 }
     requires rest { AtRest other.old.view }
 {
     finalise_all(pass, plan, slots);
@@ -113,7 +112,6 @@ fn carry_in_stages(
     requires apart { AreApart slots.now }
     requires node { 0 < slots.now.node }
     requires left { 0 < pass.old.view.history.left }
-    requires unannounced { pass.old.view.announced ≡ 0 }
     requires rest { AtRest other.old.view }
 {
     if let Err(_failed) = validate(pass, plan, heads) {

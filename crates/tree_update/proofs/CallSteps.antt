@@ -9,11 +9,10 @@ use Rattle.key_map.specs.declared.update.Update.{Update}
 use Rattle.key_map.specs.declared.update.Change.{Change}
 use Rattle.key_map.specs.declared.pass.Done.{Done}
 use Rattle.core_events.specs.LoadMoves.{risen}
-use Rattle.core_events.specs.Moves.{left}
-use Rattle.core_invariant.proofs.KeptViews.{SeatPart, entered_part}
 use Rattle.plan_laws.specs.Answers.{owned_nodes, owned_entries}
-use Rattle.table_steps.specs.Gives.{HasOpened}
-use Rattle.table_steps.specs.Passes.{Extends}
+use Rattle.table_steps.specs.Passes.{Pass, Extends}
+use Rattle.table_steps.specs.Stamps.{outside_again, HasOpened}
+use Rattle.table_steps.proofs.ReadSections.{opened_extends, within_history}
 use Rattle.bundle_reads.specs.Reads.{HasRead}
 use Rattle.snapshot_read.proofs.Begins.{Owned, owned, entered_owned}
 use Rattle.tree_update.specs.Calls.{GoesOn, FixesNone, StaysOn, MakesChange, MovesNodes, FindsAbsent}
@@ -98,8 +97,8 @@ pub read_stays : (v w : View) → HasRead v w → StaysOn v w
 read_stays v w read =
     same_stays v w (ap (λ (u : View). u.history) read.view) (ap (λ (u : View). u.free) read.view) (ap (λ (u : View). u.batch) read.view) (ap (λ (u : View). u.retired) read.view)
 
-pub left_stays : (v w : View) (word : ℕ) → w ≡ left v word → StaysOn v w
-left_stays v w word is =
+pub left_stays : (v w : View) → w ≡ outside_again v → StaysOn v w
+left_stays v w is =
     same_stays v w (ap (λ (u : View). u.history) is) (ap (λ (u : View). u.free) is) (ap (λ (u : View). u.batch) is) (ap (λ (u : View). u.retired) is)
 
 pub kept_stays : (v w : View) → KeepsAll v w → StaysOn v w
@@ -109,32 +108,30 @@ pub settle_stays : (v w : View) → KeepsAllElse v w → KeepsSlotCounts v w →
 settle_stays v w keeps slots =
     counted_stays v w (ap (λ (u : View). u.history) keeps) (omega (arith, slots.nodes)) (omega (arith, slots.entries))
 
--- an enter keeps what the pass owns, and a load of the stamp too
-pub opened_stays : (v w : View) (n : ℕ) → HasOpened v 0 n w → StaysOn v w
-opened_stays v w n opened =
-    let passes = v.layout.passes in
-    let word = v.section_word + 1 in
-    let history : opened.inside.history ≡ v.history =
-    ap (λ (u : View). u.history) opened.entered ∙ ap (λ (p : SeatPart). p.history) (entered_part passes word v) in
-    let owns : owned w ≡ owned v = ap owned opened.loaded.view ∙ ap owned opened.entered ∙ entered_owned passes word v in
+-- an enter keeps what the pass owns, and so do the loads of the stamp
+pub opened_stays : (p : Pass) (w : View) (n : ℕ) → HasOpened p 0 n w → StaysOn p.view w
+opened_stays p w n opened =
+    let v = p.view in
+    let history = within_history v in
+    let owns : owned w ≡ owned v = ap owned opened.reads.view ∙ entered_owned v.layout.passes (v.section_word + 1) v in
     let nodes : (owned w).nodes ≡ (owned v).nodes = ap (λ (o : Owned). o.nodes) owns in
     let entries : (owned w).entries ≡ (owned v).entries = ap (λ (o : Owned). o.entries) owns in
-    let looks : w.history.looks ≡ v.history.looks = ap (λ (u : View). u.history.looks) opened.loaded.view ∙ ap (λ (h : SeenHistory). h.looks) history in
+    let looks : w.history.looks ≡ v.history.looks = ap (λ (u : View). u.history.looks) opened.reads.view ∙ ap (λ (h : SeenHistory). h.looks) history in
     record {
       goes = record {
-        seen = subst (λ (h : SeenHistory). Extends h.seen w.history.seen) history opened.loaded.extends;
-        mine = ap (λ (u : View). u.history.mine) opened.loaded.view ∙ ap (λ (h : SeenHistory). h.mine) history;
-        left = ap (λ (u : View). u.history.left) opened.loaded.view ∙ ap (λ (h : SeenHistory). h.left) history;
+        seen = opened_extends p 0 n w opened;
+        mine = ap (λ (u : View). u.history.mine) opened.reads.view ∙ ap (λ (h : SeenHistory). h.mine) history;
+        left = ap (λ (u : View). u.history.left) opened.reads.view ∙ ap (λ (h : SeenHistory). h.left) history;
         nodes = omega (arith, nodes);
         entries = omega (arith, entries);
         looks = omega (arith, looks);
       };
       fixes = record {
         looks = looks;
-        found = ap (λ (u : View). u.history.found) opened.loaded.view ∙ ap (λ (h : SeenHistory). h.found) history;
+        found = ap (λ (u : View). u.history.found) opened.reads.view ∙ ap (λ (h : SeenHistory). h.found) history;
       };
     }
 
 -- so does a search
-pub search_stays : (v b w : View) (n : ℕ) → HasOpened v 0 n b → HasRead b w → StaysOn v w
-search_stays v b w n opened read = stays_more v b w (opened_stays v b n opened) (read_stays b w read)
+pub search_stays : (p : Pass) (b w : View) (n : ℕ) → HasOpened p 0 n b → HasRead b w → StaysOn p.view w
+search_stays p b w n opened read = stays_more p.view b w (opened_stays p b n opened) (read_stays b w read)

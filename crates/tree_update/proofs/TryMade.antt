@@ -11,7 +11,8 @@ use Rattle.core_events.specs.Moves.{in_section}
 use Rattle.core_grace.specs.Batches.{all_passed, batch_freed, batch_taken, is_empty, settled}
 use Rattle.core_updates.specs.declared.plan.PlanSlots.{PlanSlots}
 use Rattle.plan_laws.specs.Frames.{CountsGrow}
-use Rattle.table_steps.specs.Gives.{HasOpened}
+use Rattle.table_steps.specs.Passes.{Pass}
+use Rattle.table_steps.specs.Stamps.{HasOpened}
 use Rattle.bundle_reads.specs.Reads.{HasRead}
 use Rattle.update_try.specs.declared.outcome.Failed.{Failed}
 use Rattle.update_try.specs.Outcomes.{HasRisen, IsCounted}
@@ -56,18 +57,21 @@ settled_free passes v = by_test (all_passed passes v.number v.grace.passed)
     by_test false = record { nodes = λ k. omega arith; entries = λ k. omega arith }
 
 -- from the begin of a try to the end of its search
-module _ (v b x : View) (n : ℕ) (opened : HasOpened v 0 n b) (read : HasRead b x) where
+module _ (p : Pass) (b x : View) (n : ℕ) (opened : HasOpened p 0 n b) (read : HasRead b x) where
+  abbrev v : View
+  v = p.view
+
   abbrev inside : View
   inside = batch_taken (in_section v (v.section_word + 1))
 
   opened_counts : b.counts ≡ v.counts
   opened_counts =
-      ap (λ (u : View). u.counts) opened.loaded.view ∙ ap (λ (u : View). u.counts) opened.entered
+      ap (λ (u : View). u.counts) opened.reads.view
       ∙ settled_counts v.layout.passes inside ∙ taken_counts (in_section v (v.section_word + 1))
 
   opened_free : KeepsFree v.free b.free
   opened_free =
-      let free : b.free ≡ (settled v.layout.passes inside).free = ap (λ (u : View). u.free) opened.loaded.view ∙ ap (λ (u : View). u.free) opened.entered in
+      let free : b.free ≡ (settled v.layout.passes inside).free = ap (λ (u : View). u.free) opened.reads.view in
       subst (λ (s : Slots). KeepsFree s b.free) (taken_free (in_section v (v.section_word + 1)))
       (subst (λ (s : Slots). KeepsFree inside.free s) (sym free) (settled_free v.layout.passes inside))
 

@@ -76,7 +76,6 @@ fn carry_found(
     requires searched { IsSearched pass.old.view pass.old.number planned.now.plan planned.now.entries }
     requires slots { OffersSlots pass.old.view slots.now }
     requires left { 0 < pass.old.view.history.left }
-    requires unannounced { pass.old.view.announced ≡ 0 }
     ensures same { IsSamePass pass.old pass.new }
     ensures rest { AtRest pass.new.view }
     ensures made { IfOk result (HasMade pass.old.view pass.new.view pass.old.number line (key_of planned.now.plan) (change_of planned.now.plan)) }

@@ -1,20 +1,17 @@
 -- A pass that begins to search is fresh, and where it has found a plan it can try it.
 use Rattle.std.proofs.Common.{◌≡◌, ℕ, ◌≤◌, length, false, arith, refl, ap, ◌∙◌, sym, subst, Some}
 use Rattle.key_map.specs.declared.update.Change.{Change}
-use Rattle.index_words.specs.declared.layout.Layout.{Layout}
 use Rattle.index_words.specs.declared.view.View.{View}
 use Rattle.index_words.specs.declared.word.Word.TheVariants.{Stamp}
-use Rattle.core_events.specs.declared.event.Kind.TheVariants.{LoadStamp}
-use Rattle.core_laws.specs.ViewNeeds.{event_at}
 use Rattle.plan_laws.specs.Searches.{HasNoneRetired}
 use Rattle.plan_laws.specs.Tries.{IsSearched}
 use Rattle.plan_laws.proofs.Searches.{searched, none_retired}
 use Rattle.table_rule.specs.Homes.{IsLiveView}
-use Rattle.table_rule.specs.Running.{Happened, Stands, table}
+use Rattle.table_rule.specs.Running.{Stands, table}
 use Rattle.table_rule.proofs.Happens.{happened_view}
 use Rattle.table_rule.proofs.Lists.{item_at}
-use Rattle.table_steps.specs.Gives.{HasLoadedStamp}
-use Rattle.table_steps.specs.Passes.{Inside}
+use Rattle.table_steps.specs.Passes.{Pass, Inside}
+use Rattle.table_steps.specs.Stamps.{announced_within, loading_stamp, HasOpened}
 use Rattle.bundle_reads.specs.Reads.{HasRead}
 use Rattle.bundle_reads.specs.Links.{HasSearched}
 use Rattle.bundle_reads.proofs.ReadMoves.{inside_on}
@@ -27,15 +24,19 @@ use Rattle.update_search.specs.Searching.{IsFresh}
 use Rattle.update_search.proofs.ReadTrees.{Reader, reader}
 use Rattle.update_search.proofs.SearchMoves.{tree_before}
 
--- behind the load of the stamp
-pub stamp_fresh : (z : Layout) (seat n : ℕ) (v w : View) → Happened z (event_at z seat LoadStamp Stamp 0) v n w → HasLoadedStamp v 0 n w → Inside w → IsFresh w n
-stamp_fresh z seat n v w h gives inside = record {
-  reads = record { section = ap (λ (u : View). u.reading.section) gives.view; inside = inside };
-  whole = omega (arith, gives.whole);
-  none =
-      subst HasNoneRetired (sym (happened_view z (event_at z seat LoadStamp Stamp 0) v w n Stamp refl refl tt h))
-      (none_retired (table z h.words h.views) seat v false h.rule (item_at h.views seat v h.seat));
-}
+-- behind the load of the stamp at which it begins to read
+pub opened_fresh : (p : Pass) (n : ℕ) (w : View) → HasOpened p 0 n w → Inside w → IsFresh w n
+opened_fresh p n w opened inside =
+    let z = p.view.layout in
+    let v = announced_within opened.first p.view in
+    let h = opened.event in
+    record {
+      reads = record { section = ap (λ (u : View). u.reading.section) opened.reads.view; inside = inside };
+      whole = omega (arith, opened.seen.whole);
+      none =
+          subst HasNoneRetired (sym (happened_view z (loading_stamp p 0) v w n Stamp refl refl tt h))
+          (none_retired (table z h.words h.views) p.seat v false h.rule (item_at h.views p.seat v h.seat) (omega arith));
+    }
 
 -- it stays so in the loads of a search
 pub fresh_on : (v w : View) (t : ℕ) → HasRead v w → IsFresh v t → IsFresh w t

@@ -40,7 +40,7 @@ same_more p q r first second = record {
 }
 
 pub owned_same : (v : View) → KeepsOwned v v
-owned_same v = record { layout = refl; joined = refl; number = refl; announced = refl; history = refl; counts = refl; free = refl; retired = refl; batch = refl }
+owned_same v = record { layout = refl; joined = refl; number = refl; history = refl; counts = refl; free = refl; retired = refl; batch = refl }
 
 pub try_same : (v : View) → KeepsTry v v
 try_same v = record {
@@ -117,7 +117,6 @@ all_kept u v w first second = record {
   layout = second.layout ∙ first.pass.layout;
   joined = second.joined ∙ first.pass.joined;
   number = second.number ∙ first.pass.number;
-  announced = second.announced ∙ first.pass.announced;
   history = second.history ∙ first.pass.history;
   free = second.free ∙ first.free;
   retired = second.retired ∙ first.pass.retired;

@@ -22,7 +22,6 @@ pub record KeepsAll (v w : View) : Type 0 where
   pub layout : w.layout ≡ v.layout
   pub joined : w.joined ≡ v.joined
   pub number : w.number ≡ v.number
-  pub announced : w.announced ≡ v.announced
   pub history : w.history ≡ v.history
   pub free : w.free ≡ v.free
   pub retired : w.retired ≡ v.retired

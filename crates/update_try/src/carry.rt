@@ -65,7 +65,6 @@ pub fn make_ready(pass: &mut TablePass<'_>, plan: &Plan, slots: &PlanSlots, head
 fn end_update(pass: &mut TablePass<'_>, plan: &Plan, slots: &PlanSlots)
     requires raised { (at : ℕ) × HasFinalised pass.old.view pass.old.number plan.now slots.now at 0 }
     requires apart { AreApart slots.now }
-    requires unannounced { pass.old.view.announced ≡ 0 }
     ensures same { IsSamePass pass.old pass.new }
     ensures rest { AtRest pass.new.view }
     ensures keeps { KeepsOwned pass.old.view pass.new.view }
@@ -90,7 +89,6 @@ pub fn carry_out(
     requires apart { AreApart slots.now }
     requires node { 0 < slots.now.node }
     requires left { 0 < pass.old.view.history.left }
-    requires unannounced { pass.old.view.announced ≡ 0 }
     ensures same { IsSamePass pass.old pass.new }
     ensures rest { AtRest pass.new.view }
     ensures done { IfOk result (HasCarriedOut pass.old.view pass.new.view pass.old.number line plan.now) }

@@ -66,7 +66,6 @@ pub fn raise_plan(
     requires known { (es : List ℕ) × HoldsEntries pass.old.view (out_of plan.now) es }
     ensures same { IsSamePass pass.old pass.new }
     ensures raised { HasFinalised pass.new.view pass.new.number plan.now slots.now result 0 }
-    ensures unannounced { pass.new.view.announced ≡ pass.old.view.announced }
     ensures answers { IsRaisedBy pass.old pass.new line plan.now slots.now result }
 {
     let new = new_slots(plan.new_node(slots));

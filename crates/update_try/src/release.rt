@@ -40,10 +40,9 @@ pub fn unlock_all(pass: &mut TablePass<'_>, plan: &Plan)
     }
 }
 
-/// Leaves the section, with no lock held.
+/// Leaves the section, with no lock held, and takes the announcement back.
 pub fn leave_section(pass: &mut TablePass<'_>)
     requires released { IsReleasing pass.old.view pass.old.number [] }
-    requires unannounced { pass.old.view.announced ≡ 0 }
     ensures same { IsSamePass pass.old pass.new }
     ensures rest { AtRest pass.new.view }
     ensures keeps { KeepsOwned pass.old.view pass.new.view }

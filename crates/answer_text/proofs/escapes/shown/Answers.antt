@@ -1,5 +1,5 @@
 use Rattle.std.proofs.Common.{sym, ap, ◌∙◌}
-use Rattle.answer_text.specs.Escaping.{shown}
+use Rattle.answer_text.specs.Lines.{shown}
 use Rattle.answer_text.proofs.EscapedBytes.{percent_encode-ESCAPED}
 use Rattle.answer_text.proofs.escapes.shown.Goals as goal
 

@@ -1,7 +1,6 @@
 use Rattle.std.proofs.Common.{◌≡◌, ◌++◌, codes, string_bytes}
 use Rattle.std.proofs.lemmas.Result.{on_ok_weaker}
-use Rattle.answer_text.specs.Escaping.{shown}
-use Rattle.answer_text.specs.Lines.{is_given}
+use Rattle.answer_text.specs.Lines.{shown, is_given}
 use Rattle.answer_text.specs.Pieces as spec
 use Rattle.answer_text.proofs.Joined.{joined}
 use Rattle.answer_text.proofs.listing.push_asked.Goals as goal

@@ -1,6 +1,6 @@
 use Rattle.std.proofs.Common.{◌++◌, string_bytes}
 use Rattle.std.proofs.lemmas.Result.{on_ok_weaker}
-use Rattle.answer_text.specs.Lines.{page_shown}
+use Rattle.answer_text.specs.Shown.{page_shown}
 use Rattle.answer_text.specs.Pieces as spec
 use Rattle.answer_text.proofs.Joined.{joined}
 use Rattle.answer_text.proofs.listing.push_listing.Goals as goal

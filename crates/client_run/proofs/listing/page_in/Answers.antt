@@ -3,7 +3,7 @@ use Rattle.std.specs.Option.{option_copied}
 use Rattle.key_map.specs.History.{after}
 use Rattle.key_map.proofs.HistoryLaws.{IsMap-after}
 use Rattle.bucket_terms.specs.declared.list_query.ListQuery.{ListQuery}
-use Rattle.bucket_terms.specs.Page.{page_of}
+use Rattle.bucket_terms.specs.Listing.{page_of}
 use Rattle.client_run.proofs.Walk.{ranks_smaller, next_is, over_is, some_is, found_at}
 use Rattle.client_run.proofs.listing.page_in.Goals as goal
 

@@ -3,7 +3,7 @@ use Rattle.std.proofs.lemmas.Result.{IfOk-weaker}
 use Rattle.bucket_terms.specs.declared.request.Request.TheVariants.{List as ListRequest}
 use Rattle.client_run.specs.Starts.{IsStartOf}
 use Rattle.client_run.specs.declared.pages.Start.{Start}
-use Rattle.client_run.proofs.Listings.{list_answers, bad_answers}
+use Rattle.client_run.proofs.Listings.{list_answers, bad_answers, no_point}
 use Rattle.client_run.proofs.pages.list_request.Goals as goal
 
 pub returns-in_ok-copy-in-First-clause-answers : goal.returns-in_ok-copy-in-First-clause-answers
@@ -25,4 +25,4 @@ returns-in_ok-copy-in-Behind-clause-answers g c =
 pub returns-in-Bad-clause-answers : goal.returns-in-Bad-clause-answers
 returns-in-Bad-clause-answers g c = λ last.
     let start = subst (λ (s : Start). IsStartOf c.args.query.now s) c.in-Bad.is c.in_ok-start_of.ensures in
-    rw (c.refused.ensures, c.client.ensures.number) (bad_answers c.args.dir.now (g.P.KeyPass.view c.args.pass.now) last c.args.line (ListRequest c.args.query.now) c.client.ensures.mine c.requires.closed (λ slots. start))
+    rw (c.refused.ensures, c.client.ensures.number) (bad_answers c.args.dir.now (g.P.KeyPass.view c.args.pass.now) last c.args.line (ListRequest c.args.query.now) c.client.ensures.mine c.requires.closed (λ slots. no_point c.args.query.now start))

@@ -4,7 +4,8 @@ use Rattle.std.proofs.lemmas.Option.{none-some}
 use Rattle.std.proofs.lemmas.List.{get_or-map, length-map, length_push}
 use Rattle.bucket_terms.specs.declared.reply.Reply.{Reply}
 use Rattle.bucket_terms.specs.declared.reply.Placed.{Placed}
-use Rattle.bucket_terms.specs.LegalRun.{RequestLine, is_listing, last_listing, answered_lines, updates_in}
+use Rattle.bucket_terms.specs.LegalRun.{RequestLine, is_listing, last_listing, answered_lines}
+use Rattle.bucket_terms.specs.RunParts.{updates_in}
 use Rattle.request_lines.specs.declared.session.Asked.{Asked}
 use Rattle.request_lines.specs.Session.{request_line, request_lines}
 use Rattle.client_run.specs.ClientRun.{Answers, IsLaterLine}

@@ -13,4 +13,4 @@ returns-in-Err-NoSlot-clause-answers g c = λ last.
     let view = g.P.KeyPass.view in
     let short = c.in-Err-NoSlot.ensures.no_slot.0 (ap (λ e. Err e) c.in-Err-NoSlot.field-0-is) in
     rw (c.refused.ensures, c.client-client.ensures.number) (refused_answers c.args.dir.now (view c.args.pass.now) (view c.put.new.self) last c.args.line (Put c.args.name.now c.args.val)
-    c.client-client.ensures.mine c.in-Err-NoSlot.ensures.unchanged c.requires.closed short (λ slots enough. record { made = enough short.1 }))
+    c.client-client.ensures.mine c.in-Err-NoSlot.ensures.unchanged c.requires.closed short (λ slots enough. enough short.1))

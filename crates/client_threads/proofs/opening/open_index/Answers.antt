@@ -1,6 +1,6 @@
 use Rattle.std.proofs.Common.{sym, ap, ◌∙◌, subst, Err}
 use Rattle.index_words.specs.Sizes.{FitTable}
-use Rattle.request_lines.specs.Limits.{most_requests}
+use Rattle.request_lines.specs.InputParts.{most_requests}
 use Rattle.client_threads.proofs.SizesFit.{part_few, fit}
 use Rattle.client_threads.proofs.opening.open_index.Goals as goal
 

@@ -9,7 +9,7 @@ own_added-added-requires c =
     added_free (memory c.args.layout.now c.args.words.now) c.args.view.now c.plan_of-plan.result.added c.as_slice-2.result.now c.as_slice-2.ensures
     (ready_is c.args.layout.now (memory c.args.layout.now c.args.words.now) c.args.views.now c.args.view.now c.args.update c.as_slice.result.now
     (tree_from c.whole.result.depth c.args.layout.now.nodes (graph_now (memory c.args.layout.now c.args.words.now) c.args.views.now []) c.whole.result.child)
-    c.plan_of-plan.result.slot c.plan_of-plan.result.added c.as_slice.ensures c.whole.ensures c.plan_of-plan.ensures.slot c.plan_of-plan.ensures.added c.requires.met)
+    c.plan_of-plan.result.slot c.plan_of-plan.result.added c.as_slice.ensures c.whole.ensures c.plan_of-plan.ensures.slot c.plan_of-plan.ensures.added c.requires)
 
 pub new_list-requires-clause-left : goal.new_list-requires-clause-left
 new_list-requires-clause-left c =
@@ -17,7 +17,7 @@ new_list-requires-clause-left c =
     c.plan_of-plan.ensures.heads
     (ready_is c.args.layout.now (memory c.args.layout.now c.args.words.now) c.args.views.now c.args.view.now c.args.update c.as_slice.result.now
     (tree_from c.whole.result.depth c.args.layout.now.nodes (graph_now (memory c.args.layout.now c.args.words.now) c.args.views.now []) c.whole.result.child)
-    c.plan_of-plan.result.slot c.plan_of-plan.result.added c.as_slice.ensures c.whole.ensures c.plan_of-plan.ensures.slot c.plan_of-plan.ensures.added c.requires.met)).0
+    c.plan_of-plan.result.slot c.plan_of-plan.result.added c.as_slice.ensures c.whole.ensures c.plan_of-plan.ensures.slot c.plan_of-plan.ensures.added c.requires)).0
 
 pub new_list-requires-clause-right : goal.new_list-requires-clause-right
 new_list-requires-clause-right c =
@@ -25,4 +25,4 @@ new_list-requires-clause-right c =
     c.plan_of-plan.ensures.heads
     (ready_is c.args.layout.now (memory c.args.layout.now c.args.words.now) c.args.views.now c.args.view.now c.args.update c.as_slice.result.now
     (tree_from c.whole.result.depth c.args.layout.now.nodes (graph_now (memory c.args.layout.now c.args.words.now) c.args.views.now []) c.whole.result.child)
-    c.plan_of-plan.result.slot c.plan_of-plan.result.added c.as_slice.ensures c.whole.ensures c.plan_of-plan.ensures.slot c.plan_of-plan.ensures.added c.requires.met)).1
+    c.plan_of-plan.result.slot c.plan_of-plan.result.added c.as_slice.ensures c.whole.ensures c.plan_of-plan.ensures.slot c.plan_of-plan.ensures.added c.requires)).1

@@ -1,5 +1,5 @@
 use Rattle.std.proofs.Common.{◌-◌, ◌≤◌, ◌≡◌, vec_len}
-use Rattle.outside_io.specs.Source.{IsRead}
+use Rattle.outside_io.specs.Streams.{IsRead}
 use Rattle.outside_io.proofs.reading.read_all.Given as goal
 
 abbrev pub invariant-loop-bytes : goal.invariant-loop-bytes

@@ -1,5 +1,5 @@
 use Rattle.std.proofs.Common.{◌-◌, ◌≤◌, ◌≡◌, length, take}
-use Rattle.outside_io.specs.Sink.{IsTaken}
+use Rattle.outside_io.specs.Streams.{IsTaken}
 use Rattle.outside_io.proofs.writing.write_all.Given as goal
 
 abbrev pub invariant-loop-done : goal.invariant-loop-done

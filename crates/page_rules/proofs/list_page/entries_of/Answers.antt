@@ -1,7 +1,8 @@
 use Rattle.std.proofs.Common.{rules, ap, ◌∙◌}
 use Rattle.std.specs.List.{dedup}
 use Rattle.std.proofs.lemmas.Fn.{dedup_same}
-use Rattle.bucket_terms.specs.Entries.{entries_of, listing, is_same_group}
+use Rattle.bucket_terms.specs.Listing.{entries_of, is_same_group}
+use Rattle.bucket_terms.specs.PageParts.{listing}
 use Rattle.page_rules.proofs.list_page.entries_of.Goals as goal
 
 pub returns : goal.returns

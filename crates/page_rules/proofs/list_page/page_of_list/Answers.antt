@@ -1,6 +1,7 @@
 use Rattle.std.proofs.Common.{◌≡◌, ap, ◌∙◌}
 use Rattle.std.specs.Option.{option_copied}
-use Rattle.bucket_terms.specs.Page.{cut_at, page_of}
+use Rattle.bucket_terms.specs.PageParts.{cut_at}
+use Rattle.bucket_terms.specs.Listing.{page_of}
 use Rattle.page_rules.proofs.InRange.{page_in_range}
 use Rattle.page_rules.proofs.Law.{page_left, begins_all, page_rises}
 use Rattle.page_rules.proofs.list_page.page_of_list.Goals as goal

@@ -3,7 +3,7 @@ use Rattle.std.specs.Option.{option_copied}
 use Rattle.key_names.specs.Names.{name_at}
 use Rattle.key_names.specs.Ranks.{is_upto, is_upto_prefix}
 use Rattle.bucket_terms.specs.declared.token_point.TokenPoint.TheVariants.{Key, Group}
-use Rattle.bucket_terms.specs.Entries.{is_admitted}
+use Rattle.bucket_terms.specs.Listing.{is_admitted}
 use Rattle.page_rules.proofs.NextRank.{upto_flips, group_flips, admitted_after}
 use Rattle.page_rules.proofs.resume.first_admitted.Goals as goal
 

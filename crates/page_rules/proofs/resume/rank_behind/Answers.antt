@@ -1,8 +1,7 @@
 use Rattle.std.proofs.Common.{◌≡◌, ◌+◌, ◌≤◌, length, false, Some, sym, subst, arith}
 use Rattle.std.proofs.lemmas.List.Sums.{count_by-le-length}
 use Rattle.key_names.specs.Ranks.{is_before, is_upto_prefix, StandFirst}
-use Rattle.bucket_terms.specs.Entries.{group_text}
-use Rattle.bucket_terms.specs.Page.{entry_point}
+use Rattle.bucket_terms.specs.Listing.{group_text, entry_point}
 use Rattle.bucket_terms.specs.PageInRange.{IsEntryInRange}
 use Rattle.page_rules.specs.Cursor.{GoesOnAt}
 use Rattle.page_rules.specs.PageLaw.{entry_text}

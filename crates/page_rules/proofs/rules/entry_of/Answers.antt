@@ -1,7 +1,7 @@
 use Rattle.std.proofs.Common.{[]}
 use Rattle.std.specs.Str.{IsUtf8}
 use Rattle.std.proofs.Common.{◌≡◌, Some, sym, ap, ◌∙◌}
-use Rattle.bucket_terms.specs.Entries.{group_len}
+use Rattle.bucket_terms.specs.Listing.{group_len}
 use Rattle.key_names.specs.Names.{name_at}
 use Rattle.page_rules.proofs.InRange.{whole_group}
 use Rattle.page_rules.proofs.rules.entry_of.Goals as goal

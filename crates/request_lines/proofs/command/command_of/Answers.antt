@@ -1,6 +1,6 @@
 use Rattle.std.proofs.lemmas.Str.{is_utf8-from_IsUtf8}
 use Rattle.request_lines.proofs.TextLaws.{is_utf8-none}
-use Rattle.request_lines.specs.Grammar.{reading_of}
+use Rattle.request_lines.specs.Input.{reading_of}
 use Rattle.request_lines.proofs.Fine.{reading_fine, fine_answer}
 use Rattle.request_lines.proofs.command.command_of.Goals as goal
 

@@ -1,15 +1,14 @@
-use Rattle.serve_session.specs.declared.stop.Stop.TheVariants.{Fault, NoMemory}
+use Rattle.run_text.specs.declared.stop.Stop.TheVariants.{Fault, NoMemory}
 use Rattle.std.proofs.Common.{◌<◌, inr, List, All, length, refl, sym, subst}
 use Rattle.std.proofs.lemmas.Result.{IfOk-weaker}
 use Rattle.std.proofs.lemmas.List.Elements.{All-map}
 use Rattle.bucket_terms.specs.declared.record.Record.{Record}
 use Rattle.bucket_terms.specs.declared.reply.Placed.{Placed}
 use Rattle.key_map.specs.declared.update.Update.{Update}
-use Rattle.bucket_terms.specs.LegalRun.{Run}
+use Rattle.bucket_terms.specs.LegalRun.{Run, slots_of}
 use Rattle.request_lines.specs.Session.{request_lines}
 use Rattle.request_lines.specs.SessionLaws.{HasRecordBelow}
 use Rattle.answer_text.specs.InRange.{IsReplyOf}
-use Rattle.client_threads.specs.Slots.{slots_of}
 use Rattle.client_threads.specs.Runs.{parts_of}
 use Rattle.client_threads.proofs.Clients.{each_legal}
 use Rattle.serve_session.proofs.Runs.{update_keys, all_recorded}

@@ -1,12 +1,11 @@
 use Rattle.std.proofs.Common.{◌≡◌, ℕ, subst}
-use Rattle.outside_io.specs.Faults.{one_more}
-use Rattle.outside_io.specs.Sink.{IsTaken, TakesStart}
+use Rattle.outside_io.specs.Streams.{one_more, IsTaken, TakesStart}
 use Rattle.bucket_terms.specs.LegalRun.{Run}
 use Rattle.command_words.specs.declared.form.Form.TheVariants.{Sample}
 use Rattle.sample_laws.specs.Sample.{sample_summary}
-use Rattle.serve_session.specs.Sampled.{HoldsOfSample}
+use Rattle.serve_session.specs.Served.{HoldsOfSample}
 use Rattle.serve_session.specs.Summaries.{summary_text}
-use Rattle.serve_session.proofs.Forms.{one_number, found_form, found_none}
+use Rattle.serve_session.proofs.Forms.{one_number, found_form, found_none, no_form}
 use Rattle.serve_session.proofs.serving.serve.Goals as goal
 
 pub returns-in-Ok-Some-Sample-clause-sample : goal.returns-in-Ok-Some-Sample-clause-sample
@@ -29,3 +28,6 @@ returns-in-Ok-Some-Sample-clause-sample_write_fault g c = λ n is fault.
 
 pub returns-in-Ok-None-clause-sample_ends : goal.returns-in-Ok-None-clause-sample_ends
 returns-in-Ok-None-clause-sample_ends g c = λ n is. absurd (found_none c.args.words.now c.in-Ok-None.field-0 (Sample n) (cc) c.in-Ok-None.ensures.form is)
+
+pub returns-in-Ok-None-clause-bad_words : goal.returns-in-Ok-None-clause-bad_words
+returns-in-Ok-None-clause-bad_words g c = λ bad. no_form c.args.words.now (λ form. found_none c.args.words.now c.in-Ok-None.field-0 form (cc) c.in-Ok-None.ensures.form)

@@ -1,7 +1,7 @@
 use Rattle.std.proofs.Common.{◌≡◌, ap, refl, ◌∙◌, [], ◌∷◌, ◌++◌, string_bytes, lit<}
 use Rattle.serde_json.specs.Written.{compact_text}
 use Rattle.serde_json.proofs.FreeTexts.{text_of_value}
-use Rattle.serve_session.specs.Summaries.{summary_data}
+use Rattle.serve_session.specs.Texts.{summary_data}
 use Rattle.serve_session.proofs.summary.summary_line.Goals as goal
 
 pub returns-clause-text : goal.returns-clause-text

@@ -4,7 +4,8 @@ use Rattle.std.proofs.lemmas.List.Elements.{All-nil, All-cons}
 use Rattle.key_map.specs.declared.pass.PassSize.{PassSize}
 use Rattle.bucket_terms.specs.PassView.{PassView}
 use Rattle.bucket_terms.specs.PlainPass.{fresh}
-use Rattle.bucket_terms.specs.LegalRun.{RequestLine, lines_of, updates_in}
+use Rattle.bucket_terms.specs.LegalRun.{RequestLine, lines_of}
+use Rattle.bucket_terms.specs.RunParts.{updates_in}
 use Rattle.request_lines.specs.declared.session.ClientPart.{ClientPart}
 use Rattle.request_lines.specs.declared.session.Session.{Session}
 use Rattle.request_lines.specs.Session.{request_lines}

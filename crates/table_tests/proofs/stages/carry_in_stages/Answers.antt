@@ -1,10 +1,5 @@
-use Rattle.std.proofs.Common.{◌∙◌}
 use Rattle.update_try.proofs.Outs.{entries_held}
 use Rattle.table_tests.proofs.stages.carry_in_stages.Goals as goal
 
 pub raise_plan-requires-clause-known : goal.raise_plan-requires-clause-known
 raise_plan-requires-clause-known c = entries_held c.make_ready.new.pass.view c.args.plan.now c.args.heads.now c.make_ready.ensures.walked c.make_ready.ensures.heads
-
-pub end_in_stages-behind-requires-clause-unannounced : goal.end_in_stages-behind-requires-clause-unannounced
-end_in_stages-behind-requires-clause-unannounced c =
-    c.raise_plan.ensures.unannounced ∙ c.make_ready.ensures.keeps.announced ∙ c.in_default.ensures.keeps.pass.announced ∙ c.requires.unannounced

@@ -2,7 +2,6 @@ use Rattle.std.proofs.Common.{ℕ, arith, sym, subst}
 use Rattle.plan_laws.specs.Tries.{IsSearched}
 use Rattle.tree_update.proofs.CallSteps.{search_stays}
 use Rattle.tree_update.proofs.TryMade.{offers_still}
-use Rattle.bundle_reads.proofs.ReadMoves.{inside_on}
 use Rattle.table_tests.proofs.stages.put_in_stages.Goals as goal
 
 pub carry_in_stages-requires-clause-searched : goal.carry_in_stages-requires-clause-searched
@@ -13,7 +12,7 @@ carry_in_stages-requires-clause-searched c =
 
 pub carry_in_stages-requires-clause-free : goal.carry_in_stages-requires-clause-free
 carry_in_stages-requires-clause-free c =
-    let still = offers_still c.args.pass.now.view c.begin_search-at.new.pass.view c.find_plan.new.pass.view c.begin_search-at.result c.begin_search-at.ensures.opened
+    let still = offers_still c.args.pass.now c.begin_search-at.new.pass.view c.find_plan.new.pass.view c.begin_search-at.result c.begin_search-at.ensures.opened
     c.find_plan.ensures.searched.read c.args.slots.now c.requires.slots in
     still.free
 
@@ -21,10 +20,5 @@ pub carry_in_stages-requires-clause-left : goal.carry_in_stages-requires-clause-
 carry_in_stages-requires-clause-left c =
     let b = c.begin_search-at.new.pass.view in
     let x = c.find_plan.new.pass.view in
-    let stays = search_stays c.args.pass.now.view b x c.begin_search-at.result c.begin_search-at.ensures.opened c.find_plan.ensures.searched.read in
+    let stays = search_stays c.args.pass.now b x c.begin_search-at.result c.begin_search-at.ensures.opened c.find_plan.ensures.searched.read in
     omega (arith, c.requires.left, stays.goes.left)
-
-pub carry_in_stages-requires-clause-unannounced : goal.carry_in_stages-requires-clause-unannounced
-carry_in_stages-requires-clause-unannounced c =
-    let reads = inside_on c.begin_search-at.new.pass.view c.find_plan.new.pass.view c.begin_search-at.result c.find_plan.ensures.searched.read c.begin_search-at.ensures.fresh.reads in
-    reads.inside.unannounced

@@ -8,7 +8,7 @@ pub returns-clause-keeps : goal.returns-clause-keeps
 returns-clause-keeps c =
     let v = c.args.pass.now.view in
     let e = c.enter.new.self.view in
-    left_apart v.layout.passes v (v.section_word + 1) (rest_reading v c.facts.ensures c.requires.rest.even) e c.leave.new.self.view (left_word e.section_word) c.enter.ensures.view c.leave.ensures.view
+    left_apart v.layout.passes v (v.section_word + 1) (rest_reading v c.facts.ensures c.requires.rest.outside.even) e c.leave.new.self.view (left_word e.section_word) c.enter.ensures.view c.leave.ensures.view
 
 pub returns-clause-settled : goal.returns-clause-settled
 returns-clause-settled c =

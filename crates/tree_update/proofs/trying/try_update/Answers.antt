@@ -15,27 +15,22 @@ carry_found-requires-clause-searched c =
 
 pub carry_found-requires-clause-slots : goal.carry_found-requires-clause-slots
 carry_found-requires-clause-slots c =
-    offers_still c.args.pass.now.view c.begin_search-at.new.pass.view c.find_plan.new.pass.view c.begin_search-at.result c.begin_search-at.ensures.opened
+    offers_still c.args.pass.now c.begin_search-at.new.pass.view c.find_plan.new.pass.view c.begin_search-at.result c.begin_search-at.ensures.opened
     c.find_plan.ensures.searched.read c.args.slots.now c.requires.slots
 
 pub carry_found-requires-clause-left : goal.carry_found-requires-clause-left
 carry_found-requires-clause-left c =
     let b = c.begin_search-at.new.pass.view in
     let x = c.find_plan.new.pass.view in
-    let stays = search_stays c.args.pass.now.view b x c.begin_search-at.result c.begin_search-at.ensures.opened c.find_plan.ensures.searched.read in
+    let stays = search_stays c.args.pass.now b x c.begin_search-at.result c.begin_search-at.ensures.opened c.find_plan.ensures.searched.read in
     omega (arith, c.requires.left, stays.goes.left)
-
-pub carry_found-requires-clause-unannounced : goal.carry_found-requires-clause-unannounced
-carry_found-requires-clause-unannounced c =
-    let reads = inside_on c.begin_search-at.new.pass.view c.find_plan.new.pass.view c.begin_search-at.result c.find_plan.ensures.searched.read c.begin_search-at.ensures.fresh.reads in
-    reads.inside.unannounced
 
 pub returns-in-Ok-clause-made : goal.returns-in-Ok-clause-made
 returns-in-Ok-clause-made c =
     let v = c.args.pass.now.view in
     let b = c.begin_search-at.new.pass.view in
     let x = c.find_plan.new.pass in
-    let stays = search_stays v b x.view c.begin_search-at.result c.begin_search-at.ensures.opened c.find_plan.ensures.searched.read in
+    let stays = search_stays c.args.pass.now b x.view c.begin_search-at.result c.begin_search-at.ensures.opened c.find_plan.ensures.searched.read in
     let w = c.carry_found.new.pass.view in
     let known = reader b c.begin_search-at.result c.facts.ensures c.begin_search-at.ensures.fresh.reads in
     let planned = c.in-Plan.ensures.found.plan known.tree known.is in
@@ -45,7 +40,7 @@ returns-in-Ok-clause-made c =
 
 pub returns-in-Err-clause-missed : goal.returns-in-Err-clause-missed
 returns-in-Err-clause-missed c =
-    try_counted c.args.pass.now.view c.begin_search-at.new.pass.view c.find_plan.new.pass.view c.begin_search-at.result c.begin_search-at.ensures.opened
+    try_counted c.args.pass.now c.begin_search-at.new.pass.view c.find_plan.new.pass.view c.begin_search-at.result c.begin_search-at.ensures.opened
     c.find_plan.ensures.searched.read c.in-Err.failed c.carry_found.new.pass.view c.in-Err.ensures.counted
 
 pub returns-in-Err-clause-stays : goal.returns-in-Err-clause-stays
@@ -53,7 +48,7 @@ returns-in-Err-clause-stays c =
     let v = c.args.pass.now.view in
     let b = c.begin_search-at.new.pass.view in
     let x = c.find_plan.new.pass in
-    let stays = search_stays v b x.view c.begin_search-at.result c.begin_search-at.ensures.opened c.find_plan.ensures.searched.read in
+    let stays = search_stays c.args.pass.now b x.view c.begin_search-at.result c.begin_search-at.ensures.opened c.find_plan.ensures.searched.read in
     stays_more v x.view c.carry_found.new.pass.view stays c.in-Err.ensures.stays
 
 pub give_up-requires : goal.give_up-requires
@@ -71,12 +66,12 @@ returns-in-Absent-clause-stays c =
     let v = c.args.pass.now.view in
     let b = c.begin_search-at.new.pass.view in
     let x = c.find_plan.new.pass in
-    let stays = search_stays v b x.view c.begin_search-at.result c.begin_search-at.ensures.opened c.find_plan.ensures.searched.read in
+    let stays = search_stays c.args.pass.now b x.view c.begin_search-at.result c.begin_search-at.ensures.opened c.find_plan.ensures.searched.read in
     stays_more v x.view c.give_up.new.pass.view stays c.give_up.ensures.stays
 
 pub returns-in-Pending-clause-missed : goal.returns-in-Pending-clause-missed
 returns-in-Pending-clause-missed c =
-    search_waited c.args.pass.now.view c.begin_search-at.new.pass.view c.find_plan.new.pass.view c.begin_search-at.result c.begin_search-at.ensures.opened
+    search_waited c.args.pass.now c.begin_search-at.new.pass.view c.find_plan.new.pass.view c.begin_search-at.result c.begin_search-at.ensures.opened
     c.find_plan.ensures.searched.read c.give_up-in-Pending.new.pass.view c.in-Pending.ensures.waits c.give_up-in-Pending.ensures.counts
 
 pub returns-in-Pending-clause-stays : goal.returns-in-Pending-clause-stays
@@ -84,5 +79,5 @@ returns-in-Pending-clause-stays c =
     let v = c.args.pass.now.view in
     let b = c.begin_search-at.new.pass.view in
     let x = c.find_plan.new.pass in
-    let stays = search_stays v b x.view c.begin_search-at.result c.begin_search-at.ensures.opened c.find_plan.ensures.searched.read in
+    let stays = search_stays c.args.pass.now b x.view c.begin_search-at.result c.begin_search-at.ensures.opened c.find_plan.ensures.searched.read in
     stays_more v x.view c.give_up-in-Pending.new.pass.view stays c.give_up-in-Pending.ensures.stays

@@ -9,10 +9,6 @@ use Rattle.update_try.proofs.carry.carry_out.Goals as goal
 pub raise_plan-at-requires-clause-known : goal.raise_plan-at-requires-clause-known
 raise_plan-at-requires-clause-known c = entries_held c.make_ready.new.pass.view c.args.plan.now c.args.heads.now c.make_ready.ensures.walked c.make_ready.ensures.heads
 
-pub end_update-requires-clause-unannounced : goal.end_update-requires-clause-unannounced
-end_update-requires-clause-unannounced c =
-    c.raise_plan-at.ensures.unannounced ∙ c.make_ready.ensures.keeps.announced ∙ c.in_default.ensures.keeps.pass.announced ∙ c.requires.unannounced
-
 pub returns-clause-done : goal.returns-clause-done
 returns-clause-done c =
     let u = c.args.pass.now.view in

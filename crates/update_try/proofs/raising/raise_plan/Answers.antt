@@ -1,5 +1,4 @@
 use Rattle.std.proofs.Common.{◌≡◌, ◌∙◌, ap, sym, subst}
-use Rattle.index_words.specs.declared.view.View.{View}
 use Rattle.key_map.specs.declared.update.Change.{Change}
 use Rattle.core_updates.specs.Held.{MayRaise, raise_of}
 use Rattle.core_updates.specs.Plans.{key_of, change_of, new_node_of}
@@ -49,6 +48,3 @@ returns-clause-answers c =
     (subst (λ (x : Change). Happened p.view.layout (raise_of p.view.layout p.seat (update_of p.number c.args.line c.key_of.result x)) p.view found q.view) c.change.ensures c.raise.ensures.event.2) in
     subst (IsRaisedBy p q c.args.line plan slots) (sym c.raise.ensures.event.1)
     (answers_now p plan slots c.args.heads.now c.requires.prepared c.requires.apart c.requires.node c.key_of.ensures.small c.requires.left c.args.line q found event)
-
-pub returns-clause-unannounced : goal.returns-clause-unannounced
-returns-clause-unannounced c = ap (λ (u : View). u.announced) c.raise.ensures.gives.view

@@ -1,6 +1,6 @@
 use Rattle.std.proofs.Common.{◌≡◌, ◌<◌, false, [], ◌∷◌, ◌++◌, length, Some, sym, ap, subst, ◌∙◌, arith}
 use Rattle.key_names.specs.Ranks.{is_before}
-use Rattle.bucket_terms.specs.Page.{entry_point}
+use Rattle.bucket_terms.specs.Listing.{entry_point}
 use Rattle.page_rules.specs.PageLaw.{entry_text}
 use Rattle.page_rules.specs.Cursor.{GoesOnAt}
 use Rattle.page_rules.specs.CursorInside.{view_of}

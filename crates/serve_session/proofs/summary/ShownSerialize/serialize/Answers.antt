@@ -1,7 +1,7 @@
 use Rattle.std.proofs.Common.{refl}
 use Rattle.std.proofs.lemmas.Result.{on_ok_weaker}
 use Rattle.serve_session.proofs.Sent.{object_sent}
-use Rattle.serve_session.specs.Summaries.{summary_members}
+use Rattle.serve_session.specs.Texts.{summary_members}
 use Rattle.serve_session.proofs.summary.ShownSerialize.serialize.Goals as goal
 
 pub returns : goal.returns

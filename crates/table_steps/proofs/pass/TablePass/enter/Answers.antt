@@ -5,8 +5,9 @@ use Rattle.core_grace.specs.Batches.{settled, batch_taken}
 use Rattle.core_events.specs.Moves.{entered}
 use Rattle.pass_slots.specs.Owned.{KeepsSlots}
 use Rattle.table_rule.specs.Homes.{Home, IsOf}
-use Rattle.table_steps.specs.Passes.{Pass, AtRest}
-use Rattle.table_steps.proofs.SectionSteps.{enter_asks, enter_view, enter_inside, enter_keeps}
+use Rattle.core_laws.specs.ViewNeeds.{IsOutside}
+use Rattle.table_steps.specs.Passes.{Pass}
+use Rattle.table_steps.proofs.SectionSteps.{enter_announced, enter_asks, enter_view, enter_inside, enter_keeps}
 use Rattle.table_steps.proofs.pass.TablePass.enter.Goals as goal
 
 pub store-requires-clause-asks : goal.store-requires-clause-asks
@@ -16,8 +17,8 @@ store-requires-clause-asks c =
     let home : Home = c.table.inside.ruled in
     let keeps = c.self.invariant.0 in
     let of : IsOf home s = subst (λ (h : Home). IsOf h s) (sym c.table.view_is) c.self.invariant.1 in
-    let rest : AtRest s.view = subst (λ (p : Pass). AtRest p.view) (sym c.self.view_is) c.requires.rest in
-    enter_asks home s k keeps of rest
+    let outside : IsOutside s.view = subst (λ (p : Pass). IsOutside p.view) (sym c.self.view_is) c.requires.outside in
+    enter_asks home s k keeps of outside
 
 pub invariant_of-self : goal.invariant_of-self
 invariant_of-self c =
@@ -51,5 +52,14 @@ returns-clause-inside c =
     let home : Home = c.table.inside.ruled in
     let keeps = c.self.invariant.0 in
     let of : IsOf home s = subst (λ (h : Home). IsOf h s) (sym c.table.view_is) c.self.invariant.1 in
-    let rest : AtRest s.view = subst (λ (p : Pass). AtRest p.view) (sym c.self.view_is) c.requires.rest in
-    enter_inside home s k keeps of rest c.store.new.seat.view c.store.ensures.event
+    let outside : IsOutside s.view = subst (λ (p : Pass). IsOutside p.view) (sym c.self.view_is) c.requires.outside in
+    enter_inside home s k keeps of outside c.store.new.seat.view c.store.ensures.event
+
+pub returns-clause-announced : goal.returns-clause-announced
+returns-clause-announced c =
+    let s = c.self.inside.seat in
+    let k = c.self.inside.kept in
+    let home : Home = c.table.inside.ruled in
+    let keeps = c.self.invariant.0 in
+    let of : IsOf home s = subst (λ (h : Home). IsOf h s) (sym c.table.view_is) c.self.invariant.1 in
+    enter_announced home s k keeps of c.store.new.seat.view c.store.ensures.event ∙ ap (λ (p : Pass). p.view.announced) c.self.view_is

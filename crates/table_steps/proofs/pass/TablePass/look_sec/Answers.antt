@@ -4,8 +4,9 @@ use Rattle.index_words.specs.declared.view.View.{View}
 use Rattle.core_grace.specs.Batches.{looked, is_empty}
 use Rattle.pass_slots.specs.Owned.{KeepsSlots}
 use Rattle.table_rule.specs.Homes.{Home, IsOf}
-use Rattle.table_steps.specs.Passes.{Pass, AtRest}
-use Rattle.table_steps.proofs.SectionSteps.{look_asks, look_view, look_rest, look_keeps}
+use Rattle.core_laws.specs.ViewNeeds.{IsOutside}
+use Rattle.table_steps.specs.Passes.{Pass}
+use Rattle.table_steps.proofs.SectionSteps.{look_asks, look_view, look_outside, look_announced, look_keeps}
 use Rattle.table_steps.proofs.pass.TablePass.look_sec.Goals as goal
 
 pub load-word-requires-clause-asks : goal.load-word-requires-clause-asks
@@ -15,11 +16,11 @@ load-word-requires-clause-asks c =
     let home : Home = c.table.inside.ruled in
     let keeps = c.self.invariant.0 in
     let of : IsOf home s = subst (λ (h : Home). IsOf h s) (sym c.table.view_is) c.self.invariant.1 in
-    let rest : AtRest s.view = subst (λ (p : Pass). AtRest p.view) (sym c.self.view_is) c.requires.rest in
+    let outside : IsOutside s.view = subst (λ (p : Pass). IsOutside p.view) (sym c.self.view_is) c.requires.outside in
     let there : c.args.other < s.view.layout.passes = subst (λ (p : Pass). c.args.other < p.view.layout.passes) (sym c.self.view_is) c.requires.there in
     let apart : c.args.other ≢ k.number = subst (λ (p : Pass). c.args.other ≢ p.number) (sym c.self.view_is) c.requires.other in
     let waiting = subst (λ (p : Pass). (is_empty p.view.batch && is_empty p.view.retired) ≡ false) (sym c.self.view_is) c.requires.waiting in
-    look_asks home s k keeps of c.args.other there rest apart waiting
+    look_asks home s k keeps of c.args.other there outside apart waiting
 
 pub invariant_of-self : goal.invariant_of-self
 invariant_of-self c =
@@ -49,13 +50,23 @@ returns-clause-view c =
     ∙ ap (λ (y : Layout). looked y.passes s.view c.args.other n) (sym of.layout)
     ∙ ap (λ (p : Pass). looked p.view.layout.passes p.view c.args.other n) c.self.view_is
 
-pub returns-clause-rest : goal.returns-clause-rest
-returns-clause-rest c =
+pub returns-clause-outside : goal.returns-clause-outside
+returns-clause-outside c =
     let s = c.self.inside.seat in
     let k = c.self.inside.kept in
     let home : Home = c.table.inside.ruled in
     let keeps = c.self.invariant.0 in
     let of : IsOf home s = subst (λ (h : Home). IsOf h s) (sym c.table.view_is) c.self.invariant.1 in
-    let rest : AtRest s.view = subst (λ (p : Pass). AtRest p.view) (sym c.self.view_is) c.requires.rest in
+    let outside : IsOutside s.view = subst (λ (p : Pass). IsOutside p.view) (sym c.self.view_is) c.requires.outside in
     let there : c.args.other < s.view.layout.passes = subst (λ (p : Pass). c.args.other < p.view.layout.passes) (sym c.self.view_is) c.requires.there in
-    look_rest home s k keeps of c.args.other there rest c.load-word.new.seat.view c.load-word.result c.load-word.ensures.event
+    look_outside home s k keeps of c.args.other there outside c.load-word.new.seat.view c.load-word.result c.load-word.ensures.event
+
+pub returns-clause-announced : goal.returns-clause-announced
+returns-clause-announced c =
+    let s = c.self.inside.seat in
+    let k = c.self.inside.kept in
+    let home : Home = c.table.inside.ruled in
+    let keeps = c.self.invariant.0 in
+    let of : IsOf home s = subst (λ (h : Home). IsOf h s) (sym c.table.view_is) c.self.invariant.1 in
+    let there : c.args.other < s.view.layout.passes = subst (λ (p : Pass). c.args.other < p.view.layout.passes) (sym c.self.view_is) c.requires.there in
+    look_announced home s k keeps of c.args.other there c.load-word.new.seat.view c.load-word.result c.load-word.ensures.event ∙ ap (λ (p : Pass). p.view.announced) c.self.view_is

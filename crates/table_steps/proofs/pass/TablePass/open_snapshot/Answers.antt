@@ -1,32 +1,24 @@
-use Rattle.std.proofs.Common.{ℕ, ◌+◌, ap, ◌∙◌, subst}
-use Rattle.index_words.specs.declared.layout.Layout.{Layout}
-use Rattle.index_words.specs.declared.view.View.{View}
-use Rattle.index_words.specs.declared.word.Word.TheVariants.{Stamp}
-use Rattle.core_events.specs.declared.event.Kind.TheVariants.{LoadStamp}
-use Rattle.core_laws.specs.ViewNeeds.{event_at}
-use Rattle.index_words.specs.declared.view.reading.Reading.{Reading}
+use Rattle.std.proofs.Common.{subst}
 use Rattle.table_rule.specs.Homes.{IsLiveView}
-use Rattle.table_rule.specs.Running.{Happened}
 use Rattle.table_steps.specs.Passes.{Pass}
-use Rattle.table_steps.proofs.Views.{Work, entered_work, rest_reading}
+use Rattle.table_steps.proofs.ReadSections.{found_at, has_opened, may_fix}
 use Rattle.table_steps.proofs.pass.TablePass.open_snapshot.Goals as goal
 
-pub fix_stamp-requires-clause-closed : goal.fix_stamp-requires-clause-closed
-fix_stamp-requires-clause-closed c =
+pub fix_stamp-requires : goal.fix_stamp-requires
+fix_stamp-requires c =
     let v = c.args.self.now.view in
     let live : IsLiveView v = subst (λ (p : Pass). IsLiveView p.view) c.self.view_is c.facts.ensures in
-    ap (λ (u : View). u.reading.opened) c.enter.ensures.view
-    ∙ ap (λ (u : Work). u.reading.opened) (entered_work v.layout.passes (v.section_word + 1) v)
-    ∙ ap (λ (r : Reading). r.opened) (rest_reading v live c.requires.rest.even)
+    record { may = may_fix v live c.requires.rest c.enter_and_announce.new.self.view c.enter_and_announce.ensures.announced c.enter_and_announce.ensures.inside }
 
 pub returns-clause-event : goal.returns-clause-event
 returns-clause-event c =
-    let p = c.args.self.now in
-    let e = c.enter.new.self in
-    let n = c.fix_stamp.result in
-    let w = c.fix_stamp.new.self.view in
-    let here : Happened p.view.layout (event_at p.view.layout e.seat LoadStamp Stamp 1) e.view n w =
-    subst (λ (z : Layout). Happened z (event_at z e.seat LoadStamp Stamp 1) e.view n w) c.enter.ensures.same.layout c.fix_stamp.ensures.event in
-    let mine : Happened p.view.layout (event_at p.view.layout p.seat LoadStamp Stamp 1) e.view n w =
-    subst (λ (seat : ℕ). Happened p.view.layout (event_at p.view.layout seat LoadStamp Stamp 1) e.view n w) c.enter.ensures.same.seat here in
-    subst (λ (v : View). Happened p.view.layout (event_at p.view.layout p.seat LoadStamp Stamp 1) v n w) c.enter.ensures.view mine
+    found_at c.args.self.now c.enter_and_announce.new.self c.enter_and_announce.ensures.same 1 c.fix_stamp.result c.fix_stamp.new.self.view c.fix_stamp.ensures.event
+
+pub returns-clause-gives : goal.returns-clause-gives
+returns-clause-gives c =
+    let v = c.args.self.now.view in
+    let live : IsLiveView v = subst (λ (p : Pass). IsLiveView p.view) c.self.view_is c.facts.ensures in
+    let q = c.enter_and_announce.new.self in
+    let announced = c.enter_and_announce.ensures.announced in
+    has_opened c.args.self.now q c.enter_and_announce.ensures.same 1 c.fix_stamp.result c.fix_stamp.new.self.view c.fix_stamp.ensures.event
+    announced c.fix_stamp.ensures.seen c.fix_stamp.ensures.reads

@@ -1,0 +1,25 @@
+-- Helper: the headline does not rest on this file.
+-- The parts of a page and of a token by which they are made.
+use Rattle.std.specs.Prelude.{ℕ, ◌&&◌, nat_lt, List, [], ◌∷◌, length, take, map, filter, Option, Some, None}
+use Rattle.std.specs.List.{dedup}
+use Rattle.key_map.specs.declared.pair.Pair.{Pair}
+use Rattle.bucket_terms.specs.declared.list_query.ListQuery.{ListQuery}
+use Rattle.bucket_terms.specs.declared.token_point.TokenPoint.{TokenPoint}
+use Rattle.bucket_terms.specs.declared.page.PageEntry.{PageEntry}
+use Rattle.bucket_terms.specs.declared.page.Page.{Page}
+use Rattle.bucket_terms.specs.Listing.{is_under, entry_of, is_same_group, entry_point}
+
+-- the entries under the prefix: each group once
+unfoldable pub listing : List (List ℕ) → ListQuery → List Pair → List PageEntry
+listing dir query m = dedup (is_same_group dir) (map (entry_of dir query) (filter (is_under dir query) m))
+
+-- the first `max_keys` of these entries; truncated where it may have some and more are left
+abbrev pub cut_at : ℕ → List PageEntry → Page
+cut_at max_keys entries =
+    record { entries = take max_keys entries; truncated = nat_lt 0 max_keys && nat_lt max_keys (length entries) }
+
+-- the point behind the last of some entries
+abbrev pub last_point : List (List ℕ) → List PageEntry → Option TokenPoint
+last_point dir [] = None
+last_point dir (e ∷ []) = Some (entry_point dir e)
+last_point dir (e ∷ f ∷ es) = last_point dir (f ∷ es)

@@ -1,0 +1,40 @@
+-- Helper: the headline does not rest on this file.
+-- The parts of a legal run by which it is proved.
+use Rattle.std.specs.Prelude.{ℕ, ◌+◌, ◌<◌, ◌≤◌, ⊤, ◌==◌, ◌&&◌, nat_lt, Bool, List, count_by, Option, Some, None, MatchOption}
+use Rattle.key_map.specs.declared.pair.Pair.{Pair}
+use Rattle.key_map.specs.declared.update.Update.{Update}
+use Rattle.key_map.specs.Map.{map_get}
+use Rattle.bucket_terms.specs.declared.reply.Reply.{Reply}
+use Rattle.bucket_terms.specs.declared.reply.Reply.TheVariants.{Found, Missing}
+use Rattle.bucket_terms.specs.LegalRun.{RequestLine, Setting, Answered, Run, is_update}
+
+-- the answer of a head: the key's value, or none
+abbrev pub head_by : Option ℕ → Reply
+head_by (Some val) = Found val
+head_by None = Missing
+
+abbrev pub head_answer : ℕ → List Pair → Reply
+head_answer key m = head_by (map_get key m)
+
+-- whether the update is of this client and of a line before this one
+abbrev pub is_earlier_of : Setting → ℕ → Update → Bool
+is_earlier_of s line u = (u.client == s.client) && nat_lt u.line line
+
+-- a place is at most, or below, this one; a refused request has none
+abbrev pub IsPlacedUpTo : ℕ → Answered → Type 0
+IsPlacedUpTo at a = MatchOption a.placed.at ⊤ (λ place. place ≤ at)
+
+abbrev pub IsPlacedBelow : ℕ → Answered → Type 0
+IsPlacedBelow at a = MatchOption a.placed.at ⊤ (λ place. place < at)
+
+-- how many of the requests may make an update
+abbrev pub updates_in : List RequestLine → ℕ
+updates_in lines = count_by (λ (l : RequestLine). is_update l.request) lines
+
+-- the node slots of a client where the command line gives none: one more than its PUT and DELETE lines
+abbrev pub default_slots : List RequestLine → ℕ
+default_slots lines = updates_in lines + 1
+
+-- what a client's requests are answered in
+abbrev pub setting_of : List (List ℕ) → Run → (ℕ → ℕ) → ℕ → Setting
+setting_of dir run slots client = record { dir = dir; updates = run.updates; client = client; slots = slots client }

@@ -1,4 +1,0 @@
-use Rattle.core_grace.proofs.batch.+is_done.Given as goal
-
-abbrev pub decreases-is_done : goal.decreases-is_done
-decreases-is_done l = l.passes

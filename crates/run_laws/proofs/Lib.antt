@@ -1,0 +1,10 @@
+-- A client alone has one legal run.
+pub mod OneRun
+-- What an input, its session and its directory determine.
+pub mod Determined
+-- Small sessions: the runs that are legal, and those beside them that are not.
+pub mod RunRows
+-- Common prefixes, `start-after` and truncated pages.
+pub mod PageLaws
+-- A legal run does not depend on the numbers of the clients.
+pub mod Renamed

@@ -1,0 +1,201 @@
+-- Small sessions: the runs that are legal, and those beside them that are not.
+use Rattle.std.proofs.Common.{◌≡◌, ℕ, zero, suc, ◌+◌, ◌<◌, ◌≤◌, Bool, true, false, List, [], ◌∷◌, ◌++◌, length, codes, get_or, refl, sym, ap, ◌∙◌, subst, arith, inl, inr, Option, Some, None, All, Any}
+use Rattle.std.specs.List.{slice_get}
+use Rattle.std.specs.Option.{IfSome}
+use Rattle.std.proofs.lemmas.Option.{same_Some}
+use Rattle.std.proofs.lemmas.List.Elements.{All-nil, All-cons}
+use Rattle.key_map.specs.KeyMap.{map_get, after}
+use Rattle.key_map.specs.declared.update.Update.{Update}
+use Rattle.key_map.specs.declared.update.Change.TheVariants.{Put as PutVal}
+use Rattle.key_names.specs.Names.{IsRank, name_at}
+use Rattle.bucket_terms.specs.declared.page.Page.{Page}
+use Rattle.bucket_terms.specs.declared.token_point.TokenPoint.{TokenPoint}
+use Rattle.bucket_terms.specs.declared.request.Request.TheVariants.{Put, Head}
+use Rattle.bucket_terms.specs.declared.reply.Reply.TheVariants.{Put as PutReply, Found, Missing}
+use Rattle.bucket_terms.specs.Listing.{entries_of, group_len, page_of}
+use Rattle.bucket_terms.specs.declared.reply.Placed.{Placed}
+use Rattle.bucket_terms.specs.LegalRun.{RequestLine, Answered, IsAnswered, AreAnswered, IsMadeBy, IsPointOf, Setting, Finds, answered_lines, lines_of, replies_of, update_at}
+use Rattle.request_lines.specs.Queries.{plain_query}
+use Rattle.sample_laws.proofs.Places.{any_all}
+use Rattle.sample_laws.proofs.Ranks.{no_token}
+use Rattle.run_laws.specs.RunRows.{two_names, line, update, reply_at, no_slot, run, list_all, page, Legal, writer, reader, clients, put_a, looked, two_puts, second_refused, first_refused, RunRowsLaw}
+
+-- the rank of `a`, and that of `b`
+first_rank : IsRank two_names (codes "a") 0
+first_rank = record { below = omega arith; is = refl }
+
+second_rank : IsRank two_names (codes "b") 1
+second_rank = record { below = omega arith; is = refl }
+
+-- a name has one rank
+only_first : (key : ℕ) → IsRank two_names (codes "a") key → key ≡ 0
+only_first zero rank = refl
+only_first (suc zero) rank = let no : 98 ≡ 97 = ap (λ (name : List ℕ). get_or name 0 0) rank.is in absurd (omega (arith, no))
+only_first (suc (suc key)) rank = absurd (let low = rank.below in omega arith)
+
+nowhere : {X : Type 0} (P : X → Type 0) → All P []
+nowhere P = All-nil P
+
+-- ---- one writer and one reader
+
+abbrev reading : Setting
+reading = record { dir = two_names; updates = put_a ∷ []; client = 1; slots = 9 }
+
+finds_none : Finds reading (codes "a") 0 None
+unfolding after
+finds_none = record { key = 0; rank = first_rank; value = refl }
+
+finds_it : Finds reading (codes "a") 1 (Some 7)
+unfolding after
+finds_it = record { key = 0; rank = first_rank; value = refl }
+
+first_put : (slots : ℕ) (updates : List Update) (number val : ℕ) (c : ℕ) → update_at (record { dir = two_names; updates = updates; client = c; slots = slots }) 1 ≡ Some (update c number 0 (PutVal val))
+    → IsAnswered (record { dir = two_names; updates = updates; client = c; slots = slots }) [] (line number (Put (codes "a") val)) (reply_at c number 1 (PutReply false))
+unfolding after
+first_put slots [] number val c there = cc
+first_put slots (u ∷ us) number val c there = record {
+  client = refl;
+  line = refl;
+  order = record { within = omega arith; not_below = nowhere _; above = λ is. nowhere _ };
+  right = record { key = 0; rank = first_rank; update = there; before = refl };
+}
+
+-- the one update is made by the one line
+made_once : (parts : List (List RequestLine)) (replies : List (List Placed)) (u : Update) → u.client < length parts
+    → Any (IsMadeBy two_names u 1) (answered_lines (lines_of parts u.client) (replies_of (run (u ∷ []) replies) u.client))
+    → (i : ℕ) (v : Update) → slice_get (u ∷ []) i ≡ Some v
+    → (v.client < length parts) × Any (IsMadeBy two_names v (i + 1)) (answered_lines (lines_of parts v.client) (replies_of (run (u ∷ []) replies) v.client))
+made_once parts replies u below made zero v here =
+    subst (λ (w : Update). (w.client < length parts) × Any (IsMadeBy two_names w 1) (answered_lines (lines_of parts w.client) (replies_of (run (u ∷ []) replies) w.client))) (same_Some u v here) (below, made)
+made_once parts replies u below made (suc i) v here = cc
+
+here_made : (number val : ℕ) (answers : List Answered) (placed : Placed) → placed.at ≡ Some 1
+    → Any (IsMadeBy two_names (update 0 number 0 (PutVal val)) 1) (record { asked = line number (Put (codes "a") val); placed = placed } ∷ answers)
+here_made number val answers placed at = (zero, record { asked = line number (Put (codes "a") val); placed = placed }, omega arith, refl, record { line = refl; place = at; change = (first_rank, refl) })
+
+legal_looked : (first second : Placed) → AreAnswered reading [] reader (first ∷ second ∷ []) → Legal 9 clients (looked first second)
+legal_looked first second answers = record {
+  clients = refl;
+  answered = answered;
+  made = made_once clients (looked first second).replies put_a (omega arith) (here_made 2 7 [] (reply_at 0 2 1 (PutReply false)) refl);
+}
+  where
+    answered : (c : ℕ) → c < 3 → AreAnswered (record { dir = two_names; updates = put_a ∷ []; client = c; slots = 9 }) [] (lines_of clients c) (replies_of (looked first second) c)
+    answered zero below = (first_put 9 (put_a ∷ []) 2 7 0 refl, tt)
+    answered (suc zero) below = answers
+    answered (suc (suc zero)) below = tt
+    answered (suc (suc (suc c))) below = absurd (omega arith)
+
+head_late : IsAnswered reading [] (line 4 (Head (codes "a"))) (reply_at 1 4 0 Missing)
+head_late = record { client = refl; line = refl; order = record { within = omega arith; not_below = nowhere _; above = tt }; right = finds_none }
+
+head_at_once : IsAnswered reading [] (line 4 (Head (codes "a"))) (reply_at 1 4 1 (Found 7))
+head_at_once = record { client = refl; line = refl; order = record { within = omega arith; not_below = nowhere _; above = λ is. nowhere _ }; right = finds_it }
+
+head_later : (first : Placed) → IfSome first.at (λ place. place ≤ 1) → IsAnswered reading (record { asked = line 4 (Head (codes "a")); placed = first } ∷ []) (line 5 (Head (codes "a"))) (reply_at 1 5 1 (Found 7))
+head_later first low = record {
+  client = refl;
+  line = refl;
+  order = record {
+    within = omega arith;
+    not_below = All-cons (λ (a : Answered). IfSome a.placed.at (λ place. place ≤ 1)) _ [] low (nowhere _);
+    above = λ is. absurd (let by : 0 ≡ 1 = is.by in omega arith);
+  };
+  right = finds_it;
+}
+
+-- ---- what is not legal
+
+module _ (first second : Placed) (legal : Legal 9 clients (looked first second)) where
+  reader_answered : AreAnswered reading [] reader (first ∷ second ∷ [])
+  reader_answered = legal.answered 1 (omega arith)
+
+finds_at_one : (value : Option ℕ) → Finds reading (codes "a") 1 value → value ≡ Some 7
+unfolding after
+finds_at_one value found = sym found.value ∙ ap (λ (k : ℕ). map_get k (after (put_a ∷ []) 1)) (only_first found.key found.rank)
+
+own_not_above : ¬ (Legal 9 ((line 2 (Head (codes "a")) ∷ line 3 (Put (codes "a") 7) ∷ []) ∷ [])
+    (run (update 0 3 0 (PutVal 7) ∷ []) ((reply_at 0 2 1 (Found 7) ∷ reply_at 0 3 1 (PutReply false) ∷ []) ∷ [])))
+own_not_above legal =
+    let answers = legal.answered 0 (omega arith) in
+    let above = answers.1.0.order.above (record { by = refl; for_line = refl }) in
+    let low : 1 < 1 = above 0 (record { asked = line 2 (Head (codes "a")); placed = reply_at 0 2 1 (Found 7) }) (omega arith) in
+    omega arith
+
+of_nobody : ¬ (Legal 9 ((line 2 (Head (codes "a")) ∷ []) ∷ []) (run (update 0 3 0 (PutVal 7) ∷ []) ((reply_at 0 2 0 Missing ∷ []) ∷ [])))
+of_nobody legal =
+    let made = (legal.made 0 (update 0 3 0 (PutVal 7)) refl).1 in
+    let a : Answered = record { asked = line 2 (Head (codes "a")); placed = reply_at 0 2 0 Missing } in
+    let by = any_all (IsMadeBy two_names (update 0 3 0 (PutVal 7)) 1) (λ (b : Answered). b.asked.line ≡ 2) (a ∷ []) made (All-cons (λ (b : Answered). b.asked.line ≡ 2) a [] refl (nowhere (λ (b : Answered). b.asked.line ≡ 2))) in
+    let other : by.0.asked.line ≡ 3 = by.1.0.line in
+    let same : by.0.asked.line ≡ 2 = by.1.1 in
+    omega (arith, other, same)
+
+whole_page : (updates : List Update) → updates ≡ put_a ∷ [] → length (page_of two_names plain_query None (after updates 1)).entries ≡ 1
+unfolding after entries_of group_len
+whole_page updates is = ap (λ (us : List Update). length (page_of two_names plain_query None (after us 1)).entries) is
+
+stale_page : ¬ (Legal 9 ((line 2 (Put (codes "a") 7) ∷ line 3 list_all ∷ []) ∷ [])
+    (run (put_a ∷ []) ((reply_at 0 2 1 (PutReply false) ∷ reply_at 0 3 1 (page []) ∷ []) ∷ [])))
+stale_page legal =
+    let right = (legal.answered 0 (omega arith)).1.0.right in
+    by_point right.0 right.1.0 right.1.1.1
+  where
+    by_point : (point : Option TokenPoint) → IsPointOf plain_query point → record { entries = []; truncated = false } ≡ page_of two_names plain_query point (after (put_a ∷ []) 1) → ⊥
+    by_point None of is = let none : 0 ≡ 1 = ap (λ (p : Page). length p.entries) is ∙ whole_page (put_a ∷ []) refl in omega (arith, none)
+    by_point (Some point) of is = no_token (record { point = point; bound = of.0 }) [] refl of.1.1
+
+-- ---- slots
+
+used_by_one : Legal 1 (two_puts ∷ []) second_refused
+used_by_one = record {
+  clients = refl;
+  answered = answered;
+  made = made_once (two_puts ∷ []) second_refused.replies put_a (omega arith) (here_made 2 7 (record { asked = line 3 (Put (codes "b") 8); placed = no_slot 0 3 } ∷ []) (reply_at 0 2 1 (PutReply false)) refl);
+}
+  where
+    answered : (c : ℕ) → c < 1 → AreAnswered (record { dir = two_names; updates = put_a ∷ []; client = c; slots = 1 }) [] (lines_of (two_puts ∷ []) c) (replies_of second_refused c)
+    answered zero below = (first_put 1 (put_a ∷ []) 2 7 0 refl, (record { client = refl; line = refl; order = tt; right = omega arith }, tt))
+    answered (suc c) below = absurd (omega arith)
+
+one_early : ¬ (Legal 2 (two_puts ∷ []) second_refused)
+one_early legal = let used : 2 ≤ 1 = (legal.answered 0 (omega arith)).1.0.right in omega arith
+
+by_later : ¬ (Legal 1 (two_puts ∷ []) first_refused)
+by_later legal = let used : 1 ≤ 0 = (legal.answered 0 (omega arith)).0.right in omega arith
+
+by_other : ¬ (Legal 1 ((line 4 (Put (codes "b") 8) ∷ []) ∷ two_puts ∷ [])
+    (run (update 1 2 0 (PutVal 7) ∷ update 1 3 1 (PutVal 8) ∷ []) ((no_slot 0 4 ∷ []) ∷ (reply_at 1 2 1 (PutReply false) ∷ reply_at 1 3 2 (PutReply false) ∷ []) ∷ [])))
+by_other legal = let used : 1 ≤ 0 = (legal.answered 0 (omega arith)).0.right in omega arith
+
+pub run_rows : RunRowsLaw
+run_rows = record {
+  found_late = legal_looked (reply_at 1 4 0 Missing) (reply_at 1 5 1 (Found 7)) (head_late, (head_later (reply_at 1 4 0 Missing) (omega arith), tt));
+  found_at_once = legal_looked (reply_at 1 4 1 (Found 7)) (reply_at 1 5 1 (Found 7)) (head_at_once, (head_later (reply_at 1 4 1 (Found 7)) (omega arith), tt));
+  place_falls = λ legal.
+      let answers = reader_answered (reply_at 1 4 1 (Found 7)) (reply_at 1 5 0 Missing) legal in
+      let low : 1 ≤ 0 = answers.1.0.order.not_below 0 (record { asked = line 4 (Head (codes "a")); placed = reply_at 1 4 1 (Found 7) }) (omega arith) in
+      omega arith;
+  place_behind_the_history = λ legal.
+      let answers = reader_answered (reply_at 1 4 1 (Found 7)) (reply_at 1 5 2 (Found 7)) legal in
+      let low : 2 ≤ 1 = answers.1.0.order.within in
+      omega arith;
+  stale_head = λ legal.
+      let answers = reader_answered (reply_at 1 4 0 Missing) (reply_at 1 5 1 Missing) legal in
+      cc (finds_at_one None answers.1.0.right);
+  of_another_client = λ legal.
+      let answers = reader_answered (reply_at 1 4 0 Missing) (reply_at 2 5 1 (Found 7)) legal in
+      let same : 2 ≡ 1 = answers.1.0.client in
+      omega arith;
+  of_another_line = λ legal.
+      let answers = reader_answered (reply_at 1 4 0 Missing) (reply_at 1 4 1 (Found 7)) legal in
+      let same : 4 ≡ 5 = answers.1.0.line in
+      omega arith;
+  own_not_above = own_not_above;
+  of_nobody = of_nobody;
+  stale_page = stale_page;
+  slot_used_up = used_by_one;
+  one_update_early = one_early;
+  by_a_later_line = by_later;
+  by_another_client = by_other;
+}

@@ -1,0 +1,6 @@
+pub mod Alone
+pub mod OneRun
+pub mod Determined
+pub mod RunRows
+pub mod PageLaws
+pub mod Renamed

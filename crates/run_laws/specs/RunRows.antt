@@ -1,0 +1,93 @@
+-- Small sessions of one, two and three clients: runs that are legal, and runs beside them that are not.
+use Rattle.std.specs.Prelude.{ℕ, List, [], ◌∷◌, ◌++◌, codes, Bool, true, false, Option, Some, None}
+use Rattle.key_map.specs.declared.update.Update.{Update}
+use Rattle.key_map.specs.declared.update.Change.{Change}
+use Rattle.key_map.specs.declared.update.Change.TheVariants.{Put as PutVal, Remove}
+use Rattle.bucket_terms.specs.declared.list_query.ListQuery.{ListQuery}
+use Rattle.bucket_terms.specs.declared.page.PageEntry.{PageEntry}
+use Rattle.bucket_terms.specs.declared.page.PageEntry.TheVariants.{Key}
+use Rattle.bucket_terms.specs.declared.request.Request.{Request}
+use Rattle.bucket_terms.specs.declared.request.Request.TheVariants.{Put, Delete, Head, List as ListRequest}
+use Rattle.bucket_terms.specs.declared.reply.Reply.{Reply}
+use Rattle.bucket_terms.specs.declared.reply.Reply.TheVariants.{Put as PutReply, Deleted, Found, Missing, Listed, NoSlot}
+use Rattle.bucket_terms.specs.declared.reply.Placed.{Placed}
+use Rattle.bucket_terms.specs.LegalRun.{RequestLine, Run, IsLegal}
+use Rattle.request_lines.specs.Queries.{plain_query}
+
+-- the directory of the names `a` and `b`
+abbrev pub two_names : List (List ℕ)
+two_names = codes "a" ∷ codes "b" ∷ []
+
+-- a line; an update, a reply with a place and one without, each of this client and line; and a run
+abbrev pub line : ℕ → Request → RequestLine
+line number request = record { line = number; request = request }
+
+abbrev pub update : ℕ → ℕ → ℕ → Change → Update
+update client number key change = record { client = client; line = number; key = key; change = change }
+
+abbrev pub reply_at : ℕ → ℕ → ℕ → Reply → Placed
+reply_at client number at reply = record { client = client; line = number; at = Some at; reply = reply }
+
+abbrev pub no_slot : ℕ → ℕ → Placed
+no_slot client number = record { client = client; line = number; at = None; reply = NoSlot }
+
+abbrev pub run : List Update → List (List Placed) → Run
+run updates replies = record { updates = updates; replies = replies }
+
+abbrev pub list_all : Request
+list_all = ListRequest plain_query
+
+abbrev pub page : List PageEntry → Reply
+page entries = Listed plain_query (record { entries = entries; truncated = false })
+
+-- each client has so many node slots
+abbrev pub Legal : ℕ → List (List RequestLine) → Run → Type 0
+Legal slots parts r = IsLegal two_names parts (λ client. slots) r
+
+-- a client puts `a`, and another one looks for it: it may find it or not; a third one does nothing
+abbrev pub writer : List RequestLine
+writer = line 2 (Put (codes "a") 7) ∷ []
+
+abbrev pub reader : List RequestLine
+reader = line 4 (Head (codes "a")) ∷ line 5 (Head (codes "a")) ∷ []
+
+abbrev pub clients : List (List RequestLine)
+clients = writer ∷ reader ∷ [] ∷ []
+
+abbrev pub put_a : Update
+put_a = update 0 2 0 (PutVal 7)
+
+abbrev pub looked : Placed → Placed → Run
+looked first second = run (put_a ∷ []) ((reply_at 0 2 1 (PutReply false) ∷ []) ∷ (first ∷ second ∷ []) ∷ [] ∷ [])
+
+-- two puts of a client, of which the second one is refused
+abbrev pub two_puts : List RequestLine
+two_puts = line 2 (Put (codes "a") 7) ∷ line 3 (Put (codes "b") 8) ∷ []
+
+abbrev pub second_refused : Run
+second_refused = run (put_a ∷ []) ((reply_at 0 2 1 (PutReply false) ∷ no_slot 0 3 ∷ []) ∷ [])
+
+abbrev pub first_refused : Run
+first_refused = run (update 0 3 1 (PutVal 8) ∷ []) ((no_slot 0 2 ∷ reply_at 0 3 1 (PutReply false) ∷ []) ∷ [])
+
+pub record RunRowsLaw : Type 0 where
+  pub found_late : Legal 9 clients (looked (reply_at 1 4 0 Missing) (reply_at 1 5 1 (Found 7)))
+  pub found_at_once : Legal 9 clients (looked (reply_at 1 4 1 (Found 7)) (reply_at 1 5 1 (Found 7)))
+  pub place_falls : ¬ (Legal 9 clients (looked (reply_at 1 4 1 (Found 7)) (reply_at 1 5 0 Missing)))
+  pub place_behind_the_history : ¬ (Legal 9 clients (looked (reply_at 1 4 1 (Found 7)) (reply_at 1 5 2 (Found 7))))
+  pub stale_head : ¬ (Legal 9 clients (looked (reply_at 1 4 0 Missing) (reply_at 1 5 1 Missing)))
+  pub of_another_client : ¬ (Legal 9 clients (looked (reply_at 1 4 0 Missing) (reply_at 2 5 1 (Found 7))))
+  pub of_another_line : ¬ (Legal 9 clients (looked (reply_at 1 4 0 Missing) (reply_at 1 4 1 (Found 7))))
+  -- an own update that the client was told of before
+  pub own_not_above : ¬ (Legal 9 ((line 2 (Head (codes "a")) ∷ line 3 (Put (codes "a") 7) ∷ []) ∷ [])
+      (run (update 0 3 0 (PutVal 7) ∷ []) ((reply_at 0 2 1 (Found 7) ∷ reply_at 0 3 1 (PutReply false) ∷ []) ∷ [])))
+  -- the journal has an update that no line made
+  pub of_nobody : ¬ (Legal 9 ((line 2 (Head (codes "a")) ∷ []) ∷ []) (run (update 0 3 0 (PutVal 7) ∷ []) ((reply_at 0 2 0 Missing ∷ []) ∷ [])))
+  pub stale_page : ¬ (Legal 9 ((line 2 (Put (codes "a") 7) ∷ line 3 list_all ∷ []) ∷ [])
+      (run (put_a ∷ []) ((reply_at 0 2 1 (PutReply false) ∷ reply_at 0 3 1 (page []) ∷ []) ∷ [])))
+  -- one node slot is used up by one update, and two are not; later lines and other clients do not count
+  pub slot_used_up : Legal 1 (two_puts ∷ []) second_refused
+  pub one_update_early : ¬ (Legal 2 (two_puts ∷ []) second_refused)
+  pub by_a_later_line : ¬ (Legal 1 (two_puts ∷ []) first_refused)
+  pub by_another_client : ¬ (Legal 1 ((line 4 (Put (codes "b") 8) ∷ []) ∷ two_puts ∷ [])
+      (run (update 1 2 0 (PutVal 7) ∷ update 1 3 1 (PutVal 8) ∷ []) ((no_slot 0 4 ∷ []) ∷ (reply_at 1 2 1 (PutReply false) ∷ reply_at 1 3 2 (PutReply false) ∷ []) ∷ [])))

@@ -1,0 +1,106 @@
+// Where the text is cut: pieces of nearly the same length.
+ghost use Rattle.std.specs.Prelude.{◌≡◌, ◌<◌, ◌≤◌, ◌+◌, length, OnOk};
+ghost use Rattle.run_text.specs.Pieces.{AddsReplies, AddsJournal};
+
+use crate::pieces::{PIECE_BYTES, Part, Piece, Pieces};
+use bucket_terms::{Placed, Reply};
+use key_map::Update;
+use key_names::{Directory, NoMemory};
+
+// The bytes of a line without names: of a reply about one key, of a listing without its entries, of an entry, of an
+// update.
+const REPLY_BYTES: usize = 100;
+
+const LISTING_BYTES: usize = 300;
+
+const ENTRY_BYTES: usize = 80;
+
+const UPDATE_BYTES: usize = 60;
+
+/// The bytes that a name of the directory has on average.
+pub(crate) fn name_bytes(dir: &Directory) -> usize {
+    let mut bytes: usize = 0;
+    for rank in 0..dir.len() {
+        bytes = bytes.saturating_add(dir.name(rank).bytes().len());
+    }
+    bytes.checked_div(dir.len() as usize).unwrap_or(0)
+}
+
+impl<'a> Pieces<'a> {
+    /// Adds the replies of a client.
+    pub fn add_replies(&mut self, replies: &'a [Placed]) -> Result<(), NoMemory>
+        ensures { OnOk result (AddsReplies self.old replies.now self.new) }
+    {
+        let mut left = replies;
+        while !left.is_empty() {
+            let (count, bytes) = first_piece(left, self.name_bytes);
+            let (front, rest) = left.split_at(count);
+            self.pieces.push(Piece {
+                part: Part::Replies(front),
+                bytes,
+            })?;
+            left = rest;
+        }
+        Ok(())
+    }
+
+    /// Adds the journal.
+    pub fn add_journal(&mut self, updates: &'a [Update]) -> Result<(), NoMemory>
+        ensures { OnOk result (AddsJournal self.old updates.now self.new) }
+    {
+        let line_bytes = UPDATE_BYTES.saturating_add(self.name_bytes);
+        let count = journal_count(line_bytes);
+        let mut before: u64 = 0;
+        let mut left = updates;
+        while !left.is_empty() {
+            let (front, rest) = left.split_at(count.min(left.len()));
+            self.pieces.push(Piece {
+                part: Part::Updates {
+                    before,
+                    updates: front,
+                },
+                bytes: front.len().saturating_mul(line_bytes),
+            })?;
+            before += front.len() as u64;
+            left = rest;
+        }
+        Ok(())
+    }
+}
+
+// How many of the first replies make a piece, and the bytes of their lines.
+fn first_piece(replies: &[Placed], name_bytes: usize) -> (usize, usize)
+    requires { 0 < length replies.now }
+    ensures some { 0 < result.0 }
+    ensures most { result.0 ≤ length replies.now }
+{
+    let mut count = 0;
+    let mut bytes: usize = 0;
+    for placed in replies {
+        count += 1;
+        bytes = bytes.saturating_add(line_bytes(placed, name_bytes));
+        if bytes >= PIECE_BYTES {
+            return (count, bytes);
+        }
+    }
+    (count, bytes)
+}
+
+// The bytes of a reply's line.
+fn line_bytes(placed: &Placed, name_bytes: usize) -> usize {
+    match &placed.reply {
+        Reply::Listed { page, .. } => page
+            .entries
+            .len()
+            .saturating_mul(ENTRY_BYTES.saturating_add(name_bytes))
+            .saturating_add(LISTING_BYTES),
+        _ => REPLY_BYTES,
+    }
+}
+
+// How many lines of the journal make a piece.
+fn journal_count(line_bytes: usize) -> usize
+    ensures { 0 < result }
+{
+    PIECE_BYTES.checked_div(line_bytes).unwrap_or(1).max(1)
+}

@@ -1,0 +1,14 @@
+//! The text of a run: its lines are put together in pieces, several at once on threads, and are written in order, one
+//! write a line. `Pieces` is told what the lines say, and writes them; what the text of each piece is, is said in the
+//! words of `answer_text`. The layer above has the replies and the journal.
+#![tactic(auto)]
+
+mod cutting;
+mod lines;
+mod pieces;
+mod stop;
+mod texts;
+mod writing;
+
+pub use pieces::Pieces;
+pub use stop::Stop;

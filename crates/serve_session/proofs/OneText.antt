@@ -1,0 +1,57 @@
+-- The text of an input of one client is determined, and so is the refusal of an input.
+use Rattle.std.proofs.Common.{◌≡◌, ℕ, ◌<◌, List, [], ◌∷◌, ◌++◌, length, inl, inr, refl, sym, ap, ◌∙◌, subst, arith, Option, Some, None}
+use Rattle.std.proofs.lemmas.Option.{same_Some}
+use Rattle.bucket_terms.specs.LegalRun.{Run, RequestLine, IsLegal, slots_of}
+use Rattle.request_lines.specs.declared.session.ClientPart.{ClientPart}
+use Rattle.request_lines.specs.declared.session.Session.{Session}
+use Rattle.request_lines.specs.declared.session_error.InputError.{InputError}
+use Rattle.request_lines.specs.Input.{IsSessionOf, refusal_of}
+use Rattle.key_names.specs.Names.{HoldsEachOnce}
+use Rattle.answer_text.specs.Lines.{session_text}
+use Rattle.run_laws.proofs.OneRun.{one_run}
+use Rattle.run_laws.proofs.Determined.{one_session, no_session, one_directory}
+use Rattle.serve_session.specs.Served.{HoldsOfSession, HoldsOfRun, client_lines}
+use Rattle.serve_session.specs.OneText.{OneTextLaw, OneRefusalLaw, RefusedOrServedLaw, RunnersRunLaw}
+
+-- the run of one client is the only one
+same_run : (dir : List (List ℕ)) (names : List (List ℕ)) (clients : List ClientPart) (a b : Run) → length clients ≡ 1 → HoldsEachOnce names dir
+    → IsLegal dir (client_lines clients) (slots_of (client_lines clients)) a → IsLegal dir (client_lines clients) (slots_of (client_lines clients)) b → a ≡ b
+same_run dir names [] a b one holds of_a of_b = absurd (omega arith)
+same_run dir names (part ∷ []) a b one holds of_a of_b =
+    one_run dir _ (slots_of (client_lines (part ∷ []))) a b holds.rising (omega arith) of_a of_b
+same_run dir names (part ∷ next ∷ more) a b one holds of_a of_b = absurd (omega arith)
+
+-- and so is its text
+same_text : (session : Session) (P Q : Run → List ℕ → Type 0) → length session.clients ≡ 1 → (f : HoldsOfSession session P) → (g : HoldsOfSession session Q)
+    → session_text f.dir session.records f.text.run ≡ session_text g.dir session.records g.text.run
+same_text session P Q one f g =
+    let dirs : f.dir ≡ g.dir = one_directory session.names f.dir g.dir f.names g.names in
+    let legal = subst (λ (d : List (List ℕ)). IsLegal d (client_lines session.clients) (slots_of (client_lines session.clients)) f.text.run) dirs f.text.legal in
+    ap (λ (d : List (List ℕ)). session_text d session.records f.text.run) dirs
+    ∙ ap (session_text g.dir session.records) (same_run g.dir session.names session.clients f.text.run g.text.run one g.names legal g.text.legal)
+
+pub text_law : OneTextLaw
+text_law input taken x y after after' first second one =
+    let of_first : IsSessionOf input first.session = subst (λ (bytes : List ℕ). IsSessionOf bytes first.session) first.has_read.all.0 first.of_input in
+    let of_second : IsSessionOf input second.session = subst (λ (bytes : List ℕ). IsSessionOf bytes second.session) second.has_read.all.0 second.of_input in
+    let same = one_session input second.session first.session of_second of_first in
+    let other = subst (λ (s : Session). HoldsOfSession s (λ _ text. y ≡ taken ++ text)) same second.text in
+    first.text.text.holds
+    ∙ ap (λ (text : List ℕ). taken ++ text) (same_text first.session _ _ one first.text other)
+    ∙ sym other.text.holds
+
+pub refusal_law : OneRefusalLaw
+refusal_law input after after' e f first second =
+    let of_first : refusal_of input ≡ Some e = ap refusal_of (sym first.1.0.all.0) ∙ first.1.1 in
+    let of_second : refusal_of input ≡ Some f = ap refusal_of (sym second.1.0.all.0) ∙ second.1.1 in
+    same_Some e f (sym of_first ∙ of_second)
+
+pub or_served_law : RefusedOrServedLaw
+or_served_law input after after' e refused served =
+    let of_first : refusal_of input ≡ Some e = ap refusal_of (sym refused.1.0.all.0) ∙ refused.1.1 in
+    let of_input : IsSessionOf input served.session = subst (λ (bytes : List ℕ). IsSessionOf bytes served.session) served.has_read.all.0 served.of_input in
+    no_session input served.session e of_input of_first
+
+pub runners_run_law : RunnersRunLaw
+runners_run_law old new replied run (inl none) some = absurd (some none)
+runners_run_law old new replied run (inr both) some = (both.1, both.0)
