@@ -1,6 +1,7 @@
 #!/usr/bin/env python3
 """Tries each link of the documents, each file of the repository that they name, and each name in code style; and
-compares the floor plan of crates/README.md with crates.txt, and docs/DEFINITIONS.md with docs/TRUSTED.md.
+compares the floor plan of crates/README.md with crates.txt, and docs/DEFINITIONS.md with docs/TRUSTED.md. A page with the
+marks of a merge that was not finished is told.
 
     tests/links.py
 
@@ -63,6 +64,12 @@ def wrong_links(page):
             yield "the link %s leads nowhere" % target
         elif anchor and anchor not in anchors(path):
             yield "no heading for the link %s" % target
+
+
+def wrong_merges(page):
+    for number, line in enumerate(page.read_text().splitlines(), 1):
+        if re.match(r"(<<<<<<<|=======|>>>>>>>)( |$)", line):
+            yield "line %d has the mark of a merge" % number
 
 
 def wrong_files(page):
@@ -154,7 +161,7 @@ def main():
     texts = dict(sources())
     names, words_of_files = declared(texts), [set(re.findall(r"\w+", text)) for text in texts.values()]
     for page in pages():
-        faults = [*wrong_links(page), *wrong_files(page)]
+        faults = [*wrong_links(page), *wrong_merges(page), *wrong_files(page)]
         if page.name != "CONTRACTS.md":
             faults += wrong_names(page, names, words_of_files)
         wrong += ["%s: %s" % (page.relative_to(TOP), fault) for fault in faults]
