@@ -78,6 +78,11 @@ TEXTS = [
         "CLIENT\nPUT a%0D 1 e 1\nHEAD a\r\r\n",
         {2: '{"At":1,"Client":0,"ETag":"e","LastModified":1,"Line":3,"Size":1,"Status":200}'},
     ),
+    (
+        "characters that end a line elsewhere end none",
+        "CLIENT\nPUT a\x0b\x0c\x85\u2028b 1 e 1\n",
+        {2: '{"At":1,"Client":0,"Key":"a\\u000b\\f\x85\u2028b","Line":2,"Verb":"PUT"}'},
+    ),
     ("a tab cuts no field", "CLIENT\nHEAD a\tb\n", {1: '{"At":0,"Client":0,"Line":2,"Status":404}'}),
     (
         "an input of more than a piece that is read at once",
@@ -113,6 +118,16 @@ LIMITS = [
             1: '{"At":1,"Client":0,"Line":2,"Replaced":false,"Status":200}',
             2: '{"At":1,"Client":0,"ETag":"e1","LastModified":1,"Line":3,"Size":1,"Status":200}',
             3: '{"At":1,"Client":0,"Line":4,"Status":404}',
+        },
+    ),
+    (
+        "a key and a prefix of 1,024 bytes, each of them escaped",
+        "CLIENT\nPUT %s 1 e1 1\nHEAD %s\nLIST prefix=%s\n" % ("%6b" * 1024, LONG_KEY, "%6B" * 1024),
+        {
+            1: '{"At":1,"Client":0,"Line":2,"Replaced":false,"Status":200}',
+            2: '{"At":1,"Client":0,"ETag":"e1","LastModified":1,"Line":3,"Size":1,"Status":200}',
+            3: '{"At":1,"Client":0,"CommonPrefixes":[],"Contents":[{"ETag":"e1","Key":"%s","LastModified":1,"Size":1}],"IsTruncated":false,"KeyCount":1,"Line":4,"MaxKeys":1000,"Prefix":"%s","Status":200}'
+            % (LONG_KEY, LONG_KEY),
         },
     ),
     ("64 MiB", "\n" * 67_108_864, NO_UPDATES),
@@ -200,8 +215,10 @@ BOUND = [
 
 RIGHT = [
     'PUT a+b 0018446744073709551615 "e-1" 00',
+    'PUT a 1 "%s" 1' % ("e" * 64),
     "HEAD é",
     "LIST ",
+    "LIST ?",
     "LIST max-keys=0002147483647",
     "LIST max-keys=%31&continuation-token=&encoding-type=",
     "LIST ?list-type=2&&prefix=a%2Fb&delimiter=/&start-after=a&fetch-owner=true&",
@@ -223,6 +240,9 @@ FAULTY = [
     (b"PUT a%2 1 e1 1", "BadEscape"),
     (b"PUT a%2x 1 e1 1", "BadEscape"),
     (b"HEAD %FF", "BadEscape"),
+    # half of a pair of UTF-16, and a `/` in two bytes
+    (b"HEAD %ED%A0%80", "BadEscape"),
+    (b"HEAD %C0%AF", "BadEscape"),
     (b"LIST marker=%", "BadEscape"),
     (b"LIST prefix=%zz", "BadEscape"),
     (b"PUT  1 e1 1", "EmptyKey"),
@@ -238,27 +258,36 @@ FAULTY = [
     (b"PUT a 1 e1 +1", "BadNumber"),
     (b"PUT a  e1 1", "BadNumber"),
     (b"PUT a 1 e1 ", "BadNumber"),
+    ("PUT a ١ e1 1".encode(), "BadNumber"),
     (b"PUT a 18446744073709551616 e1 1", "NumberTooLarge"),
     (b"PUT a 1 e! 1", "BadEtag"),
     (b'PUT a 1 " 1', "BadEtag"),
     (b'PUT a 1 "" 1', "BadEtag"),
     (b'PUT a 1 "e 1', "BadEtag"),
     (b"PUT a 1 e_1 1", "BadEtag"),
+    ("PUT a 1 é 1".encode(), "BadEtag"),
     (b"PUT a 1 " + b"e" * 65 + b" 1", "BadEtag"),
     (b"LIST marker=a", "UnknownParameter"),
     (b"LIST =a", "UnknownParameter"),
     (b"LIST ??prefix=a", "UnknownParameter"),
     (b"LIST %70refix=a", "UnknownParameter"),
     (b"LIST Prefix=a", "UnknownParameter"),
+    (b"LIST %zz=a", "UnknownParameter"),
+    (b"LIST x=" + b"k" * 1025, "UnknownParameter"),
     (b"LIST prefix=a&prefix=b", "RepeatedParameter"),
+    (b"LIST prefix=&prefix=a", "RepeatedParameter"),
     (b"LIST list-type=1", "BadListType"),
     (b"LIST list-type=", "BadListType"),
     (b"LIST list-type", "BadListType"),
+    (b"LIST list-type=02", "BadListType"),
     (b"LIST max-keys=-1", "BadMaxKeys"),
     (b"LIST max-keys=", "BadMaxKeys"),
     (b"LIST max-keys=2147483648", "BadMaxKeys"),
+    ("LIST max-keys=١".encode(), "BadMaxKeys"),
     (b"LIST encoding-type=gzip", "BadEncoding"),
+    (b"LIST encoding-type=URL", "BadEncoding"),
     (b"LIST fetch-owner=yes", "BadFetchOwner"),
+    (b"LIST fetch-owner=TRUE", "BadFetchOwner"),
     # the first of several causes, in the grammar's order
     (b"PUT %2 x e! 1", "BadEscape"),
     (b"PUT  x e! 1", "EmptyKey"),
@@ -281,6 +310,8 @@ REFUSED = [
     (b"PUT a 1 e1 1\nCLIENT\n", 1, "NoClient"),
     (b"\n\nLIST\n", 3, "NoClient"),
     (b"PUT a x e! 1\n", 1, "BadNumber"),
+    # a byte order mark is a part of the line
+    (b"\xef\xbb\xbfCLIENT\n", 1, "UnknownVerb"),
     # the first of several faulty lines
     (b"CLIENT\n\nPUT a 1 e! 1\nGET\n", 3, "BadEtag"),
     (b"CLIENT\nGET a\nHEAD %FF\n", 2, "UnknownVerb"),
@@ -288,7 +319,10 @@ REFUSED = [
     (b"CLIENT\nPUT a 1 e1 1\n\nCLIENT\nHEAD", 5, "WrongFields"),
     # one more than the limit
     (b"CLIENT\n" * 32 + b"\nCLIENT\nHEAD\n", 34, "TooManyClients"),
+    (b"CLIENT\n" * 32 + b"CLIENT x\n", 33, "WrongFields"),
     (b"CLIENT\n" + b"LIST\n" * 4001, 4002, "TooManyEntries"),
+    # a listing with a bad token counts too
+    (b"CLIENT\n" + b"LIST continuation-token=UA\n" * 4001, 4002, "TooManyEntries"),
     (
         b"CLIENT\nNEXT\nLIST max-keys=0\nLIST max-keys=1001\n" + b"NEXT\n" * 3998 + b"LIST max-keys=1000\nLIST max-keys=1\n",
         4004,

@@ -8,3 +8,5 @@ pub mod RunRows
 pub mod PageLaws
 -- A legal run does not depend on the numbers of the clients.
 pub mod Renamed
+-- A client on names that no other client changes.
+pub mod Untouched

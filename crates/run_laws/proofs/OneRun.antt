@@ -58,7 +58,7 @@ count_most test [] = omega arith
 count_most test (u ∷ us) = omega (arith, sum_by-cons (λ (v : Update). cond (test v) 1 0) u us, one_most (test u), count_most test us)
 
 -- the front behind an answer with this place
-abbrev front_behind : Option ℕ → ℕ → ℕ
+abbrev pub front_behind : Option ℕ → ℕ → ℕ
 front_behind (Some q) p = q
 front_behind None p = p
 

@@ -4,21 +4,22 @@ use Rattle.std.specs.List.{slice_get}
 use Rattle.std.specs.Option.{IfSome}
 use Rattle.std.proofs.lemmas.Option.{same_Some}
 use Rattle.std.proofs.lemmas.List.Elements.{All-nil, All-cons}
-use Rattle.key_map.specs.KeyMap.{map_get, after}
+use Rattle.key_map.specs.KeyMap.{map_has, map_get, after}
 use Rattle.key_map.specs.declared.update.Update.{Update}
-use Rattle.key_map.specs.declared.update.Change.TheVariants.{Put as PutVal}
+use Rattle.key_map.specs.declared.update.Change.TheVariants.{Put as PutVal, Remove}
 use Rattle.key_names.specs.Names.{IsRank, name_at}
 use Rattle.bucket_terms.specs.declared.page.Page.{Page}
+use Rattle.bucket_terms.specs.declared.page.PageEntry.TheVariants.{Key}
 use Rattle.bucket_terms.specs.declared.token_point.TokenPoint.{TokenPoint}
-use Rattle.bucket_terms.specs.declared.request.Request.TheVariants.{Put, Head}
-use Rattle.bucket_terms.specs.declared.reply.Reply.TheVariants.{Put as PutReply, Found, Missing}
+use Rattle.bucket_terms.specs.declared.request.Request.TheVariants.{Put, Delete, Head}
+use Rattle.bucket_terms.specs.declared.reply.Reply.TheVariants.{Put as PutReply, Deleted, Found, Missing}
 use Rattle.bucket_terms.specs.Listing.{entries_of, group_len, page_of}
 use Rattle.bucket_terms.specs.declared.reply.Placed.{Placed}
-use Rattle.bucket_terms.specs.LegalRun.{RequestLine, Answered, IsAnswered, AreAnswered, IsMadeBy, IsPointOf, Setting, Finds, answered_lines, lines_of, replies_of, update_at}
+use Rattle.bucket_terms.specs.LegalRun.{RequestLine, Answered, IsAnswered, AreAnswered, IsRight, IsMadeBy, IsPointOf, Setting, Finds, answered_lines, lines_of, replies_of, update_at}
 use Rattle.request_lines.specs.Queries.{plain_query}
 use Rattle.sample_laws.proofs.Places.{any_all}
 use Rattle.sample_laws.proofs.Ranks.{no_token}
-use Rattle.run_laws.specs.RunRows.{two_names, line, update, reply_at, no_slot, run, list_all, page, Legal, writer, reader, clients, put_a, looked, two_puts, second_refused, first_refused, RunRowsLaw}
+use Rattle.run_laws.specs.RunRows.{two_names, line, update, reply_at, no_slot, run, list_all, page, Legal, writer, reader, clients, put_a, looked, two_puts, second_refused, first_refused, beside, answered_beside, three_changes, after_three, RunRowsLaw}
 
 -- the rank of `a`, and that of `b`
 first_rank : IsRank two_names (codes "a") 0
@@ -135,15 +136,79 @@ whole_page : (updates : List Update) → updates ≡ put_a ∷ [] → length (pa
 unfolding after entries_of group_len
 whole_page updates is = ap (λ (us : List Update). length (page_of two_names plain_query None (after us 1)).entries) is
 
+not_empty : (point : Option TokenPoint) → IsPointOf plain_query point → record { entries = []; truncated = false } ≡ page_of two_names plain_query point (after (put_a ∷ []) 1) → ⊥
+not_empty None of is = let none : 0 ≡ 1 = ap (λ (p : Page). length p.entries) is ∙ whole_page (put_a ∷ []) refl in omega (arith, none)
+not_empty (Some point) of is = no_token (record { point = point; bound = of.0 }) [] refl of.1.1
+
 stale_page : ¬ (Legal 9 ((line 2 (Put (codes "a") 7) ∷ line 3 list_all ∷ []) ∷ [])
     (run (put_a ∷ []) ((reply_at 0 2 1 (PutReply false) ∷ reply_at 0 3 1 (page []) ∷ []) ∷ [])))
 stale_page legal =
     let right = (legal.answered 0 (omega arith)).1.0.right in
+    not_empty right.0 right.1.0 right.1.1.1
+
+-- ---- beside another client's updates
+
+abbrev changes : List Update
+changes = put_a ∷ update 0 3 0 Remove ∷ update 0 4 1 (PutVal 8) ∷ []
+
+one_entry : (updates : List Update) → updates ≡ changes → length (page_of two_names plain_query None (after updates 3)).entries ≡ 1
+unfolding after entries_of group_len
+one_entry updates is = ap (λ (us : List Update). length (page_of two_names plain_query None (after us 3)).entries) is
+
+stale_page_beside : ¬ (Legal 9 (beside list_all) (answered_beside [] (reply_at 1 4 1 (page []))))
+stale_page_beside legal = let right = (legal.answered 1 (omega arith)).0.right in not_empty right.0 right.1.0 right.1.1.1
+
+page_of_two_moments : ¬ (Legal 9 (three_changes list_all) (after_three (reply_at 1 6 3 (page (Key 0 7 ∷ Key 1 8 ∷ [])))))
+page_of_two_moments legal =
+    let right = (legal.answered 1 (omega arith)).0.right in
     by_point right.0 right.1.0 right.1.1.1
   where
-    by_point : (point : Option TokenPoint) → IsPointOf plain_query point → record { entries = []; truncated = false } ≡ page_of two_names plain_query point (after (put_a ∷ []) 1) → ⊥
-    by_point None of is = let none : 0 ≡ 1 = ap (λ (p : Page). length p.entries) is ∙ whole_page (put_a ∷ []) refl in omega (arith, none)
+    by_point : (point : Option TokenPoint) → IsPointOf plain_query point → record { entries = Key 0 7 ∷ Key 1 8 ∷ []; truncated = false } ≡ page_of two_names plain_query point (after changes 3) → ⊥
+    by_point None of is = let two : 2 ≡ 1 = ap (λ (p : Page). length p.entries) is ∙ one_entry changes refl in omega (arith, two)
     by_point (Some point) of is = no_token (record { point = point; bound = of.0 }) [] refl of.1.1
+
+-- `a` is there behind the first update
+there_at_one : (updates : List Update) → map_has 0 (after (put_a ∷ updates) 1) ≡ true
+unfolding after
+there_at_one updates = refl
+
+stale_put : ¬ (Legal 9 (beside (Put (codes "a") 8)) (answered_beside (update 1 4 0 (PutVal 8) ∷ []) (reply_at 1 4 2 (PutReply false))))
+stale_put legal =
+    let stands = (legal.answered 1 (omega arith)).0.right in
+    let us : List Update = put_a ∷ update 1 4 0 (PutVal 8) ∷ [] in
+    cc (stands.before, ap (λ (k : ℕ). map_has k (after us 1)) (only_first stands.key stands.rank), there_at_one (update 1 4 0 (PutVal 8) ∷ []))
+
+stale_removal : ¬ (Legal 9 (beside (Delete (codes "a"))) (answered_beside [] (reply_at 1 4 1 Deleted)))
+stale_removal legal = by_case (legal.answered 1 (omega arith)).0.right
+  where
+    by_case : IsRight reading None (line 4 (Delete (codes "a"))) (Some 1) Deleted → ⊥
+    by_case (inl stands) = let other : 0 ≡ 1 = ap (λ (u : Update). u.client) (same_Some put_a _ stands.update) in omega (arith, other)
+    by_case (inr absent) = cc (finds_at_one None absent.0)
+
+gone_at_two : map_get 0 (after changes 2) ≡ None
+unfolding after
+gone_at_two = refl
+
+found_what_was_removed : ¬ (Legal 9 (three_changes (Head (codes "a"))) (after_three (reply_at 1 6 2 (Found 7))))
+found_what_was_removed legal =
+    let found = (legal.answered 1 (omega arith)).0.right in
+    cc (found.value, ap (λ (k : ℕ). map_get k (after changes 2)) (only_first found.key found.rank), gone_at_two)
+
+in_the_name_of_another : ¬ (Legal 9 (beside (Delete (codes "a"))) (answered_beside (update 0 4 0 Remove ∷ []) (reply_at 1 4 2 Deleted)))
+in_the_name_of_another legal =
+    let made = (legal.made 1 (update 0 4 0 Remove) refl).1 in
+    let a : Answered = record { asked = line 2 (Put (codes "a") 7); placed = reply_at 0 2 1 (PutReply false) } in
+    let by = any_all (IsMadeBy two_names (update 0 4 0 Remove) 2) (λ (b : Answered). b.asked.line ≡ 2) (a ∷ []) made (All-cons (λ (b : Answered). b.asked.line ≡ 2) a [] refl (nowhere (λ (b : Answered). b.asked.line ≡ 2))) in
+    let other : by.0.asked.line ≡ 4 = by.1.0.line in
+    let same : by.0.asked.line ≡ 2 = by.1.1 in
+    omega (arith, other, same)
+
+place_falls_behind_a_page : ¬ (Legal 9 (writer ∷ (line 4 list_all ∷ line 5 (Head (codes "a")) ∷ []) ∷ [])
+    (run (put_a ∷ []) ((reply_at 0 2 1 (PutReply false) ∷ []) ∷ (reply_at 1 4 1 (page (Key 0 7 ∷ [])) ∷ reply_at 1 5 0 Missing ∷ []) ∷ [])))
+place_falls_behind_a_page legal =
+    let answers = legal.answered 1 (omega arith) in
+    let low : 1 ≤ 0 = answers.1.0.order.not_below 0 (record { asked = line 4 list_all; placed = reply_at 1 4 1 (page (Key 0 7 ∷ [])) }) (omega arith) in
+    omega arith
 
 -- ---- slots
 
@@ -167,6 +232,10 @@ by_later legal = let used : 1 ≤ 0 = (legal.answered 0 (omega arith)).0.right i
 by_other : ¬ (Legal 1 ((line 4 (Put (codes "b") 8) ∷ []) ∷ two_puts ∷ [])
     (run (update 1 2 0 (PutVal 7) ∷ update 1 3 1 (PutVal 8) ∷ []) ((no_slot 0 4 ∷ []) ∷ (reply_at 1 2 1 (PutReply false) ∷ reply_at 1 3 2 (PutReply false) ∷ []) ∷ [])))
 by_other legal = let used : 1 ≤ 0 = (legal.answered 0 (omega arith)).0.right in omega arith
+
+no_update : ¬ (Legal 1 ((line 2 (Delete (codes "a")) ∷ line 3 (Put (codes "a") 7) ∷ []) ∷ [])
+    (run [] ((reply_at 0 2 0 Deleted ∷ no_slot 0 3 ∷ []) ∷ [])))
+no_update legal = let used : 1 ≤ 0 = (legal.answered 0 (omega arith)).1.0.right in omega arith
 
 pub run_rows : RunRowsLaw
 run_rows = record {
@@ -198,4 +267,12 @@ run_rows = record {
   one_update_early = one_early;
   by_a_later_line = by_later;
   by_another_client = by_other;
+  stale_page_beside = stale_page_beside;
+  page_of_two_moments = page_of_two_moments;
+  stale_put = stale_put;
+  stale_removal = stale_removal;
+  found_what_was_removed = found_what_was_removed;
+  in_the_name_of_another = in_the_name_of_another;
+  place_falls_behind_a_page = place_falls_behind_a_page;
+  no_update_before = no_update;
 }

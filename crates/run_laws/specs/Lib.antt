@@ -4,3 +4,4 @@ pub mod Determined
 pub mod RunRows
 pub mod PageLaws
 pub mod Renamed
+pub mod Untouched

@@ -70,6 +70,22 @@ second_refused = run (put_a ∷ []) ((reply_at 0 2 1 (PutReply false) ∷ no_slo
 abbrev pub first_refused : Run
 first_refused = run (update 0 3 1 (PutVal 8) ∷ []) ((no_slot 0 2 ∷ reply_at 0 3 1 (PutReply false) ∷ []) ∷ [])
 
+-- beside the writer, another client has one request, which is answered behind the update of `a` and these
+abbrev pub beside : Request → List (List RequestLine)
+beside request = writer ∷ (line 4 request ∷ []) ∷ []
+
+abbrev pub answered_beside : List Update → Placed → Run
+answered_beside updates answer = run (put_a ∷ updates) ((reply_at 0 2 1 (PutReply false) ∷ []) ∷ (answer ∷ []) ∷ [])
+
+-- a client puts `a`, takes it out and puts `b`; another one has one request
+abbrev pub three_changes : Request → List (List RequestLine)
+three_changes request = (line 2 (Put (codes "a") 7) ∷ line 3 (Delete (codes "a")) ∷ line 4 (Put (codes "b") 8) ∷ []) ∷ (line 6 request ∷ []) ∷ []
+
+abbrev pub after_three : Placed → Run
+after_three answer =
+    run (put_a ∷ update 0 3 0 Remove ∷ update 0 4 1 (PutVal 8) ∷ [])
+    ((reply_at 0 2 1 (PutReply false) ∷ reply_at 0 3 2 Deleted ∷ reply_at 0 4 3 (PutReply false) ∷ []) ∷ (answer ∷ []) ∷ [])
+
 pub record RunRowsLaw : Type 0 where
   pub found_late : Legal 9 clients (looked (reply_at 1 4 0 Missing) (reply_at 1 5 1 (Found 7)))
   pub found_at_once : Legal 9 clients (looked (reply_at 1 4 1 (Found 7)) (reply_at 1 5 1 (Found 7)))
@@ -91,3 +107,16 @@ pub record RunRowsLaw : Type 0 where
   pub by_a_later_line : ¬ (Legal 1 (two_puts ∷ []) first_refused)
   pub by_another_client : ¬ (Legal 1 ((line 4 (Put (codes "b") 8) ∷ []) ∷ two_puts ∷ [])
       (run (update 1 2 0 (PutVal 7) ∷ update 1 3 1 (PutVal 8) ∷ []) ((no_slot 0 4 ∷ []) ∷ (reply_at 1 2 1 (PutReply false) ∷ reply_at 1 3 2 (PutReply false) ∷ []) ∷ [])))
+  -- what another client changed before the place, this client's first: a page, a put, a removal and a HEAD are of one moment
+  pub stale_page_beside : ¬ (Legal 9 (beside list_all) (answered_beside [] (reply_at 1 4 1 (page []))))
+  pub page_of_two_moments : ¬ (Legal 9 (three_changes list_all) (after_three (reply_at 1 6 3 (page (Key 0 7 ∷ Key 1 8 ∷ [])))))
+  pub stale_put : ¬ (Legal 9 (beside (Put (codes "a") 8)) (answered_beside (update 1 4 0 (PutVal 8) ∷ []) (reply_at 1 4 2 (PutReply false))))
+  pub stale_removal : ¬ (Legal 9 (beside (Delete (codes "a"))) (answered_beside [] (reply_at 1 4 1 Deleted)))
+  pub found_what_was_removed : ¬ (Legal 9 (three_changes (Head (codes "a"))) (after_three (reply_at 1 6 2 (Found 7))))
+  -- a removal that stands in the name of another client
+  pub in_the_name_of_another : ¬ (Legal 9 (beside (Delete (codes "a"))) (answered_beside (update 0 4 0 Remove ∷ []) (reply_at 1 4 2 Deleted)))
+  pub place_falls_behind_a_page : ¬ (Legal 9 (writer ∷ (line 4 list_all ∷ line 5 (Head (codes "a")) ∷ []) ∷ [])
+      (run (put_a ∷ []) ((reply_at 0 2 1 (PutReply false) ∷ []) ∷ (reply_at 1 4 1 (page (Key 0 7 ∷ [])) ∷ reply_at 1 5 0 Missing ∷ []) ∷ [])))
+  -- the removal of an absent key uses no slot
+  pub no_update_before : ¬ (Legal 1 ((line 2 (Delete (codes "a")) ∷ line 3 (Put (codes "a") 7) ∷ []) ∷ [])
+      (run [] ((reply_at 0 2 0 Deleted ∷ no_slot 0 3 ∷ []) ∷ [])))

@@ -4,12 +4,19 @@ ghost use Rattle.run_laws.specs.OneRun.{AloneLaw, OneRunLaw};
 ghost use Rattle.run_laws.specs.PageLaws.{GroupLaw, NoGroupLaw, StartAfterLaw, NoStartAfterLaw, TruncatedLaw};
 ghost use Rattle.run_laws.specs.Renamed.{RenamedLaw};
 ghost use Rattle.run_laws.specs.RunRows.{RunRowsLaw};
+ghost use Rattle.run_laws.specs.Untouched.{UntouchedLaw};
 
 /// One client has one run: in a legal run of a session with one client, which has more node slots than PUT and DELETE
 /// lines, each request is answered on what the client's own requests before it have made, and no two such runs differ.
 pub fn one_client()
     ensures alone { AloneLaw }
     ensures one_run { OneRunLaw }
+{}
+
+/// A client that keeps to names which no other client changes is answered as if it were alone, whatever the others do: its
+/// updates are those that it makes alone, and its replies those that it gets alone, but for their places.
+pub fn untouched_names()
+    ensures untouched { UntouchedLaw }
 {}
 
 /// Clients that change their numbers, as two that change places: a legal run is then one of theirs, with their new numbers.

@@ -4,4 +4,4 @@
 
 mod laws;
 
-pub use laws::{clients_renamed, one_client, one_input, page_laws, run_rows};
+pub use laws::{clients_renamed, one_client, one_input, page_laws, run_rows, untouched_names};

@@ -32,7 +32,7 @@ pub record GoesOnAlone (s : Setting) (prefix : List ℕ) (p : ℕ) (m : List Pai
   pub named : All (λ (l : RequestLine). IsNamed s.dir l.request) lines
 
 -- the client's lines before some line have made no more updates than all its lines
-used-le : (s : Setting) (line : ℕ) → count_by (is_earlier_of s line) s.updates ≤ length (updates_of s.client s.updates)
+pub used-le : (s : Setting) (line : ℕ) → count_by (is_earlier_of s line) s.updates ≤ length (updates_of s.client s.updates)
 used-le s line =
     let size = length-filter (λ (u : Update). eqb u.client s.client) s.updates in
     let le = sum_by-le-sum_by (λ (u : Update). cond (is_earlier_of s line u) 1 0) (λ (u : Update). cond (eqb u.client s.client) 1 0) s.updates

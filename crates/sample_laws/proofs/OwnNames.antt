@@ -25,7 +25,7 @@ unfolding after
 whole us = ap made_by (take_all (length us) us (omega arith))
 
 -- what holds of each request holds of each that was answered
-asked_all : (P : RequestLine → Type 0) (lines : List RequestLine) (replies : List Placed) → All P lines → All (λ (a : Answered). P a.asked) (answered_lines lines replies)
+pub asked_all : (P : RequestLine → Type 0) (lines : List RequestLine) (replies : List Placed) → All P lines → All (λ (a : Answered). P a.asked) (answered_lines lines replies)
 asked_all P [] replies all = All-nil (λ (a : Answered). P a.asked)
 asked_all P (l ∷ lines) [] all = All-nil (λ (a : Answered). P a.asked)
 asked_all P (l ∷ lines) (r ∷ replies) all =
