@@ -5,7 +5,8 @@
     tests/contracts.py --check    says where the documents differ from the source, and ends with status 1 then
 
 A function is public where it is named by `pub use` in the crate's root file, or is a method of a type or trait
-that is. The page has each of them with its comment and its clauses. In docs/PROVED.md, and wherever README or
+that is. The page has each of them with its comment and its clauses; what an `impl Display` says of its bytes is the
+clause `output` of its `fmt`. In docs/PROVED.md, and wherever README or
 a page of docs/ says "clause `c` of `f`", each function has a clause of that name.
 """
 import re
@@ -72,10 +73,10 @@ def comment_before(lines, at):
 def functions_of(path):
     """Each function of the file that may be public, as (owner, name, clauses, comment); the owner is a type or a trait."""
     lines = path.read_text().splitlines()
-    owner, is_trait = None, False
+    owner, is_trait, output = None, False, []
     for at, line in enumerate(lines):
         if line.startswith("}"):
-            owner, is_trait = None, False
+            owner, is_trait, output = None, False, []
         opened = re.match(r"(?:pub )?(impl|trait)\b(.*)", line)
         if opened and not line[0].isspace():
             rest = opened.group(2)
@@ -86,9 +87,12 @@ def functions_of(path):
             words = without_generics(rest.split("{")[0]).split(" where ")[0]
             is_trait = opened.group(1) == "trait" or " for " in words
             owner = words.split(" for ")[-1].split(":")[0].split()[0].split("::")[-1]
+        stated = re.fullmatch(r"    ghost output = \{(.*)\};", line)
+        if stated:
+            output = [("ensures", "output", one_line(stated.group(1)))]
         begun = re.match(r"( *)(pub )?(?:const |unsafe )*fn (\w+)", line)
         if begun and (begun.group(2) or (is_trait and owner)) and len(begun.group(1)) == (4 if owner else 0):
-            yield owner, begun.group(3), clauses_from(lines, at, begun.group(1)), comment_before(lines, at)
+            yield owner, begun.group(3), output + clauses_from(lines, at, begun.group(1)), comment_before(lines, at)
 
 
 def exports(src):

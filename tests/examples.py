@@ -5,7 +5,7 @@
     tests/examples.py --write     writes the answers of examples/ anew: by the model, and never by the program
 
 - Each session examples/NAME.txt is answered by examples/NAME.out, which is also what the model of
-  session_model.py answers. The pair that the program's crate is checked with is that of examples/photos.
+  session_model.py answers. The pair that the program's crate is checked with is the first session of rows.txt.
   A session of several clients has no answers beside it, since they depend on the schedule: what the program
   writes is to be a legal run.
 - Each session examples/refused/CAUSE.txt is refused for this cause, at the line that the model names.
@@ -19,6 +19,7 @@ import subprocess
 import sys
 from pathlib import Path
 
+from broken_streams import whole_session
 from legal_runs import fault_of
 from random_sessions import make_ready
 from session_model import Refused, answers
@@ -79,8 +80,9 @@ def check_sessions(program, tally):
         tally.compare("%s and the model" % path.name, model(raw), (beside, "", 0))
         tally.compare(path.name, run(program, raw), (beside, "", 0))
     crate = TOP / "crates" / "bucketidx"
-    tally.compare("crates/bucketidx/stdin", (crate / "stdin").read_text(), (EXAMPLES / "photos.txt").read_text())
-    tally.compare("crates/bucketidx/stdout", (crate / "stdout").read_text(), (EXAMPLES / "photos.out").read_text())
+    raw, text = whole_session()
+    tally.compare("crates/bucketidx/stdin", (crate / "stdin").read_text(), raw.decode())
+    tally.compare("crates/bucketidx/stdout", (crate / "stdout").read_text(), text.decode())
 
 
 def check_refused(program, tally):
@@ -120,9 +122,6 @@ def write():
         text = answers(path.read_bytes())
         if text is not None:
             path.with_suffix(".out").write_text(text)
-    crate = TOP / "crates" / "bucketidx"
-    shutil.copyfile(EXAMPLES / "photos.txt", crate / "stdin")
-    shutil.copyfile(EXAMPLES / "photos.out", crate / "stdout")
 
 
 def main():

@@ -30,7 +30,7 @@ def outcome(session):
 # ---- sessions that break it
 
 FAULTY_LINES = [
-    b"HEAD \xff", b"PUT \xc3( 1 e 1", b"GET a", b"head a", b" HEAD a", b"\rLIST", b"PUT a 1 e1", b"HEAD", b"NEXT 1",
+    b"HEAD \xff", b"PUT \xc3( 1 e 1", b"GET a", b"head a", b" HEAD a", b"\rLIST", b"PUT a 1 e1", b"PUTNEW a 1 e1", b"HEAD", b"NEXT 1",
     b"PUT a%2 1 e1 1", b"HEAD %FF", b"LIST prefix=%zz", b"LIST marker=%", b"HEAD a%", b"PUT  1 e1 1", b"DELETE ",
     b"PUT a x e1 1", b"PUT a +1 e1 1", b"PUT a 1 e1 ", b"PUT a 18446744073709551616 e1 1", b"PUT a 1 e1 99999999999999999999999",
     b"PUT a 1 e! 1", b'PUT a 1 "" 1', b'PUT a 1 "e 1', b"PUT a 1 %65 1", b"LIST marker=a", b"LIST =a", b"LIST Prefix=a",

@@ -2,21 +2,27 @@
 """Runs of the shared index on threads, checked against their own history.
 
     tests/index_runs.py PROGRAM [--runs N] [--passes P] [--keys K] [--requests R] [--updates U] [--listings L]
-                        [--page P] [--nodes N] [--seconds S] [--seed SEED]
+                        [--page P] [--nodes N] [--entries E] [--seconds S] [--seed SEED]
     tests/index_runs.py PROGRAM --held MEANWHILE [--runs N] [--passes P] [--keys K] [--requests R]
     tests/index_runs.py PROGRAM --tries [--runs N] [--passes P] [--keys K] [--requests R] [--nodes N] [--least-met N]
     tests/index_runs.py PROGRAM --sections TURNS [--runs N]
+    tests/index_runs.py PROGRAM --waits TURNS [--runs N] [--seconds S]
 
 PROGRAM is the built `crates/index_runs`. Each run is a process of its own, with a bound on its seconds. Of what it prints
 this is checked, by a map of the script's own that the history is replayed on:
 
 - each update stands in the history once, at the place that its pass was told, with the pass's number, its line, key and value,
   and nothing else stands there;
-- the places of a pass rise, also over its listings and the removals that found no key;
-- an answer says that the key was there exactly where the map before its place has it;
+- the places of a pass rise, also over its listings, the removals that found no key and the puts of a new key that found it;
+- an answer says that the key was there exactly where the map before its place has it; a put of a new key was made exactly
+  where it has not, and one that was not made stands at a place where the map has the key;
 - a listing has the first pairs of the map at its place, from its key on;
 - an update is refused exactly where its pass owns no node: one less after each put of a new key, one more after each removal
   (the passes have entries for all updates).
+
+With `--entries E` each pass has so few entries. Then an update may also be refused where the pass owns nodes: which pass
+owns an entry depends on the schedule, and while a snapshot is open the entries that it reads stay where they are. How many
+were refused is told.
 
 With `--held` the first pass makes its requests, all updates; then each other pass opens a snapshot and is held inside it
 while the first one makes MEANWHILE more updates. Their listings come after these: they are the map at the place that
@@ -29,15 +35,23 @@ held, that found that something had moved, or that found an entry without a numb
 With `--sections` four passes enter, leave, fill and look four times TURNS times, while a fifth one stays inside its
 section. Each of them has met the other three at work four times; it has made just the looks that it was to make; no word had
 fallen between two looks; and each other pass's word rose by just 2 for each of its turns, that of the fifth not at all.
+
+With `--waits` a pass stops in the middle of an update, with its entries in front of their bundles, and gives the processor
+away TURNS times, while eight others look for a pair there and seven put the same key. All are on one processor, and the run
+may use S seconds of it: a pass that waits and keeps the processor for its whole turn uses some milliseconds in each of the
+TURNS, and one that lets the others run next to nothing. What each found or did is as worked by hand.
 """
 import argparse
+import os
+import resource
 import subprocess
 import sys
 from collections import defaultdict
 
 
-def checked(lines, nodes):
-    """What is wrong with a run, or None; and how many updates, listings and refusals it has."""
+def checked(lines, nodes, scarce=False):
+    """What is wrong with a run, or None; and how many updates, listings and refusals it has. Where entries are scarce an
+    update may be refused for want of them."""
     requests, history = defaultdict(list), []
     for line in lines:
         kind, *fields = line.split()
@@ -49,22 +63,22 @@ def checked(lines, nodes):
     for number, asked in requests.items():
         last, left = 0, nodes
         for kind, fields in asked:
-            if kind != "L" and (kind == "N") != (left == 0):
+            if kind != "L" and (kind == "N") != (left == 0) and not (scarce and kind == "N"):
                 return f"pass {number} owns {left} nodes: {kind} {fields}", None
             if kind == "N":
                 refused += 1
                 continue
-            at = int(fields[1] if kind in "PR" else fields[0])
-            made = kind == "P" or (kind == "R" and fields[3] == "true")
+            at = int(fields[1] if kind in "PRI" else fields[0])
+            made = kind == "P" or (kind in "RI" and fields[-1] == "true")
             if at < last or (made and at == last):
                 return f"pass {number}: place {at} behind place {last}", None
             last = at
-            left += (kind == "R" and made) - (kind == "P" and fields[4] == "false")
+            left += (kind == "R" and made) - (kind == "P" and fields[4] == "false") - (kind == "I" and made)
             by_place[at].append((number, kind, fields))
             if made:
                 if at in told:
                     return f"place {at} was told twice", None
-                value = fields[3] if kind == "P" else None
+                value = fields[3] if kind in "PI" else None
                 told[at] = [str(number), fields[0], fields[2]] + ([value] if value is not None else [])
     if len(told) != len(history):
         return f"{len(told)} updates were told, the history has {len(history)}", None
@@ -93,6 +107,11 @@ def checked(lines, nodes):
             elif kind == "P":
                 if (fields[4] == "true") != was:
                     return f"place {at}: pass {number} was told {fields[4]}", None
+            elif kind == "I":
+                if fields[4] == "true" and was:
+                    return f"place {at}: pass {number} put key {fields[2]} though it was there", None
+                if fields[4] == "false" and fields[2] not in state:
+                    return f"place {at}: pass {number} found key {fields[2]} that is not there", None
             elif fields[3] == "true":
                 if not was:
                     return f"place {at}: pass {number} removed a key that was not there", None
@@ -117,14 +136,14 @@ def printed(words, *numbers):
 def run_of_requests(words, seed):
     """A run in which each pass makes its requests: what is wrong, and how many updates, listings and refusals it has."""
     nodes = words.requests if words.nodes is None else words.nodes
+    entries = 4 * words.requests + 4 if words.entries is None else words.entries
     numbers = (
-        words.passes, words.keys, words.requests, words.updates, words.listings, words.page, seed, nodes,
-        4 * words.requests + 4,
+        words.passes, words.keys, words.requests, words.updates, words.listings, words.page, seed, nodes, entries,
     )
     lines = printed(words, "run", *numbers)
     if len(lines) < words.passes * words.requests:
         return f"{lines[:1]}", None
-    wrong, counts = checked(lines, nodes)
+    wrong, counts = checked(lines, nodes, words.entries is not None)
     return wrong, counts and dict(zip(("updates", "listings", "refused"), counts))
 
 
@@ -190,6 +209,29 @@ def run_in_sections(words, _seed):
     return None, {"looks": looks}
 
 
+def run_while_waiting(words, _seed):
+    """A run on one processor in which all passes but one wait for that one: what is wrong, and how many waited."""
+    processor = min(os.sched_getaffinity(0))
+
+    def limited():
+        os.sched_setaffinity(0, {processor})
+        resource.setrlimit(resource.RLIMIT_CPU, (words.seconds, words.seconds))
+
+    ended = subprocess.run(
+        [words.program, "waits", str(words.waits)], capture_output=True, text=True, preexec_fn=limited
+    )
+    if ended.returncode != 0:
+        return f"status {ended.returncode}, with {words.seconds} seconds of one processor", None
+    answers = [line.split() for line in ended.stdout.splitlines()]
+    if [fields[:2] for fields in answers] != [["W", str(number)] for number in range(16)]:
+        return f"{answers[:1]}", None
+    found = [int(fields[2]) for fields in answers]
+    # The update that stopped has place 2. A snapshot that was opened before has the value before it.
+    if found[0] != 2 or found[1:9] != [50] * 8 or sorted(found[9:]) != list(range(3, 10)):
+        return f"the passes have {found}", None
+    return None, {"waits": 15}
+
+
 def main():
     parser = argparse.ArgumentParser()
     parser.add_argument("program")
@@ -198,7 +240,7 @@ def main():
         ("page", 10), ("seed", 1), ("seconds", 60), ("least-met", 0),
     ):
         parser.add_argument(f"--{name}", type=int, default=value)
-    for name in ("nodes", "held", "sections"):
+    for name in ("nodes", "entries", "held", "sections", "waits"):
         parser.add_argument(f"--{name}", type=int)
     parser.add_argument("--tries", action="store_true")
     words = parser.parse_args()
@@ -207,6 +249,8 @@ def main():
         make = run_while_held
     elif words.sections is not None:
         make = run_in_sections
+    elif words.waits is not None:
+        make = run_while_waiting
     elif words.tries:
         make = run_of_tries
     sums = defaultdict(int)

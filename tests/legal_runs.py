@@ -2,7 +2,7 @@
 """Checks that what the program writes for several clients is a legal run of its session.
 
     tests/legal_runs.py PROGRAM [--sessions N] [--most-clients N] [--requests N] [--seed N] [--seconds S]
-                        [--least-interleaved N] [--rounds N]
+                        [--names N] [--least-interleaved N] [--rounds N] [--contenders N]
     tests/legal_runs.py --session FILE --text FILE
 
 Which of several legal texts is written depends on the schedule, so nothing is compared here: `fault_of` takes a
@@ -10,7 +10,8 @@ session and a text, and says what is wrong with it, from the definition of a leg
 The first form runs random sessions, with few names and with many, and ends with status 1 at the first faulty text, or at
 the first run that takes too many seconds. It counts the texts that no run of the clients one after another writes, and
 ends with status 1 too where there are fewer of them than asked for. With --rounds each session is the same: two
-clients that put the same seven names, list them and remove them, each so many times.
+clients that put the same seven names, list them and remove them, each so many times. With --contenders so many clients put
+one name once, each where it is not there: exactly one of them is answered 200, and all others 412.
 """
 import argparse
 import bisect
@@ -25,6 +26,8 @@ from session_model import command_of, lines_of
 
 MOST_REQUESTS = 200_000
 MOST_LISTED = 4_000_000
+# The verbs of the lines that may make an update, with the verb that their entry of the journal has.
+UPDATES = {"PUT": "PUT", "PUTNEW": "PUT", "DELETE": "DELETE"}
 
 
 class Fault(Exception):
@@ -61,7 +64,7 @@ def asked_of(raw):
 
 
 def default_slots(lines):
-    return sum(asked.verb in ("PUT", "DELETE") for asked in lines) + 1
+    return sum(asked.verb in UPDATES for asked in lines) + 1
 
 
 # ---- the text, cut into its parts
@@ -115,8 +118,8 @@ def entries_by_line(clients, run):
     places = {}
     for at, entry in enumerate(run.updates, 1):
         asked = by_line.get(entry["Line"])
-        want(asked is not None and asked.verb in ("PUT", "DELETE"), "entry", at, "is of no update")
-        wanted = dict(At=at, Client=asked.client, Key=asked.rest[0], Line=asked.line, Verb=asked.verb)
+        want(asked is not None and asked.verb in UPDATES, "entry", at, "is of no update")
+        wanted = dict(At=at, Client=asked.client, Key=asked.rest[0], Line=asked.line, Verb=UPDATES[asked.verb])
         want(is_same(entry, wanted), "entry", at, "is not the update of its line")
         want(asked.line not in places, "line", asked.line, "has two entries")
         places[asked.line] = at
@@ -168,7 +171,7 @@ def check_refusals(lines, replies, listings, places, slots):
         if listing is None:
             want(is_same(reply, dict(refused, Status=400)), "line", asked.line, "has a bad token and is not refused")
         elif reply["Status"] == 503:
-            want(asked.verb in ("PUT", "DELETE"), "line", asked.line, "is no update and lacks slots")
+            want(asked.verb in UPDATES, "line", asked.line, "is no update and lacks slots")
             want(is_same(reply, dict(refused, Status=503)), "line", asked.line, "is refused in another form")
             want(made >= slots, "line", asked.line, "is refused behind", made, "updates")
             want(asked.line not in places, "line", asked.line, "is refused and has an update")
@@ -198,7 +201,10 @@ class Bucket:
 def check_answer(bucket, asked, reply, listing):
     """The reply is what the map after its place answers."""
     common = dict(At=reply["At"], Client=asked.client, Line=asked.line)
-    if asked.verb == "DELETE":
+    if asked.verb == "PUTNEW":
+        want(asked.rest[0].encode() in bucket.records, "line", asked.line, "found a key that is not there")
+        wanted = dict(common, Status=412)
+    elif asked.verb == "DELETE":
         want(asked.rest[0].encode() not in bucket.records, "line", asked.line, "found no key that is there")
         wanted = dict(common, Status=204)
     elif asked.verb == "HEAD":
@@ -215,6 +221,9 @@ def check_update(bucket, asked, reply):
     common = dict(At=reply["At"], Client=asked.client, Line=asked.line)
     if asked.verb == "PUT":
         want(is_same(reply, dict(common, Status=200, Replaced=there)), "line", asked.line, "is answered", reply)
+    elif asked.verb == "PUTNEW":
+        want(not there, "line", asked.line, "put a key that was there")
+        want(is_same(reply, dict(common, Status=200, Replaced=False)), "line", asked.line, "is answered", reply)
     else:
         want(there, "line", asked.line, "took out a key that was not there")
         want(is_same(reply, dict(common, Status=204)), "line", asked.line, "is answered", reply)
@@ -268,10 +277,11 @@ def fault_of(raw, text, slots=default_slots):
 # ---- random sessions
 
 
-def random_session(rng, most_clients, most_requests):
+def random_session(rng, most_clients, most_requests, most_names):
     """A session of several clients over the same names, few or many of them. It stays below each limit: its pages are
     the smaller the more requests it has."""
-    names = ["".join(rng.choice("abc/é") for _ in range(rng.randint(1, 6))) for _ in range(rng.choice([1, 2, 3, 10, 200]))]
+    count = min(rng.choice([1, 2, 3, 10, 200]), most_names)
+    names = ["".join(rng.choice("abc/é") for _ in range(rng.randint(1, 6))) for _ in range(count)]
     clients = rng.randint(2, most_clients)
     counts = [rng.randint(0, min(most_requests, MOST_REQUESTS // clients)) for _ in range(clients)]
     most_keys = min(1000, MOST_LISTED // max(1, sum(counts)))
@@ -293,16 +303,22 @@ def rounds_session(rounds):
     return "".join(line + "\n" for line in lines).encode()
 
 
+def contending_session(contenders):
+    """Clients that put one name once, each where it is not there."""
+    return "".join("CLIENT\nPUTNEW lease 1 e%d 1\n" % client for client in range(contenders)).encode()
+
+
 def random_line(rng, names, most_keys):
     name = rng.choice(names)
     kind = rng.random()
-    if kind < 0.4:
-        return "PUT %s %d e%d %d" % (name, rng.randint(0, 99), rng.randint(0, 9), rng.randint(0, 99))
-    if kind < 0.6:
+    if kind < 0.5:
+        verb = "PUTNEW" if kind < 1 / 3 else "PUT"
+        return "%s %s %d e%d %d" % (verb, name, rng.randint(0, 99), rng.randint(0, 9), rng.randint(0, 99))
+    if kind < 0.7:
         return "DELETE " + name
-    if kind < 0.75:
+    if kind < 0.8:
         return "HEAD " + name
-    if kind < 0.85:
+    if kind < 0.88:
         return "NEXT"
     query = []
     if most_keys < 1000 or rng.random() < 0.7:
@@ -336,7 +352,15 @@ def text_of(program, raw, seconds):
 def session_of(rng, options):
     if options.rounds:
         return rounds_session(options.rounds)
-    return random_session(rng, options.most_clients, options.requests)
+    if options.contenders:
+        return contending_session(options.contenders)
+    return random_session(rng, options.most_clients, options.requests, options.names)
+
+
+def check_contention(run):
+    """Exactly one client has put the name."""
+    statuses = sorted(reply["Status"] for replies in run.replies for reply in replies)
+    want(statuses == [200] + [412] * (len(statuses) - 1), "one of", len(statuses), "is to be answered 200:", statuses)
 
 
 def run_sessions(options):
@@ -346,6 +370,8 @@ def run_sessions(options):
         try:
             text = text_of(options.program, raw, options.seconds)
             run = legal_run_of(raw, text)
+            if options.contenders:
+                check_contention(run)
         except Fault as fault:
             sys.exit("%s\n%s\n%s" % (raw.decode(), text, fault))
         requests += len(run.by_line)
@@ -362,10 +388,12 @@ def main():
     parser.add_argument("--sessions", type=int, default=200)
     parser.add_argument("--most-clients", type=int, default=32)
     parser.add_argument("--requests", type=int, default=40)
+    parser.add_argument("--names", type=int, default=200)
     parser.add_argument("--seed", type=int, default=7)
     parser.add_argument("--seconds", type=int, default=60)
     parser.add_argument("--least-interleaved", type=int, default=0)
     parser.add_argument("--rounds", type=int, default=0)
+    parser.add_argument("--contenders", type=int, default=0)
     parser.add_argument("--session")
     parser.add_argument("--text")
     options = parser.parse_args()

@@ -38,12 +38,13 @@ def odd_query(rng):
 
 
 def odd_line(rng):
-    verb = rng.choice([b"PUT", b"PUT", b"DELETE", b"HEAD", b"LIST", b"LIST", b"LIST", b"ANY"])
+    verb = rng.choice([b"PUT", b"PUT", b"PUTNEW", b"DELETE", b"HEAD", b"LIST", b"LIST", b"LIST", b"ANY"])
     if verb == b"ANY":
         return rng.choice(ODD_LINES)
     if verb == b"LIST":
         return b"LIST " + odd_query(rng)
-    good = {b"PUT": [b"key", b"1", b"e1", b"2"], b"DELETE": [b"key"], b"HEAD": [b"key"]}[verb]
+    put = [b"key", b"1", b"e1", b"2"]
+    good = {b"PUT": put, b"PUTNEW": put, b"DELETE": [b"key"], b"HEAD": [b"key"]}[verb]
     fields = [rng.choice(ODD_FIELDS) if rng.random() < 0.4 else field for field in good]
     return b" ".join([verb, *fields])
 

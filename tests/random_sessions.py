@@ -160,6 +160,12 @@ class Model:
         self.journal.append((line, name, "PUT"))
         self.answer(line, 200, Replaced=replaced)
 
+    def putnew(self, line, name, *record):
+        if name.encode() in self.records:
+            self.answer(line, 412)
+        else:
+            self.put(line, name, *record)
+
     def delete(self, line, name):
         if self.records.pop(name.encode(), None):
             self.journal.append((line, name, "DELETE"))
@@ -205,7 +211,7 @@ class Session:
         self.rng, self.model, self.lines = rng, Model(), ["CLIENT"]
         self.with_token = with_token
         self.names = [self.word(1, 5) for _ in range(rng.randint(1, 25))]
-        asks = [self.put] * 40 + [self.delete] * 10 + [self.head] * 8 + [self.list] * 22 + [self.next] * 20
+        asks = [self.put] * 30 + [self.putnew] * 10 + [self.delete] * 10 + [self.head] * 8 + [self.list] * 22 + [self.next] * 20
         for _ in range(rng.randint(1, 60)):
             rng.choice(asks)()
 
@@ -228,11 +234,17 @@ class Session:
         return len(self.lines)
 
     def put(self):
+        self.put_by("PUT", self.model.put)
+
+    def putnew(self):
+        self.put_by("PUTNEW", self.model.putnew)
+
+    def put_by(self, verb, tell):
         name, etag = self.name(), "e%d" % self.rng.randint(0, 9)
         size, modified = self.rng.choice([0, self.rng.randint(0, 99), 2**64 - 1]), self.rng.randint(0, 99)
         shown = etag if self.rng.random() < 0.7 else '"%s"' % etag
-        line = self.ask("PUT %s %d %s %d" % (self.escaped(name), size, shown, modified))
-        self.model.put(line, name, size, etag, modified)
+        line = self.ask("%s %s %d %s %d" % (verb, self.escaped(name), size, shown, modified))
+        tell(line, name, size, etag, modified)
 
     def delete(self):
         name = self.name()

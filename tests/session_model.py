@@ -11,7 +11,7 @@ from random_sessions import Model
 PARAMETERS = [
     "list-type", "prefix", "delimiter", "max-keys", "start-after", "continuation-token", "encoding-type", "fetch-owner",
 ]
-FIELDS = {"CLIENT": (1, 1), "PUT": (5, 5), "DELETE": (2, 2), "HEAD": (2, 2), "LIST": (1, 2), "NEXT": (1, 1)}
+FIELDS = {"CLIENT": (1, 1), "PUT": (5, 5), "PUTNEW": (5, 5), "DELETE": (2, 2), "HEAD": (2, 2), "LIST": (1, 2), "NEXT": (1, 1)}
 
 
 class Refused(Exception):
@@ -100,7 +100,7 @@ def command_of(line):
     key = unescaped(rest[0])
     refuse_if(key == "", "EmptyKey")
     refuse_if(is_long(key), "KeyTooLong")
-    return verb, [key, *(put_of(*rest[1:]) if verb == "PUT" else [])]
+    return verb, [key, *(put_of(*rest[1:]) if verb in ("PUT", "PUTNEW") else [])]
 
 
 class Limits:

@@ -10,7 +10,7 @@ use Rattle.key_map.specs.declared.update.Change.TheVariants.{Put as PutVal, Remo
 use Rattle.bucket_terms.specs.declared.record.Record.{Record}
 use Rattle.bucket_terms.specs.declared.list_query.ListQuery.{ListQuery}
 use Rattle.bucket_terms.specs.declared.reply.Reply.{Reply}
-use Rattle.bucket_terms.specs.declared.reply.Reply.TheVariants.{Put, Deleted, Found, Missing, Listed, BadToken, NoSlot}
+use Rattle.bucket_terms.specs.declared.reply.Reply.TheVariants.{Put, Exists, Deleted, Found, Missing, Listed, BadToken, NoSlot}
 use Rattle.answer_text.specs.Lines.{Member, always, only_if, whole, members_there, object_of, line_of, is_given, verb_text, record_at}
 use Rattle.answer_text.specs.Shown.{array_of, PageShown, page_shown, place_data, client_member, line_member, replaced_member, reply_members, journal_members, short_members, found_members, listed_members, last_data}
 use Rattle.answer_text.specs.Pieces as spec
@@ -192,6 +192,7 @@ listed_line at client line query page =
 pub reply_line : (dir : List (List ℕ)) (records : List Record) (at : Option ℕ) (client line : ℕ) (reply : Reply)
     → spec.reply_text dir records at client line reply ≡ line_of (object_of (reply_members dir records at client line reply))
 reply_line dir records at client line (Put was) = short_line at client line (Some was) 200
+reply_line dir records at client line Exists = short_line at client line None 412
 reply_line dir records at client line Deleted = short_line at client line None 204
 reply_line dir records at client line (Found val) = found_line at client line (record_at records val)
 reply_line dir records at client line Missing = short_line at client line None 404

@@ -9,7 +9,7 @@ use Rattle.key_names.proofs.Places.{before_downward}
 use Rattle.bucket_terms.specs.declared.record.Record.{Record}
 use Rattle.bucket_terms.specs.declared.list_query.ListQuery.{ListQuery}
 use Rattle.bucket_terms.specs.declared.reply.Reply.{Reply}
-use Rattle.bucket_terms.specs.declared.reply.Reply.TheVariants.{Put, Deleted, Found, Missing, Listed, BadToken, NoSlot}
+use Rattle.bucket_terms.specs.declared.reply.Reply.TheVariants.{Put, Exists, Deleted, Found, Missing, Listed, BadToken, NoSlot}
 use Rattle.answer_text.specs.Lines.{Member, only_if, is_given}
 use Rattle.answer_text.specs.MemberOrder.{RiseAbove, StandInOrder}
 use Rattle.answer_text.specs.Shown.{PageShown, page_shown, short_members, listed_members, reply_members, content_members, journal_members}
@@ -66,6 +66,7 @@ listed_rise at client line query page = (
 
 pub reply_rise : (dir : List (List ℕ)) (records : List Record) (at : Option ℕ) (client line : ℕ) (reply : Reply) → StandInOrder (reply_members dir records at client line reply)
 reply_rise dir records at client line (Put was) = short_rise at client line (Some was) 200
+reply_rise dir records at client line Exists = short_rise at client line None 412
 reply_rise dir records at client line Deleted = short_rise at client line None 204
 reply_rise dir records at client line (Found val) = (refl, (refl, (refl, (refl, (refl, (refl, (refl, tt)))))))
 reply_rise dir records at client line Missing = short_rise at client line None 404

@@ -6,7 +6,7 @@ use Rattle.bucket_terms.specs.declared.page.PageEntry.{PageEntry}
 use Rattle.bucket_terms.specs.declared.page.PageEntry.TheVariants.{Key, Group}
 use Rattle.bucket_terms.specs.declared.page.Page.{Page}
 use Rattle.bucket_terms.specs.declared.reply.Reply.{Reply}
-use Rattle.bucket_terms.specs.declared.reply.Reply.TheVariants.{Put, Deleted, Found, Missing, Listed, BadToken, NoSlot}
+use Rattle.bucket_terms.specs.declared.reply.Reply.TheVariants.{Put, Exists, Deleted, Found, Missing, Listed, BadToken, NoSlot}
 use Rattle.bucket_terms.specs.PageInRange.{IsInRange}
 
 -- a key's value is the place of a record
@@ -21,6 +21,7 @@ pub record IsPageOf (dir : List (List ℕ)) (records : List Record) (page : Page
 
 abbrev pub IsReplyOf : List (List ℕ) → List Record → Reply → Type 0
 IsReplyOf dir records (Put was) = Unit {0}
+IsReplyOf dir records Exists = Unit {0}
 IsReplyOf dir records Deleted = Unit {0}
 IsReplyOf dir records (Found val) = val < length records
 IsReplyOf dir records Missing = Unit {0}

@@ -15,7 +15,7 @@ use Rattle.bucket_terms.specs.declared.record.Record.{Record}
 use Rattle.bucket_terms.specs.declared.page.PageEntry.{PageEntry}
 use Rattle.bucket_terms.specs.declared.page.PageEntry.TheVariants.{Key, Group}
 use Rattle.bucket_terms.specs.declared.reply.Reply.{Reply}
-use Rattle.bucket_terms.specs.declared.reply.Reply.TheVariants.{Put, Deleted, Found, Missing, Listed, BadToken, NoSlot}
+use Rattle.bucket_terms.specs.declared.reply.Reply.TheVariants.{Put, Exists, Deleted, Found, Missing, Listed, BadToken, NoSlot}
 use Rattle.bucket_terms.specs.declared.reply.Placed.{Placed}
 use Rattle.bucket_terms.specs.Listing.{group_text, next_token, page_point}
 use Rattle.bucket_terms.specs.LegalRun.{Run}
@@ -100,6 +100,7 @@ found_end line r =
 
 abbrev pub reply_end : List (List ℕ) → List Record → ℕ → Reply → List (Option Member)
 reply_end dir records line (Put was) = short_end line (always (codes "Replaced") (boolean was)) 200
+reply_end dir records line Exists = short_end line None 412
 reply_end dir records line Deleted = short_end line None 204
 reply_end dir records line (Found val) = found_end line (record_at records val)
 reply_end dir records line Missing = short_end line None 404

@@ -12,7 +12,7 @@ use Rattle.bucket_terms.specs.declared.list_query.ListQuery.{ListQuery}
 use Rattle.bucket_terms.specs.declared.page.PageEntry.{PageEntry}
 use Rattle.bucket_terms.specs.declared.page.PageEntry.TheVariants.{Key, Group}
 use Rattle.bucket_terms.specs.declared.reply.Reply.{Reply}
-use Rattle.bucket_terms.specs.declared.reply.Reply.TheVariants.{Put, Deleted, Found, Missing, Listed, BadToken, NoSlot}
+use Rattle.bucket_terms.specs.declared.reply.Reply.TheVariants.{Put, Exists, Deleted, Found, Missing, Listed, BadToken, NoSlot}
 use Rattle.bucket_terms.specs.Listing.{group_text}
 use Rattle.answer_text.specs.Lines.{shown, is_given, record_at}
 use Rattle.answer_text.specs.Shown.{PageShown, page_shown}
@@ -111,6 +111,7 @@ listed_text at client line query page =
 
 abbrev pub reply_text : List (List ℕ) → List Record → Option ℕ → ℕ → ℕ → Reply → List ℕ
 reply_text dir records at client line (Put was) = short_text at client line (Some was) 200
+reply_text dir records at client line Exists = short_text at client line None 412
 reply_text dir records at client line Deleted = short_text at client line None 204
 reply_text dir records at client line (Found val) = found_text at client line (record_at records val)
 reply_text dir records at client line Missing = short_text at client line None 404

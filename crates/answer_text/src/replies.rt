@@ -14,7 +14,7 @@ use key_names::{Directory, NoMemory, Text};
 use std::alloc::Global;
 
 /// The line of a reply. Its status is that of the S3 API: 200, 204 for a removal, 400 for a continuation
-/// token that is none, 404 for a missing key, and 503 where no slot was left.
+/// token that is none, 404 for a missing key, 412 for a put that found its key there, and 503 where no slot was left.
 pub fn reply_line(
     alloc: Global,
     dir: &Directory,
@@ -61,6 +61,7 @@ fn push_reply(
 {
     match &placed.reply {
         Reply::Put { was } => push_short(out, placed, Some(*was), 200),
+        Reply::Exists => push_short(out, placed, None, 412),
         Reply::Deleted => push_short(out, placed, None, 204),
         Reply::Found { val } => push_found(out, placed, &records[*val as usize]),
         Reply::Missing => push_short(out, placed, None, 404),

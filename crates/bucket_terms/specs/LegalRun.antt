@@ -1,6 +1,6 @@
 -- A legal run of a session: the updates that were made, in order, and a placed reply for each request.
 -- A session is seen here as each client's list of request lines.
-use Rattle.std.specs.Prelude.{◌≡◌, ℕ, zero, suc, ◌+◌, ◌-◌, ◌<◌, ◌≤◌, ◌⊎◌, ◌==◌, ◌&&◌, nat_lt, Bool, true, false, List, [], ◌∷◌, ◌++◌, length, count_by, filter, All, Any, Option, Some, None, IfSome, slice_get, slice_index_or}
+use Rattle.std.specs.Prelude.{◌≡◌, ℕ, zero, suc, ◌+◌, ◌-◌, ◌<◌, ◌≤◌, ◌⊎◌, ◌==◌, ◌&&◌, nat_lt, Bool, true, false, MatchBool, List, [], ◌∷◌, ◌++◌, length, count_by, filter, All, Any, Option, Some, None, is_some, IfSome, MatchOption, slice_get, slice_index_or}
 use Rattle.std.specs.List.{last_or}
 use Rattle.std.specs.Option.{option_map}
 use Rattle.key_names.specs.Names.{IsRank}
@@ -13,9 +13,9 @@ use Rattle.bucket_terms.specs.declared.token_point.TokenPoint.{TokenPoint}
 use Rattle.bucket_terms.specs.declared.token.Bound.{Bound}
 use Rattle.bucket_terms.specs.declared.page.Page.{Page}
 use Rattle.bucket_terms.specs.declared.request.Request.{Request}
-use Rattle.bucket_terms.specs.declared.request.Request.TheVariants.{Put, Delete, Head, List as ListRequest, Next}
+use Rattle.bucket_terms.specs.declared.request.Request.TheVariants.{Put, PutNew, Delete, Head, List as ListRequest, Next}
 use Rattle.bucket_terms.specs.declared.reply.Reply.{Reply}
-use Rattle.bucket_terms.specs.declared.reply.Reply.TheVariants.{Put as PutReply, Deleted, Found, Missing, Listed, BadToken, NoSlot}
+use Rattle.bucket_terms.specs.declared.reply.Reply.TheVariants.{Put as PutReply, Exists, Deleted, Found, Missing, Listed, BadToken, NoSlot}
 use Rattle.bucket_terms.specs.declared.reply.Placed.{Placed}
 use Rattle.bucket_terms.specs.Listing.{IsTokenOf, next_token, bound_of, page_of, page_point}
 
@@ -69,6 +69,23 @@ is_listing _ = false
 abbrev pub last_listing : List Answered → Option Reply
 last_listing earlier = option_map (λ (a : Answered). a.placed.reply) (last_or None (filter (λ (a : Answered). is_listing a.asked.request) earlier))
 
+-- ---- requests that may make an update
+
+-- what a request asks to change: the name, and what becomes of it
+pub record AskedChange : Type 0 where
+  pub name : List ℕ
+  pub change : Change
+
+-- the change of a PUT, a PUTNEW or a DELETE, which may make an update; the other requests make none
+abbrev pub asked_change : Request → Option AskedChange
+asked_change (Put name val) = Some (record { name = name; change = PutVal val })
+asked_change (PutNew name val) = Some (record { name = name; change = PutVal val })
+asked_change (Delete name) = Some (record { name = name; change = Remove })
+asked_change request = None
+
+abbrev pub is_update : Request → Bool
+is_update request = is_some (asked_change request)
+
 -- ---- one answer
 
 -- the update is that of this client's line
@@ -87,6 +104,10 @@ pub record UpdateStands (s : Setting) (line : ℕ) (name : List ℕ) (change : C
   pub rank : IsRank s.dir name key
   pub update : update_at s at ≡ Some (record { client = s.client; line = line; key = key; change = change })
   pub before : was ≡ map_has key (after s.updates (at - 1))
+
+-- no update of the history is that of the line
+abbrev pub MakesNone : Setting → ℕ → Type 0
+MakesNone s line = All (λ u. ¬ (IsOf s line u)) s.updates
 
 -- the map at the place has this value for the name, or none
 pub record Finds (s : Setting) (name : List ℕ) (at : ℕ) (found : Option ℕ) : Type 0 where
@@ -109,10 +130,10 @@ IsRight s last asked at reply = IsRightFor asked.request at reply
   where
     IsRightFor : Request → Option ℕ → Reply → Type 0
     IsRightFor (Put name val) (Some at) (PutReply was) = UpdateStands s asked.line name (PutVal val) was at
-    IsRightFor (Put name val) None NoSlot = HasUsedItsSlots s asked.line
-    IsRightFor (Delete name) (Some at) Deleted =
-        UpdateStands s asked.line name Remove true at ⊎ (Finds s name at None × All (λ u. ¬ (IsOf s asked.line u)) s.updates)
-    IsRightFor (Delete name) None NoSlot = HasUsedItsSlots s asked.line
+    IsRightFor (PutNew name val) (Some at) (PutReply false) = UpdateStands s asked.line name (PutVal val) false at
+    IsRightFor (PutNew name val) (Some at) Exists = ((there : ℕ) × Finds s name at (Some there)) × MakesNone s asked.line
+    IsRightFor (Delete name) (Some at) Deleted = UpdateStands s asked.line name Remove true at ⊎ (Finds s name at None × MakesNone s asked.line)
+    IsRightFor request None NoSlot = MatchBool (is_update request) (HasUsedItsSlots s asked.line) ⊥
     IsRightFor (Head name) (Some at) (Found val) = Finds s name at (Some val)
     IsRightFor (Head name) (Some at) Missing = Finds s name at None
     IsRightFor (ListRequest query) (Some at) (Listed shown page) = (point : Option TokenPoint) × (IsPointOf query point × Lists s at query point shown page)
@@ -155,9 +176,7 @@ pub record Run : Type 0 where
 
 -- the update is what this request makes
 abbrev pub IsChangeOf : List (List ℕ) → Update → Request → Type 0
-IsChangeOf dir u (Put name val) = IsRank dir name u.key × (u.change ≡ PutVal val)
-IsChangeOf dir u (Delete name) = IsRank dir name u.key × (u.change ≡ Remove)
-IsChangeOf dir u request = ⊥
+IsChangeOf dir u request = MatchOption (asked_change request) ⊥ (λ asked. IsRank dir asked.name u.key × (u.change ≡ asked.change))
 
 -- the update at this place is that of this answered line
 pub record IsMadeBy (dir : List (List ℕ)) (u : Update) (at : ℕ) (a : Answered) : Type 0 where
@@ -172,12 +191,7 @@ lines_of parts client = slice_index_or parts client []
 abbrev pub replies_of : Run → ℕ → List Placed
 replies_of run client = slice_index_or run.replies client []
 
--- the node slots of each client by the lines of all: one more than it has PUT and DELETE lines
-abbrev pub is_update : Request → Bool
-is_update (Put name val) = true
-is_update (Delete name) = true
-is_update request = false
-
+-- the node slots of each client by the lines of all: one more than it has PUT, PUTNEW and DELETE lines
 abbrev pub slots_of : List (List RequestLine) → ℕ → ℕ
 slots_of parts client = count_by (λ (l : RequestLine). is_update l.request) (lines_of parts client) + 1
 

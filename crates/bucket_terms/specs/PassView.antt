@@ -1,11 +1,13 @@
 -- Helper: the headline does not rest on this file.
 -- What a pass of the index is to its caller: its number, the history that it knows, its slots and its
 -- open snapshot. Nothing here says that nobody else changes the map between two calls.
-use Rattle.std.specs.Prelude.{◌≡◌, ℕ, ◌+◌, ◌-◌, ◌<◌, ◌≤◌, ◌^◌, min, ◌⊎◌, true, false, MatchBool, if◌then◌else◌, List, [], ◌∷◌, ◌++◌, length, Option, Some, None}
+use Rattle.std.specs.Prelude.{◌≡◌, ℕ, ◌+◌, ◌-◌, ◌<◌, ◌≤◌, ◌^◌, min, ◌⊎◌, Bool, true, false, MatchBool, if◌then◌else◌, List, [], ◌∷◌, ◌++◌, length, Option, Some, None}
 use Rattle.key_map.specs.declared.update.Update.{Update}
 use Rattle.key_map.specs.declared.update.Change.{Change}
 use Rattle.key_map.specs.declared.update.Change.TheVariants.{Put, Remove}
 use Rattle.key_map.specs.declared.pass.Done.{Done}
+use Rattle.key_map.specs.declared.pass.New.{New}
+use Rattle.key_map.specs.declared.pass.New.TheVariants.{Made, Kept}
 use Rattle.key_map.specs.Map.{map_has}
 use Rattle.key_map.specs.History.{after, own_places}
 
@@ -98,17 +100,29 @@ pub record Removed (old new : PassView) (line key : ℕ) (done : Done) : Type 0 
   pub there : map_has key (after new.seen (done.at - 1)) ≡ true
   pub nodes : new.nodes ≡ old.nodes + 1
 
--- the key was not there at the place found: no update was made
-pub record FoundAbsent (old new : PassView) (key at : ℕ) : Type 0 where
+-- a look has told whether the key is there at the place found: no update was made
+pub record LookedFor (old new : PassView) (key : ℕ) (there : Bool) (at : ℕ) : Type 0 where
   pub looked : Looked old new at
   pub looks : RoseBy 1 old.looks new.looks
-  pub absent : map_has key (after new.seen at) ≡ false
+  pub tells : map_has key (after new.seen at) ≡ there
   pub closed : new.opened ≡ None
 
 -- a removal was answered: `was` tells whether the key was there
 abbrev pub AnsweredRemoval : PassView → PassView → ℕ → ℕ → Done → Type 0
 AnsweredRemoval old new line key done =
-    MatchBool done.was (Removed old new line key done) (FoundAbsent old new key done.at)
+    MatchBool done.was (Removed old new line key done) (LookedFor old new key false done.at)
+
+-- the key was not there and was put. A node slot is used. A pass whose map others change may have looked before, and not
+-- have found it absent.
+pub record Inserted (old new : PassView) (line key val at : ℕ) : Type 0 where
+  pub update : MadeUpdate old new line key (Put val) at
+  pub absent : map_has key (after new.seen (at - 1)) ≡ false
+  pub nodes : new.nodes + 1 ≡ old.nodes
+
+-- a put of a key that is not to be there was answered: it was made where the key was not there, and not where it was
+abbrev pub AnsweredPutNew : PassView → PassView → ℕ → ℕ → ℕ → New → Type 0
+AnsweredPutNew old new line key val (Made at) = Inserted old new line key val at
+AnsweredPutNew old new line key val (Kept at) = LookedFor old new key true at
 
 -- the pass lacks the slots that an update may take: one node slot and four entry slots
 abbrev pub IsShort : PassView → Type 0

@@ -31,7 +31,7 @@ IsPlacedBelow at a = MatchOption a.placed.at ⊤ (λ place. place < at)
 abbrev pub updates_in : List RequestLine → ℕ
 updates_in lines = count_by (λ (l : RequestLine). is_update l.request) lines
 
--- the node slots of a client where the command line gives none: one more than its PUT and DELETE lines
+-- the node slots of a client where the command line gives none: one more than its PUT, PUTNEW and DELETE lines
 abbrev pub default_slots : List RequestLine → ℕ
 default_slots lines = updates_in lines + 1
 

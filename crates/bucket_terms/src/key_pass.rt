@@ -3,9 +3,9 @@
 ghost use Rattle.std.specs.Prelude.{◌≡◌, ◌↔◌, ℕ, List, None, Some, IsSome, IfOk, OnErr, IsErrOf};
 ghost use Rattle.key_map.specs.Map.{first_from};
 ghost use Rattle.key_map.specs.History.{after};
-ghost use Rattle.bucket_terms.specs.PassView.{PassView, MadePut, AnsweredRemoval, Began, KnowsOwn, IsOutOfSlots};
+ghost use Rattle.bucket_terms.specs.PassView.{PassView, MadePut, AnsweredPutNew, AnsweredRemoval, Began, KnowsOwn, IsOutOfSlots};
 
-use key_map::{Done, Pair, PassError};
+use key_map::{Done, New, Pair, PassError};
 use std::sync::Wait;
 
 /// A pass to an ordered map from ranks to values, of which every update has a number.
@@ -22,6 +22,22 @@ pub trait KeyPass {
     fn put<Rt: Wait>(&mut self, rt: &Rt, line: u32, key: u64, val: u64) -> Result<Done, PassError>
         requires { (view self.old).opened ≡ None }
         ensures made { IfOk result (MadePut (view self.old) (view self.new) line key val) }
+        ensures spent { IsErrOf result PassError.Spent ↔ ((view self.old).left ≡ 0) }
+        ensures no_slot { IsErrOf result PassError.NoSlot ↔ IsOutOfSlots (view self.old) }
+        ensures unchanged { OnErr result (view self.new ≡ view self.old) }
+        ensures home { home self.new ≡ home self.old };
+
+    /// Puts the key with this value where it is not there, for the request line `line`. Where it is there, no update is
+    /// made: the answer is that of a snapshot. The conditions on slots are the same then.
+    fn put_new<Rt: Wait>(
+        &mut self,
+        rt: &Rt,
+        line: u32,
+        key: u64,
+        val: u64,
+    ) -> Result<New, PassError>
+        requires { (view self.old).opened ≡ None }
+        ensures answered { IfOk result (AnsweredPutNew (view self.old) (view self.new) line key val) }
         ensures spent { IsErrOf result PassError.Spent ↔ ((view self.old).left ≡ 0) }
         ensures no_slot { IsErrOf result PassError.NoSlot ↔ IsOutOfSlots (view self.old) }
         ensures unchanged { OnErr result (view self.new ≡ view self.old) }

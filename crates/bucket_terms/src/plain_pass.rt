@@ -1,11 +1,11 @@
 // A pass over one sorted list: the trait's meaning made a program, for one caller.
 ghost use Rattle.std.specs.Prelude.{◌≡◌, ◌<◌, ◌≤◌, ◌↔◌, [], None, All, IfOk, OnOk, OnErr, IsErrOf, IsTrue};
 ghost use Rattle.key_map.specs.declared.update.Update.{Update};
-ghost use Rattle.bucket_terms.specs.PassView.{MadePut, AnsweredRemoval, IsOutOfSlots};
-ghost use Rattle.bucket_terms.specs.PlainPass.{fresh, KeepsLooks, LooksOnceIfAbsent};
+ghost use Rattle.bucket_terms.specs.PassView.{MadePut, AnsweredPutNew, AnsweredRemoval, IsOutOfSlots};
+ghost use Rattle.bucket_terms.specs.PlainPass.{fresh, KeepsLooks, LooksOnceIfAbsent, LooksOnceIfKept};
 
 use crate::KeyPass;
-use key_map::{Change, Done, Pair, PassError, PassSize, PlainMap, Update};
+use key_map::{Change, Done, New, Pair, PassError, PassSize, PlainMap, Update};
 use key_names::NoMemory;
 use std::alloc::Global;
 use std::marker::Model;
@@ -102,6 +102,47 @@ impl KeyPass for PlainPass {
         Ok(Done {
             at: self.updates.len() as u64,
             was,
+        })
+    }
+
+    fn put_new<Rt: Wait>(
+        &mut self,
+        _rt: &Rt,
+        line: u32,
+        key: u64,
+        val: u64,
+    ) -> Result<New, PassError>
+        requires { self.old.opened ≡ None }
+        ensures answered { IfOk result (AnsweredPutNew self.old self.new line key val) }
+        ensures spent { IsErrOf result PassError.Spent ↔ (self.old.left ≡ 0) }
+        ensures no_slot { IsErrOf result PassError.NoSlot ↔ IsOutOfSlots self.old }
+        ensures unchanged { OnErr result (self.new ≡ self.old) }
+        ensures entries { self.new.entries ≡ self.old.entries }
+        ensures looks { IfOk result (LooksOnceIfKept self.old self.new) }
+    {
+        if self.left == 0 {
+            return Err(PassError::Spent);
+        }
+        if !suffices(self.nodes, self.entries) {
+            return Err(PassError::NoSlot);
+        }
+        if self.map.has(key) {
+            let here = self.updates.len() as u64;
+            self.looks = self.looks.saturating_add(1);
+            self.found = here;
+            return Ok(New::Kept { at: here });
+        }
+        self.map.put(key, val);
+        self.updates.push_reserved(Update {
+            client: self.number,
+            line,
+            key,
+            change: Change::Put(val),
+        });
+        self.left -= 1;
+        self.nodes -= 1;
+        Ok(New::Made {
+            at: self.updates.len() as u64,
         })
     }
 

@@ -5,6 +5,8 @@ use crate::{BoxedQuery, Page};
 pub enum Reply {
     /// 200. `was` tells whether the key was there before.
     Put { was: bool },
+    /// 412. The key is there, so the put was not made.
+    Exists,
     /// 204, whether or not the key was there (Amazon S3 API reference, DeleteObject).
     Deleted,
     /// 200. The record at place `val` of the session's records.

@@ -6,6 +6,9 @@ use key_names::Text;
 pub enum Request {
     /// Puts the record at place `val` of the session's records under the name.
     Put { name: Text, val: u64 },
+    /// The same where the name is not there, and nothing where it is: a put with `If-None-Match: *` (Amazon S3 API
+    /// reference, PutObject).
+    PutNew { name: Text, val: u64 },
     Delete { name: Text },
     Head { name: Text },
     List(BoxedQuery),

@@ -17,17 +17,20 @@ use Rattle.index_words.specs.Words.{memory}
 use Rattle.core_grace.specs.Holds.{held_slots}
 use Rattle.core_trees.specs.declared.link.Link.{Link}
 use Rattle.core_events.specs.declared.event.Kind.TheVariants.{LoadHead, LoadTs, LoadPtr, LoadNext}
-use Rattle.core_events.specs.LoadMoves.{head_loaded, is_above, is_above_at, next_loaded, ptr_loaded, raised_if, risen, ts_loaded}
+use Rattle.core_events.specs.LoadMoves.{head_loaded, is_above, is_above_at, is_watching, locks, next_loaded, ptr_loaded, raised_if, risen, ts_loaded}
 use Rattle.core_invariant.specs.Readers.{IsLocked, IsWatched}
 use Rattle.core_laws.specs.Found.{LeadsTo, ReadsTree}
 use Rattle.core_laws.specs.ViewNeeds.{event_at, IsAtEntry, IsInReach, MayReadHead, MayReadNumber, MayReadChild, MayReadNext}
+use Rattle.core_laws.proofs.Alone.{nothing}
 use Rattle.core_laws.proofs.Falls.{falls_law}
+use Rattle.core_laws.proofs.ViewTests.{word_named}
 use Rattle.plan_laws.specs.Tries.{RemembersLink}
 use Rattle.plan_laws.proofs.Remembering.{child_remembered, no_head_remembered, no_next_remembered, loads_remember}
 use Rattle.table_rule.specs.Running.{Happened, table}
 use Rattle.table_rule.proofs.Happens.{happened_word}
 use Rattle.table_rule.proofs.Lists.{item_at}
 use Rattle.table_steps.specs.Loads.{IsTreeLink, IsAtSelected}
+use Rattle.table_steps.specs.Passes.{IsAlone}
 use Rattle.bundle_reads.specs.Links.{InsideAt, LeadsThere, HasSearched}
 use Rattle.bundle_reads.specs.Children.{IsSeen, IsAtEntryOf, ComesAlong, number_bound}
 use Rattle.bundle_reads.proofs.ReadMoves.{inside_on, layout_same, leads_before, link_after, head_read, ts_read, ptr_read, next_read, head_place, head_waits, head_above, next_place, next_waits, next_above, ts_place, ts_waits, searched_more}
@@ -109,7 +112,7 @@ module _ (v : View) (t : ℕ) (reads : InsideAt v t) (known : SectionReader v t)
       }
 
       number_waits : y.counts.waits ≡ raised_if (x == 0) v.counts.waits
-      number_waits = ts_waits v y e x pending is
+      number_waits = ts_waits v y e x pending (ap (is_watching v) at.place ∙ ap (λ o. is_some o || locks link.node v.held.nodes) reads.section) is
 
       pub pending_waits : x ≡ 0 → y.counts.waits ≡ risen v.counts.waits
       pending_waits none = number_waits ∙ ap (λ k. raised_if (k == 0) v.counts.waits) none
@@ -120,20 +123,32 @@ module _ (v : View) (t : ℕ) (reads : InsideAt v t) (known : SectionReader v t)
           not_zero : (k : ℕ) → 0 < k → (k == 0) ≡ false
           not_zero k low = grind (arith, nat_tests)
 
+      number_word : (s : ℕ) (h : Happened v.layout (event_at v.layout s LoadTs (EntryWord Number e) 0) v x y) → memory v.layout h.words (EntryWord Number e) ≡ x
+      number_word s h = happened_word v.layout (event_at v.layout s LoadTs (EntryWord Number e) 0) v y x (EntryWord Number e) (entry_there v.layout e some at.there) refl tt h
+
+      watched : IsWatched v link.node
+      watched = inr (ap is_some reads.section)
+
+      -- where it has no number yet, another pass has it pending
+      pub pending_elsewhere : (s : ℕ) → Happened v.layout (event_at v.layout s LoadTs (EntryWord Number e) 0) v x y → x ≡ 0 → ¬ IsAlone y
+      pending_elsewhere s h none one =
+          (nothing (table v.layout h.words h.views) (event_at v.layout s LoadTs (EntryWord Number e) 0) v h.rule (sym (ap (λ (u : View). u.layout.passes) is) ∙ one) h.met h.seat).number (record {
+            kind = refl;
+            entry = e;
+            word = word_named v.layout (EntryWord Number e) (entry_there v.layout e some at.there);
+            none = number_word s h ∙ none;
+            other = ap (count e) pending;
+            watches = record { node = link.node; side = link.side; found = None; place = at.place; watched = watched };
+          })
+
       -- along the bundle the numbers fall
       number_falls : (s : ℕ) → Happened v.layout (event_at v.layout s LoadTs (EntryWord Number e) 0) v x y → x < 18446744073709551616 → x < number_bound v.reading.above
       number_falls s h low = falls_by v.reading.above refl at.above
         where
-          word : memory v.layout h.words (EntryWord Number e) ≡ x
-          word = happened_word v.layout (event_at v.layout s LoadTs (EntryWord Number e) 0) v y x (EntryWord Number e) (entry_there v.layout e some at.there) refl tt h
-
-          watched : IsWatched v link.node
-          watched = inr (ap is_some reads.section)
-
           falls_by : (o : Option ℕ) → v.reading.above ≡ o → IfSome o (λ k. 0 < k) → x < number_bound o
           falls_by None left above = low
           falls_by (Some a) left above =
-              subst (λ k. k < a) word (falls_law (table v.layout h.words h.views) s v link.node link.side e None a h.rule (item_at h.views s v h.seat) at.place some watched left above).below
+              subst (λ k. k < a) (number_word s h) (falls_law (table v.layout h.words h.views) s v link.node link.side e None a h.rule (item_at h.views s v h.seat) at.place some watched left above).below
 
       y_place : y.reading.place ≡ AtEntry link.node link.side e (Some x)
       y_place = ts_place v y link.node link.side None e x at.place is

@@ -13,7 +13,7 @@ use Rattle.index_words.specs.declared.view.update.HeldNode.{HeldNode}
 use Rattle.index_words.specs.declared.word.Field.{Field}
 use Rattle.core_grace.specs.Holds.{tree_slots}
 use Rattle.core_grace.specs.Sections.{is_even}
-use Rattle.core_events.specs.LoadMoves.{bundle_link, child_links, found_at, has_moved, head_loaded, is_above, kept_if, locks, next_at, next_loaded, next_nexts, node_known, place_known, ptr_loaded, raised_if, remembered_if, stored_by, ts_loaded, with_held, with_place}
+use Rattle.core_events.specs.LoadMoves.{bundle_link, child_links, found_at, has_moved, head_loaded, is_above, is_watching, kept_if, locks, meets_pending, next_at, next_loaded, next_nexts, node_known, place_known, ptr_loaded, raised_if, remembered_if, stored_by, ts_loaded, with_held, with_place}
 use Rattle.core_events.specs.LockMoves.{pair_known, pair_loaded}
 use Rattle.core_trees.specs.declared.link.Link.{Link}
 use Rattle.plan_laws.proofs.Frames.{same-counts, moves-grow, waits-grow}
@@ -123,7 +123,7 @@ module _ (v w : View) (unlocked : v.held.nodes ≡ []) where
 
   pub ts_read : (e x : ℕ) → w ≡ ts_loaded v e x → HasRead v w
   ts_read e x is =
-      let waiting : Bool = x == 0 && not (has e v.update.pending) in
+      let waiting : Bool = meets_pending v e x in
       let waits : ℕ = raised_if waiting v.counts.waits in
       let place : Place = place_known x v.reading.place in
       record {
@@ -191,12 +191,13 @@ next_above v w node side found e next here is = ap (λ (u : View). u.reading.abo
 pub ts_place : (v w : View) (node : ℕ) (side : Side) (found : Option ℕ) (e x : ℕ) → v.reading.place ≡ AtEntry node side e found → w ≡ ts_loaded v e x → w.reading.place ≡ AtEntry node side e (Some x)
 ts_place v w node side found e x here is = ap (λ (u : View). u.reading.place) is ∙ ap (place_known x) here
 
-pub ts_waits : (v w : View) (e x : ℕ) → v.update.pending ≡ [] → w ≡ ts_loaded v e x → w.counts.waits ≡ raised_if (x == 0) v.counts.waits
-ts_waits v w e x none is =
+pub ts_waits : (v w : View) (e x : ℕ) → v.update.pending ≡ [] → is_watching v v.reading.place ≡ true → w ≡ ts_loaded v e x → w.counts.waits ≡ raised_if (x == 0) v.counts.waits
+ts_waits v w e x none watching is =
     ap (λ (u : View). u.counts.waits) is
-    ∙ ap (λ (es : List ℕ). raised_if (x == 0 && not (has e es)) v.counts.waits) none
+    ∙ ap (λ (es : List ℕ). raised_if (x == 0 && not (has e es) && is_watching v v.reading.place) v.counts.waits) none
+    ∙ ap (λ (b : Bool). raised_if (x == 0 && true && b) v.counts.waits) watching
     ∙ ap (λ (b : Bool). raised_if b v.counts.waits) (and_true (x == 0))
   where
-    and_true : (b : Bool) → (b && true) ≡ b
+    and_true : (b : Bool) → (b && true && true) ≡ b
     and_true true = refl
     and_true false = refl

@@ -5,6 +5,7 @@ use Rattle.index_words.specs.declared.view.reading.Place.TheVariants.{Entry as A
 use Rattle.core_trees.specs.declared.link.Link.{Link}
 use Rattle.core_events.specs.LoadMoves.{risen}
 use Rattle.plan_laws.specs.Tries.{RemembersLink}
+use Rattle.table_steps.specs.Passes.{IsAlone}
 use Rattle.bundle_reads.specs.declared.child.Seen.{Seen}
 use Rattle.bundle_reads.specs.declared.child.Along.{Along}
 use Rattle.bundle_reads.specs.declared.child.Along.TheVariants.{Found, Next, Pending}
@@ -43,8 +44,9 @@ pub record ComesAlong (v w : View) (at : Link) (entry : ℕ) : Type 0 where
   pub null : entry ≡ 0 → IsSeen v w at nothing
   pub waits : w.counts.waits ≡ v.counts.waits
 
--- what has come of a look at an entry: where it goes on, the next entry's number is below this one's
+-- what has come of a look at an entry: where it goes on, the next entry's number is below this one's; an entry without
+-- a number is another pass's
 abbrev pub GoesAlong : View → View → Link → Along → Type 0
 GoesAlong v w at (Found seen) = IsSeen v w at seen × (w.counts.waits ≡ v.counts.waits)
 GoesAlong v w at (Next entry) = ComesAlong v w at entry × (number_bound w.reading.above < number_bound v.reading.above)
-GoesAlong v w at Pending = w.counts.waits ≡ risen v.counts.waits
+GoesAlong v w at Pending = (w.counts.waits ≡ risen v.counts.waits) × ¬ IsAlone w

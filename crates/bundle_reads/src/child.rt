@@ -1,7 +1,7 @@
 //! The child of a link of the tree that a pass reads, and the entry that tells it.
-ghost use Rattle.std.specs.Prelude.{◌≡◌, ◌<◌, IfSome};
+ghost use Rattle.std.specs.Prelude.{◌≡◌, ◌<◌, IfSome, IfNone};
 ghost use Rattle.table_steps.specs.Loads.{IsTreeLink};
-ghost use Rattle.table_steps.specs.Passes.{IsSamePass};
+ghost use Rattle.table_steps.specs.Passes.{IsSamePass, IsAlone};
 ghost use Rattle.bundle_reads.specs.Links.{InsideAt, HasSearched};
 ghost use Rattle.bundle_reads.specs.Children.{IsSeen, waits_after, IsAtEntryOf, GoesAlong};
 
@@ -50,8 +50,8 @@ fn look_along(pass: &mut TablePass<'_>, at: u64, link: Link, entry: u32) -> Alon
 }
 
 /// The child of a link of the tree that the pass reads at `at`: of the link's entries, from the newest on, the first
-/// one whose number is at most `at` has it. Their numbers fall, so it ends. None where an entry had no number yet; the
-/// count of such entries has then risen.
+/// one whose number is at most `at` has it. Their numbers fall, so it ends. None where an entry had no number yet,
+/// which another pass has pending; the count of such entries has then risen.
 pub fn child_at(pass: &mut TablePass<'_>, at: u64, link: Link) -> Option<Seen>
     requires reads { InsideAt pass.old.view at }
     requires link { IsTreeLink pass.old.view link.node link.side }
@@ -59,6 +59,7 @@ pub fn child_at(pass: &mut TablePass<'_>, at: u64, link: Link) -> Option<Seen>
     ensures searched { HasSearched pass.old.view pass.new.view }
     ensures seen { IfSome result (IsSeen pass.old.view pass.new.view link) }
     ensures waits { pass.new.view.counts.waits ≡ waits_after result pass.old.view.counts.waits }
+    ensures alone { IfNone result (¬ IsAlone pass.new.view) }
 {
     pass.facts();
     let mut entry = pass.load_head(link.node, link.side);

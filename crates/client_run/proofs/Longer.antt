@@ -1,5 +1,5 @@
 -- What is right over a history is right over a longer one.
-use Rattle.std.proofs.Common.{◌≡◌, ℕ, zero, suc, ◌-◌, ◌≤◌, Bool, true, cond, All, MatchOption, List, [], ◌∷◌, ◌++◌, Option, Some, None, inl, inr, length, refl, sym, ap, ◌∙◌, arith}
+use Rattle.std.proofs.Common.{◌≡◌, ℕ, zero, suc, ◌-◌, ◌≤◌, Bool, true, false, cond, All, MatchOption, List, [], ◌∷◌, ◌++◌, Option, Some, None, inl, inr, length, refl, sym, ap, ◌∙◌, arith}
 use Rattle.std.proofs.lemmas.List.{length-append}
 use Rattle.std.proofs.lemmas.Option.{IfSome_then}
 use Rattle.std.proofs.lemmas.List.Elements.{All-append}
@@ -17,9 +17,9 @@ use Rattle.key_map.proofs.HistoryLaws.{after-append}
 use Rattle.bucket_terms.specs.declared.list_query.ListQuery.{ListQuery}
 use Rattle.bucket_terms.specs.declared.page.Page.{Page}
 use Rattle.bucket_terms.specs.declared.request.Request.{Request}
-use Rattle.bucket_terms.specs.declared.request.Request.TheVariants.{Put, Delete, Head, List as ListRequest, Next}
+use Rattle.bucket_terms.specs.declared.request.Request.TheVariants.{Put, PutNew, Delete, Head, List as ListRequest, Next}
 use Rattle.bucket_terms.specs.declared.reply.Reply.{Reply}
-use Rattle.bucket_terms.specs.declared.reply.Reply.TheVariants.{Put as PutReply, Deleted, Found, Missing, Listed, BadToken, NoSlot}
+use Rattle.bucket_terms.specs.declared.reply.Reply.TheVariants.{Put as PutReply, Exists, Deleted, Found, Missing, Listed, BadToken, NoSlot}
 use Rattle.bucket_terms.specs.declared.reply.Placed.{Placed}
 use Rattle.bucket_terms.specs.LegalRun.{Setting, RequestLine, Answered, IsOf, IsRight, IsAnswered, AreAnswered, KeepsOrder, UpdateStands, Finds, Lists, HasUsedItsSlots, update_at, last_listing}
 use Rattle.bucket_terms.specs.RunParts.{is_earlier_of}
@@ -75,6 +75,10 @@ module _ (s : Setting) (more : List Update) where
       → IsRight (over s (s.updates ++ more)) last (record { line = line; request = request }) at reply
   IsRight-longer last line (Put name val) (Some n) (PutReply was) within others right = stands-longer line name (PutVal val) was n within right
   IsRight-longer last line (Put name val) None NoSlot within others right = slots-longer line right
+  IsRight-longer last line (PutNew name val) (Some n) (PutReply false) within others right = stands-longer line name (PutVal val) false n within right
+  IsRight-longer last line (PutNew name val) (Some n) Exists within others right =
+      ((right.0.0, finds-longer name n (Some right.0.0) within right.0.1), none-longer line others right.1)
+  IsRight-longer last line (PutNew name val) None NoSlot within others right = slots-longer line right
   IsRight-longer last line (Delete name) (Some n) Deleted within others (inl made) = inl (stands-longer line name Remove true n within made)
   IsRight-longer last line (Delete name) (Some n) Deleted within others (inr found) = inr (finds-longer name n None within found.0, none-longer line others found.1)
   IsRight-longer last line (Delete name) None NoSlot within others right = slots-longer line right
@@ -84,6 +88,7 @@ module _ (s : Setting) (more : List Update) where
   IsRight-longer last line (ListRequest query) None BadToken within others right = right
   IsRight-longer last line Next (Some n) (Listed query page) within others right = (right.0, (right.1.0, lists-longer n right.0.query (Some right.0.point) query page within right.1.1))
   IsRight-longer last line Next None BadToken within others right = right
+  IsRight-longer last line (Head name) None NoSlot within others right = absurd right
   IsRight-longer last line request at reply within others right = absurd right
 
   order-longer : (earlier : List Answered) (line n : ℕ) → KeepsOrder s earlier line n → KeepsOrder (over s (s.updates ++ more)) earlier line n

@@ -9,7 +9,7 @@ use Rattle.std.proofs.lemmas.List.Sums.{sum_by-cons, sum_by_push}
 use Rattle.std.proofs.lemmas.Option.{slice_get-get_or, get_or_from_slice_get, slice_get_within}
 use Rattle.key_map.specs.declared.update.Update.{Update}
 use Rattle.bucket_terms.specs.declared.reply.Reply.{Reply}
-use Rattle.bucket_terms.specs.declared.reply.Reply.TheVariants.{Put, Deleted, Found, Missing, Listed, BadToken, NoSlot}
+use Rattle.bucket_terms.specs.declared.reply.Reply.TheVariants.{Put, Exists, Deleted, Found, Missing, Listed, BadToken, NoSlot}
 use Rattle.bucket_terms.specs.declared.reply.Placed.{Placed}
 use Rattle.bucket_terms.specs.PassView.{PassView, Continues, RoseBy, IsShort}
 use Rattle.bucket_terms.specs.LegalRun.{Setting, RequestLine, Answered, IsOf, AreAnswered, KeepsOrder, IsMadeBy, answered_lines, is_update, update_at, last_listing}
@@ -117,6 +117,7 @@ module _ (s : Setting) (more : List Update) where
       → is_looked_up (over s (s.updates ++ more)) (record { asked = asked; placed = record { client = client; line = line; at = at; reply = reply } })
       ≡ is_looked_up s (record { asked = asked; placed = record { client = client; line = line; at = at; reply = reply } })
   looked-longer asked client line at (Put was) within = refl
+  looked-longer asked client line at Exists within = refl
   looked-longer asked client line at Deleted within = ap not (has_own-longer asked.line at within)
   looked-longer asked client line at (Found val) within = refl
   looked-longer asked client line at Missing within = refl
@@ -141,6 +142,7 @@ looked_enough : (s : Setting) (asked : RequestLine) (client line : ℕ) (at : Op
     → HasLooked s (record { asked = asked; placed = record { client = client; line = line; at = at; reply = reply } }) old new
     → RoseBy (cond (is_looked_up s (record { asked = asked; placed = record { client = client; line = line; at = at; reply = reply } })) 1 0) old new
 looked_enough s asked client line at (Put was) old new le looked = omega (arith, le)
+looked_enough s asked client line at Exists old new le looked = omega (arith, looked)
 looked_enough s asked client line at Deleted old new le looked = by_own (has_own s asked.line at) looked
   where
     by_own : (own : Bool) → RoseBy (if own then 0 else 1) old new → RoseBy (cond (not own) 1 0) old new

@@ -1,4 +1,4 @@
--- The answers of PUT, DELETE and HEAD, by what the calls of the pass ensure.
+-- The answers of PUT, PUTNEW, DELETE and HEAD, by what the calls of the pass ensure.
 use Rattle.std.proofs.Common.{◌≡◌, ℕ, zero, suc, All, MatchBool, length, get_or, ◌++◌, ◌+◌, ◌<◌, ◌≤◌, Bool, true, false, not, List, Option, Some, None, inl, inr, refl, sym, ap, ◌∙◌, subst, arith, ◌==◌, ◌&&◌}
 use Rattle.std.proofs.lemmas.Bool.Decides.{nat_tests}
 use Rattle.key_names.specs.Names.{IsRank}
@@ -9,13 +9,13 @@ use Rattle.key_map.specs.Map.{map_get, first_from, value_at}
 use Rattle.key_map.specs.History.{after, own_places}
 use Rattle.key_map.proofs.MapLaws.{map_get-first_from}
 use Rattle.key_map.proofs.HistoryLaws.{IsMap-after}
-use Rattle.bucket_terms.proofs.Finds.{map_get-absent}
+use Rattle.bucket_terms.proofs.Finds.{map_get-absent, map_get-present}
 use Rattle.bucket_terms.specs.declared.request.Request.{Request}
-use Rattle.bucket_terms.specs.declared.request.Request.TheVariants.{Put as PutRequest, Delete, Head}
+use Rattle.bucket_terms.specs.declared.request.Request.TheVariants.{Put as PutRequest, PutNew, Delete, Head}
 use Rattle.bucket_terms.specs.declared.reply.Reply.{Reply}
-use Rattle.bucket_terms.specs.declared.reply.Reply.TheVariants.{Put as PutReply, Deleted, Found, Missing, NoSlot}
+use Rattle.bucket_terms.specs.declared.reply.Reply.TheVariants.{Put as PutReply, Exists, Deleted, Found, Missing, NoSlot}
 use Rattle.bucket_terms.specs.RunParts.{head_by}
-use Rattle.bucket_terms.specs.PassView.{PassView, KnowsOwn, MadePut, AnsweredRemoval, Removed, FoundAbsent, Looked, Began, IsOutOfSlots, IsShort}
+use Rattle.bucket_terms.specs.PassView.{PassView, KnowsOwn, MadePut, AnsweredRemoval, Removed, Inserted, LookedFor, Looked, Began, IsOutOfSlots, IsShort}
 use Rattle.std.specs.List.{count_by, slice_get}
 use Rattle.std.proofs.lemmas.Bool.{cases_lt, cases_Bool}
 use Rattle.std.proofs.lemmas.List.{get_or_append_left}
@@ -98,12 +98,12 @@ is_of-none s line (suc k) none = by_entry (slice_get s.updates k) refl
         ]
 
 absent_answers : (dir : List (List ℕ)) (old new : PassView) (last : Option Reply) (line key at : ℕ) (name : List ℕ)
-    → KnowsOwn old → IsRank dir name key → IsLaterLine old line → FoundAbsent old new key at
+    → KnowsOwn old → IsRank dir name key → IsLaterLine old line → LookedFor old new key false at
     → Answers dir old new last (answered line (Delete name) (record { client = old.number; line = line; at = Some at; reply = Deleted }))
 absent_answers dir old new last line key at name knows rank later found =
     let no_own = is_of-none (setting dir new 0) line at (none_of dir old new line at 0 knows found.looked later) in
     step_looked dir old new last line at (Delete name) Deleted knows found.looked found.closed
-    (λ slots. inr (record { key = key; rank = rank; value = map_get-absent key (after new.seen at) found.absent }, none_of dir old new line at slots knows found.looked later))
+    (λ slots. inr (record { key = key; rank = rank; value = map_get-absent key (after new.seen at) found.tells }, none_of dir old new line at slots knows found.looked later))
     (λ e. cc) (ap not no_own) (rw no_own found.looks)
 
 pub removal_answers : (dir : List (List ℕ)) (old new : PassView) (last : Option Reply) (line key : ℕ) (name : List ℕ) (done : Done)
@@ -111,10 +111,29 @@ pub removal_answers : (dir : List (List ℕ)) (old new : PassView) (last : Optio
     → Answers dir old new last (answered line (Delete name) (record { client = old.number; line = line; at = Some done.at; reply = Deleted }))
 removal_answers dir old new last line key name done knows rank later removal = by_was done.was refl removal
   where
-    by_was : (was : Bool) → done.was ≡ was → MatchBool was (Removed old new line key done) (FoundAbsent old new key done.at)
+    by_was : (was : Bool) → done.was ≡ was → MatchBool was (Removed old new line key done) (LookedFor old new key false done.at)
         → Answers dir old new last (answered line (Delete name) (record { client = old.number; line = line; at = Some done.at; reply = Deleted }))
     by_was true e removed = removed_answers dir old new last line key name done knows rank removed
     by_was false e found = absent_answers dir old new last line key done.at name knows rank later found
+
+-- a put of a key that was not there was made
+pub inserted_answers : (dir : List (List ℕ)) (old new : PassView) (last : Option Reply) (line key val at : ℕ) (name : List ℕ)
+    → KnowsOwn old → IsRank dir name key → Inserted old new line key val at
+    → Answers dir old new last (answered line (PutNew name val) (record { client = old.number; line = line; at = Some at; reply = PutReply false }))
+inserted_answers dir old new last line key val at name knows rank made =
+    step_made dir old new last line key at (PutVal val) (PutNew name val) (PutReply false) knows made.update refl (rank, refl)
+    (λ slots. record { key = key; rank = rank; update = update_here dir old new line key at slots (PutVal val) made.update; before = sym made.absent })
+    (omega (arith, made.nodes)) (λ e. cc) refl (omega (arith, made.update.continues.looks))
+
+-- a put found its key there, and was not made
+pub kept_answers : (dir : List (List ℕ)) (old new : PassView) (last : Option Reply) (line key val at : ℕ) (name : List ℕ)
+    → KnowsOwn old → IsRank dir name key → IsLaterLine old line → LookedFor old new key true at
+    → Answers dir old new last (answered line (PutNew name val) (record { client = old.number; line = line; at = Some at; reply = Exists }))
+kept_answers dir old new last line key val at name knows rank later found =
+    let there = map_get-present key (after new.seen at) found.tells in
+    step_looked dir old new last line at (PutNew name val) Exists knows found.looked found.closed
+    (λ slots. ((there.0, record { key = key; rank = rank; value = there.1 }), none_of dir old new line at slots knows found.looked later))
+    (λ e. cc) refl found.looks
 
 -- the view after the snapshot is closed
 abbrev pub closed_view : PassView → PassView

@@ -3,8 +3,9 @@
 use Rattle.std.specs.Prelude.{◌≡◌, ℕ, ◌+◌, ◌*◌, ◌<◌, ◌≤◌, ⊤, ◌==◌, ◌&&◌, Bool, true, false, not, if◌then◌else◌, List, [], ◌∷◌, ◌++◌, length, count_by, All, Any, Option, Some, None, MatchOption, slice_get}
 use Rattle.key_map.specs.declared.update.Update.{Update}
 use Rattle.bucket_terms.specs.declared.request.Request.{Request}
+use Rattle.bucket_terms.specs.declared.request.Request.TheVariants.{PutNew}
 use Rattle.bucket_terms.specs.declared.reply.Reply.{Reply}
-use Rattle.bucket_terms.specs.declared.reply.Reply.TheVariants.{Deleted, Found, Missing, Listed, NoSlot}
+use Rattle.bucket_terms.specs.declared.reply.Reply.TheVariants.{Put, Exists, Deleted, Found, Missing, Listed, NoSlot}
 use Rattle.bucket_terms.specs.declared.reply.Placed.{Placed}
 use Rattle.bucket_terms.specs.PassView.{PassView, Continues, Extends, KnowsOwn, RoseBy, RoseByOne, IsShort}
 use Rattle.client_run.specs.Listing.{HasPageInRange}
@@ -33,23 +34,30 @@ abbrev pub has_own : Setting → ℕ → Option ℕ → Bool
 has_own s line None = false
 has_own s line (Some at) = is_of s line (update_at s at)
 
--- whether the answer is that of a snapshot: a head, a listing, or a delete that found no key
+-- whether the answer is that of a snapshot: a head, a listing, a put that was not made, or a delete that found no key
 abbrev pub is_looked_up : Setting → Answered → Bool
 is_looked_up s a = by_reply a.placed.reply
   where
     by_reply : Reply → Bool
+    by_reply Exists = true
     by_reply (Found val) = true
     by_reply Missing = true
     by_reply (Listed query page) = true
     by_reply Deleted = not (has_own s a.asked.line a.placed.at)
     by_reply reply = false
 
--- how often the answer has looked: a head and a listing once, a delete that found no key at least once, a put and
--- a refusal not at all
+-- how often the answer has looked: a head and a listing once, a put that was not made and a delete that found no key at
+-- least once, a PUT and a refusal not at all. A PUTNEW and a delete that were made may have looked before.
 abbrev pub HasLooked : Setting → Answered → ℕ → ℕ → Type 0
 HasLooked s a old new = by_reply a.placed.reply
   where
+    by_request : Request → Type 0
+    by_request (PutNew name val) = RoseBy 0 old new
+    by_request request = new ≡ old
+
     by_reply : Reply → Type 0
+    by_reply (Put was) = by_request a.asked.request
+    by_reply Exists = RoseBy 1 old new
     by_reply (Found val) = RoseByOne old new
     by_reply Missing = RoseByOne old new
     by_reply (Listed query page) = RoseByOne old new

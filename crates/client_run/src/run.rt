@@ -74,6 +74,9 @@ fn answer<P: KeyPass, Rt: Wait>(
         Request::Put { name, val } => {
             Ok(updates::put(rt, pass, dir, asked.line, name, hint, *val))
         }
+        Request::PutNew { name, val } => {
+            Ok(updates::put_new(rt, pass, dir, asked.line, name, hint, *val))
+        }
         Request::Delete { name } => Ok(updates::delete(rt, pass, dir, asked.line, name, hint)),
         Request::Head { name } => Ok(updates::head(rt, pass, dir, asked.line, name, hint)),
         Request::List(query) => {

@@ -1,15 +1,15 @@
-// PUT, DELETE and HEAD, each answered by calls of the pass.
+// PUT, PUTNEW, DELETE and HEAD, each answered by calls of the pass.
 ghost use Rattle.std.specs.Prelude.{◌≡◌, ◌<◌, None, Some, Option, Contains};
 ghost use Rattle.key_names.specs.Names.{IsRank};
 ghost use Rattle.key_map.specs.Map.{value_at};
-ghost use Rattle.bucket_terms.specs.declared.request.Request.TheVariants.{Put, Delete, Head};
+ghost use Rattle.bucket_terms.specs.declared.request.Request.TheVariants.{Put, PutNew, Delete, Head};
 ghost use Rattle.bucket_terms.specs.declared.reply.Reply.{Reply};
 ghost use Rattle.bucket_terms.specs.RunParts.{head_by};
 ghost use Rattle.client_run.specs.ClientRun.{answered, Answers, IsLaterLine};
 ghost use Rattle.client_run.specs.Listing.{HasPageInRange};
 
 use bucket_terms::{KeyPass, Placed, Reply};
-use key_map::{Pair, PassError};
+use key_map::{New, Pair, PassError};
 use key_names::{Directory, Text};
 use std::sync::Wait;
 
@@ -34,6 +34,34 @@ pub(crate) fn put<P: KeyPass, Rt: Wait>(
     let key = rank_of(dir, name, hint);
     match pass.put(rt, line, key, val) {
         Ok(done) => answer_at(client, line, done.at, Reply::Put { was: done.was }),
+        Err(PassError::NoSlot) => refused(client, line, Reply::NoSlot),
+        Err(PassError::Spent) => unreachable!(),
+    }
+}
+
+// Answers a PUTNEW of the record at place `val`.
+pub(crate) fn put_new<P: KeyPass, Rt: Wait>(
+    rt: &Rt,
+    pass: &mut P,
+    dir: &Directory,
+    line: u32,
+    name: &Text,
+    hint: usize,
+    val: u64,
+) -> Placed
+    requires closed { (P.view pass.old).opened ≡ None }
+    requires left { 0 < (P.view pass.old).left }
+    requires later { IsLaterLine (P.view pass.old) line }
+    requires known { Contains dir.now name.now }
+    ensures answers { (last : Option Reply) → Answers dir.now (P.view pass.old) (P.view pass.new) last (answered line (PutNew name.now val) result) }
+    ensures in_range { HasPageInRange dir.now result.reply }
+    ensures home { P.home pass.new ≡ P.home pass.old }
+{
+    let client = pass.client();
+    let key = rank_of(dir, name, hint);
+    match pass.put_new(rt, line, key, val) {
+        Ok(New::Made { at }) => answer_at(client, line, at, Reply::Put { was: false }),
+        Ok(New::Kept { at }) => answer_at(client, line, at, Reply::Exists),
         Err(PassError::NoSlot) => refused(client, line, Reply::NoSlot),
         Err(PassError::Spent) => unreachable!(),
     }

@@ -9,7 +9,7 @@ use Rattle.std.proofs.lemmas.List.Elements.{All-nil, All-cons}
 use Rattle.std.proofs.lemmas.List.Sums.{sum_by-cons, sum_by-take-drop, sum_by-drop_more, sum_by-le-sum_by}
 use Rattle.key_map.specs.declared.update.Update.{Update}
 use Rattle.bucket_terms.specs.declared.request.Request.{Request}
-use Rattle.bucket_terms.specs.declared.request.Request.TheVariants.{Put, Delete, Next}
+use Rattle.bucket_terms.specs.declared.request.Request.TheVariants.{Put, PutNew, Delete, Next}
 use Rattle.bucket_terms.specs.declared.reply.Reply.{Reply}
 use Rattle.bucket_terms.specs.declared.reply.Reply.TheVariants.{NoSlot}
 use Rattle.bucket_terms.specs.declared.reply.Placed.{Placed}
@@ -67,6 +67,7 @@ may_update a = cond (is_update a.asked.request) 1 0
 
 changes : (dir : List (List ℕ)) (u : Update) (request : Request) → IsChangeOf dir u request → is_update request ≡ true
 changes dir u (Put name val) is = refl
+changes dir u (PutNew name val) is = refl
 changes dir u (Delete name) is = refl
 changes dir u request is = absurd is
 
@@ -123,6 +124,7 @@ answered_few (l ∷ lines) (p ∷ replies) =
 module _ (s : Setting) (suffice : (line : ℕ) → HasUsedItsSlots s line → ⊥) where
   not_refused : (last : Option Reply) (line : ℕ) (request : Request) (place : Option ℕ) → IsRight s last (record { line = line; request = request }) place NoSlot → ⊥
   not_refused last line (Put name val) None right = suffice line right
+  not_refused last line (PutNew name val) None right = suffice line right
   not_refused last line (Delete name) None right = suffice line right
   not_refused last line Next (Some at) right = absurd right
   not_refused last line Next None right = absurd right

@@ -1,10 +1,8 @@
 // The history of a session: its clients over one shared index, which is then closed.
 ghost use Rattle.std.specs.Prelude.{◌≡◌, IfOk, OnOk};
 ghost use Rattle.outside_io.specs.Streams.{one_more};
-ghost use Rattle.client_threads.specs.Clients.{RanEach};
-ghost use Rattle.client_threads.specs.Runs.{parts_of};
+ghost use Rattle.client_threads.specs.Clients.{RanSession};
 ghost use Rattle.client_threads.specs.Sizes.{CanServe};
-ghost use Rattle.bucket_terms.specs.LegalRun.{slots_of};
 
 use crate::opening::open_index;
 use crate::runner::Runner;
@@ -26,7 +24,7 @@ pub fn history_of<G: Gate + Sync, R: Runner<G>, Rt: Threads + Wait + Sync>(
     runner: &mut R,
 ) -> Result<Vec<Update>, NoMemory>
     requires can { CanServe dir.now session.now }
-    ensures ran { IfOk result (λ updates. RanEach dir.now (parts_of session.now.clients) (slots_of (parts_of session.now.clients)) (record { updates = updates.items; replies = R.replied runner.new })) }
+    ensures ran { IfOk result (λ updates. RanSession dir.now session.now.clients updates.items (R.replied runner.new)) }
     ensures runs { OnOk result (R.runs runner.new ≡ one_more (R.runs runner.old)) }
 {
     let (index, keys) = open_index(alloc, session.clients.as_slice())?;

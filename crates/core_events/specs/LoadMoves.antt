@@ -1,5 +1,5 @@
 -- The view of a seat after each kind of load.
-use Rattle.std.specs.Prelude.{ℕ, ◌+◌, List, [], ◌∷◌, ◌++◌, cond, Bool, false, not, nat_lt, nat_le, ◌==◌, ◌&&◌, ◌||◌, Option, Some, None, is_none, map}
+use Rattle.std.specs.Prelude.{ℕ, ◌+◌, List, [], ◌∷◌, ◌++◌, cond, Bool, false, not, nat_lt, nat_le, ◌==◌, ◌&&◌, ◌||◌, Option, Some, None, is_none, is_some, map}
 use Rattle.std.specs.List.{list_any}
 use Rattle.index_words.specs.declared.side.Side.{Side}
 use Rattle.index_words.specs.declared.side.Side.TheVariants.{Left, Right}
@@ -124,11 +124,24 @@ place_known x Nowhere = Nowhere
 place_known x (Node node key) = Node node key
 place_known x (Gap node side) = Gap node side
 
--- load of a stamp: what was found is kept with the place, and with the heads of locked nodes
+-- the seat watches the bundle in which it stands: it reads at a number, or has locked the node. Else the entry at which it
+-- stands may be in no bundle any more
+abbrev pub is_watching : View → Place → Bool
+is_watching v (Entry node side entry found) = is_some v.reading.section || locks node v.held.nodes
+is_watching v Nowhere = false
+is_watching v (Node node key) = false
+is_watching v (Gap node side) = false
+
+-- no number was found, at an entry of a bundle that the seat watches, which it has not pending itself
+abbrev pub meets_pending : View → ℕ → ℕ → Bool
+meets_pending v e x = x == 0 && not (has e v.update.pending) && is_watching v v.reading.place
+
+-- load of a stamp: what was found is kept with the place, and with the heads of locked nodes; an entry that another seat has
+-- pending is counted
 abbrev pub ts_loaded : View → ℕ → ℕ → View
 ts_loaded v e x =
     record (with_place (with_held v (map (node_known e x) v.held.nodes) v.held.nexts) (place_known x v.reading.place) v.reading.above v.reading.links) {
-      counts = record v.counts { waits = raised_if (x == 0 && not (has e v.update.pending)) v.counts.waits };
+      counts = record v.counts { waits = raised_if (meets_pending v e x) v.counts.waits };
     }
 
 -- the entry is known to be the one that the section number selects: its number was loaded and is at most the

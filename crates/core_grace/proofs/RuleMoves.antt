@@ -1,5 +1,5 @@
 -- Moves of one view that keep the whole rule on slots.
-use Rattle.std.proofs.Common.{◌≡◌, ◌≢◌, ℕ, ◌+◌, ◌<◌, ◌⊎◌, cond, List, [], ◌∷◌, ◌++◌, Bool, true, false, zero, suc, eqb, ◌&&◌, ◌||◌, set, arith, refl, ap, ◌∙◌, sym, subst, inl, inr, Option, Some, None, not, is_some, find}
+use Rattle.std.proofs.Common.{◌≡◌, ◌≢◌, ℕ, ◌+◌, ◌<◌, ◌⊎◌, cond, List, [], ◌∷◌, ◌++◌, Bool, true, false, zero, suc, eqb, ◌&&◌, ◌||◌, set, arith, refl, ap, ◌∙◌, sym, subst, inl, inr, Option, Some, None, not, find}
 use Rattle.std.specs.Option.{option_map}
 use Rattle.std.specs.List.{All}
 use Rattle.std.proofs.lemmas.Bool.{eqb-true, eq-eqb, and_parts}
@@ -58,10 +58,10 @@ all_passed-has (suc j) n number passed done low other =
     passed_step n j (is_number j number) (has j passed) (has n passed) (all_passed j number passed) low done
     (λ e. subst (λ x. is_number x number ≡ false) e other) (λ e. ap (λ x. has x passed) (sym e)) (λ lower rest. all_passed-has j n number passed rest lower other)
 
--- a look, by what it finds: passed before, let pass now, or noted before
-abbrev pub looked_by : Looks → ℕ → ℕ → Bool → Bool → Bool → Looks
-looked_by g pass word a b c =
-    cond a g (cond b (record g { passed = g.passed ++ pass ∷ [] }) (cond c g (record g { found = g.found ++ record { pass = pass; word = word } ∷ [] })))
+-- a look, by what it finds: passed before, or let pass now
+abbrev pub looked_by : Looks → ℕ → ℕ → Bool → Bool → Looks
+looked_by g pass word a b =
+    cond a g (cond b (record g { passed = g.passed ++ pass ∷ [] }) (record g { found = g.found ++ record { pass = pass; word = word } ∷ [] }))
 
 record Noted (P : SectionFound → Type 0) (pass first : ℕ) : Type 0 where
   look : SectionFound
@@ -257,17 +257,16 @@ module _ (z : Layout) (linked : Linked) (hn he : View → ℕ → Type 0) where
       → HoldsNone hn he v.batch u
   all_passed_none passes v u right done nameless named = by_number passes v u right done (u.number) refl nameless named
 
-  look_by : (v u : View) (pass word : ℕ) (a b c : Bool)
+  look_by : (v u : View) (pass word : ℕ) (a b : Bool)
       → (u.number ≡ Some pass → u.section_word ≡ word)
       → (b ≡ true → u.number ≡ Some pass → HoldsNone hn he v.batch u)
-      → GraceRight hn he v u → GraceRight hn he (record v { grace = looked_by v.grace pass word a b c }) u
-  look_by v u pass word true b c is may right = record { passed = right.passed; found = right.found }
-  look_by v u pass word false true c is may right = record {
+      → GraceRight hn he v u → GraceRight hn he (record v { grace = looked_by v.grace pass word a b }) u
+  look_by v u pass word true b is may right = record { passed = right.passed; found = right.found }
+  look_by v u pass word false true is may right = record {
     passed = every_push (λ n. u.number ≡ Some n → HoldsNone hn he v.batch u) v.grace.passed pass right.passed (may refl);
     found = right.found;
   }
-  look_by v u pass word false false true is may right = record { passed = right.passed; found = right.found }
-  look_by v u pass word false false false is may right = record {
+  look_by v u pass word false false is may right = record {
     passed = right.passed;
     found = every_push (λ (f : SectionFound). u.number ≡ Some f.pass → u.section_word ≢ f.word → HoldsNone hn he v.batch u) v.grace.found (record { pass = pass; word = word }) right.found
         (λ of differs. absurd (differs (is of)));
@@ -293,5 +292,5 @@ module _ (z : Layout) (linked : Linked) (hn he : View → ℕ → Type 0) where
       → GraceRight hn he v u → GraceRight hn he (record v { grace = looked_at v.grace pass word }) u
   look_row v u pass word is even right =
       let first = first_found pass v.grace.found in
-      look_by v u pass word (has pass v.grace.passed) (lets_pass first word) (is_some first) is
+      look_by v u pass word (has pass v.grace.passed) (lets_pass first word) is
       (let_pass v u pass word first refl is even right) right

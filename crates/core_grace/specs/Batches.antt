@@ -1,6 +1,6 @@
 -- How retired slots become free: they are taken as a batch, and the batch becomes free once every other
 -- pass has been outside a section since.
-use Rattle.std.specs.Prelude.{ℕ, List, [], ◌∷◌, ◌++◌, zero, suc, length, cond, ◌==◌, ◌&&◌, ◌||◌, Bool, true, false, Option, Some, None, is_some, find}
+use Rattle.std.specs.Prelude.{ℕ, List, [], ◌∷◌, ◌++◌, zero, suc, length, cond, ◌==◌, ◌&&◌, ◌||◌, Bool, true, false, Option, Some, None, find, filter}
 use Rattle.std.specs.Option.{option_map}
 use Rattle.index_words.specs.declared.view.View.{View}
 use Rattle.index_words.specs.declared.view.slots.Slots.{Slots}
@@ -29,12 +29,19 @@ abbrev pub lets_pass : Option ℕ → ℕ → Bool
 lets_pass None word = is_even word
 lets_pass (Some first) word = has_passed first word
 
--- the looks with one more
+-- the looks with one more: the pass is passed, or the odd word is noted, each time that it is found
 abbrev pub looked_at : Looks → ℕ → ℕ → Looks
 looked_at g pass word =
     cond (has pass g.passed) g
     (cond (lets_pass (first_found pass g.found) word) (record g { passed = g.passed ++ pass ∷ [] })
-    (cond (is_some (first_found pass g.found)) g (record g { found = g.found ++ record { pass = pass; word = word } ∷ [] })))
+    (record g { found = g.found ++ record { pass = pass; word = word } ∷ [] }))
+
+abbrev pub is_find : ℕ → ℕ → SectionFound → Bool
+is_find pass word f = f.pass == pass && f.word == word
+
+-- how often a word was found as a pass's section word
+abbrev pub times_found : ℕ → ℕ → List SectionFound → ℕ
+times_found pass word fs = length (filter (is_find pass word) fs)
 
 abbrev pub is_number : ℕ → Option ℕ → Bool
 is_number n None = false

@@ -73,9 +73,6 @@ pub fn look_at(looks: &mut Looks, pass: u32, word: u64) -> Result<(), NoMemory>
     if may_pass(first, word) {
         return looks.passed.push(pass);
     }
-    if first.is_some() {
-        return Ok(());
-    }
     looks.found.push(SectionFound { pass, word })
 }
 

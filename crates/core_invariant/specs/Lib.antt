@@ -5,6 +5,7 @@ pub mod Histories
 pub mod OwnPlaces
 pub mod SectionRule
 pub mod SpentViews
+pub mod WaitingSlots
 pub mod Locks
 pub mod BundleRule
 pub mod Readers

@@ -28,6 +28,7 @@ use Rattle.core_invariant.specs.PruneRule.{LookedRight}
 use Rattle.core_invariant.proofs.Pairs.{announced_idle, by_none}
 use Rattle.core_invariant.specs.Numbers.{number_count, NumbersRight, IsSpare}
 use Rattle.core_invariant.specs.OwnPlaces.{KnowsPlaces}
+use Rattle.core_invariant.specs.WaitingSlots.{WaitsRight}
 use Rattle.core_invariant.specs.SectionRule.{IsIdle, SectionRight, IsOwnWord}
 use Rattle.core_links.specs.Bundle.{no_number}
 use Rattle.core_trees.specs.NamedTree.{Null}
@@ -57,6 +58,13 @@ between_more x first n = grind (arith, nat_tests)
 pub count-from_up : (x first n : ℕ) → count x (from_up first n) ≡ between x first n
 count-from_up x first zero = sym (between_none x first)
 count-from_up x first (suc n) = count-push x (from_up first n) (first + n) ∙ ap (λ k. k + cond (eqb (first + n) x) 1 0) (count-from_up x first n) ∙ between_more x first n
+
+-- a view of which no slot waits
+none_waiting : (v : View) → v.retired ≡ no_slots → v.batch ≡ no_slots → WaitsRight v
+none_waiting v retired batch = record {
+  apart = λ k some holds. omega (arith, subst (λ (s : Slots). 0 < count k s.nodes) batch some);
+  owned = λ nameless. (retired, batch);
+}
 
 -- a view that has just been made
 record IsFresh (z : Layout) (v : View) : Type 0 where
@@ -226,6 +234,7 @@ module _ (z : Layout) (vs : List View) (starts : StartsWith z vs) where
     spent = All-weaker (IsFresh z) IsSpent (λ v fresh. live_spent v fresh.live) vs starts.fresh;
     spare = All-weaker (IsFresh z) (IsSpare (memory z ws)) (λ v fresh. zero_spare v.to_give) vs starts.fresh;
     places = All-weaker (IsFresh z) KnowsPlaces (λ v fresh. fresh.places) vs starts.fresh;
+    waits = All-weaker (IsFresh z) WaitsRight (λ v fresh. none_waiting v fresh.retired fresh.batch) vs starts.fresh;
   }
 
 -- the table with the first view alone

@@ -20,6 +20,7 @@ use Rattle.core_invariant.specs.PruneRule.{LookedRight}
 use Rattle.core_invariant.specs.Meanings.{Meaning, linked_by}
 use Rattle.core_invariant.specs.Numbers.{number_count, IsSpare}
 use Rattle.core_invariant.specs.OwnPlaces.{KnowsPlaces}
+use Rattle.core_invariant.specs.WaitingSlots.{WaitsRight}
 use Rattle.core_invariant.specs.Histories.{KnowsAll, place_count, calls_left}
 use Rattle.core_invariant.specs.Locks.{lock_count}
 use Rattle.core_invariant.specs.BundleRule.{IsLive, IsBundle, IsPendingAt, pending_count}
@@ -120,4 +121,5 @@ module _ (v : View) (vs : List View) where
     spent = all_turned IsSpent right.spent;
     spare = all_turned (IsSpare (memory z words)) right.spare;
     places = all_turned KnowsPlaces right.places;
+    waits = all_turned WaitsRight right.waits;
   }

@@ -1,5 +1,7 @@
 -- Each view knows where its own updates stand, after every event.
 pub mod OwnPlaces
+-- Each view's slots wait as they should, after every event.
+pub mod WaitingSlots
 -- The section words and the announcements of passes: an enter, a leave and an announcement alone store to one, and to their own.
 pub mod SectionWords
 -- No event makes what a seat has seen shorter.

@@ -17,6 +17,7 @@ use Rattle.core_invariant.specs.Meanings.{Meaning, linked_by}
 use Rattle.core_invariant.specs.Numbers.{number_count, IsSpare}
 use Rattle.core_invariant.specs.Histories.{place_count, calls_left}
 use Rattle.core_invariant.specs.OwnPlaces.{KnowsPlaces}
+use Rattle.core_invariant.specs.WaitingSlots.{WaitsRight}
 use Rattle.core_invariant.specs.SectionRule.{IsIdle}
 use Rattle.core_invariant.specs.Locks.{lock_count}
 use Rattle.core_invariant.specs.BundleRule.{IsPendingAt, pending_count}
@@ -145,6 +146,7 @@ module _ (z : Layout) (words : List ℕ) where
       let spare : AreSpare (n ∷ may.rest) = subst AreSpare may.next own in
       let kept : AreSpare (drop 1 v.to_give) = subst (λ (xs : List ℕ). AreSpare (drop 1 xs)) (sym may.next) spare.1 in
       let knows : KnowsPlaces v = at_item KnowsPlaces vs i v at right.places in
+      let waits : WaitsRight v = at_item WaitsRight vs i v at right.waits in
       record {
         size = right.size;
         meaning = right.meaning;
@@ -154,4 +156,6 @@ module _ (z : Layout) (words : List ℕ) where
         places = All-push KnowsPlaces (set vs i w) y
             (All-set KnowsPlaces vs i w (record { own = knows.own; given = knows.given; section = knows.section; opened = knows.opened }) right.places)
             (record { own = refl; given = tt; section = tt; opened = tt });
+        waits = All-push WaitsRight (set vs i w) y (All-set WaitsRight vs i w (record { apart = waits.apart; owned = waits.owned }) right.waits)
+            (record { apart = λ k some holds. omega (arith, some); owned = λ nameless. (refl, refl) });
       }

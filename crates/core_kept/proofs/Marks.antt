@@ -38,7 +38,7 @@ node_by : (b : Bool) (x : ℕ) (h : HeldNode) → (cond b (record h { mark = Som
 node_by true x h = refl
 node_by false x h = refl
 
-slots_marked : (k x : ℕ) (hs : List HeldNode) → held_slots (map (mark_known k x) hs) ≡ held_slots hs
+pub slots_marked : (k x : ℕ) (hs : List HeldNode) → held_slots (map (mark_known k x) hs) ≡ held_slots hs
 slots_marked k x [] = refl
 slots_marked k x (h ∷ hs) =
     ap (λ n. n ∷ held_slots (map (mark_known k x) hs)) (node_by (eqb h.node k) x h) ∙ ap (λ ns. h.node ∷ ns) (slots_marked k x hs)
@@ -99,7 +99,7 @@ field_node (Head s) k x h = refl
 field_node (Link s) k x h = refl
 field_node (Tag s) k x h = refl
 
-slots_paired : (f : Field) (k x : ℕ) (hs : List HeldNode) → held_slots (map (pair_known f k x) hs) ≡ held_slots hs
+pub slots_paired : (f : Field) (k x : ℕ) (hs : List HeldNode) → held_slots (map (pair_known f k x) hs) ≡ held_slots hs
 slots_paired f k x [] = refl
 slots_paired f k x (h ∷ hs) =
     ap (λ n. n ∷ held_slots (map (pair_known f k x) hs)) (field_node f k x h) ∙ ap (λ ns. h.node ∷ ns) (slots_paired f k x hs)

@@ -40,7 +40,7 @@ use Rattle.core_invariant.proofs.Filled.{node_other, every_filled, lock_apart}
 use Rattle.core_kept.proofs.Holding.{holding_more, waits_with}
 use Rattle.core_invariant.proofs.ReadMoves.{inside_only, read_kept}
 
-slots_push : (k : ℕ) (hs : List HeldNode) → held_slots (hs ++ just_locked k ∷ []) ≡ held_slots hs ++ k ∷ []
+pub slots_push : (k : ℕ) (hs : List HeldNode) → held_slots (hs ++ just_locked k ∷ []) ≡ held_slots hs ++ k ∷ []
 slots_push k [] = refl
 slots_push k (h ∷ hs) = ap (λ ns. h.node ∷ ns) (slots_push k hs)
 

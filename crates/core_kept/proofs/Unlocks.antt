@@ -43,7 +43,7 @@ every_filter P Q f (x ∷ xs) step all = kept_by (f x) refl (every_filter P Q f 
     kept_by true is rest = (step x is all.0, rest)
     kept_by false is rest = rest
 
-slots_other : (k : ℕ) (hs : List HeldNode) → held_slots (other_nodes k hs) ≡ without k (held_slots hs)
+pub slots_other : (k : ℕ) (hs : List HeldNode) → held_slots (other_nodes k hs) ≡ without k (held_slots hs)
 slots_other k [] = refl
 slots_other k (h ∷ hs) = other_by (not (eqb h.node k)) (slots_other k hs)
   where
@@ -53,7 +53,7 @@ slots_other k (h ∷ hs) = other_by (not (eqb h.node k)) (slots_other k hs)
     other_by false rest = rest
 
 -- what holds of no update and of this one holds of it until the last lock is given back
-until_by : (P : Updating → Type 0) (hs : List HeldNode) (u : Updating) → P no_update → P u → P (update_until hs u)
+pub until_by : (P : Updating → Type 0) (hs : List HeldNode) (u : Updating) → P no_update → P u → P (update_until hs u)
 until_by P hs u none some = until_when (eqb (length hs) 0)
   where
     until_when : (b : Bool) → P (cond b no_update u)

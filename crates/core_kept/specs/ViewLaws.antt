@@ -14,6 +14,7 @@ use Rattle.core_invariant.specs.Numbers.{IsSpare}
 use Rattle.core_invariant.specs.OwnPlaces.{KnowsPlaces}
 use Rattle.core_invariant.specs.Rule.{InRule, IsRight}
 use Rattle.core_invariant.specs.SpentViews.{IsSpent}
+use Rattle.core_invariant.specs.WaitingSlots.{WaitsRight}
 use Rattle.core_kept.specs.KeepsSeen.{KeepsSeen}
 use Rattle.core_kept.specs.SectionMoves.{MovesSections}
 
@@ -36,6 +37,13 @@ PlacesLaw =
     (z : Layout) (words : List ℕ) (vs : List View) → InRule z words vs → (i : ℕ) (v : View) → IsItem vs i v → (w : Word) (value : ℕ) (kind : Kind) (o : Option Update)
     → carries kind v o ≡ true → needs kind z (memory z words) vs i v w value o ≡ true
     → All KnowsPlaces (views_after kind z (memory z words) vs i v w value o)
+
+-- a view works at no node of its own batch, and slots wait only where there is a pass number
+abbrev pub WaitsLaw : Type 0
+WaitsLaw =
+    (z : Layout) (words : List ℕ) (vs : List View) → InRule z words vs → (i : ℕ) (v : View) → IsItem vs i v → (n : ℕ) (w : Word) → word_at z n ≡ Some w
+    → (value : ℕ) (kind : Kind) (o : Option Update) → carries kind v o ≡ true → needs kind z (memory z words) vs i v w value o ≡ true
+    → All WaitsRight (views_after kind z (memory z words) vs i v w value o)
 
 -- what seats have seen goes on from what they had seen
 abbrev pub SeenLaw : Type 0

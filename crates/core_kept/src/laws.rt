@@ -4,17 +4,19 @@ ghost use Rattle.core_events.specs.declared.event.Kind.TheVariants.{SplitSeat, J
 ghost use Rattle.core_invariant.specs.KeptRule.{KeepsRuleAt};
 ghost use Rattle.core_kept.specs.KeepsRule.{KeepsLaw};
 ghost use Rattle.core_kept.specs.SeatLaws.{FirstLaw, MakeLaw, MadeLaw, WholeLaw};
-ghost use Rattle.core_kept.specs.ViewLaws.{SpentLaw, SpareLaw, PlacesLaw, SeenLaw, SectionsLaw};
+ghost use Rattle.core_kept.specs.ViewLaws.{SpentLaw, SpareLaw, PlacesLaw, WaitsLaw, SeenLaw, SectionsLaw};
 
 /// What every allowed event keeps of each view. Nothing is left of a view that was joined into another one. The section
 /// word and the announcement of a number that is still to be given are 0. Each view knows the places of its own
-/// updates. No event makes what a seat has seen shorter. An enter takes the own section word from even to odd, a leave
+/// updates. It works at no node of its own batch, and its slots wait only where it has a pass number or was given one.
+/// No event makes what a seat has seen shorter. An enter takes the own section word from even to odd, a leave
 /// from odd to even, and no event changes another pass's; nor is an announcement changed by another event than one that
 /// announces, or by another pass.
 pub fn views_keep_the_rule()
     ensures spent { SpentLaw }
     ensures spare { SpareLaw }
     ensures places { PlacesLaw }
+    ensures waits { WaitsLaw }
     ensures seen { SeenLaw }
     ensures sections { SectionsLaw }
 {}

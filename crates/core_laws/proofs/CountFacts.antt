@@ -46,7 +46,7 @@ head_above next stamp number s head entry n (e ∷ es) chain numbers is apart so
           absurd (apart (sym is ∙ here ∙ sym same))
     ]
 
-number_some : (o : Option ℕ) → (o ≡ None → ⊥) → (n : ℕ) × (o ≡ Some n)
+pub number_some : (o : Option ℕ) → (o ≡ None → ⊥) → (n : ℕ) × (o ≡ Some n)
 number_some None some = absurd (some refl)
 number_some (Some n) some = (n, refl)
 

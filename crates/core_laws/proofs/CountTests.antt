@@ -1,11 +1,12 @@
 -- Where a count rises, and what the tests of a view for it say.
-use Rattle.std.proofs.Common.{◌≡◌, ◌≢◌, ℕ, zero, suc, List, [], ◌∷◌, Bool, true, false, not, eqb, ◌&&◌, ◌||◌, arith, refl, ap, ◌∙◌, sym, subst, inl, inr, Some}
+use Rattle.std.proofs.Common.{◌≡◌, ◌≢◌, ℕ, zero, suc, List, [], ◌∷◌, Bool, true, false, not, eqb, ◌&&◌, ◌||◌, is_some, arith, refl, ap, ◌∙◌, sym, subst, inl, inr, Some}
 use Rattle.std.specs.List.{list_any}
 use Rattle.std.proofs.lemmas.Bool.{and_parts, eqb-true, eq-eqb, ne_eqb}
 use Rattle.index_words.specs.declared.side.Side.{Side}
 use Rattle.index_words.specs.declared.side.Side.TheVariants.{Left, Right}
 use Rattle.index_words.specs.declared.view.View.{View}
 use Rattle.index_words.specs.declared.view.reading.Link.{Link}
+use Rattle.index_words.specs.declared.view.reading.Place.{Place}
 use Rattle.index_words.specs.declared.view.reading.LinkSource.{LinkSource}
 use Rattle.index_words.specs.declared.view.reading.LinkSource.TheVariants.{Bundle, Plain}
 use Rattle.index_words.specs.declared.word.Field.{Field}
@@ -15,13 +16,14 @@ use Rattle.index_words.specs.declared.word.Word.TheVariants.{Node, Entry}
 use Rattle.index_words.specs.Words.{same_side}
 use Rattle.key_map.specs.Lists.{count, has, IsItem}
 use Rattle.key_map.proofs.Counting.{has-count, count-has}
-use Rattle.core_laws.specs.Counts.{RemembersOther, RisesWhere}
-use Rattle.core_events.specs.LoadMoves.{locks, raised_if, has_moved, has_other_source}
-use Rattle.core_events.specs.LoadNeeds.{is_reachable, reads_tree}
+use Rattle.core_laws.specs.Counts.{RemembersOther, RisesWhere, WatchesBundle}
+use Rattle.core_events.specs.LoadMoves.{locks, raised_if, has_moved, has_other_source, is_watching}
+use Rattle.core_events.specs.LoadNeeds.{is_reachable, reads_tree, stands_at}
 use Rattle.core_laws.specs.ViewNeeds.{IsInReach}
-use Rattle.core_invariant.proofs.HeldFacts.{locks-count}
+use Rattle.core_invariant.specs.Readers.{IsWatched}
+use Rattle.core_invariant.proofs.HeldFacts.{locks-count, count-locks}
 use Rattle.core_events.proofs.Tests.{never, not_equal, either_true}
-use Rattle.core_invariant.proofs.Needed.{tree-count}
+use Rattle.core_invariant.proofs.Needed.{tree-count, standing}
 
 -- a test for where a count rises
 pub rises_by : (P : Type 0) (b : Bool) (old new : ℕ) → new ≡ raised_if b old → (P → b ≡ true) → (b ≡ true → P) → RisesWhere P old new
@@ -151,3 +153,26 @@ same_entry e d is = cc
 
 pub same_head : (s t : Side) → Head s ≡ Head t → s ≡ t
 same_head s t is = cc
+
+-- a seat that stands at the entry and is found to watch its bundle
+pub watching_says : (v : View) (e : ℕ) → stands_at v.reading.place e ≡ true → is_watching v v.reading.place ≡ true → WatchesBundle v e
+watching_says v e stands is =
+    let at = standing v e stands in
+    record {
+      node = at.node;
+      side = at.side;
+      found = at.found;
+      place = at.here;
+      watched = elim (either_true (is_some v.reading.section) (locks at.node v.held.nodes) (subst (λ (p : Place). is_watching v p ≡ true) at.here is)) as (λ _. IsWatched v at.node) [
+        | inl reads ↦ inr reads
+        | inr locked ↦ inl (locks-count at.node v.held.nodes locked)
+      ];
+    }
+
+pub says_watching : (v : View) (e : ℕ) → WatchesBundle v e → is_watching v v.reading.place ≡ true
+says_watching v e watches =
+    subst (λ (p : Place). is_watching v p ≡ true) (sym watches.place)
+    (elim watches.watched as (λ _. (is_some v.reading.section || locks watches.node v.held.nodes) ≡ true) [
+      | inl locked ↦ any_later (is_some v.reading.section) (locks watches.node v.held.nodes) (count-locks watches.node v.held.nodes locked)
+      | inr reads ↦ any_here (is_some v.reading.section) (locks watches.node v.held.nodes) reads
+    ])

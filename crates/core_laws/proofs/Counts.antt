@@ -21,8 +21,8 @@ use Rattle.core_events.specs.declared.event.Kind.TheVariants.{MakeSeat, SplitSea
 use Rattle.core_laws.specs.Counts.{MeetsLock, FindsNoNumber, FindsOtherHead, FindsMark, FixesPlace, RisesWhere, CountsRise, CountsLaw}
 use Rattle.core_events.specs.Tables.{Table, held_by}
 use Rattle.core_invariant.specs.Locks.{lock_count}
-use Rattle.core_events.specs.LoadMoves.{locks, raised_if, has_moved, stored_by, head_loaded, ts_loaded}
-use Rattle.core_events.specs.LoadNeeds.{is_reachable, may_load_head, may_load_field, may_load_part}
+use Rattle.core_events.specs.LoadMoves.{locks, raised_if, has_moved, stored_by, head_loaded, ts_loaded, is_watching, meets_pending}
+use Rattle.core_events.specs.LoadNeeds.{is_reachable, is_part, stands_at, may_load_head, may_load_field, may_load_part}
 use Rattle.core_events.specs.LockMoves.{finds_mark, mark_loaded, tried, locked_view, met_lock, names_other}
 use Rattle.core_events.specs.LockNeeds.{names_pass, may_try_lock, may_load_mark}
 use Rattle.core_events.specs.Moves.{joined_with, split_left, split_right}
@@ -37,6 +37,7 @@ use Rattle.core_laws.proofs.Owners.{found_at}
 use Rattle.core_laws.proofs.ViewTests.{reaches}
 use Rattle.core_laws.proofs.Tallies.{Tally, same_tally, look_tally, enter_tally, ptr_tally, next_tally, prepared_tally, filled_tally, pair_tally, raised_tally, finalised_tally, unlocked_tally, marked_tally, ann_tally, cut_tally}
 use Rattle.core_laws.proofs.CountTests.{rises_by, stays_by, both, none_has, has_none, not_false, neither, not_either, moved_says, says_moved, reach_says, same_node, same_entry, same_head}
+use Rattle.core_laws.proofs.CountTests.{watching_says, says_watching}
 use Rattle.core_laws.proofs.SetViews.{set_is, same_is, split_is, join_is}
 
 module _ (t : Table) (e : Event) (right : IsRight t) (v : View) (at : IsItem t.views e.seat v) (word : Word) (found : word_at t.layout e.word ≡ Some word) where
@@ -80,19 +81,22 @@ module _ (t : Table) (e : Event) (right : IsRight t) (v : View) (at : IsItem t.v
       let w : View = ts_loaded v d x in
       record {
         busy = stays_by (MeetsLock t e) v.counts.busy w.counts.busy refl (λ p. apart (sym is ∙ p.kind));
-        waits = rises_by (FindsNoNumber t e v) (eqb x 0 && not (has d v.update.pending)) v.counts.waits w.counts.waits refl
+        waits = rises_by (FindsNoNumber t e v) (meets_pending v d x) v.counts.waits w.counts.waits refl
             (λ p.
             let one : d ≡ p.entry = same_entry d p.entry (ap Some (sym named) ∙ sym found ∙ p.word) in
-            both (eqb x 0) (not (has d v.update.pending)) (eq-eqb x 0 (ap (λ y. m (Entry Number y)) one ∙ p.none))
-            (not_false (has d v.update.pending) (none_has d v.update.pending (ap (λ y. count y v.update.pending) one ∙ p.other))))
+            both (eqb x 0 && not (has d v.update.pending)) (is_watching v v.reading.place)
+            (both (eqb x 0) (not (has d v.update.pending)) (eq-eqb x 0 (ap (λ y. m (Entry Number y)) one ∙ p.none))
+            (not_false (has d v.update.pending) (none_has d v.update.pending (ap (λ y. count y v.update.pending) one ∙ p.other)))) (says_watching v p.entry p.watches))
             (λ b.
-            let parts = and_parts (eqb x 0) (not (has d v.update.pending)) b in
+            let whole = and_parts (eqb x 0 && not (has d v.update.pending)) (is_watching v v.reading.place) b in
+            let parts = and_parts (eqb x 0) (not (has d v.update.pending)) whole.0 in
             record {
               kind = is;
               entry = d;
               word = found ∙ ap Some named;
               none = eqb-true x 0 parts.0;
               other = has_none d v.update.pending (not_true (has d v.update.pending) parts.1);
+              watches = watching_says v d (and_parts (is_part Number Number) (stands_at v.reading.place d) (and_parts (is_part Number Number && stands_at v.reading.place d) (eqb e.value 0) met).0).1 whole.1;
             });
         moves = stays_by (FindsOtherHead t e v ⊎ FindsMark t e v) v.counts.moves w.counts.moves refl (not_moved LoadTs is (λ p. cc) (λ p. cc));
         looks = stays_by (FixesPlace e) v.history.looks w.history.looks refl (λ p. apart_too (sym is ∙ p.0));

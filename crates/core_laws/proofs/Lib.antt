@@ -30,6 +30,12 @@ pub mod SetViews
 pub mod Counts
 -- What a seat knows from its view where a count is to rise.
 pub mod CountFacts
+-- A seat that loads an entry's stamp stands at the entry, and one with a section number watches its bundle.
+pub mod NumberLoads
+-- The slots of all views and of the tree are those of the layout.
+pub mod SlotSums
+-- What is met where a count rises is what another pass did.
+pub mod Alone
 -- A tree is determined by the list of its nodes.
 pub mod OneTree
 -- What the words are of the tree that a seat reads.

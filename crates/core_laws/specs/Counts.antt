@@ -1,10 +1,11 @@
 -- Where the counts of a view rise: each at the events that this says, and at no other. So a call that answers for what
 -- another seat did can show that the count rose.
-use Rattle.std.specs.Prelude.{◌≡◌, ◌≢◌, ℕ, ◌<◌, ◌≤◌, ◌⊎◌, true, [], Some, slice_index}
+use Rattle.std.specs.Prelude.{◌≡◌, ◌≢◌, ℕ, ◌<◌, ◌≤◌, ◌⊎◌, true, [], Option, Some, slice_index}
 use Rattle.std.specs.List.{slice_get}
 use Rattle.index_words.specs.declared.side.Side.{Side}
 use Rattle.index_words.specs.declared.view.View.{View}
 use Rattle.index_words.specs.declared.view.reading.Link.{Link}
+use Rattle.index_words.specs.declared.view.reading.Place.TheVariants.{Entry as AtEntry}
 use Rattle.index_words.specs.declared.view.reading.LinkSource.TheVariants.{Bundle}
 use Rattle.index_words.specs.declared.word.Field.TheVariants.{Mark, Head}
 use Rattle.index_words.specs.declared.word.Part.TheVariants.{Stamp as Number}
@@ -15,6 +16,7 @@ use Rattle.core_events.specs.declared.event.Event.{Event}
 use Rattle.core_events.specs.declared.event.Kind.TheVariants.{LoadStamp, LoadHead, LoadTs, TryLock, LoadMark}
 use Rattle.core_events.specs.Tables.{Table, held_by}
 use Rattle.core_events.specs.LoadMoves.{risen}
+use Rattle.core_invariant.specs.Readers.{IsWatched}
 use Rattle.core_invariant.specs.Rule.{IsRight}
 use Rattle.core_events.specs.SpelledNow.{tree_now}
 use Rattle.core_events.specs.Steps.{allowed, after}
@@ -26,13 +28,22 @@ pub record MeetsLock (t : Table) (e : Event) : Type 0 where
   pub kind : e.kind ≡ TryLock
   pub held : 0 < slice_index t.words e.word
 
--- a load of the stamp of an entry that finds none, where the seat has not the entry pending
+-- where the seat stands in the bundle of a node, which it watches: it reads at a number, or has locked the node
+pub record WatchesBundle (v : View) (entry : ℕ) : Type 0 where
+  pub node : ℕ
+  pub side : Side
+  pub found : Option ℕ
+  pub place : v.reading.place ≡ AtEntry node side entry found
+  pub watched : IsWatched v node
+
+-- a load of the stamp of an entry that finds none, in a bundle that the seat watches, where it has not the entry pending
 pub record FindsNoNumber (t : Table) (e : Event) (v : View) : Type 0 where
   pub kind : e.kind ≡ LoadTs
   pub entry : ℕ
   pub word : word_at t.layout e.word ≡ Some (Entry Number entry)
   pub none : held_by t (Entry Number entry) ≡ 0
   pub other : count entry v.update.pending ≡ 0
+  pub watches : WatchesBundle v entry
 
 -- the seat remembers the link, found through its bundle, with another entry than this
 pub record RemembersOther (v : View) (node : ℕ) (side : Side) (head : ℕ) : Type 0 where

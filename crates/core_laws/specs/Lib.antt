@@ -4,5 +4,7 @@ pub mod Owners
 pub mod ViewNeeds
 pub mod Cuts
 pub mod Counts
+pub mod Alone
+pub mod SlotSums
 pub mod Found
 pub mod Falls

@@ -7,5 +7,6 @@
 mod view_laws;
 
 pub use view_laws::{
-    cuts_take_nothing_read, needs_of_views, what_loads_find, where_counts_rise, who_writes_what,
+    cuts_take_nothing_read, needs_of_views, slots_add_up, what_loads_find, where_counts_rise,
+    who_raises_counts, who_writes_what,
 };

@@ -1,9 +1,11 @@
 // Laws on the tables that meet the rule. These calls do nothing: their clauses are what is proved.
+ghost use Rattle.core_laws.specs.Alone.{OthersLaw, NothingLaw, AloneLaw};
 ghost use Rattle.core_laws.specs.Counts.{CountsLaw, OtherHeadLaw, TakenLaw, TreeNotRetiredLaw};
 ghost use Rattle.core_laws.specs.Cuts.{CutNeedLaw, UnreadLaw};
 ghost use Rattle.core_laws.specs.Falls.{FallsLaw};
 ghost use Rattle.core_laws.specs.Found.{ReadLaw, StampLaw, OneTreeLaw, BundleLengthLaw};
 ghost use Rattle.core_laws.specs.Owners.{OwnersLaw};
+ghost use Rattle.core_laws.specs.SlotSums.{SlotSumLaw};
 ghost use Rattle.core_laws.specs.ViewNeeds.{EnterLaw, LeaveLaw, LookLaw, FillLaw, LoadStampLaw, FixLaw, AnnounceLaw, TakeBackLaw, LookAnnLaw, ReadHeadLaw, ReadNumberLaw, ReadChildLaw, ReadNextLaw, PrepareLaw, FinaliseLaw, LockLaw, UnlockLaw, ReadMarkLaw, MarkLaw, ReadKeyLaw, ReadValLaw, SplitLaw, JoinLaw};
 
 /// Who writes what. An event of one seat changes no word that another seat alone changes: its section word and its
@@ -77,4 +79,21 @@ pub fn what_loads_find()
     ensures one_tree { OneTreeLaw }
     ensures bundle_length { BundleLengthLaw }
     ensures falls { FallsLaw }
+{}
+
+/// By whom the counts of a view rise: by another pass than the view's. A lock that is found held is one that a view of
+/// another pass has locked; an entry that is found without a number is pending in one; another head than the remembered
+/// one is pending in one, or its number is the place of an update of another pass; a node that is found marked waits in
+/// the slots of one. So on a table of one pass nothing of this is met, and no count rises.
+pub fn who_raises_counts()
+    ensures others { OthersLaw }
+    ensures nothing { NothingLaw }
+    ensures alone { AloneLaw }
+{}
+
+/// No slot is lost. The nodes that all views own, free, retired or in a batch, and those of the tree at the stamp are
+/// together as many as the layout has; and so are the entries that all views own with those of the bundles of the root
+/// and of the tree's nodes.
+pub fn slots_add_up()
+    ensures sums { SlotSumLaw }
 {}

@@ -57,6 +57,7 @@ fn frees_a_batch_once_the_other_pass_was_outside(rt: HostRuntime) -> Result<(), 
 fn passes_an_even_word_and_one_that_has_changed(rt: HostRuntime) -> Result<(), Fail> {
     assert!(rt; passed(1, 2));
     assert!(rt; passed(1, 3));
+    assert!(rt; passed(3, 1));
     assert!(rt; !passed(1, 1));
     assert!(rt; !passed(u64::MAX, u64::MAX));
     assert!(rt; passed(u64::MAX, u64::MAX - 1));

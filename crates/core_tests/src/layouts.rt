@@ -44,3 +44,25 @@ fn numbers_the_words_of_one_pass_of_one_node(rt: HostRuntime) -> Result<(), Fail
     assert_eq!(rt; layout.word_at(35), None);
     Ok(())
 }
+
+#[test]
+fn numbers_the_ten_words_of_a_node_in_their_order(rt: HostRuntime) -> Result<(), Fail> {
+    let layout = Layout::new(&[size(1, 4, 1)]).ok_or("refused")?;
+    let rows = [
+        (Field::Key, 13),
+        (Field::Val, 14),
+        (Field::Lock, 15),
+        (Field::Mark, 16),
+        (Field::Head(Side::Left), 17),
+        (Field::Head(Side::Right), 18),
+        (Field::Link(Side::Left), 19),
+        (Field::Link(Side::Right), 20),
+        (Field::Tag(Side::Left), 21),
+        (Field::Tag(Side::Right), 22),
+    ];
+    for (field, number) in rows {
+        assert_eq!(rt; layout.address(Word::Node(field, 1)), number);
+        assert_eq!(rt; layout.word_at(number), Some(Word::Node(field, 1)));
+    }
+    Ok(())
+}

@@ -13,6 +13,7 @@ use Rattle.core_events.specs.UpdateNeeds.{held_at, is_written}
 use Rattle.core_laws.specs.ViewNeeds.{May, IsInReach, event_at, HasFilled}
 use Rattle.core_laws.proofs.CountFacts.{other_head, taken_law}
 use Rattle.core_laws.proofs.Counts.{counts_law}
+use Rattle.core_laws.proofs.NumberLoads.{watches}
 use Rattle.core_invariant.proofs.OneView.{item_from_get}
 use Rattle.core_laws.proofs.ViewNeeds.{may_leave_law, may_fill_law, may_read_head_law, may_prepare_law, may_finalise_law, may_lock_law, may_unlock_law, may_read_mark_law, may_mark_law, may_read_key_law, may_read_val_law}
 use Rattle.core_updates.specs.declared.plan.Plan.{Plan}
@@ -22,7 +23,7 @@ use Rattle.core_updates.specs.declared.plan.PlanSlots.{PlanSlots}
 use Rattle.core_updates.specs.declared.plan.Front.{Front}
 use Rattle.core_updates.specs.declared.plan.NewNode.{NewNode}
 use Rattle.core_updates.specs.Plans.{locks_of, fronts_of, new_node_of, node_fills, entry_fills, head_of, fresh_to}
-use Rattle.core_updates.specs.PlanEvents.{HasSlots, IsDue, MayFillAll, EventsLaw, FailuresLaw}
+use Rattle.core_updates.specs.PlanEvents.{HasSlots, IsDue, MayFillAll, EventsLaw, MeetsLaw, FailuresLaw}
 use Rattle.core_invariant.specs.Rule.{InRule}
 use Rattle.index_words.specs.declared.view.update.HeldNode.{HeldNode}
 use Rattle.index_words.specs.Words.{memory}
@@ -142,27 +143,43 @@ events_law z v seat n plan slots r = record {
   leave = λ unlocked. may_leave_law z v seat n (record { own = r.own; inside = r.inside; unlocked = unlocked });
 }
 
-pub failures_law : FailuresLaw
-failures_law t e v w n plan right met before behind r own =
-    let counts = counts_law t e v w right met before behind in
+pub meets_law : MeetsLaw
+meets_law t e v n plan right met before r own =
     let at = item_from_get t.views e.seat v before in
     record {
-      busy = λ meets. counts.busy.rises meets;
-      waits = λ entry kind word none'. counts.waits.rises (record { kind = kind; entry = entry; word = word; none = none'; other = ap (count entry) own.idle });
-      head = λ k side kind word other. counts.moves.rises (inl (record {
+      number = λ entry kind word none'. record {
+        kind = kind;
+        entry = entry;
+        word = word;
+        none = none';
+        other = ap (count entry) own.idle;
+        watches = watches t e v entry met before kind word own.number own.section;
+      };
+      head = λ k side kind word other. record {
         kind = kind;
         node = k;
         side = side;
         word = word;
         other = other;
         apart = other_head t e.seat own.number v k side right at own.section own.own own.idle other;
-      }));
-      mark = every_to (λ k reach kind word marked free. counts.moves.rises (inr (record {
+      };
+      mark = every_to (λ k reach kind word marked free. record {
         kind = kind;
         node = k;
         word = word;
         marked = marked;
         reach = reach;
         kept = (taken_law t e.seat v k right at free, free);
-      }))) (locks_of plan) (reach_law v plan r.tree r.read r.planned);
+      }) (locks_of plan) (reach_law v plan r.tree r.read r.planned);
+    }
+
+pub failures_law : FailuresLaw
+failures_law t e v w n plan right met before behind r own =
+    let counts = counts_law t e v w right met before behind in
+    let meets = meets_law t e v n plan right met before r own in
+    record {
+      busy = λ held. counts.busy.rises held;
+      waits = λ entry kind word none'. counts.waits.rises (meets.number entry kind word none');
+      head = λ k side kind word other. counts.moves.rises (inl (meets.head k side kind word other));
+      mark = every_to (λ k finds kind word marked free. counts.moves.rises (inr (finds kind word marked free))) (locks_of plan) meets.mark;
     }

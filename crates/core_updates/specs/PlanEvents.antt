@@ -17,7 +17,7 @@ use Rattle.core_grace.specs.Sections.{left_word}
 use Rattle.core_trees.specs.NamedTree.{NamedTree}
 use Rattle.core_events.specs.declared.event.Event.{Event}
 use Rattle.core_events.specs.declared.event.Kind.TheVariants.{Leave, Fill, LoadHead, LoadTs, Prepare, Finalise, TryLock, Unlock, LoadMark, Mark as MarkNode, LoadKeyOrVal}
-use Rattle.core_laws.specs.Counts.{MeetsLock, RemembersOther}
+use Rattle.core_laws.specs.Counts.{MeetsLock, FindsNoNumber, FindsOtherHead, FindsMark, RemembersOther}
 use Rattle.core_events.specs.LoadMoves.{risen}
 use Rattle.core_invariant.specs.Readers.{IsLocked}
 use Rattle.core_invariant.specs.Rule.{IsRight}
@@ -122,7 +122,22 @@ pub record ReadsOwn (v : View) : Type 0 where
   pub own : Every (λ at. at ≤ number) v.history.mine
   pub idle : v.update.pending ≡ []
 
--- where a try fails a count has risen: `busy` where a lock is held, `waits` where an entry has no number, `moves` where a head
+-- where a try fails it has met that for which a count rises: an entry without a number that it has not pending, a head that is
+-- another one than the remembered one and that it has not stored, or a mark on a node of the plan that it has not taken out
+pub record MeetsFailures (t : Table) (e : Event) (v : View) (plan : Plan) : Type 0 where
+  pub number : (entry : ℕ) → e.kind ≡ LoadTs → word_at t.layout e.word ≡ Some (Entry Number entry) → held_by t (Entry Number entry) ≡ 0
+      → FindsNoNumber t e v
+  pub head : (k : ℕ) (side : Side) → e.kind ≡ LoadHead → word_at t.layout e.word ≡ Some (Node (Head side) k)
+      → RemembersOther v k side (held_by t (Node (Head side) k)) → FindsOtherHead t e v
+  pub mark : Every (λ k. e.kind ≡ LoadMark → word_at t.layout e.word ≡ Some (Node Mark k) → held_by t (Node Mark k) ≡ 1
+      → count k v.retired.nodes ≡ 0 → FindsMark t e v) (locks_of plan)
+
+abbrev pub MeetsLaw : Type 0
+MeetsLaw =
+    (t : Table) (e : Event) (v : View) (n : ℕ) (plan : Plan) → IsRight t → allowed t e ≡ true → slice_get t.views e.seat ≡ Some v
+    → ReadsPlan v n plan → ReadsOwn v → MeetsFailures t e v plan
+
+-- so a count has risen: `busy` where a lock is held, `waits` where an entry has no number, `moves` where a head
 -- is another one than the remembered one, or a node of the plan is marked that this seat has not taken out
 pub record CountsFailures (t : Table) (e : Event) (v w : View) (plan : Plan) : Type 0 where
   pub busy : MeetsLock t e → w.counts.busy ≡ risen v.counts.busy

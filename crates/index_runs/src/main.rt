@@ -12,6 +12,8 @@
 //     sections TURNS
 //             four passes over the table enter, leave, fill words and look at each other, so many turns between two
 //             meetings, and take in each other's notes
+//     waits   TURNS
+//             a pass over the table stops in the middle of an update for so many turns, while the others wait for it
 //
 // Without words a small run is made.
 #![tactic(auto)]
@@ -24,6 +26,7 @@ mod run;
 mod sections;
 mod tries;
 mod turns;
+mod waits;
 mod work;
 
 use report::{print_events, print_found, print_history};
@@ -32,6 +35,7 @@ use sections::make_sections;
 use std::sync::Wait;
 use std::thread::Threads;
 use std::{env, io};
+use waits::make_waits;
 use work::{Plan, Task};
 
 const SMALL: Run = Run {
@@ -71,6 +75,7 @@ fn main(rt: HostRuntime) -> io::Result<()> {
         "held" => print_run(&rt, &rt, &held_run(&numbers), true),
         "tries" => print_run(&rt, &rt, &tries_run(&numbers), true),
         "sections" => print_sections(&rt, &rt, numbers[0]),
+        "waits" => print_waits(&rt, &rt, numbers[0]),
         "time" => print_run(&rt, &rt, &run_of(&numbers, false), false),
         _ => print_run(&rt, &rt, &run_of(&numbers, true), true),
     }
@@ -187,4 +192,20 @@ fn print_sections<R: Threads + Wait + Sync>(
         print_found(rt, number, found)?;
     }
     print_history(rt, ended.history.as_slice())
+}
+
+/// Has the passes wait, and prints what each has found or done.
+fn print_waits<R: Threads + Wait + Sync>(
+    rt: &HostRuntime,
+    threads: &R,
+    turns: u32,
+) -> io::Result<()> {
+    let answers = match make_waits(threads, rt.alloc(), turns) {
+        Ok(answers) => answers,
+        Err(stopped) => return println!(rt; "{stopped:?}"),
+    };
+    for (number, answer) in answers.iter().enumerate() {
+        println!(rt; "W {number} {}", answer.unwrap_or(0))?;
+    }
+    Ok(())
 }

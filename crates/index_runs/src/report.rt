@@ -2,6 +2,7 @@
 use crate::turns::Found;
 use crate::work::Event;
 use index_words::{Change, Update};
+use key_map::New;
 use shared_index::Settling;
 use std::fmt::Write;
 use std::io;
@@ -21,6 +22,18 @@ fn print_event(rt: &HostRuntime, number: usize, event: &Event) -> io::Result<()>
             val,
             done,
         } => println!(rt; "P {number} {line} {} {key} {val} {}", done.at, done.was),
+        Event::Inserted {
+            line,
+            key,
+            val,
+            answer: New::Made { at },
+        } => println!(rt; "I {number} {line} {at} {key} {val} true"),
+        Event::Inserted {
+            line,
+            key,
+            val,
+            answer: New::Kept { at },
+        } => println!(rt; "I {number} {line} {at} {key} {val} false"),
         Event::Removed { line, key, done } => {
             println!(rt; "R {number} {line} {} {key} {}", done.at, done.was)
         }

@@ -6,7 +6,7 @@ use crate::random::Random;
 use crate::tries::Met;
 use bucket_terms::KeyPass;
 use index_words::Pair;
-use key_map::Done;
+use key_map::{Done, New};
 use shared_index::Settling;
 use std::alloc::{AllocError, Global};
 use std::sync::Wait;
@@ -18,7 +18,7 @@ pub(crate) struct Plan {
     pub(crate) requests: u32,
     /// Keys are below this number.
     pub(crate) keys: u64,
-    /// Of a hundred requests so many are updates, two puts for each removal.
+    /// Of a hundred requests so many are updates, two puts for each removal. One of these two is of a new key alone.
     pub(crate) updates: u64,
     /// Of a hundred requests so many are listings; all others look for one key.
     pub(crate) listings: u64,
@@ -53,6 +53,13 @@ pub(crate) enum Event {
         key: u64,
         val: u64,
         done: Done,
+    },
+    /// A put that is made only where the key is not there.
+    Inserted {
+        line: u32,
+        key: u64,
+        val: u64,
+        answer: New,
     },
     Removed {
         line: u32,
@@ -124,6 +131,17 @@ pub(crate) fn update<P: KeyPass, R: Wait>(
         };
     }
     let val = random.below(1_000_000);
+    if random.below(2) == 0 {
+        return match pass.put_new(rt, line, key, val) {
+            Ok(answer) => Event::Inserted {
+                line,
+                key,
+                val,
+                answer,
+            },
+            Err(_) => Event::Refused { line },
+        };
+    }
     match pass.put(rt, line, key, val) {
         Ok(done) => Event::Put {
             line,

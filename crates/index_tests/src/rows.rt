@@ -5,7 +5,7 @@ ghost use Rattle.shared_index.specs.Shown.{shown};
 use crate::set_up::{done, opened, put, size};
 use bucket_terms::KeyPass;
 use index_words::Pair;
-use key_map::{Done, PassError};
+use key_map::{Done, New, PassError};
 use shared_index::{IndexPass, Look, Settling, Try};
 use std::sync::Wait;
 use std::test::Fail;
@@ -14,11 +14,22 @@ use std::test::Fail;
 #[derive(Clone, Copy)]
 enum Row {
     Put(u64, u64, Result<Done, PassError>),
+    PutNew(u64, u64, Result<New, PassError>),
     Remove(u64, Result<Done, PassError>),
     TryPut(u64, u64, Result<Try, PassError>),
     TrySettle(Settling),
     /// One look, in a snapshot of its own.
     TryNext(u64, Look),
+}
+
+/// A put of a key that was not there.
+const fn made(at: u64) -> Result<New, PassError> {
+    Ok(New::Made { at })
+}
+
+/// A put that its key, which was there, has kept out.
+const fn kept(at: u64) -> Result<New, PassError> {
+    Ok(New::Kept { at })
 }
 
 /// A put that one try makes.
@@ -28,6 +39,18 @@ const fn tried(at: u64, was: bool) -> Result<Try, PassError> {
 
 const fn found(key: u64, val: u64) -> Look {
     Look::Found(Pair { key, val })
+}
+
+/// A put that is made only where its key is not there, which leaves no snapshot open.
+fn put_new<R: Wait>(pass: &mut IndexPass<'_>, rt: &R, key: u64, val: u64) -> Result<New, PassError>
+    requires closed { (shown pass.old).opened ≡ None }
+    ensures closed { (shown pass.new).opened ≡ None }
+{
+    match pass.put_new(rt, 1, key, val) {
+        Ok(New::Made { at }) => Ok(New::Made { at }),
+        Ok(New::Kept { at }) => Ok(New::Kept { at }),
+        Err(error) => Err(error),
+    }
 }
 
 /// A removal, which leaves no snapshot open.
@@ -73,6 +96,7 @@ fn has_answer<R: Wait>(pass: &mut IndexPass<'_>, rt: &R, row: &Row) -> bool
 {
     match *row {
         Row::Put(key, val, answer) => put(rt, pass, 1, key, val) == answer,
+        Row::PutNew(key, val, answer) => put_new(pass, rt, key, val) == answer,
         Row::Remove(key, answer) => remove(pass, rt, key) == answer,
         Row::TryPut(key, val, answer) => try_put(pass, key, val) == answer,
         Row::TrySettle(answer) => pass.try_settle() == answer,
@@ -174,5 +198,33 @@ fn a_snapshot_holds_the_slots_of_a_removal(rt: HostRuntime) -> Result<(), Fail> 
         Row::Remove(8, Err(PassError::NoSlot)),
     ];
     assert_eq!(rt; answered(&mut one, &rt, &rows), 3);
+    Ok(())
+}
+
+/// A key keeps out what is put as new, whichever pass has put it, until it is removed. Slots and calls are looked at
+/// first, whether or not the key is there.
+#[test]
+fn a_key_that_is_there_keeps_a_new_one_out(rt: HostRuntime) -> Result<(), Fail> {
+    let Some((index, first, second)) = opened(rt.alloc(), &[size(2, 8, 8), size(2, 12, 2)]) else {
+        panic!(rt; "there is no index of two passes")
+    };
+    let rows = [
+        Row::PutNew(4, 40, made(1)),
+        Row::PutNew(4, 41, kept(1)),
+        Row::PutNew(6, 60, made(2)),
+        Row::PutNew(4, 42, Err(PassError::NoSlot)),
+        Row::PutNew(7, 70, Err(PassError::NoSlot)),
+        Row::TryNext(0, found(4, 40)),
+        Row::TryNext(5, found(6, 60)),
+    ];
+    assert_eq!(rt; answered(&mut index.attach(first), &rt, &rows), 7);
+    let rows = [
+        Row::PutNew(4, 43, kept(2)),
+        Row::Remove(4, done(3, true)),
+        Row::PutNew(4, 44, made(4)),
+        Row::PutNew(4, 45, Err(PassError::Spent)),
+        Row::TryNext(0, found(4, 44)),
+    ];
+    assert_eq!(rt; answered(&mut index.attach(second), &rt, &rows), 5);
     Ok(())
 }

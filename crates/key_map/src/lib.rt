@@ -13,6 +13,6 @@ mod update;
 pub use items::Items;
 pub use no_memory::NoMemory;
 pub use pair::Pair;
-pub use pass::{Done, PassError, PassSize};
+pub use pass::{Done, New, PassError, PassSize};
 pub use plain_map::{PlainMap, first_from};
 pub use update::{Change, Update};

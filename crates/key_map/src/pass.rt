@@ -15,6 +15,15 @@ pub struct Done {
     pub was: bool,
 }
 
+/// The answer of a put that is made only where the key is not there.
+#[derive(Clone, Copy, Debug, PartialEq, Eq)]
+pub enum New {
+    /// The key was not there, and the put was made: the place of its update.
+    Made { at: u64 },
+    /// The key was there, and no update was made: the place at which it was found.
+    Kept { at: u64 },
+}
+
 /// Why a pass refuses an update. The pass is then unchanged.
 #[derive(Clone, Copy, Debug, PartialEq, Eq)]
 pub enum PassError {

@@ -64,6 +64,13 @@ impl PlainMap {
         first_from(&self.pairs, key)
     }
 
+    /// Whether the key is there.
+    pub fn has(&self, key: u64) -> bool
+        ensures { result ≡ map_has key self.now.pairs }
+    {
+        look_up(&self.pairs, key).is_ok()
+    }
+
     /// Inserts the pair, or replaces the key's value. Tells whether the key was there.
     pub fn put(&mut self, key: u64, val: u64) -> bool
         requires { length self.old.pairs < self.old.room }

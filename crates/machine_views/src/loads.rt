@@ -3,7 +3,7 @@ ghost use Rattle.std.specs.Prelude.{◌≡◌, ◌==◌, ◌&&◌, OnOk, OnErr, 
 ghost use Rattle.index_words.specs.Words.{same_side as same_sides};
 ghost use Rattle.key_map.specs.Lists.{has};
 ghost use Rattle.core_events.specs.UpdateMoves.{known_at};
-ghost use Rattle.core_events.specs.LoadMoves.{risen as risen_count, has_other_source, has_moved as link_has_moved, remembered_if, bundle_link, stored_by as is_stored_by, found_again, side_found, found_at, head_loaded, stamp_known, side_known, node_known, place_known, ts_loaded, is_selected as selects, ptr_loaded, kept_if, next_loaded};
+ghost use Rattle.core_events.specs.LoadMoves.{risen as risen_count, is_watching as watches_bundle, meets_pending as meets_other, has_other_source, has_moved as link_has_moved, remembered_if, bundle_link, stored_by as is_stored_by, found_again, side_found, found_at, head_loaded, stamp_known, side_known, node_known, place_known, ts_loaded, is_selected as selects, ptr_loaded, kept_if, next_loaded};
 
 use core_events::reads::{is_above, is_locked, is_pending};
 use index_words::{
@@ -272,11 +272,30 @@ fn place_with_stamp(place: Place, found: u64) -> Place
     }
 }
 
+/// Whether the seat watches the bundle in which it stands: it reads at a number, or has locked the node.
+fn is_watching(view: &View) -> bool
+    ensures { result ≡ watches_bundle view.now view.now.reading.place }
+{
+    match view.reading.place {
+        Place::Entry { node, .. } => {
+            view.reading.section.is_some() || is_locked(view.held.nodes.as_slice(), node)
+        }
+        Place::Nowhere | Place::Node { .. } | Place::Gap { .. } => false,
+    }
+}
+
+/// Whether a load that found `stamp` meets an entry that another seat has pending.
+fn meets_pending(view: &View, entry: u32, stamp: u64) -> bool
+    ensures { result ≡ meets_other view.now entry stamp }
+{
+    stamp == 0 && !is_pending(view, u64::from(entry)) && is_watching(view)
+}
+
 /// The view after a load that found `stamp` as the stamp of the entry at which it stands.
 pub fn load_number(alloc: Global, view: &mut View, entry: u32, stamp: u64)
     ensures { view.new ≡ ts_loaded view.old entry stamp }
 {
-    if stamp == 0 && !is_pending(view, u64::from(entry)) {
+    if meets_pending(view, entry, stamp) {
         view.counts.waits = risen(view.counts.waits);
     }
     view.reading.place = place_with_stamp(view.reading.place, stamp);

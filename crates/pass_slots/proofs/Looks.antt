@@ -83,6 +83,16 @@ found_kept n f (g ∷ fs) apart = by_test (eqb g.pass n) (found_kept n f fs apar
     by_test true rest = refl
     by_test false rest = rest
 
+found_there : (n : ℕ) (f : SectionFound) (fs : List SectionFound) → is_some (first_found n fs) ≡ true → first_found n (fs ++ f ∷ []) ≡ first_found n fs
+found_there n f [] some = cc
+found_there n f (g ∷ fs) some = by_test (eqb g.pass n) (found_there n f fs) some
+  where
+    by_test : (b : Bool) → (is_some (first_found n fs) ≡ true → first_found n (fs ++ f ∷ []) ≡ first_found n fs)
+        → is_some (word_in (cond b (Some g) (find (λ (f : SectionFound). eqb f.pass n) fs))) ≡ true
+        → word_in (cond b (Some g) (find (λ (f : SectionFound). eqb f.pass n) (fs ++ f ∷ []))) ≡ word_in (cond b (Some g) (find (λ (f : SectionFound). eqb f.pass n) fs))
+    by_test true rest some = refl
+    by_test false rest some = rest some
+
 module _ (g : Looks) (s : Shown) (pass word : ℕ) (low : pass < 32) (keeps : KeepsLooks g s) (new : has pass g.passed ≡ false) where
   -- a pass that may be passed now
   passed_is : lets_pass (first_found pass g.found) word ≡ true → looked_at g pass word ≡ record g { passed = g.passed ++ pass ∷ [] }
@@ -106,24 +116,29 @@ module _ (g : Looks) (s : Shown) (pass word : ℕ) (low : pass < 32) (keeps : Ke
                 get_other s.passed pass n true other.1 ∙ (keeps n small).1 ∙ ap Some (sym is)
           ]
 
-  -- a pass that may not, and was noted before
+  -- a pass that may not: the word is noted
+  noted_is : lets_pass (first_found pass g.found) word ≡ false → looked_at g pass word ≡ record g { found = g.found ++ record { pass = pass; word = word } ∷ [] }
+  noted_is lets = rw (new, lets) refl
+
+  -- where one was noted before, the first one stays
   pub noted_kept : lets_pass (first_found pass g.found) word ≡ false → is_some (first_found pass g.found) ≡ true → KeepsLooks (looked_at g pass word) s
-  noted_kept lets some =
-      let is : looked_at g pass word ≡ g = rw (new, lets, some) refl in
-      subst (λ (l : Looks). KeepsLooks l s) (sym is) keeps
+  noted_kept lets some n small =
+      subst (λ (l : Looks). (slice_get s.first n ≡ Some (first_found n l.found)) × (slice_get s.passed n ≡ Some (has n l.passed))) (sym (noted_is lets))
+      ((keeps n small).0 ∙ ap Some (sym first_stays), (keeps n small).1)
+    where
+      first_stays : first_found n (g.found ++ record { pass = pass; word = word } ∷ []) ≡ first_found n g.found
+      first_stays =
+          elim (eqb_tells n pass) as (λ _. first_found n (g.found ++ record { pass = pass; word = word } ∷ []) ≡ first_found n g.found) [
+            | inl same ↦ found_there n (record { pass = pass; word = word }) g.found (ap (λ k. is_some (first_found k g.found)) same.1 ∙ some)
+            | inr other ↦ found_kept n (record { pass = pass; word = word }) g.found (λ e. other.1 (sym e))
+          ]
 
   -- and one that was not
   pub first_kept : lets_pass (first_found pass g.found) word ≡ false → first_found pass g.found ≡ None → KeepsLooks (looked_at g pass word) (record s { first = set s.first pass (Some word) })
   first_kept lets none n small =
-      subst (λ (l : Looks). (slice_get (set s.first pass (Some word)) n ≡ Some (first_found n l.found)) × (slice_get s.passed n ≡ Some (has n l.passed))) (sym is)
+      subst (λ (l : Looks). (slice_get (set s.first pass (Some word)) n ≡ Some (first_found n l.found)) × (slice_get s.passed n ≡ Some (has n l.passed))) (sym (noted_is lets))
       (by_pass, (keeps n small).1)
     where
-      no_word : is_some (first_found pass g.found) ≡ false
-      no_word = ap is_some none
-
-      is : looked_at g pass word ≡ record g { found = g.found ++ record { pass = pass; word = word } ∷ [] }
-      is = rw (new, lets, no_word) refl
-
       by_pass : slice_get (set s.first pass (Some word)) n ≡ Some (first_found n (g.found ++ record { pass = pass; word = word } ∷ []))
       by_pass =
           elim (eqb_tells n pass) as (λ _. slice_get (set s.first pass (Some word)) n ≡ Some (first_found n (g.found ++ record { pass = pass; word = word } ∷ []))) [

@@ -9,7 +9,7 @@ ghost use Rattle.client_run.specs.Listing.{HasPageInRange};
 
 use bucket_terms::{KeyPass, ListQuery, Placed, PlainPass, Reply};
 use client_run::{Gate, OpenGate, next_query, run_client};
-use key_map::{Done, Pair, PassError, PassSize};
+use key_map::{Done, New, Pair, PassError, PassSize};
 use key_names::Directory;
 use request_lines::{ClientPart, MAX_INPUT_BYTES, Session, read_session};
 use std::alloc::Global;
@@ -17,6 +17,9 @@ use std::sync::Wait;
 use std::test::Fail;
 
 mod gates;
+
+// The number of the pass.
+const CLIENT: u32 = 3;
 
 const PLENTY: u32 = 1000;
 
@@ -46,6 +49,17 @@ impl<W: Watch> KeyPass for Watched<'_, W> {
     fn put<Rt: Wait>(&mut self, rt: &Rt, line: u32, key: u64, val: u64) -> Result<Done, PassError> {
         self.watch.called();
         self.pass.put(rt, line, key, val)
+    }
+
+    fn put_new<Rt: Wait>(
+        &mut self,
+        rt: &Rt,
+        line: u32,
+        key: u64,
+        val: u64,
+    ) -> Result<New, PassError> {
+        self.watch.called();
+        self.pass.put_new(rt, line, key, val)
     }
 
     fn remove<Rt: Wait>(&mut self, rt: &Rt, line: u32, key: u64) -> Result<Done, PassError> {
@@ -123,7 +137,7 @@ fn run_part<G: Gate + Watch, Rt: Wait>(
         calls: part.writes(),
     };
     let mut pass = Watched {
-        pass: PlainPass::new(alloc, 0, size)?,
+        pass: PlainPass::new(alloc, CLIENT, size)?,
         watch: gate,
     };
     Ok(run_client(rt, alloc, &mut pass, part, dir, gate)?)
@@ -149,6 +163,29 @@ fn refuses_updates_without_slots(rt: HostRuntime) -> Result<(), Fail> {
     assert!(rt; matches!(refused.reply, Reply::NoSlot));
     assert!(rt; matches!(kept.reply, Reply::NoSlot));
     assert!(rt; matches!(found.reply, Reply::Found { val: 0 }));
+    Ok(())
+}
+
+// A PUTNEW of a key that is there takes no slot, and is refused without one all the same.
+#[test]
+fn keeps_a_key_that_is_there(rt: HostRuntime) -> Result<(), Fail> {
+    let text = "CLIENT\nPUTNEW a 1 e1 1\nPUTNEW a 2 e2 2\nPUTNEW b 3 e3 3\nPUTNEW a 4 e4 4\n";
+    let ran = run(&rt, rt.alloc(), text, 2, &OpenGate)?;
+    let [made, kept, other, refused] = ran.replies.as_slice() else {
+        return Err("not four replies".into());
+    };
+    assert_eq!(rt;
+        (made.line, made.at, kept.line, kept.at),
+        (2, Some(1), 3, Some(1))
+    );
+    assert_eq!(rt;
+        (other.line, other.at, refused.line, refused.at),
+        (4, Some(2), 5, None)
+    );
+    assert!(rt; matches!(made.reply, Reply::Put { was: false }));
+    assert!(rt; matches!(kept.reply, Reply::Exists));
+    assert!(rt; matches!(other.reply, Reply::Put { was: false }));
+    assert!(rt; matches!(refused.reply, Reply::NoSlot));
     Ok(())
 }
 

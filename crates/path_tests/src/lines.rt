@@ -60,6 +60,17 @@ fn largest_numbers_of_a_reply(rt: HostRuntime) -> Result<(), Fail> {
     )
 }
 
+#[test]
+fn a_key_that_is_there_keeps_a_put_out(rt: HostRuntime) -> Result<(), Fail> {
+    answers(
+        &rt,
+        rt.alloc(),
+        Some(0),
+        Reply::Exists,
+        "{\"At\":0,\"Client\":4294967295,\"Line\":4294967295,\"Status\":412}\n",
+    )
+}
+
 // No session of the program comes to it.
 #[test]
 fn no_slot_is_left(rt: HostRuntime) -> Result<(), Fail> {

@@ -1,7 +1,7 @@
 // Answers of a plain pass, written by hand from the definitions; tests/rows.py has rows of pages and queries.
-use crate::steps::{put, remove, snapshot};
+use crate::steps::{put, put_new, remove, snapshot};
 use bucket_terms::{KeyPass, PlainPass};
-use key_map::{Change, Done, Pair, PassError, PassSize, Update};
+use key_map::{Change, Done, New, Pair, PassError, PassSize, Update};
 use std::test::Fail;
 
 const fn size(nodes: u32, entries: u32, calls: u32) -> PassSize {
@@ -75,6 +75,34 @@ fn wants_a_node_slot_for_every_update(rt: HostRuntime) -> Result<(), Fail> {
     assert_eq!(rt; remove(&rt, &mut pass, 5, 6), Err(PassError::NoSlot));
     assert_eq!(rt; pass.updates().len(), 1);
     assert_eq!(rt; snapshot(&rt, &mut pass, 0), (1, Some(pair(5, 50))));
+    Ok(())
+}
+
+// The slots are looked at before the key is, so a key that is there makes no difference.
+#[test]
+fn puts_a_new_key_alone(rt: HostRuntime) -> Result<(), Fail> {
+    let mut pass = PlainPass::new(rt.alloc(), 0, size(2, 4, 3))?;
+    assert_eq!(rt; put_new(&rt, &mut pass, 1, 5, 50), Ok(New::Made { at: 1 }));
+    assert_eq!(rt; put_new(&rt, &mut pass, 2, 5, 51), Ok(New::Kept { at: 1 }));
+    assert_eq!(rt; snapshot(&rt, &mut pass, 0), (1, Some(pair(5, 50))));
+    assert_eq!(rt; put_new(&rt, &mut pass, 3, 6, 60), Ok(New::Made { at: 2 }));
+    assert_eq!(rt; put_new(&rt, &mut pass, 4, 6, 61), Err(PassError::NoSlot));
+    assert_eq!(rt; put_new(&rt, &mut pass, 5, 7, 70), Err(PassError::NoSlot));
+    assert_eq!(rt; snapshot(&rt, &mut pass, 6), (2, Some(pair(6, 60))));
+    let mut spent = PlainPass::new(rt.alloc(), 0, size(2, 4, 0))?;
+    assert_eq!(rt; put_new(&rt, &mut spent, 1, 5, 50), Err(PassError::Spent));
+    Ok(())
+}
+
+// A removed key is new again, with the call that is left.
+#[test]
+fn puts_a_removed_key_anew(rt: HostRuntime) -> Result<(), Fail> {
+    let mut pass = PlainPass::new(rt.alloc(), 0, size(2, 4, 3))?;
+    assert_eq!(rt; put(&rt, &mut pass, 1, 5, 50), done(1, false));
+    assert_eq!(rt; remove(&rt, &mut pass, 2, 5), done(2, true));
+    assert_eq!(rt; put_new(&rt, &mut pass, 3, 5, 51), Ok(New::Made { at: 3 }));
+    assert_eq!(rt; put_new(&rt, &mut pass, 4, 5, 52), Err(PassError::Spent));
+    assert_eq!(rt; snapshot(&rt, &mut pass, 0), (3, Some(pair(5, 51))));
     Ok(())
 }
 

@@ -68,6 +68,29 @@ fn counts_writes(rt: HostRuntime) -> Result<(), Fail> {
     Ok(())
 }
 
+// A PUTNEW line is a write, with a name and a record of its own.
+#[test]
+fn reads_puts_of_new_keys(rt: HostRuntime) -> Result<(), Fail> {
+    let session = read(
+        rt.alloc(),
+        "CLIENT\nPUT b 1 e1 1\nPUTNEW a 2 e2 2\nDELETE a\nPUTNEW a 3 e3 3\n",
+    )?;
+    assert_eq!(rt;
+        (session.names.len(), session.records.as_slice().len()),
+        (4, 3)
+    );
+    let clients = session.clients.as_slice();
+    assert_eq!(rt; clients.len(), 1);
+    let requests = clients[0].requests.as_slice();
+    assert_eq!(rt; requests.len(), 4);
+    assert_eq!(rt; clients[0].writes(), 4);
+    let Request::PutNew { name, val } = &requests[3].request else {
+        panic!(rt; "line 5 is no put of a new key")
+    };
+    assert_eq!(rt; (name.as_str(), *val), ("a", 2));
+    Ok(())
+}
+
 const THREE_CLIENTS: &str = "CLIENT\nPUT a 1 e1 1\n\nCLIENT\nCLIENT\nNEXT\nPUT a 2 e2 2\n";
 
 // The parts of three clients, of which the second asks nothing.

@@ -2,7 +2,7 @@
 ghost use Rattle.std.specs.Prelude.{◌≡◌, None};
 
 use bucket_terms::KeyPass;
-use key_map::{Done, Pair, PassError};
+use key_map::{Done, New, Pair, PassError};
 use std::sync::Wait;
 
 pub(crate) fn put<P: KeyPass>(
@@ -17,6 +17,22 @@ pub(crate) fn put<P: KeyPass>(
 {
     match pass.put(rt, line, key, val) {
         Ok(done) => Ok(done),
+        Err(error) => Err(error),
+    }
+}
+
+pub(crate) fn put_new<P: KeyPass>(
+    rt: &impl Wait,
+    pass: &mut P,
+    line: u32,
+    key: u64,
+    val: u64,
+) -> Result<New, PassError>
+    requires { (P.view pass.old).opened ≡ None }
+    ensures { (P.view pass.new).opened ≡ None }
+{
+    match pass.put_new(rt, line, key, val) {
+        Ok(answer) => Ok(answer),
         Err(error) => Err(error),
     }
 }

@@ -56,7 +56,7 @@ same-held v w same = record { maps = same ∙ map-id v.held.nodes; node = λ h. 
 
 module _ (v : View) (fs : List Filled) where
   pub filled-keeps-pass : KeepsPass v (with_filled v fs)
-  filled-keeps-pass = record { layout = refl; joined = refl; number = refl; word = refl; announced = refl; history = refl; section = refl; opened = refl; tree = refl; nodes = refl; retired = refl; batch = refl; raised = refl; taken = refl }
+  filled-keeps-pass = record { layout = refl; joined = refl; number = refl; word = refl; announced = refl; history = refl; section = refl; opened = refl; least = refl; tree = refl; nodes = refl; retired = refl; batch = refl; raised = refl; taken = refl }
 
   filled-looked : (n : ℕ) (plan : Plan) (entries : List ℕ) (done : ℕ) → HasLooked v n plan entries done → HasLooked (with_filled v fs) n plan entries done
   filled-looked n plan entries done h =

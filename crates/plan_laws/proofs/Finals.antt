@@ -16,7 +16,7 @@ use Rattle.core_updates.specs.Plans.{fresh_to, locks_of, out_of, fronts_of, new_
 use Rattle.core_updates.specs.PlanEvents.{IsLockOf}
 use Rattle.core_updates.proofs.PlanLocks.{locks_law}
 use Rattle.plan_laws.specs.Fills.{AreApart}
-use Rattle.plan_laws.specs.Raises.{fresh_entry, fresh_entries, raised_entries, FinaliseStepLaw, FinaliseEndLaw, MarkStepLaw, MarkEndLaw}
+use Rattle.plan_laws.specs.Raises.{fresh_entry, fresh_entries, raised_entries, FinaliseStepLaw, FinaliseEndLaw, MarkStartLaw, MarkStepLaw, MarkEndLaw}
 use Rattle.plan_laws.proofs.Items.{drop-got, got-every, got-counts, map-keeps, take-got, take-past}
 use Rattle.plan_laws.proofs.HeldMaps.{mark-node}
 use Rattle.plan_laws.proofs.Tries.{no_slots}
@@ -147,6 +147,14 @@ finalise_step z v seat n plan slots place done entry h apart is =
         raised = h.raised;
         taken = h.taken;
         pending = ap (without entry) here ∙ without-first entry (drop (done + 1) xs) once;
+        reads = h.reads;
+        unmarked = λ place front at. record {
+          place = (h.unmarked place front at).place;
+          held = (h.unmarked place front at).held;
+          at = (h.unmarked place front at).at;
+          node_is = (h.unmarked place front at).node_is;
+          is = (h.unmarked place front at).is;
+        };
       };
       keeps = record { layout = refl; joined = refl; number = refl; history = refl; counts = refl; free = refl; retired = refl; batch = refl };
     }
@@ -160,6 +168,19 @@ finalise_end v n plan slots place done h none' = record {
   locked = h.locked;
   taken = h.taken;
   idle = h.pending ∙ drop_all done (raised_entries plan slots) (got-none (raised_entries plan slots) done none');
+  reads = h.reads;
+  unmarked = h.unmarked;
+}
+
+pub mark_start : MarkStartLaw
+mark_start v n plan slots h = record {
+  live = h.live;
+  own = h.own;
+  inside = h.inside;
+  once = h.once;
+  locked = h.locked;
+  taken = h.taken;
+  idle = h.idle;
   marked = none-taken v.held.nodes;
 }
 

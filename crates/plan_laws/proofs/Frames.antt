@@ -4,10 +4,9 @@ use Rattle.std.specs.Prelude.{◌==◌}
 use Rattle.index_words.specs.declared.view.View.{View}
 use Rattle.index_words.specs.declared.view.history.Counts.{Counts}
 use Rattle.index_words.specs.declared.word.Field.TheVariants.{Key, Val}
-use Rattle.key_map.specs.Lists.{has}
 use Rattle.core_grace.specs.Sections.{is_even}
 use Rattle.core_events.specs.FillMoves.{filled_with, with_filled}
-use Rattle.core_events.specs.LoadMoves.{raised_if, head_loaded, ts_loaded, has_moved, stored_by}
+use Rattle.core_events.specs.LoadMoves.{raised_if, head_loaded, ts_loaded, meets_pending, has_moved, stored_by}
 use Rattle.core_events.specs.LockMoves.{locked_view, met_lock, mark_loaded, pair_loaded, names_other, finds_mark}
 use Rattle.plan_laws.specs.Frames.{KeepsTry, CountsGrow, StepsKeepLaw, KeepsPassLaw, KeepsTryLaw, KeepsOwnedLaw}
 use Rattle.plan_laws.proofs.Tries.{locked-keeps, met-keeps}
@@ -60,7 +59,7 @@ steps_keep v = record {
     free = refl;
     grown = moves-grow v (head_loaded v node side entry number) (has_moved v.reading.links node side entry && not (stored_by v entry number)) refl;
   };
-  number = λ entry x. record { pass = number-keeps-pass v entry x; free = refl; grown = waits-grow v (ts_loaded v entry x) (x == 0 && not (has entry v.update.pending)) refl };
+  number = λ entry x. record { pass = number-keeps-pass v entry x; free = refl; grown = waits-grow v (ts_loaded v entry x) (meets_pending v entry x) refl };
   key = λ node x. record { pass = key-keeps-pass v node x; free = refl; grown = same-counts v (pair_loaded v Key node x) refl };
   val = λ node x. record { pass = val-keeps-pass v node x; free = refl; grown = same-counts v (pair_loaded v Val node x) refl };
   filled = λ w x inside. subst (KeepsTry v) (sym (filled-is v w x (is_even v.section_word) inside))
@@ -74,6 +73,7 @@ steps_keep v = record {
     history = refl;
     section = refl;
     opened = refl;
+    least = refl;
     tree = refl;
     nodes = refl;
     retired = refl;
@@ -93,6 +93,7 @@ keeps_pass u v w a b = record {
   history = b.history ∙ a.history;
   section = b.section ∙ a.section;
   opened = b.opened ∙ a.opened;
+  least = b.least ∙ a.least;
   tree = b.tree ∙ a.tree;
   nodes = b.nodes ∙ a.nodes;
   retired = b.retired ∙ a.retired;

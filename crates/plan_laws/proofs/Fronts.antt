@@ -200,7 +200,7 @@ module _ (v : View) (n : ℕ) (plan : Plan) (slots : PlanSlots) (entries : List 
   found = slice_index entries (look_of_front done)
 
   pub prepared-keeps-pass : KeepsPass v w
-  prepared-keeps-pass = record { layout = refl; joined = refl; number = refl; word = refl; announced = refl; history = refl; section = refl; opened = refl; tree = refl; nodes = refl; retired = refl; batch = refl; raised = refl; taken = refl }
+  prepared-keeps-pass = record { layout = refl; joined = refl; number = refl; word = refl; announced = refl; history = refl; section = refl; opened = refl; least = refl; tree = refl; nodes = refl; retired = refl; batch = refl; raised = refl; taken = refl }
 
   held : MapsHeld change v w
   held = record { maps = refl; node = known-node f.at.node f.at.side stored }

@@ -36,6 +36,7 @@ making-kept v w n plan keeps m = record {
   };
   number = m.number;
   section = keeps.section ∙ m.section;
+  least = keeps.least ∙ m.least;
   own = subst (λ h. Every (λ at. at ≤ m.number) h.mine) (sym keeps.history) m.own;
   unraised = keeps.raised ∙ m.unraised;
   untaken = keeps.taken ∙ m.untaken;

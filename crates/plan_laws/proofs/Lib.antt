@@ -22,6 +22,7 @@ pub mod Fronts
 pub mod Releases
 -- The raise of a plan.
 pub mod Raises
+pub mod Prunes
 -- What follows the raise.
 pub mod Finals
 -- The tree that a seat reads names each of its nodes once.

@@ -68,19 +68,19 @@ look-more v n plan entries done look h is found = record {
 -- the views after the loads
 module _ (v : View) where
   pub mark-keeps-pass : (k x : ℕ) → KeepsPass v (mark_loaded v k x)
-  mark-keeps-pass k x = record { layout = refl; joined = refl; number = refl; word = refl; announced = refl; history = refl; section = refl; opened = refl; tree = refl; nodes = refl; retired = refl; batch = refl; raised = refl; taken = refl }
+  mark-keeps-pass k x = record { layout = refl; joined = refl; number = refl; word = refl; announced = refl; history = refl; section = refl; opened = refl; least = refl; tree = refl; nodes = refl; retired = refl; batch = refl; raised = refl; taken = refl }
 
   pub head-keeps-pass : (k e number : ℕ) (side : Side) → KeepsPass v (head_loaded v k side e number)
-  head-keeps-pass k e number side = record { layout = refl; joined = refl; number = refl; word = refl; announced = refl; history = refl; section = refl; opened = refl; tree = refl; nodes = refl; retired = refl; batch = refl; raised = refl; taken = refl }
+  head-keeps-pass k e number side = record { layout = refl; joined = refl; number = refl; word = refl; announced = refl; history = refl; section = refl; opened = refl; least = refl; tree = refl; nodes = refl; retired = refl; batch = refl; raised = refl; taken = refl }
 
   pub number-keeps-pass : (e x : ℕ) → KeepsPass v (ts_loaded v e x)
-  number-keeps-pass e x = record { layout = refl; joined = refl; number = refl; word = refl; announced = refl; history = refl; section = refl; opened = refl; tree = refl; nodes = refl; retired = refl; batch = refl; raised = refl; taken = refl }
+  number-keeps-pass e x = record { layout = refl; joined = refl; number = refl; word = refl; announced = refl; history = refl; section = refl; opened = refl; least = refl; tree = refl; nodes = refl; retired = refl; batch = refl; raised = refl; taken = refl }
 
   pub key-keeps-pass : (k x : ℕ) → KeepsPass v (pair_loaded v Key k x)
-  key-keeps-pass k x = record { layout = refl; joined = refl; number = refl; word = refl; announced = refl; history = refl; section = refl; opened = refl; tree = refl; nodes = refl; retired = refl; batch = refl; raised = refl; taken = refl }
+  key-keeps-pass k x = record { layout = refl; joined = refl; number = refl; word = refl; announced = refl; history = refl; section = refl; opened = refl; least = refl; tree = refl; nodes = refl; retired = refl; batch = refl; raised = refl; taken = refl }
 
   pub val-keeps-pass : (k x : ℕ) → KeepsPass v (pair_loaded v Val k x)
-  val-keeps-pass k x = record { layout = refl; joined = refl; number = refl; word = refl; announced = refl; history = refl; section = refl; opened = refl; tree = refl; nodes = refl; retired = refl; batch = refl; raised = refl; taken = refl }
+  val-keeps-pass k x = record { layout = refl; joined = refl; number = refl; word = refl; announced = refl; history = refl; section = refl; opened = refl; least = refl; tree = refl; nodes = refl; retired = refl; batch = refl; raised = refl; taken = refl }
 
   mark-held : (k x : ℕ) → MapsHeld (mark_known k x) v (mark_loaded v k x)
   mark-held k x = record { maps = refl; node = mark-node k x }
@@ -169,7 +169,7 @@ mark_look z v seat n plan entries done child at h is =
     }
 
 -- the head that is found under the lock of an unmarked node
-head-found : (v : View) (at : Link) (e number : ℕ) → IsUnmarked v at.node → HoldsEntry (head_loaded v at.node at.side e number) at e
+pub head-found : (v : View) (at : Link) (e number : ℕ) → IsUnmarked v at.node → HoldsEntry (head_loaded v at.node at.side e number) at e
 head-found v at e number u =
     let known = found-is at.node e at.side u.held u.node_is in
     record {

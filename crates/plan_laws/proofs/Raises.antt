@@ -1,12 +1,13 @@
 -- The raise of a plan.
-use Rattle.std.proofs.Common.{◌≡◌, ℕ, ◌<◌, [], ◌∷◌, ◌++◌, Bool, true, false, cond, refl, ap, sym, ◌∙◌, arith, Some, None}
-use Rattle.std.specs.Prelude.{IfSome, ◌==◌}
+use Rattle.std.proofs.Common.{◌≡◌, ℕ, ◌<◌, [], ◌∷◌, ◌++◌, Bool, true, false, cond, refl, ap, sym, ◌∙◌, subst, arith, Option, Some, None}
+use Rattle.std.specs.Prelude.{IfSome, is_some, ◌==◌}
 use Rattle.std.specs.List.{slice_get}
 use Rattle.std.proofs.lemmas.Bool.{ne_eqb}
 use Rattle.index_words.specs.declared.side.Side.TheVariants.{Left, Right}
 use Rattle.index_words.specs.declared.view.View.{View}
 use Rattle.index_words.specs.declared.word.Field.TheVariants.{Head}
 use Rattle.index_words.specs.declared.word.Word.TheVariants.{Node}
+use Rattle.key_map.specs.Lists.{Every}
 use Rattle.core_events.specs.Tables.{Table, held_by}
 use Rattle.core_events.specs.TreeMoves.{new_entries}
 use Rattle.core_events.specs.UpdateMoves.{listed_entry}
@@ -16,12 +17,18 @@ use Rattle.core_laws.proofs.Laws.{filled_known}
 use Rattle.core_updates.specs.declared.plan.Plan.{Plan}
 use Rattle.core_updates.specs.declared.plan.Plan.TheVariants.{Grow, Replace, Lift, Join}
 use Rattle.core_updates.specs.declared.plan.PlanSlots.{PlanSlots}
+use Rattle.core_updates.specs.declared.plan.Front.{Front}
+use Rattle.core_updates.specs.declared.plan.Look.TheVariants.{Link as LinkLook}
 use Rattle.core_updates.specs.declared.plan.NewNode.{NewNode}
-use Rattle.core_updates.specs.PlanReady.{HoldsNewNode}
-use Rattle.core_updates.specs.Plans.{head_of, fresh_to, new_node_of, slot_of}
+use Rattle.core_updates.specs.PlanReady.{HoldsLook, HoldsNewNode}
+use Rattle.core_updates.specs.Plans.{fronts_of, head_of, fresh_to, looks_of, new_node_of, slot_of}
 use Rattle.core_updates.proofs.PlansRaise.{plan_may_raise}
 use Rattle.plan_laws.specs.Fills.{AreApart}
-use Rattle.plan_laws.specs.Raises.{fresh_entry, fresh_entries, RaiseStepLaw}
+use Rattle.plan_laws.specs.Looks.{IsUnmarked}
+use Rattle.plan_laws.specs.Places.{look_of_front}
+use Rattle.plan_laws.specs.Raises.{fresh_entry, fresh_entries, raised_at, update_by, RaiseStepLaw}
+use Rattle.plan_laws.proofs.Apart.{front_looks}
+use Rattle.plan_laws.proofs.Items.{got-every}
 
 -- a head is listed where it is an entry
 fresh-listed : (e child : ℕ) → 0 < e → listed_entry (head_of (fresh_to e child)) ≡ fresh_entry (fresh_to e child)
@@ -60,6 +67,16 @@ module _ (t : Table) (right : IsRight t) (seat : ℕ) (v : View) (at : slice_get
       let high : ℕ = cond (p.next.at.node == p.node) p.next.right p.right in
       of-node (record { slot = slots.node; pair = p.next.pair; left = fresh_to slots.left p.left; right = fresh_to slots.right high }) p.left high refl refl h
 
+-- the node of a front was found unmarked, and the raise leaves what is known of locked nodes
+front-unmarked : (v : View) (plan : Plan) (slots : PlanSlots) → Every (HoldsLook v) (looks_of plan) → (place : ℕ) (f : Front) → slice_get (fronts_of plan slots) place ≡ Some f → IsUnmarked v f.at.node
+front-unmarked v plan slots looks place f is =
+    let at = front_looks plan slots place f is in
+    let holds : HoldsLook v (LinkLook f.at at.0) = got-every (HoldsLook v) (looks_of plan) (look_of_front place) (LinkLook f.at at.0) looks at.1 in
+    record { place = holds.head.place; held = holds.head.held; at = holds.head.at; node_is = holds.head.node_is; is = holds.unmarked }
+
+as-raised : (t : Table) (n line : ℕ) (v : View) (plan : Plan) (f : Front) → IsUnmarked v f.at.node → IsUnmarked (raised_at t v (update_by n line plan)) f.at.node
+as-raised t n line v plan f u = record { place = u.place; held = u.held; at = u.at; node_is = u.node_is; is = u.is }
+
 pub raise_step : RaiseStepLaw
 raise_step t seat n line v plan slots right at r apart can =
     let raises = plan_may_raise t.layout v n line plan slots can r.ready in
@@ -74,6 +91,8 @@ raise_step t seat n line v plan slots right at r apart can =
         locked = r.locked;
         raised = refl;
         taken = moves.taken_is;
+        reads = subst (λ (o : Option ℕ). is_some o ≡ true) (sym r.making.section) refl;
+        unmarked = λ place front is. as-raised t n line v plan front (front-unmarked v plan slots r.ready.looks place front is);
         pending = (λ i. r.ready.pending i ++ (moves.entries_are ∙ entries-are t right seat v at slots apart plan r.ready.new) i);
       };
     }

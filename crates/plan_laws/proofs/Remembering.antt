@@ -99,7 +99,7 @@ child-stays v (Gap node side) child place l at = at
 
 same-try : (v : View) → KeepsTry v v
 same-try v = record {
-  pass = record { layout = refl; joined = refl; number = refl; word = refl; announced = refl; history = refl; section = refl; opened = refl; tree = refl; nodes = refl; retired = refl; batch = refl; raised = refl; taken = refl };
+  pass = record { layout = refl; joined = refl; number = refl; word = refl; announced = refl; history = refl; section = refl; opened = refl; least = refl; tree = refl; nodes = refl; retired = refl; batch = refl; raised = refl; taken = refl };
   free = refl;
   grown = same-counts v v refl;
 }
@@ -108,7 +108,7 @@ next-stays : (v : View) (p : Place) (e next : ℕ) → StaysRemembered v (next_a
 next-stays v Nowhere e next = stays v v (same-try v) (same-links v v refl)
 next-stays v (AtEntry node side entry found) e next =
     stays v (next_at v (AtEntry node side entry found) e next)
-    (record { pass = record { layout = refl; joined = refl; number = refl; word = refl; announced = refl; history = refl; section = refl; opened = refl; tree = refl; nodes = refl; retired = refl; batch = refl; raised = refl; taken = refl }; free = refl; grown = same-counts v (next_at v (AtEntry node side entry found) e next) refl })
+    (record { pass = record { layout = refl; joined = refl; number = refl; word = refl; announced = refl; history = refl; section = refl; opened = refl; least = refl; tree = refl; nodes = refl; retired = refl; batch = refl; raised = refl; taken = refl }; free = refl; grown = same-counts v (next_at v (AtEntry node side entry found) e next) refl })
     (λ place l at. more-links (next == 0 && is_above v e found) v.reading.links (bundle_link node side 0 0) place l at)
 next-stays v (AtNode node key) e next = stays v v (same-try v) (same-links v v refl)
 next-stays v (Gap node side) e next = stays v v (same-try v) (same-links v v refl)
@@ -119,7 +119,7 @@ loads_remember v = record {
       (λ place l at. more-links (entry == 0) v.reading.links (bundle_link node side 0 0) place l at);
   number = λ entry x. stays v (ts_loaded v entry x) ((steps_keep v).number entry x) (same-links v (ts_loaded v entry x) refl);
   child = λ child. stays v (ptr_loaded v child)
-      (record { pass = record { layout = refl; joined = refl; number = refl; word = refl; announced = refl; history = refl; section = refl; opened = refl; tree = refl; nodes = refl; retired = refl; batch = refl; raised = refl; taken = refl }; free = refl; grown = same-counts v (ptr_loaded v child) refl })
+      (record { pass = record { layout = refl; joined = refl; number = refl; word = refl; announced = refl; history = refl; section = refl; opened = refl; least = refl; tree = refl; nodes = refl; retired = refl; batch = refl; raised = refl; taken = refl }; free = refl; grown = same-counts v (ptr_loaded v child) refl })
       (child-stays v v.reading.place child);
   next = λ entry next. next-stays v v.reading.place entry next;
   key = λ node x. stays v (pair_loaded v Key node x) ((steps_keep v).key node x) (same-links v (pair_loaded v Key node x) refl);

@@ -125,7 +125,7 @@ some_is : {X : Type 0} (P : X → Type 0) (o : Option X) (x : X) → o ≡ Some 
 some_is P o x is holds = subst (λ u. IfSome u P) is holds
 
 pub searched : SearchedLaw
-searched t i n number v plan entries right at r section seen bare unretired known =
+searched t i n number v plan entries right at r section least seen bare unretired known =
     let own = seat_at t.layout (held_by t) t.views right.meaning i v at right.rule in
     let idle : v.update ≡ no_update = own.section.done bare in
     let tree = seen_tree t i number v r.tree right at section r.read in
@@ -145,6 +145,7 @@ searched t i n number v plan entries right at r section seen bare unretired know
         reads = r;
         number = number;
         section = section;
+        least = least;
         own = subst (Every (λ p. p ≤ number)) (sym mine) (every-to (λ p. (1 ≤ p) × (p < number + 1)) (λ p. p ≤ number) (own_places n v.history.seen)
             (λ p within. omega (arith, within.1)) (places_within n 1 (number + 1) v.history.seen (omega (arith, seen))));
         unraised = ap (λ (u : Updating). u.raised) idle;

@@ -1,11 +1,14 @@
 -- A try locks the nodes of its plan.
-use Rattle.std.proofs.Common.{ℕ, ◌+◌, ◌<◌, List, [], ◌∷◌, ◌++◌, take, refl, ap, sym, ◌∙◌, subst, arith, ◌≡◌, Some, slice_index}
+use Rattle.std.proofs.Common.{ℕ, ◌+◌, ◌<◌, List, [], ◌∷◌, ◌++◌, take, refl, ap, sym, ◌∙◌, subst, arith, ◌≡◌, Some, inl, inr, slice_index}
+use Rattle.std.proofs.lemmas.Bool.{cases_lt}
+use Rattle.std.proofs.lemmas.Bool.Decides.{eqb_tells}
 use Rattle.index_words.specs.declared.layout.Layout.{Layout}
 use Rattle.index_words.specs.declared.view.View.{View}
 use Rattle.index_words.specs.declared.view.update.HeldNode.{HeldNode}
 use Rattle.index_words.specs.declared.view.update.Updating.{Updating}
 use Rattle.index_words.specs.declared.word.Field.TheVariants.{Lock, Mark, Head}
-use Rattle.index_words.specs.declared.word.Word.TheVariants.{Node}
+use Rattle.index_words.specs.declared.word.Part.TheVariants.{Stamp as Number}
+use Rattle.index_words.specs.declared.word.Word.TheVariants.{Node, Entry}
 use Rattle.index_words.specs.Words.{word_at}
 use Rattle.key_map.specs.Lists.{count}
 use Rattle.core_events.specs.declared.event.Kind.TheVariants.{TryLock, LoadMark}
@@ -13,17 +16,18 @@ use Rattle.core_events.specs.LoadMoves.{risen}
 use Rattle.core_events.specs.Tables.{held_by}
 use Rattle.core_events.specs.LockMoves.{locked_view, met_lock, just_locked}
 use Rattle.core_invariant.specs.Readers.{IsLocked}
-use Rattle.core_laws.specs.Counts.{RemembersOther}
+use Rattle.core_laws.specs.Counts.{FindsMark, RemembersOther}
 use Rattle.core_laws.specs.ViewNeeds.{May, event_at}
+use Rattle.core_laws.proofs.Alone.{nothing}
 use Rattle.core_updates.specs.declared.plan.Plan.{Plan}
 use Rattle.core_updates.specs.declared.plan.PlanSlots.{PlanSlots}
 use Rattle.core_updates.specs.declared.plan.Look.TheVariants.{Link as LinkLook}
 use Rattle.core_updates.specs.Plans.{locks_of}
 use Rattle.core_trees.specs.declared.link.Link.{Link}
 use Rattle.core_updates.specs.PlanEvents.{AllowsPlan}
-use Rattle.core_updates.proofs.PlanSteps.{events_law, failures_law}
+use Rattle.core_updates.proofs.PlanSteps.{events_law, meets_law, failures_law}
 use Rattle.plan_laws.specs.Frames.{KeepsPass}
-use Rattle.plan_laws.specs.Tries.{IsTrying, LockStepLaw, LockEndLaw, TryReadsLaw, RemembersLink, TryFailsLaw}
+use Rattle.plan_laws.specs.Tries.{IsTrying, LockStepLaw, LockEndLaw, TryReadsLaw, RemembersLink, TryFailsLaw, TryAloneLaw}
 use Rattle.plan_laws.proofs.Items.{map-append, every-counted, got-counts, not-yet, take-got, take-past}
 use Rattle.plan_laws.proofs.Kept.{making-kept, remembered-kept, same-links}
 
@@ -45,6 +49,7 @@ module _ (v : View) (k : ℕ) where
     history = refl;
     section = refl;
     opened = refl;
+    least = refl;
     tree = refl;
     nodes = refl;
     retired = refl;
@@ -63,6 +68,7 @@ module _ (v : View) (k : ℕ) where
     history = refl;
     section = refl;
     opened = refl;
+    least = refl;
     tree = refl;
     nodes = refl;
     retired = refl;
@@ -138,4 +144,28 @@ try_fails t e v w n plan entries nodes right met before behind h =
       head = λ place child at look kind word apart.
           counts.head at.node at.side kind word
           (other-entry v at child (slice_index entries place) (held_by t (Node (Head at.side) at.node)) (h.remembered place (LinkLook at child) look) apart);
+    }
+
+pub try_alone : TryAloneLaw
+try_alone t e v n plan entries nodes right one met before h =
+    let reads = try_reads v n plan entries nodes h in
+    let none = nothing t e v right one met before in
+    let meets = meets_law t e v n plan right met before reads.0 reads.1 in
+    record {
+      lock = none.lock;
+      number = λ entry kind word.
+          elim (cases_lt 0 (held_by t (Entry Number entry))) as (λ _. 0 < held_by t (Entry Number entry)) [
+            | inl some ↦ some
+            | inr low ↦ absurd (none.number (meets.number entry kind word (omega (arith, low))))
+          ];
+      mark = λ k locked kind word marked.
+          none.mark (every-counted (λ j. e.kind ≡ LoadMark → word_at t.layout e.word ≡ Some (Node Mark j) → held_by t (Node Mark j) ≡ 1 → count j v.retired.nodes ≡ 0 → FindsMark t e v)
+          (locks_of plan) k meets.mark locked kind word marked (every-counted (λ j. count j v.retired.nodes ≡ 0) (locks_of plan) k h.making.kept locked));
+      head = λ place child at look kind word.
+          let head : ℕ = held_by t (Node (Head at.side) at.node) in
+          elim (eqb_tells head (slice_index entries place)) as (λ _. head ≡ slice_index entries place) [
+            | inl same ↦ same.1
+            | inr other ↦
+                absurd (none.head (meets.head at.node at.side kind word (other-entry v at child (slice_index entries place) head (h.remembered place (LinkLook at child) look) other.1)))
+          ];
     }

@@ -21,6 +21,7 @@ pub record KeepsPass (v w : View) : Type 0 where
   pub history : w.history ≡ v.history
   pub section : w.reading.section ≡ v.reading.section
   pub opened : w.reading.opened ≡ v.reading.opened
+  pub least : w.reading.least ≡ v.reading.least
   pub tree : w.reading.tree ≡ v.reading.tree
   pub nodes : w.free.nodes ≡ v.free.nodes
   pub retired : w.retired ≡ v.retired

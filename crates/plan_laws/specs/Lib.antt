@@ -8,5 +8,6 @@ pub mod Looks
 pub mod Fills
 pub mod Fronts
 pub mod Releases
+pub mod Prunes
 pub mod Raises
 pub mod Answers

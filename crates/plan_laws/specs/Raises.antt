@@ -1,6 +1,6 @@
--- The raise of a plan, and what follows it: the numbers of its entries are written, one after another, and then the nodes that went out
--- are marked. Until both are done no lock is given back.
-use Rattle.std.specs.Prelude.{◌≡◌, ℕ, ◌+◌, ◌<◌, List, [], ◌∷◌, ◌++◌, take, drop, true, false, Option, Some, None}
+-- The raise of a plan, and what follows it: the numbers of its entries are written, one after another, and then, behind
+-- the pruning, the nodes that went out are marked. Until both are done no lock is given back.
+use Rattle.std.specs.Prelude.{◌≡◌, ℕ, ◌+◌, ◌<◌, List, [], ◌∷◌, ◌++◌, take, drop, true, false, Option, Some, None, is_some}
 use Rattle.std.specs.List.{slice_get}
 use Rattle.index_words.specs.declared.layout.Layout.{Layout}
 use Rattle.index_words.specs.declared.view.View.{View}
@@ -31,6 +31,7 @@ use Rattle.plan_laws.specs.Frames.{KeepsOwned}
 use Rattle.plan_laws.specs.Places.{LocksOnce}
 use Rattle.plan_laws.specs.Fills.{AreApart}
 use Rattle.plan_laws.specs.Fronts.{IsReadyToRaise}
+use Rattle.plan_laws.specs.Prunes.{AreUnmarked, HasNumbered}
 use Rattle.plan_laws.specs.Releases.{IsReleasing}
 
 abbrev pub fresh_entry : Option Fresh → List ℕ
@@ -56,6 +57,8 @@ pub record HasFinalised (v : View) (n : ℕ) (plan : Plan) (slots : PlanSlots) (
   pub raised : v.update.raised ≡ Some place
   pub taken : v.update.taken ≡ out_of plan
   pub pending : v.update.pending ≡ drop done (raised_entries plan slots)
+  pub reads : is_some v.reading.section ≡ true
+  pub unmarked : AreUnmarked v plan slots
 
 -- the update of a plan
 abbrev pub update_by : ℕ → ℕ → Plan → Update
@@ -100,7 +103,11 @@ pub record HasMarked (v : View) (n : ℕ) (plan : Plan) (done : ℕ) : Type 0 wh
 abbrev pub FinaliseEndLaw : Type 0
 FinaliseEndLaw =
     (v : View) (n : ℕ) (plan : Plan) (slots : PlanSlots) (place done : ℕ) → HasFinalised v n plan slots place done
-    → slice_get (raised_entries plan slots) done ≡ None → HasMarked v n plan 0
+    → slice_get (raised_entries plan slots) done ≡ None → HasNumbered v n plan slots
+
+-- behind the pruning the nodes may be marked
+abbrev pub MarkStartLaw : Type 0
+MarkStartLaw = (v : View) (n : ℕ) (plan : Plan) (slots : PlanSlots) → HasNumbered v n plan slots → HasMarked v n plan 0
 
 -- the next node may be marked, and then one more is
 pub record MarksNext (z : Layout) (v : View) (seat n : ℕ) (plan : Plan) (done node : ℕ) : Type 0 where

@@ -59,7 +59,7 @@ NoneRetiredLaw =
 abbrev pub SearchedLaw : Type 0
 SearchedLaw =
     (t : Table) (i n number : ℕ) (v : View) (plan : Plan) (entries : List ℕ) → IsRight t → IsItem t.views i v → ReadsPlan v n plan
-    → v.reading.section ≡ Some number → length v.history.seen ≤ number → v.held.nodes ≡ [] → HasNoneRetired v → RemembersLooks v plan entries
+    → v.reading.section ≡ Some number → v.reading.least ≡ Some number → length v.history.seen ≤ number → v.held.nodes ≡ [] → HasNoneRetired v → RemembersLooks v plan entries
     → IsSearched v n plan entries
 
 -- free slots of a seat are above 0

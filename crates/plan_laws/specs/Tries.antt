@@ -36,6 +36,7 @@ pub record IsMaking (v : View) (n : ℕ) (plan : Plan) : Type 0 where
   pub reads : ReadsPlan v n plan
   pub number : ℕ
   pub section : v.reading.section ≡ Some number
+  pub least : v.reading.least ≡ Some number
   pub own : Every (λ at. at ≤ number) v.history.mine
   pub unraised : v.update.raised ≡ None
   pub untaken : v.update.taken ≡ []
@@ -119,3 +120,19 @@ TryFailsLaw =
     (t : Table) (e : Event) (v w : View) (n : ℕ) (plan : Plan) (entries nodes : List ℕ) → IsRight t → allowed t e ≡ true
     → slice_get t.views e.seat ≡ Some v → slice_get (after t e).views e.seat ≡ Some w → IsTrying v n plan entries nodes
     → FailsCounted t e v w plan entries
+
+-- no step of a try fails: no lock is held, each entry has a number, no node of the plan is marked, and the head at a
+-- look is the remembered entry
+pub record FailsNever (t : Table) (e : Event) (plan : Plan) (entries : List ℕ) : Type 0 where
+  pub lock : ¬ MeetsLock t e
+  pub number : (entry : ℕ) → e.kind ≡ LoadTs → word_at t.layout e.word ≡ Some (Entry Number entry) → 0 < held_by t (Entry Number entry)
+  pub mark : (k : ℕ) → 0 < count k (locks_of plan) → e.kind ≡ LoadMark → word_at t.layout e.word ≡ Some (Node Mark k)
+      → ¬ (held_by t (Node Mark k) ≡ 1)
+  pub head : (place child : ℕ) (at : Link) → slice_get (looks_of plan) place ≡ Some (LinkLook at child) → e.kind ≡ LoadHead
+      → word_at t.layout e.word ≡ Some (Node (Head at.side) at.node) → held_by t (Node (Head at.side) at.node) ≡ slice_index entries place
+
+-- so it is on a table of one pass
+abbrev pub TryAloneLaw : Type 0
+TryAloneLaw =
+    (t : Table) (e : Event) (v : View) (n : ℕ) (plan : Plan) (entries nodes : List ℕ) → IsRight t → t.layout.passes ≡ 1 → allowed t e ≡ true
+    → slice_get t.views e.seat ≡ Some v → IsTrying v n plan entries nodes → FailsNever t e plan entries

@@ -2,7 +2,8 @@
 // what is proved.
 ghost use Rattle.plan_laws.specs.Answers.{AnswerLaw, PreparedOwnsLaw, FourEntriesLaw};
 ghost use Rattle.plan_laws.specs.Frames.{StepsKeepLaw, KeepsPassLaw, KeepsTryLaw, KeepsOwnedLaw};
-ghost use Rattle.plan_laws.specs.Raises.{RaiseStepLaw, FinaliseStepLaw, FinaliseEndLaw, MarkStepLaw, MarkEndLaw};
+ghost use Rattle.plan_laws.specs.Prunes.{PruneStepLaw, KeepsPrunedLaw, OwnedIsPrunedLaw};
+ghost use Rattle.plan_laws.specs.Raises.{RaiseStepLaw, FinaliseStepLaw, FinaliseEndLaw, MarkStartLaw, MarkStepLaw, MarkEndLaw};
 ghost use Rattle.plan_laws.specs.Releases.{GiveUpLaw, GiveAllUpLaw, NothingLockedLaw, UnlockStepLaw, UnlockPlaceLaw, UnlockEndLaw, TakesFirstLaw, LeaveStepLaw, TakeBackStepLaw};
 
 /// A seat that is ready for its plan may raise, at the place behind the stamp. Then the numbers of its entries are
@@ -11,8 +12,17 @@ pub fn updates_raise()
     ensures raise { RaiseStepLaw }
     ensures finalise { FinaliseStepLaw }
     ensures finalised { FinaliseEndLaw }
+    ensures mark_start { MarkStartLaw }
     ensures mark { MarkStepLaw }
     ensures marked { MarkEndLaw }
+{}
+
+/// Between the numbers and the marks the bundles that the update changed may be cut. No step of that takes anything
+/// from what the view shows of the update.
+pub fn bundles_are_pruned()
+    ensures step { PruneStepLaw }
+    ensures keeps { KeepsPrunedLaw }
+    ensures owned { OwnedIsPrunedLaw }
 {}
 
 /// A try may give up before it fills its slots. It gives its locks back, as an update does at its end, leaves its section,

@@ -14,6 +14,7 @@ use Rattle.request_lines.specs.declared.command.Command.TheVariants as says
 use Rattle.request_lines.specs.declared.line_error.LineError.{LineError}
 use Rattle.request_lines.specs.declared.parameter.Name.{Name}
 use Rattle.request_lines.specs.declared.parameter.Name.TheVariants as names
+use Rattle.request_lines.specs.declared.verb.PutWhen.{PutWhen}
 use Rattle.request_lines.specs.declared.verb.Verb.{Verb}
 use Rattle.request_lines.specs.declared.verb.Verb.TheVariants as verbs
 use Rattle.request_lines.specs.InputParts.{fields_of}
@@ -66,9 +67,9 @@ key_fine : (key : List ℕ) → Gives IsFine (key_read key)
 unfolding key_read
 key_fine key = then_gives IsUtf8 IsFine (unescaped key) _ (unescaped_text key) name_fine
 
-put_fine : (key size etag modified : List ℕ) → IsFineReading (put_read key size etag modified)
+put_fine : (when : PutWhen) (key size etag modified : List ℕ) → IsFineReading (put_read when key size etag modified)
 unfolding put_read
-put_fine key size etag modified =
+put_fine when key size etag modified =
     then_gives IsFine IsFineCommand (key_read key) _ (key_fine key) (λ name fine.
     then_gives (λ _. Unit {0}) IsFineCommand (numbers_read size modified) _ (any _) (λ _ _.
     then_gives (λ _. Unit {0}) IsFineCommand (etag_read etag) _ (any _) (λ _ _. fine)))
@@ -236,7 +237,7 @@ list_fine text = then_gives IsFineQuery IsFineCommand (query_read text) _ (query
 fields_fine : (verb : Verb) (fields : List (List ℕ)) → IsFineReading (read_fields verb fields)
 unfolding read_fields
 fields_fine verbs.Client [] = tt
-fields_fine verbs.Put (key ∷ size ∷ etag ∷ modified ∷ []) = put_fine key size etag modified
+fields_fine (verbs.Put when) (key ∷ size ∷ etag ∷ modified ∷ []) = put_fine when key size etag modified
 fields_fine verbs.Delete (key ∷ []) = delete_fine key
 fields_fine verbs.Head (key ∷ []) = head_fine key
 fields_fine verbs.List [] = plain_query_fine

@@ -121,7 +121,7 @@ parts_kept false p l lines is =
 -- whether a client was begun before or by this line
 clients_counted : (before : Counts) (reading : Result Command Cause) → ((counted_with before reading).clients == 0) ≡ (if begins_client reading then false else (before.clients == 0))
 clients_counted before (Ok says.Client) = grind (arith, nat_tests)
-clients_counted before (Ok (says.Put name fields)) = refl
+clients_counted before (Ok (says.Put when name fields)) = refl
 clients_counted before (Ok (says.Delete name)) = refl
 clients_counted before (Ok (says.Head name)) = refl
 clients_counted before (Ok (says.List query)) = refl

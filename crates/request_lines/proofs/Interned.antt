@@ -1,6 +1,6 @@
 -- Names that are kept once: what a name more changes, and what holds behind the sort.
 use Rattle.std.proofs.Common.{◌≡◌, ◌≢◌, ℕ, ◌+◌, ◌<◌, ◌≤◌, List, [], ◌∷◌, ◌++◌, length, map, get_or, set, replicate, refl, sym, ap, ap₂, ◌∙◌, subst, arith, inl, inr, get_or-set_same, get_or-set_other, length-set}
-use Rattle.std.specs.Prelude.{◌⊎◌, Bool, true, false, if◌then◌else◌, All, Contains, Some, position, slice_get, slice_index}
+use Rattle.std.specs.Prelude.{◌⊎◌, Bool, true, false, if◌then◌else◌, All, Contains, Option, None, Some, position, slice_get, slice_index}
 use Rattle.std.specs.List.{range_with_len}
 use Rattle.std.specs.List.Sorted.{IsPermutation}
 use Rattle.std.specs.Str.{bytes_eq}
@@ -14,7 +14,7 @@ use Rattle.std.proofs.lemmas.List.Sorted.{All-permutation, Contains-permutation,
 use Rattle.std.proofs.lemmas.Bool.Decides.{eqb_tells}
 use Rattle.key_names.specs.Names.{HoldsEachOnce, name_at}
 use Rattle.request_lines.specs.declared.leads.Numbered.{Numbered}
-use Rattle.request_lines.specs.Interned.{named, IsInterned, IsKnownAs, HaveNumbers, AreNumbered, AreRanks, number_in, name_of}
+use Rattle.request_lines.specs.Interned.{named, names_kept, AreKept, IsInterned, IsKnownAs, HaveNumbers, AreNumbered, AreRanks, number_in, name_of}
 
 -- ---- one name more
 
@@ -97,6 +97,10 @@ held_once ks order held interned holds = record {
       holds.all name (subst (Contains ks) is (Contains-get_or ks (get_or order k 0) [] (interned.below k 0 within)));
   no_other = λ name has. interned.used name (holds.no_other name has);
 }
+
+pub kept_once : (names : List (List ℕ)) (order : Option (List ℕ)) (held : List (List ℕ)) → AreKept names order → HoldsEachOnce names held → HoldsEachOnce (names_kept names order) held
+kept_once names None held kept holds = holds
+kept_once names (Some order) held kept holds = held_once names order held kept holds
 
 -- ---- the numbers
 

@@ -28,7 +28,7 @@ last_behind last [] = last
 last_behind last (says.List query ∷ commands) = last_behind query.max_keys commands
 last_behind last (says.Client ∷ commands) = last_behind 0 commands
 last_behind last (says.Next ∷ commands) = last_behind last commands
-last_behind last (says.Put name fields ∷ commands) = last_behind last commands
+last_behind last (says.Put when name fields ∷ commands) = last_behind last commands
 last_behind last (says.Delete name ∷ commands) = last_behind last commands
 last_behind last (says.Head name ∷ commands) = last_behind last commands
 
@@ -67,13 +67,13 @@ last_with last command = last
 entries_more : (last : ℕ) (commands : List Command) (command : Command)
     → entries_behind last (commands ++ command ∷ []) ≡ entries_behind last commands + asked_with (last_behind last commands) command
 entries_more last [] says.Client = refl
-entries_more last [] (says.Put name fields) = refl
+entries_more last [] (says.Put when name fields) = refl
 entries_more last [] (says.Delete name) = refl
 entries_more last [] (says.Head name) = refl
 entries_more last [] (says.List query) = omega arith
 entries_more last [] says.Next = omega arith
 entries_more last (says.Client ∷ commands) command = entries_more 0 commands command
-entries_more last (says.Put name fields ∷ commands) command = entries_more last commands command
+entries_more last (says.Put when name fields ∷ commands) command = entries_more last commands command
 entries_more last (says.Delete name ∷ commands) command = entries_more last commands command
 entries_more last (says.Head name ∷ commands) command = entries_more last commands command
 entries_more last (says.List query ∷ commands) command =
@@ -92,13 +92,13 @@ entries_more last (says.Next ∷ commands) command =
 
 last_more : (last : ℕ) (commands : List Command) (command : Command) → last_behind last (commands ++ command ∷ []) ≡ last_with (last_behind last commands) command
 last_more last [] says.Client = refl
-last_more last [] (says.Put name fields) = refl
+last_more last [] (says.Put when name fields) = refl
 last_more last [] (says.Delete name) = refl
 last_more last [] (says.Head name) = refl
 last_more last [] (says.List query) = refl
 last_more last [] says.Next = refl
 last_more last (says.Client ∷ commands) command = last_more 0 commands command
-last_more last (says.Put name fields ∷ commands) command = last_more last commands command
+last_more last (says.Put when name fields ∷ commands) command = last_more last commands command
 last_more last (says.Delete name ∷ commands) command = last_more last commands command
 last_more last (says.Head name ∷ commands) command = last_more last commands command
 last_more last (says.List query ∷ commands) command = last_more query.max_keys commands command
@@ -134,9 +134,9 @@ counts_more commands command = by_command command
     by_command says.Client =
         counts_are _ _ (clients says.Client) (requests says.Client ∙ plus_none _) (puts says.Client ∙ plus_none _)
         (entries_more 0 commands says.Client ∙ plus_none _) (last_more 0 commands says.Client)
-    by_command (says.Put name fields) =
-        counts_are _ _ (clients (says.Put name fields) ∙ plus_none _) (requests (says.Put name fields)) (puts (says.Put name fields))
-        (entries_more 0 commands (says.Put name fields) ∙ plus_none _) (last_more 0 commands (says.Put name fields))
+    by_command (says.Put when name fields) =
+        counts_are _ _ (clients (says.Put when name fields) ∙ plus_none _) (requests (says.Put when name fields)) (puts (says.Put when name fields))
+        (entries_more 0 commands (says.Put when name fields) ∙ plus_none _) (last_more 0 commands (says.Put when name fields))
     by_command (says.Delete name) =
         counts_are _ _ (clients (says.Delete name) ∙ plus_none _) (requests (says.Delete name)) (puts (says.Delete name) ∙ plus_none _)
         (entries_more 0 commands (says.Delete name) ∙ plus_none _) (last_more 0 commands (says.Delete name))
@@ -195,7 +195,7 @@ cause_same before (Ok command) = ap (λ c. k.limit_by_counts c command) (sym (co
 
 request_same : (before : List Command) (reading : Result Command Cause) → k.request_by_counts (counts_of before) reading ≡ i.request_by before reading
 request_same before (Ok says.Client) = refl
-request_same before (Ok (says.Put name fields)) = refl
+request_same before (Ok (says.Put when name fields)) = refl
 request_same before (Ok (says.Delete name)) = refl
 request_same before (Ok (says.Head name)) = refl
 request_same before (Ok (says.List query)) = refl

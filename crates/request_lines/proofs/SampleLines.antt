@@ -16,6 +16,7 @@ use Rattle.std.proofs.lemmas.List.Splits.{slice_split_at, slice_split_none}
 use Rattle.std.proofs.lemmas.Str.{is_utf8-from_IsUtf8, IsUtf8-from_ascii}
 use Rattle.std.proofs.lemmas.Str.Parse.{IsNumeralModel, numerals_by_value, tells_all_ascii_digits}
 use Rattle.request_lines.specs.declared.command.Command.TheVariants as says
+use Rattle.request_lines.specs.declared.verb.PutWhen.TheVariants.{Always}
 use Rattle.request_lines.specs.InputParts.{fields_of}
 use Rattle.request_lines.specs.Texts.{key_read, is_number, is_small, numbers_read, etag_read, is_tag, is_tag_byte, unquoted}
 use Rattle.request_lines.specs.Input.{reading_of, read_line, read_fields, put_read}
@@ -214,11 +215,11 @@ unfolding etag_read is_tag is_tag_byte unquoted
 tag_written = refl
 
 put_by_parts : (name number : List ℕ) (n : ℕ) → key_read name ≡ Ok name → numbers_read number number ≡ Ok (n, n)
-    → read_line (codes "PUT" ∷ name ∷ number ∷ codes "e" ∷ number ∷ []) ≡ Ok (says.Put name (sample_record n))
+    → read_line (codes "PUT" ∷ name ∷ number ∷ codes "e" ∷ number ∷ []) ≡ Ok (says.Put Always name (sample_record n))
 unfolding put_read read_line read_fields
 put_by_parts name number n key numbers = rw (key, numbers, tag_written) refl
 
-pub put_reading : (client i : ℕ) → client < 10 → i < 2 ^ 64 → reading_of (put_line client i) ≡ Ok (says.Put (sample_name client i) (sample_record i))
+pub put_reading : (client i : ℕ) → client < 10 → i < 2 ^ 64 → reading_of (put_line client i) ≡ Ok (says.Put Always (sample_name client i) (sample_record i))
 put_reading client i digit small =
     let name = sample_name client i in
     let number : IsPlainText (decimal i) = plain_decimal i small in

@@ -15,6 +15,7 @@ use Rattle.request_lines.specs.declared.counts.Counts.{Counts}
 use Rattle.bucket_terms.specs.declared.record.Record.{Record}
 use Rattle.request_lines.specs.declared.session.Asked.{Asked}
 use Rattle.request_lines.specs.declared.session.ClientPart.{ClientPart}
+use Rattle.request_lines.specs.declared.verb.PutWhen.TheVariants.{Always}
 use Rattle.request_lines.specs.InputParts.{texts_of}
 use Rattle.request_lines.specs.Input.{reading_of, read_line, read_fields, is_client, IsSessionOf}
 use Rattle.request_lines.specs.Counting.{counted, limit_by_counts}
@@ -200,7 +201,7 @@ request_step : (bytes : List ℕ) (n client i : ℕ) (more : List ℕ) (p : Prog
 unfolding kept one_if_put sample_request sample_named sample_recorded entries_at sample_line
 request_step bytes n client i more p few before most (put a b) at half =
     let is : sample_line client i ++ more ≡ put_line client i ++ 10 ∷ more = rw (a, b) (put_cut (sample_name client i) (decimal i) more) in
-    step_by bytes (put_line client i) n client i more p (says.Put (sample_name client i) (sample_record i)) few before most
+    step_by bytes (put_line client i) n client i more p (says.Put Always (sample_name client i) (sample_record i)) few before most
     (inside_put client i (omega arith) (omega arith)) (omega arith) (put_reading client i (omega arith) (omega arith)) at
     refl refl (rw (a, b) refl) (rw (a, b) (omega arith)) refl (rw (a, b) refl) (rw (a, b) refl) (rw (a, b) refl)
     (subst (λ (text : List ℕ). IsHalfway bytes p (number_at n client i) (texts_of text)) is half)

@@ -22,7 +22,9 @@ use Rattle.request_lines.specs.declared.session.ClientPart.{ClientPart}
 use Rattle.request_lines.specs.declared.session.Session.{Session}
 use Rattle.request_lines.specs.declared.session_error.SessionError.{SessionError}
 use Rattle.request_lines.specs.declared.cause.Cause.TheVariants.{NoClient}
-use Rattle.request_lines.specs.Input.{is_client, reading_of}
+use Rattle.request_lines.specs.declared.verb.PutWhen.{PutWhen}
+use Rattle.request_lines.specs.declared.verb.PutWhen.TheVariants.{Always, IfAbsent}
+use Rattle.request_lines.specs.Input.{is_client, put_request, reading_of}
 use Rattle.request_lines.specs.Fine.{IsFineCommand}
 use Rattle.request_lines.specs.Counting.{IsWithin, counted, limit_by_counts, cause_by_counts}
 use Rattle.request_lines.specs.InputParts.{error_at}
@@ -233,21 +235,34 @@ begun_before so_far command other none = by_test (so_far.clients == 0) refl _ (r
 fine_name : (name : List ℕ) → IsFine name → All IsFine (name ∷ [])
 fine_name name fine = All-push IsFine [] name (All-nil IsFine) fine
 
+-- a put asks of its name and its record, whenever it is made
+put_named : (when : PutWhen) (name : List ℕ) (val : ℕ) → requested_name (put_request when name val) ≡ Some name
+put_named Always name val = refl
+put_named IfAbsent name val = refl
+
+put_placed : (when : PutWhen) (name : List ℕ) (val : ℕ) → record_place (put_request when name val) ≡ Some val
+put_placed Always name val = refl
+put_placed IfAbsent name val = refl
+
+put_query : (when : PutWhen) (name : List ℕ) (val : ℕ) → IsFineRequest (put_request when name val)
+put_query Always name val = tt
+put_query IfAbsent name val = tt
+
 sound_kept : (p : Progress) (number : ℕ) (command : Command) → IsFineCommand command → limit_by_counts (counted p.counts command) command ≡ None → 0 < number → number ≤ 2 ^ 32
     → IsSound p number → IsSound (kept p number (Ok command)) (number + 1)
 unfolding kept
 sound_kept p number says.Client fine right positive small sound = sound_client p number small sound
-sound_kept p number (says.Put name fields) fine right positive small sound =
-    sound_asked p number (counted p.counts (says.Put name fields)) (Some name) (Some fields) (asks.Put name p.counts.puts)
+sound_kept p number (says.Put when name fields) fine right positive small sound =
+    sound_asked p number (counted p.counts (says.Put when name fields)) (Some name) (Some fields) (put_request when name p.counts.puts)
     (record {
-      begun = begun_before (counted p.counts (says.Put name fields)) (says.Put name fields) refl right;
+      begun = begun_before (counted p.counts (says.Put when name fields)) (says.Put when name fields) refl right;
       clients = refl;
       requests = refl;
       puts = refl;
-      named = refl;
+      named = put_named when name p.counts.puts;
       fine = fine_name name fine;
-      placed = refl;
-      query = tt;
+      placed = ap option_to_list (put_placed when name p.counts.puts);
+      query = put_query when name p.counts.puts;
     }) positive sound
 sound_kept p number (says.Delete name) fine right positive small sound =
     sound_asked p number (counted p.counts (says.Delete name)) (Some name) None (asks.Delete name)

@@ -8,7 +8,7 @@ use Rattle.request_lines.specs.declared.cause.Cause.TheVariants.{NoClient, TooMa
 use Rattle.request_lines.specs.declared.command.Command.{Command}
 use Rattle.request_lines.specs.declared.command.Command.TheVariants as says
 use Rattle.request_lines.specs.declared.counts.Counts.{Counts}
-use Rattle.request_lines.specs.Input.{is_client}
+use Rattle.request_lines.specs.Input.{is_client, put_request}
 use Rattle.request_lines.specs.InputParts.{most_clients, most_requests, most_listed}
 use Rattle.request_lines.specs.Queries.{most_keys}
 
@@ -20,7 +20,7 @@ none_counted = record { clients = 0; requests = 0; puts = 0; entries = 0; last =
 -- NEXT line with that of its client's last LIST line, or 0 where there is none.
 abbrev pub counted : Counts → Command → Counts
 counted so_far says.Client = record so_far { clients = so_far.clients + 1; last = 0 }
-counted so_far (says.Put name fields) = record so_far { requests = so_far.requests + 1; puts = so_far.puts + 1 }
+counted so_far (says.Put when name fields) = record so_far { requests = so_far.requests + 1; puts = so_far.puts + 1 }
 counted so_far (says.Delete name) = record so_far { requests = so_far.requests + 1 }
 counted so_far (says.Head name) = record so_far { requests = so_far.requests + 1 }
 counted so_far (says.List query) = record so_far { requests = so_far.requests + 1; entries = so_far.entries + query.max_keys; last = query.max_keys }
@@ -52,9 +52,9 @@ abbrev pub cause_by_counts : Counts → Result Command Cause → Option Cause
 cause_by_counts before (Err cause) = Some cause
 cause_by_counts before (Ok command) = limit_by_counts (counted before command) command
 
--- the request of a line. The record of a PUT line has as many records before it as there are PUT lines.
+-- the request of a line. The record of a PUT or PUTNEW line has as many records before it as there are such lines.
 abbrev pub request_by_counts : Counts → Result Command Cause → Option Request
-request_by_counts before (Ok (says.Put name fields)) = Some (asks.Put name before.puts)
+request_by_counts before (Ok (says.Put when name fields)) = Some (put_request when name before.puts)
 request_by_counts before (Ok (says.Delete name)) = Some (asks.Delete name)
 request_by_counts before (Ok (says.Head name)) = Some (asks.Head name)
 request_by_counts before (Ok (says.List query)) = Some (asks.List query)

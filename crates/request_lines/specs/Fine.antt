@@ -22,7 +22,7 @@ pub record IsFineQuery (query : ListQuery) : Type 0 where
 -- what a line that is read says: its name is that of an object, its query one that a listing takes
 abbrev pub IsFineCommand : Command → Type 0
 IsFineCommand says.Client = Unit {0}
-IsFineCommand (says.Put name fields) = IsFine name
+IsFineCommand (says.Put when name fields) = IsFine name
 IsFineCommand (says.Delete name) = IsFine name
 IsFineCommand (says.Head name) = IsFine name
 IsFineCommand (says.List query) = IsFineQuery query

@@ -15,6 +15,8 @@ use Rattle.request_lines.specs.declared.session.Asked.{Asked}
 use Rattle.request_lines.specs.declared.session.ClientPart.{ClientPart}
 use Rattle.request_lines.specs.declared.session.Session.{Session}
 use Rattle.request_lines.specs.declared.session_error.InputError.{InputError}
+use Rattle.request_lines.specs.declared.verb.PutWhen.{PutWhen}
+use Rattle.request_lines.specs.declared.verb.PutWhen.TheVariants.{Always, IfAbsent}
 use Rattle.request_lines.specs.declared.verb.Verb.{Verb}
 use Rattle.request_lines.specs.declared.verb.Verb.TheVariants as verbs
 use Rattle.request_lines.specs.Queries.{plain_query, query_read}
@@ -30,25 +32,26 @@ most_input_bytes = 67108864
 abbrev pub verb_of : List ℕ → Option Verb
 verb_of text =
     if bytes_eq text (codes "CLIENT") then Some verbs.Client
-    else if bytes_eq text (codes "PUT") then Some verbs.Put
+    else if bytes_eq text (codes "PUT") then Some (verbs.Put Always)
+    else if bytes_eq text (codes "PUTNEW") then Some (verbs.Put IfAbsent)
     else if bytes_eq text (codes "DELETE") then Some verbs.Delete
     else if bytes_eq text (codes "HEAD") then Some verbs.Head
     else if bytes_eq text (codes "LIST") then Some verbs.List
     else if bytes_eq text (codes "NEXT") then Some verbs.Next
     else None
 
--- a PUT line with these fields
-unfoldable pub put_read : List ℕ → List ℕ → List ℕ → List ℕ → Result Command Cause
-put_read key size etag modified = do
+-- a PUT or PUTNEW line with these fields
+unfoldable pub put_read : PutWhen → List ℕ → List ℕ → List ℕ → List ℕ → Result Command Cause
+put_read when key size etag modified = do
   name ← key_read key
   numbers ← numbers_read size modified
   tag ← etag_read etag
-  Ok (says.Put name (record { size = numbers.0; etag = tag; modified = numbers.1 }))
+  Ok (says.Put when name (record { size = numbers.0; etag = tag; modified = numbers.1 }))
 
 -- a line of this verb, with these fields behind it
 unfoldable pub read_fields : Verb → List (List ℕ) → Result Command Cause
 read_fields verbs.Client [] = Ok says.Client
-read_fields verbs.Put (key ∷ size ∷ etag ∷ modified ∷ []) = put_read key size etag modified
+read_fields (verbs.Put when) (key ∷ size ∷ etag ∷ modified ∷ []) = put_read when key size etag modified
 read_fields verbs.Delete (key ∷ []) = key_read key >>= (λ name. Ok (says.Delete name))
 read_fields verbs.Head (key ∷ []) = key_read key >>= (λ name. Ok (says.Head name))
 read_fields verbs.List [] = Ok (says.List plain_query)
@@ -73,7 +76,7 @@ is_client says.Client = true
 is_client command = false
 
 abbrev pub is_put : Command → Bool
-is_put (says.Put name fields) = true
+is_put (says.Put when name fields) = true
 is_put command = false
 
 -- the entries that the pages of these lines can have, together. A LIST line can have as many as its page, a
@@ -141,24 +144,29 @@ abbrev pub begins_client : Result Command Cause → Bool
 begins_client (Ok command) = is_client command
 begins_client (Err cause) = false
 
--- the request of a line. The record of a PUT line has as many records before it as there are PUT lines.
+-- the request of a PUT or PUTNEW line, with the place of its record
+abbrev pub put_request : PutWhen → List ℕ → ℕ → Request
+put_request Always name val = asks.Put name val
+put_request IfAbsent name val = asks.PutNew name val
+
+-- the request of a line. The record of a PUT or PUTNEW line has as many records before it as there are such lines.
 abbrev pub request_by : List Command → Result Command Cause → Option Request
-request_by before (Ok (says.Put name fields)) = Some (asks.Put name (count_by is_put before))
+request_by before (Ok (says.Put when name fields)) = Some (put_request when name (count_by is_put before))
 request_by before (Ok (says.Delete name)) = Some (asks.Delete name)
 request_by before (Ok (says.Head name)) = Some (asks.Head name)
 request_by before (Ok (says.List query)) = Some (asks.List query)
 request_by before (Ok says.Next) = Some asks.Next
 request_by before reading = None
 
--- the name of a PUT, DELETE or HEAD line, and the record of a PUT line
+-- the name of a PUT, PUTNEW, DELETE or HEAD line, and the record of a PUT or PUTNEW line
 abbrev pub name_by : Result Command Cause → Option (List ℕ)
-name_by (Ok (says.Put name fields)) = Some name
+name_by (Ok (says.Put when name fields)) = Some name
 name_by (Ok (says.Delete name)) = Some name
 name_by (Ok (says.Head name)) = Some name
 name_by reading = None
 
 abbrev pub record_by : Result Command Cause → Option Record
-record_by (Ok (says.Put name fields)) = Some fields
+record_by (Ok (says.Put when name fields)) = Some fields
 record_by reading = None
 
 -- the part of a client whose lines these are

@@ -42,7 +42,7 @@ most_requests = 200000
 abbrev pub most_listed : ℕ
 most_listed = 4000000
 
--- how many of these lines begin a client, how many ask something, and how many of these are PUT lines
+-- how many of these lines begin a client, how many ask something, and how many of these are PUT or PUTNEW lines
 abbrev pub clients_in : List Command → ℕ
 clients_in commands = count_by is_client commands
 

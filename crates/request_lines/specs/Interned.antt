@@ -1,6 +1,6 @@
 -- Helper: the headline does not rest on this file.
 -- Names that are kept once, with their places in the order of the lines.
-use Rattle.std.specs.Prelude.{◌≡◌, ◌⊎◌, ℕ, ◌<◌, List, [], ◌∷◌, ◌++◌, length, map, All, Contains, slice_index}
+use Rattle.std.specs.Prelude.{◌≡◌, ◌⊎◌, ℕ, ◌<◌, List, [], ◌∷◌, ◌++◌, length, map, All, Contains, Option, Some, None, slice_index}
 use Rattle.std.specs.List.{range_with_len}
 use Rattle.key_names.specs.Names.{name_at}
 use Rattle.std.specs.List.Sorted.{IsPermutation}
@@ -14,6 +14,15 @@ named distinct order = map (name_at distinct) order
 pub record IsInterned (distinct : List (List ℕ)) (order : List ℕ) : Type 0 where
   pub below : All (λ place. place < length distinct) order
   pub used : (name : List ℕ) → Contains distinct name → Contains (named distinct order) name
+
+-- the names of the lines, in their order: of distinct ones with their places, or of a list that has one for each line
+abbrev pub names_kept : List (List ℕ) → Option (List ℕ) → List (List ℕ)
+names_kept names None = names
+names_kept distinct (Some order) = named distinct order
+
+abbrev pub AreKept : List (List ℕ) → Option (List ℕ) → Type 0
+AreKept names None = Unit {0}
+AreKept distinct (Some order) = IsInterned distinct order
 
 -- the name has this number among the known ones: it was among them, or it joins them
 pub record IsKnownAs (old new : List (List ℕ)) (name : List ℕ) (number : ℕ) : Type 0 where

@@ -1,5 +1,6 @@
 pub mod Asking
 pub mod Causes
+pub mod CauseNames
 pub mod Texts
 pub mod Queries
 pub mod NamedQueries

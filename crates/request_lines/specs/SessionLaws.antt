@@ -4,7 +4,7 @@ use Rattle.std.specs.Prelude.{◌≡◌, ℕ, ◌^◌, ◌<◌, ◌≤◌, List,
 use Rattle.std.specs.List.{flat_map, filter_map, range_with_len}
 use Rattle.bucket_terms.specs.LegalRun.{RequestLine}
 use Rattle.bucket_terms.specs.declared.request.Request.{Request}
-use Rattle.bucket_terms.specs.declared.request.Request.TheVariants.{Put, Delete, Head, List as ListRequest}
+use Rattle.bucket_terms.specs.declared.request.Request.TheVariants.{Put, PutNew, Delete, Head, List as ListRequest}
 use Rattle.key_names.specs.Names.{IsFine}
 use Rattle.request_lines.specs.declared.session.Asked.{Asked}
 use Rattle.request_lines.specs.declared.session.ClientPart.{ClientPart}
@@ -20,6 +20,7 @@ all_requests parts = flat_map (λ (part : ClientPart). part.requests) parts
 -- the name of an object that a request is about
 abbrev pub requested_name : Request → Option (List ℕ)
 requested_name (Put name val) = Some name
+requested_name (PutNew name val) = Some name
 requested_name (Delete name) = Some name
 requested_name (Head name) = Some name
 requested_name request = None
@@ -27,6 +28,7 @@ requested_name request = None
 -- the place of the record that a request puts
 abbrev pub record_place : Request → Option ℕ
 record_place (Put name val) = Some val
+record_place (PutNew name val) = Some val
 record_place request = None
 
 abbrev pub asked_name : Asked → Option (List ℕ)
@@ -35,12 +37,12 @@ asked_name asked = requested_name asked.request
 abbrev pub asked_place : Asked → Option ℕ
 asked_place asked = record_place asked.request
 
--- the names are those of the PUT, DELETE and HEAD requests, in the order of the lines, and an object may have each
+-- the names are those of the PUT, PUTNEW, DELETE and HEAD requests, in the order of the lines, and an object may have each
 pub record HasNames (session : Session) : Type 0 where
   pub in_order : session.names ≡ filter_map asked_name (all_requests session.clients)
   pub fine : All IsFine session.names
 
--- the places of the records that the PUT requests put are 0, 1 and so on, to the last record
+-- the places of the records that the PUT and PUTNEW requests put are 0, 1 and so on, to the last record
 pub record HasRecords (session : Session) : Type 0 where
   pub in_order : filter_map asked_place (all_requests session.clients) ≡ range_with_len 0 (length session.records)
 

@@ -1,6 +1,8 @@
 ghost use Rattle.std.specs.Prelude.{◌≡◌};
 ghost use Rattle.request_lines.specs.Causes as spec;
 
+use std::fmt;
+
 /// Why a line is refused. The causes are in the order in which they are tested: where several hold for a
 /// line, the first of them is given.
 #[derive(Clone, Copy, Debug, PartialEq, Eq)]
@@ -45,6 +47,38 @@ pub enum Cause {
     TooManyLines,
     /// The pages of the LIST and NEXT lines so far can have more than 4,000,000 entries together.
     TooManyEntries,
+}
+
+/// Shown by its name, as the line on standard error and the documents have it.
+impl fmt::Display for Cause {
+    ghost use Rattle.std.specs.Prelude.{Some};
+    ghost use Rattle.request_lines.specs.CauseNames.{cause_name};
+
+    ghost output = { λ cause. Some (cause_name cause) };
+
+    fn fmt<W: fmt::Write>(&self, f: &mut fmt::Formatter<W>) -> fmt::Result {
+        match self {
+            Cause::NotUtf8 => f.write_str("NotUtf8"),
+            Cause::UnknownVerb => f.write_str("UnknownVerb"),
+            Cause::WrongFields => f.write_str("WrongFields"),
+            Cause::BadEscape => f.write_str("BadEscape"),
+            Cause::EmptyKey => f.write_str("EmptyKey"),
+            Cause::KeyTooLong => f.write_str("KeyTooLong"),
+            Cause::BadNumber => f.write_str("BadNumber"),
+            Cause::NumberTooLarge => f.write_str("NumberTooLarge"),
+            Cause::BadEtag => f.write_str("BadEtag"),
+            Cause::UnknownParameter => f.write_str("UnknownParameter"),
+            Cause::RepeatedParameter => f.write_str("RepeatedParameter"),
+            Cause::BadListType => f.write_str("BadListType"),
+            Cause::BadMaxKeys => f.write_str("BadMaxKeys"),
+            Cause::BadEncoding => f.write_str("BadEncoding"),
+            Cause::BadFetchOwner => f.write_str("BadFetchOwner"),
+            Cause::NoClient => f.write_str("NoClient"),
+            Cause::TooManyClients => f.write_str("TooManyClients"),
+            Cause::TooManyLines => f.write_str("TooManyLines"),
+            Cause::TooManyEntries => f.write_str("TooManyEntries"),
+        }
+    }
 }
 
 // The place of a cause in the order in which they are tested.

@@ -14,7 +14,7 @@ use crate::parts::{first_part, next_part};
 use crate::put::{put_fields, put_of};
 use crate::query::{plain_query, query_of};
 use crate::texts::key_of;
-use crate::verb::Verb;
+use crate::verb::{PutWhen, Verb};
 use bucket_terms::{BoxedQuery, ListQuery, Record};
 use key_names::Text;
 use std::alloc::Global;
@@ -25,9 +25,17 @@ use std::str;
 pub(crate) enum Command {
     /// Begins the next client.
     Client,
-    Put { name: Text, record: Record },
-    Delete { name: Text },
-    Head { name: Text },
+    Put {
+        when: PutWhen,
+        name: Text,
+        record: Record,
+    },
+    Delete {
+        name: Text,
+    },
+    Head {
+        name: Text,
+    },
     List(BoxedQuery),
     /// The next page of the client's last listing.
     Next,
@@ -61,7 +69,7 @@ fn with_fields(alloc: Global, verb: Verb, left: Option<&str>) -> Result<Command,
 {
     match verb {
         Verb::Client => client(left),
-        Verb::Put => put(alloc, left),
+        Verb::Put(when) => put(alloc, when, left),
         Verb::Delete => delete(alloc, left),
         Verb::Head => head(alloc, left),
         Verb::List => list(alloc, left),
@@ -90,11 +98,11 @@ fn next(left: Option<&str>) -> Result<Command, LineError>
 }
 
 #[tactic(auto, unfolding(crate::specs::Input::read_fields))]
-fn put(alloc: Global, left: Option<&str>) -> Result<Command, LineError>
-    ensures { Reads result (read_fields verbs.Put (parts_left 32 left.entry)) }
+fn put(alloc: Global, when: PutWhen, left: Option<&str>) -> Result<Command, LineError>
+    ensures { Reads result (read_fields (verbs.Put when) (parts_left 32 left.entry)) }
 {
     match put_fields(left) {
-        Some(fields) => put_of(alloc, fields),
+        Some(fields) => put_of(alloc, when, fields),
         None => Err(LineError::Faulty(Cause::WrongFields)),
     }
 }

@@ -14,7 +14,7 @@ pub(crate) struct Counts {
     pub(crate) clients: u32,
     /// Lines that are neither empty nor `CLIENT`.
     pub(crate) requests: u32,
-    /// `PUT` lines.
+    /// `PUT` and `PUTNEW` lines.
     pub(crate) puts: u32,
     /// The most entries that the LIST and NEXT lines can be answered, together.
     pub(crate) entries: u32,

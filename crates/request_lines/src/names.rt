@@ -1,8 +1,9 @@
-// The names of a session's lines, each kept once.
+// The names of a session's lines, each kept once where the session was read.
 ghost use Rattle.std.specs.Prelude.{◌≡◌, ◌<◌, [], length, All, IfOk};
 ghost use Rattle.key_names.specs.Names.{HoldsEachOnce, IsFine, name_at};
 ghost use Rattle.request_lines.specs.Interned.{IsInterned, named};
 
+use key_map::Items;
 use key_names::{Directory, NoMemory, Text};
 use std::alloc::Global;
 use std::marker::Model;
@@ -10,21 +11,21 @@ use std::marker::Model;
 /// Names in the order of the lines, where a name may stand more than once. Contracts see the list of them.
 #[derive(Debug, Drop)]
 pub struct Names {
-    // The distinct names, in byte order.
-    distinct: Vec<Text>,
-    // For each line its name's place among them.
-    order: Vec<usize>,
+    // With `order` the distinct names, in byte order; without it a name for each line.
+    names: Vec<Text>,
+    // For each line its name's place among the distinct ones.
+    order: Option<Items<usize>>,
 }
 
 impl Model for Names {
     ghost use Rattle.std.specs.Prelude.{List, ℕ};
-    ghost use Rattle.request_lines.specs.Interned.{IsInterned, named};
+    ghost use Rattle.request_lines.specs.Interned.{AreKept, names_kept};
 
     ghost Value = { List (List ℕ) };
 
-    ghost view = { λ n. named n.distinct.items n.order.items };
+    ghost view = { λ n. names_kept n.names.items n.order };
 
-    ghost invariant = { λ n. IsInterned n.distinct.items n.order.items };
+    ghost invariant = { λ n. AreKept n.names.items n.order };
 }
 
 impl Names {
@@ -32,9 +33,25 @@ impl Names {
     pub fn new(alloc: Global) -> Names
         ensures { result ≡ [] }
     {
-        Names {
-            distinct: Vec::new(alloc),
-            order: Vec::new(alloc),
+        Names::from_vec(Vec::new(alloc))
+    }
+
+    /// The names of a vector, one for each line, whose memory is used on.
+    pub fn from_vec(names: Vec<Text>) -> Names
+        ensures { result ≡ names.items }
+    {
+        Names { names, order: None }
+    }
+
+    /// A name for each line. Where they came as a vector it is that one, and no memory is taken; where a session was read
+    /// each line gets a copy of its own.
+    pub fn into_vec(self, alloc: Global) -> Result<Vec<Text>, NoMemory>
+        ensures { IfOk result (λ names. names.items ≡ self) }
+    {
+        let Names { names, order } = self;
+        match order {
+            None => Ok(names),
+            Some(order) => names_at(alloc, &names, order.as_slice()),
         }
     }
 
@@ -43,14 +60,20 @@ impl Names {
         requires { IsInterned distinct.items order.items }
         ensures { result ≡ named distinct.items order.items }
     {
-        Names { distinct, order }
+        Names {
+            names: distinct,
+            order: Some(Items::from_vec(order)),
+        }
     }
 
     /// How many names stand here, each as often as there are lines with it.
     pub fn len(&self) -> usize
         ensures { result ≡ length self.now }
     {
-        self.order.len()
+        match &self.order {
+            None => self.names.len(),
+            Some(order) => order.len(),
+        }
     }
 
     /// The name of the line at this place, from 0.
@@ -58,7 +81,10 @@ impl Names {
         requires { place < length self.now }
         ensures { result.now ≡ name_at self.now place }
     {
-        &self.distinct[self.order[place]]
+        match &self.order {
+            None => &self.names[place],
+            Some(order) => &self.names[order.as_slice()[place]],
+        }
     }
 
     /// The directory of the names. `Directory::new` refuses no fine name, so an error does not come.
@@ -66,10 +92,22 @@ impl Names {
         requires { All IsFine self }
         ensures { IfOk result (HoldsEachOnce self) }
     {
-        let Names { distinct, order: _ } = self;
-        match Directory::new(alloc, distinct) {
+        let Names { names, order: _ } = self;
+        match Directory::new(alloc, names) {
             Ok(dir) => Ok(dir),
             Err(_) => Err(NoMemory),
         }
     }
+}
+
+// The names at these places.
+fn names_at(alloc: Global, names: &[Text], places: &[usize]) -> Result<Vec<Text>, NoMemory>
+    requires { All (λ place. place < length names.now) places.now }
+    ensures { IfOk result (λ listed. listed.items ≡ named names.now places.now) }
+{
+    let mut listed = Vec::with_capacity(alloc, places.len())?;
+    for place in places {
+        listed.push(names[*place].copy(alloc)?)?;
+    }
+    Ok(listed)
 }

@@ -1,6 +1,7 @@
-// A PUT line.
+// A PUT or a PUTNEW line.
 ghost use Rattle.std.specs.Prelude.{◌≡◌, [], ◌∷◌, Err, MatchOption};
 ghost use Rattle.request_lines.specs.declared.cause.Cause.TheVariants.{WrongFields};
+ghost use Rattle.request_lines.specs.declared.verb.PutWhen.{PutWhen as When};
 ghost use Rattle.request_lines.specs.declared.verb.Verb.TheVariants as verbs;
 ghost use Rattle.request_lines.specs.Input as spec;
 ghost use Rattle.request_lines.specs.Left.{parts_left};
@@ -10,10 +11,11 @@ use crate::command::Command;
 use crate::line_error::LineError;
 use crate::parts::next_part;
 use crate::texts::{etag_of, key_of, numbers_of};
+use crate::verb::PutWhen;
 use bucket_terms::Record;
 use std::alloc::Global;
 
-/// The fields of a PUT line behind its verb.
+/// The fields of the line behind its verb.
 #[derive(Clone, Copy)]
 pub(crate) struct PutFields<'a> {
     pub(crate) key: &'a str,
@@ -25,7 +27,7 @@ pub(crate) struct PutFields<'a> {
 /// These fields, where there are four.
 #[tactic(auto, unfolding(crate::specs::Input::read_fields))]
 pub(crate) fn put_fields(left: Option<&str>) -> Option<PutFields<'_>>
-    ensures { MatchOption result (spec.read_fields verbs.Put (parts_left 32 left.entry) ≡ Err WrongFields)
+    ensures { MatchOption result ((when : When) → spec.read_fields (verbs.Put when) (parts_left 32 left.entry) ≡ Err WrongFields)
         (λ f. parts_left 32 left.entry ≡ f.key.now ∷ f.size.now ∷ f.etag.now ∷ f.modified.now ∷ []) }
 {
     let Some((key, left)) = next_part(left, ' ') else {
@@ -51,15 +53,20 @@ pub(crate) fn put_fields(left: Option<&str>) -> Option<PutFields<'_>>
     })
 }
 
-/// The PUT line with these fields.
+/// The line with these fields.
 #[tactic(auto, unfolding(crate::specs::Input::put_read))]
-pub(crate) fn put_of(alloc: Global, fields: PutFields<'_>) -> Result<Command, LineError>
-    ensures { let f = fields.entry in Reads result (spec.put_read f.key.now f.size.now f.etag.now f.modified.now) }
+pub(crate) fn put_of(
+    alloc: Global,
+    when: PutWhen,
+    fields: PutFields<'_>,
+) -> Result<Command, LineError>
+    ensures { let f = fields.entry in Reads result (spec.put_read when f.key.now f.size.now f.etag.now f.modified.now) }
 {
     let name = key_of(alloc, fields.key)?;
     let (size, modified) = numbers_of(fields.size, fields.modified)?;
     let etag = etag_of(alloc, fields.etag)?;
     Ok(Command::Put {
+        when,
         name,
         record: Record {
             size,

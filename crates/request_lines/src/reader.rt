@@ -3,15 +3,18 @@ ghost use Rattle.std.specs.Prelude.{◌≡◌, ◌∷◌, [], ◌++◌, Ok, OnOk
 ghost use Rattle.request_lines.specs.declared.line_error.LineError.TheVariants.{NoMemory as OutOfMemory};
 ghost use Rattle.request_lines.specs.declared.session_error.SessionError.TheVariants.{NoMemory as NoSession};
 ghost use Rattle.request_lines.specs.Counting.{IsWithin, counted};
+ghost use Rattle.request_lines.specs.Input as spec;
 ghost use Rattle.request_lines.specs.Reading.{progress, no_progress, all_ended, kept, Takes, Keeps};
 
 use crate::command::{Command, command_of};
 use crate::counts::Counts;
 use crate::interner::Interner;
 use crate::line_error::LineError;
+use crate::verb::PutWhen;
 use crate::{Asked, ClientPart, InputError, Requests, Session, SessionError};
 use bucket_terms::{Record, Request};
 use key_map::Items;
+use key_names::Text;
 use std::alloc::Global;
 use std::mem;
 
@@ -96,12 +99,12 @@ impl Reader {
     {
         match command {
             Command::Client => self.begin_client(alloc, counts),
-            Command::Put { name, record } => {
+            Command::Put { when, name, record } => {
                 let val = u64::from(self.counts.puts);
                 self.counts = counts;
                 let name_number = self.names.push(alloc, &name)?;
                 self.records.push(record)?;
-                self.ask(number, Request::Put { name, val }, name_number)
+                self.ask(number, put_request(when, name, val), name_number)
             }
             Command::Delete { name } => {
                 self.counts = counts;
@@ -169,6 +172,16 @@ impl Reader {
             names,
             records: Items::from_vec(records),
         })
+    }
+}
+
+// What a put asks, of the record at place `val`.
+fn put_request(when: PutWhen, name: Text, val: u64) -> Request
+    ensures { result ≡ spec.put_request when name val }
+{
+    match when {
+        PutWhen::Always => Request::Put { name, val },
+        PutWhen::IfAbsent => Request::PutNew { name, val },
     }
 }
 

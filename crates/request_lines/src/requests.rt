@@ -12,7 +12,7 @@ use std::marker::Model;
 #[derive(Debug, Drop)]
 pub struct Requests {
     asked: Vec<Asked>,
-    // As long as `asked`, or 0 for a request without a name.
+    // As many as requests were read, 0 for one without a name; none where the requests are a caller's.
     ranks: Vec<usize>,
 }
 
@@ -34,6 +34,22 @@ impl Requests {
             asked: Vec::new(alloc),
             ranks: Vec::new(alloc),
         }
+    }
+
+    /// The requests of a vector, whose memory is used on. A name of theirs is looked for at rank 0 first.
+    pub fn from_vec(asked: Vec<Asked>) -> Requests
+        ensures { result ≡ asked.items }
+    {
+        let ranks = Vec::new(*asked.allocator());
+        Requests { asked, ranks }
+    }
+
+    /// The requests alone, in the memory that they have.
+    pub fn into_vec(self) -> Vec<Asked>
+        ensures { result.items ≡ self }
+    {
+        let Requests { asked, ranks: _ } = self;
+        asked
     }
 
     pub fn len(&self) -> usize

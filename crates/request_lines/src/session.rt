@@ -24,9 +24,10 @@ pub struct ClientPart {
 pub struct Session {
     /// The place of a part, from 0, is the number of its client.
     pub clients: Items<ClientPart>,
-    /// The names of all PUT, DELETE and HEAD lines, in the order of the lines.
+    /// The names of all PUT, PUTNEW, DELETE and HEAD lines, in the order of the lines.
     pub names: Names,
-    /// The records of all PUT lines, in the order of the lines. A `Put` names its record by the place, from 0.
+    /// The records of all PUT and PUTNEW lines, in the order of the lines. A `Put` or `PutNew` names its record by the
+    /// place, from 0.
     pub records: Items<Record>,
 }
 
@@ -34,7 +35,7 @@ impl ClientPart {
     ghost use Rattle.bucket_terms.specs.RunParts.{updates_in};
     ghost use Rattle.request_lines.specs.Session.{request_lines};
 
-    /// How many of the requests are updates: PUT and DELETE lines.
+    /// How many of the requests may make an update: PUT, PUTNEW and DELETE lines.
     pub fn writes(&self) -> u32
         requires { length self.now.requests < 2 ^ 32 }
         ensures { result ≡ updates_in (request_lines self.now) }
@@ -47,9 +48,12 @@ impl ClientPart {
     }
 }
 
-// Whether the request is a PUT or a DELETE.
+// Whether the request is a PUT, a PUTNEW or a DELETE.
 fn is_update(request: &Request) -> bool
     ensures { result ≡ spec.is_update request.now }
 {
-    matches!(request, Request::Put { .. } | Request::Delete { .. })
+    matches!(
+        request,
+        Request::Put { .. } | Request::PutNew { .. } | Request::Delete { .. }
+    )
 }

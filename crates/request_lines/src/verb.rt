@@ -1,11 +1,18 @@
 ghost use Rattle.std.specs.Prelude.{◌≡◌};
 ghost use Rattle.request_lines.specs.Input.{verb_of};
 
+/// When a put is made: whether or not its key is there, or only where it is not.
+#[derive(Clone, Copy, Debug, PartialEq, Eq)]
+pub(crate) enum PutWhen {
+    Always,
+    IfAbsent,
+}
+
 /// The first field of a line.
 #[derive(Clone, Copy, Debug, PartialEq, Eq)]
 pub(crate) enum Verb {
     Client,
-    Put,
+    Put(PutWhen),
     Delete,
     Head,
     List,
@@ -19,7 +26,8 @@ impl Verb {
     {
         match text {
             "CLIENT" => Some(Verb::Client),
-            "PUT" => Some(Verb::Put),
+            "PUT" => Some(Verb::Put(PutWhen::Always)),
+            "PUTNEW" => Some(Verb::Put(PutWhen::IfAbsent)),
             "DELETE" => Some(Verb::Delete),
             "HEAD" => Some(Verb::Head),
             "LIST" => Some(Verb::List),

@@ -17,14 +17,14 @@ use Rattle.bucket_terms.specs.declared.token_point.TokenPoint.{TokenPoint}
 use Rattle.bucket_terms.specs.declared.token.Token.{Token}
 use Rattle.bucket_terms.specs.declared.page.Page.{Page}
 use Rattle.bucket_terms.specs.declared.request.Request.{Request}
-use Rattle.bucket_terms.specs.declared.request.Request.TheVariants.{Put, Delete, Head, List as ListRequest, Next}
+use Rattle.bucket_terms.specs.declared.request.Request.TheVariants.{Put, PutNew, Delete, Head, List as ListRequest, Next}
 use Rattle.bucket_terms.specs.declared.reply.Reply.{Reply}
-use Rattle.bucket_terms.specs.declared.reply.Reply.TheVariants.{Put as PutReply, Deleted, Found, Missing, Listed, BadToken, NoSlot}
+use Rattle.bucket_terms.specs.declared.reply.Reply.TheVariants.{Put as PutReply, Exists, Deleted, Found, Missing, Listed, BadToken, NoSlot}
 use Rattle.bucket_terms.specs.declared.reply.Placed.{Placed}
 use Rattle.bucket_terms.specs.Listing.{page_of}
 use Rattle.bucket_terms.specs.LegalRun.{RequestLine, Setting, Answered, Run, IsLegal, IsRight, IsOf, IsChangeOf, IsMadeBy, IsPointOf, HasUsedItsSlots, UpdateStands, Finds, Lists, Resumed, AreAnswered, next_of, update_at, last_listing, answered_lines, lines_of, replies_of}
 use Rattle.bucket_terms.specs.RunParts.{IsPlacedBelow, is_earlier_of, head_by, setting_of, updates_in}
-use Rattle.bucket_terms.proofs.Finds.{map_has-none}
+use Rattle.bucket_terms.proofs.Finds.{map_has-none, map_has-some}
 use Rattle.bucket_terms.proofs.LastListing.{last_listing-push}
 use Rattle.page_token.proofs.OneTokenLaws.{one_token}
 use Rattle.sample_laws.specs.Alone.{rank_of}
@@ -195,6 +195,31 @@ module _ (s : Setting) (rising : Rises s.dir) (mine : (i : ℕ) (u : Update) →
           behind = made p q line name (PutVal val) was a low right adds;
         }
     comes last line (Put name val) None NoSlot a p low right same steps = absurd (no_want line right)
+    comes last line (PutNew name val) (Some q) (PutReply false) a p low right same steps =
+        let us = take p s.updates in
+        let adds = own_stands p q line name (PutVal val) false a right (steps q refl) in
+        let out : Bool → Outcome = λ b. if b then looks us Exists else makes s.client line us (rank_of s.dir name) (PutVal val) (PutReply false) in
+        let absent = had p q line name (PutVal val) false a low right adds in
+        record {
+          start = None;
+          resolved = refl;
+          at_is = ap Some (place p q line name (PutVal val) false a low right adds) ∙ ap (λ b. (out b).at) absent;
+          reply_is = ap (λ b. (out b).reply) absent;
+          behind = made p q line name (PutVal val) false a low right adds ∙ ap (λ b. (out b).updates) absent;
+        }
+    comes last line (PutNew name val) (Some q) Exists a p low right same steps =
+        let us = take p s.updates in
+        let stays = only_stays line p q a (no_own p q line a (ap (λ (l : RequestLine). l.line) same) right.1) (steps q refl) in
+        let out : Bool → Outcome = λ b. if b then looks us Exists else makes s.client line us (rank_of s.dir name) (PutVal val) (PutReply false) in
+        let there = sym (map_has-some (rank_of s.dir name) (map_of us) right.0.0 (look_finds line p q a low (steps q refl) stays name (Some right.0.0) right.0.1)) in
+        record {
+          start = None;
+          resolved = refl;
+          at_is = look_place line p q a low (steps q refl) stays ∙ ap (λ b. (out b).at) there;
+          reply_is = ap (λ b. (out b).reply) there;
+          behind = stay_same p q stays ∙ ap (λ b. (out b).updates) there;
+        }
+    comes last line (PutNew name val) None NoSlot a p low right same steps = absurd (no_want line right)
     comes last line (Delete name) (Some q) Deleted a p low (inl right) same steps =
         let us = take p s.updates in
         let adds = own_stands p q line name Remove true a right (steps q refl) in
@@ -269,6 +294,7 @@ module _ (s : Setting) (rising : Rises s.dir) (mine : (i : ℕ) (u : Update) →
           reply_is = ap (λ (o : Option Resumed). (next_on s.dir us o).reply) (sym right);
           behind = ap (λ (o : Option Resumed). (next_on s.dir us o).updates) (sym right);
         }
+    comes last line (Head name) None NoSlot a p low right same steps = absurd right
     comes last line request o reply a p low right same steps = absurd right
 
     -- ---- the requests in order
@@ -338,6 +364,7 @@ same_start (ListRequest query) (Some p) None h k = absurd (k p h)
 same_start (ListRequest query) None (Some q) h k = absurd (h q k)
 same_start (ListRequest query) None None h k = refl
 same_start (Put name val) x y h k = h ∙ sym k
+same_start (PutNew name val) x y h k = h ∙ sym k
 same_start (Delete name) x y h k = h ∙ sym k
 same_start (Head name) x y h k = h ∙ sym k
 same_start Next x y h k = h ∙ sym k

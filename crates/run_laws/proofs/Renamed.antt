@@ -19,9 +19,9 @@ use Rattle.bucket_terms.specs.declared.list_query.ListQuery.{ListQuery}
 use Rattle.bucket_terms.specs.declared.token_point.TokenPoint.{TokenPoint}
 use Rattle.bucket_terms.specs.declared.page.Page.{Page}
 use Rattle.bucket_terms.specs.declared.request.Request.{Request}
-use Rattle.bucket_terms.specs.declared.request.Request.TheVariants.{Put, Delete, Head, List as ListRequest, Next}
+use Rattle.bucket_terms.specs.declared.request.Request.TheVariants.{Put, PutNew, Delete, Head, List as ListRequest, Next}
 use Rattle.bucket_terms.specs.declared.reply.Reply.{Reply}
-use Rattle.bucket_terms.specs.declared.reply.Reply.TheVariants.{Put as PutReply, Deleted, Found, Missing, Listed, BadToken, NoSlot}
+use Rattle.bucket_terms.specs.declared.reply.Reply.TheVariants.{Put as PutReply, Exists, Deleted, Found, Missing, Listed, BadToken, NoSlot}
 use Rattle.bucket_terms.specs.declared.reply.Placed.{Placed}
 use Rattle.bucket_terms.specs.Listing.{page_of}
 use Rattle.bucket_terms.specs.LegalRun.{RequestLine, Setting, Answered, Run, IsLegal, IsRight, IsOf, IsChangeOf, IsMadeBy, HasUsedItsSlots, UpdateStands, Finds, Lists, KeepsOrder, IsAnswered, AreAnswered, is_listing, update_at, last_listing, answered_lines, lines_of, replies_of}
@@ -92,6 +92,9 @@ module _ (new : ℕ → ℕ) (back : (c : ℕ) → new (new c) ≡ c) where
         → IsRight s last (record { line = line; request = request }) at reply → IsRight (over s) last (record { line = line; request = request }) at reply
     right_same last line (Put name val) (Some n) (PutReply was) right = stands_same line name (PutVal val) was n right
     right_same last line (Put name val) None NoSlot right = slots_same line right
+    right_same last line (PutNew name val) (Some n) (PutReply false) right = stands_same line name (PutVal val) false n right
+    right_same last line (PutNew name val) (Some n) Exists right = ((right.0.0, finds_same name n (Some right.0.0) right.0.1), none_same line right.1)
+    right_same last line (PutNew name val) None NoSlot right = slots_same line right
     right_same last line (Delete name) (Some n) Deleted (inl made) = inl (stands_same line name Remove true n made)
     right_same last line (Delete name) (Some n) Deleted (inr found) = inr (finds_same name n None found.0, none_same line found.1)
     right_same last line (Delete name) None NoSlot right = slots_same line right
@@ -101,6 +104,7 @@ module _ (new : ℕ → ℕ) (back : (c : ℕ) → new (new c) ≡ c) where
     right_same last line (ListRequest query) None BadToken right = right
     right_same last line Next (Some n) (Listed shown page) right = (right.0, (right.1.0, lists_same n right.0.query (Some right.0.point) shown page right.1.1))
     right_same last line Next None BadToken right = right
+    right_same last line (Head name) None NoSlot right = absurd right
     right_same last line request at reply right = absurd right
 
     above_same : (earlier : List Answered) (line at : ℕ) (o : Option Update)
@@ -166,6 +170,7 @@ module _ (new : ℕ → ℕ) (back : (c : ℕ) → new (new c) ≡ c) where
 
   change_same : (dir : List (List ℕ)) (u : Update) (request : Request) → IsChangeOf dir u request → IsChangeOf dir (ren u) request
   change_same dir u (Put name val) is = is
+  change_same dir u (PutNew name val) is = is
   change_same dir u (Delete name) is = is
   change_same dir u (Head name) is = absurd is
   change_same dir u (ListRequest query) is = absurd is

@@ -11,15 +11,15 @@ use Rattle.key_names.specs.Names.{IsRank, name_at}
 use Rattle.bucket_terms.specs.declared.page.Page.{Page}
 use Rattle.bucket_terms.specs.declared.page.PageEntry.TheVariants.{Key}
 use Rattle.bucket_terms.specs.declared.token_point.TokenPoint.{TokenPoint}
-use Rattle.bucket_terms.specs.declared.request.Request.TheVariants.{Put, Delete, Head}
-use Rattle.bucket_terms.specs.declared.reply.Reply.TheVariants.{Put as PutReply, Deleted, Found, Missing}
+use Rattle.bucket_terms.specs.LegalRun.{RequestLine, Answered, IsOf, IsAnswered, AreAnswered, IsMadeBy, IsPointOf, Setting, Finds, answered_lines, lines_of, replies_of, update_at, IsRight}
 use Rattle.bucket_terms.specs.Listing.{entries_of, group_len, page_of}
 use Rattle.bucket_terms.specs.declared.reply.Placed.{Placed}
-use Rattle.bucket_terms.specs.LegalRun.{RequestLine, Answered, IsAnswered, AreAnswered, IsRight, IsMadeBy, IsPointOf, Setting, Finds, answered_lines, lines_of, replies_of, update_at}
+use Rattle.bucket_terms.specs.declared.reply.Reply.TheVariants.{Put as PutReply, Exists, Found, Missing, Deleted}
+use Rattle.bucket_terms.specs.declared.request.Request.TheVariants.{Put, PutNew, Head, Delete}
 use Rattle.request_lines.specs.Queries.{plain_query}
+use Rattle.run_laws.specs.RunRows.{two_names, line, update, reply_at, no_slot, run, list_all, page, Legal, writer, reader, clients, put_a, looked, two_puts, second_refused, first_refused, put_new_a, put_new_twice, only_replies, RunRowsLaw, beside, answered_beside, three_changes, after_three}
 use Rattle.sample_laws.proofs.Places.{any_all}
 use Rattle.sample_laws.proofs.Ranks.{no_token}
-use Rattle.run_laws.specs.RunRows.{two_names, line, update, reply_at, no_slot, run, list_all, page, Legal, writer, reader, clients, put_a, looked, two_puts, second_refused, first_refused, beside, answered_beside, three_changes, after_three, RunRowsLaw}
 
 -- the rank of `a`, and that of `b`
 first_rank : IsRank two_names (codes "a") 0
@@ -233,6 +233,100 @@ by_other : ¬ (Legal 1 ((line 4 (Put (codes "b") 8) ∷ []) ∷ two_puts ∷ [])
     (run (update 1 2 0 (PutVal 7) ∷ update 1 3 1 (PutVal 8) ∷ []) ((no_slot 0 4 ∷ []) ∷ (reply_at 1 2 1 (PutReply false) ∷ reply_at 1 3 2 (PutReply false) ∷ []) ∷ [])))
 by_other legal = let used : 1 ≤ 0 = (legal.answered 0 (omega arith)).0.right in omega arith
 
+-- ---- puts of a new key
+
+abbrev new_setting : ℕ → Setting
+new_setting slots = record { dir = two_names; updates = put_a ∷ []; client = 0; slots = slots }
+
+first_new : (slots : ℕ) → IsAnswered (new_setting slots) [] (line 2 (PutNew (codes "a") 7)) (reply_at 0 2 1 (PutReply false))
+unfolding after
+first_new slots = record {
+  client = refl;
+  line = refl;
+  order = record { within = omega arith; not_below = nowhere _; above = λ is. nowhere _ };
+  right = record { key = 0; rank = first_rank; update = refl; before = refl };
+}
+
+new_made : (placed : Placed) (answers : List Answered) → placed.at ≡ Some 1
+    → Any (IsMadeBy two_names put_a 1) (record { asked = line 2 (PutNew (codes "a") 7); placed = placed } ∷ answers)
+new_made placed answers at =
+    (zero, record { asked = line 2 (PutNew (codes "a") 7); placed = placed }, omega arith, refl, record { line = refl; place = at; change = (first_rank, refl) })
+
+finds_seven : (slots : ℕ) → Finds (new_setting slots) (codes "a") 1 (Some 7)
+unfolding after
+finds_seven slots = record { key = 0; rank = first_rank; value = refl }
+
+-- the one update is of line 2
+not_of_three : (slots : ℕ) → All (λ (u : Update). ¬ (IsOf (new_setting slots) 3 u)) (put_a ∷ [])
+not_of_three slots =
+    All-cons (λ (u : Update). ¬ (IsOf (new_setting slots) 3 u)) put_a [] (λ of. let same : 2 ≡ 3 = of.for_line in omega (arith, same))
+    (nowhere (λ (u : Update). ¬ (IsOf (new_setting slots) 3 u)))
+
+abbrev first_done : Answered
+first_done = record { asked = line 2 (PutNew (codes "a") 7); placed = reply_at 0 2 1 (PutReply false) }
+
+new_and_kept : Legal 9 (put_new_twice ∷ []) (only_replies (put_a ∷ []) (reply_at 0 2 1 (PutReply false) ∷ reply_at 0 3 1 Exists ∷ []))
+new_and_kept = record {
+  clients = refl;
+  answered = answered;
+  made = made_once (put_new_twice ∷ []) ((reply_at 0 2 1 (PutReply false) ∷ reply_at 0 3 1 Exists ∷ []) ∷ []) put_a (omega arith)
+      (new_made (reply_at 0 2 1 (PutReply false)) (record { asked = line 3 (PutNew (codes "a") 8); placed = reply_at 0 3 1 Exists } ∷ []) refl);
+}
+  where
+    second : IsAnswered (new_setting 9) (first_done ∷ []) (line 3 (PutNew (codes "a") 8)) (reply_at 0 3 1 Exists)
+    second = record {
+      client = refl;
+      line = refl;
+      order = record {
+        within = omega arith;
+        not_below = All-cons (λ (a : Answered). IfSome a.placed.at (λ place. place ≤ 1)) first_done [] (omega arith) (nowhere _);
+        above = λ is. absurd (let same : 2 ≡ 3 = is.for_line in omega (arith, same));
+      };
+      right = ((7, finds_seven 9), not_of_three 9);
+    }
+
+    answered : (c : ℕ) → c < 1 → AreAnswered (record { dir = two_names; updates = put_a ∷ []; client = c; slots = 9 }) [] (lines_of (put_new_twice ∷ []) c)
+        (replies_of (only_replies (put_a ∷ []) (reply_at 0 2 1 (PutReply false) ∷ reply_at 0 3 1 Exists ∷ [])) c)
+    answered zero below = (first_new 9, (second, tt))
+    answered (suc c) below = absurd (omega arith)
+
+new_made_twice : ¬ (Legal 9 (put_new_twice ∷ [])
+    (only_replies (put_a ∷ update 0 3 0 (PutVal 8) ∷ []) (reply_at 0 2 1 (PutReply false) ∷ reply_at 0 3 2 (PutReply false) ∷ [])))
+unfolding after
+new_made_twice legal =
+    let right = (legal.answered 0 (omega arith)).1.0.right in
+    let absent : false ≡ map_has right.key (after (put_a ∷ update 0 3 0 (PutVal 8) ∷ []) 1) = right.before in
+    let there : false ≡ true = absent ∙ ap (λ (k : ℕ). map_has k (after (put_a ∷ update 0 3 0 (PutVal 8) ∷ []) 1)) (only_first right.key right.rank) in
+    cc
+
+kept_where_absent : ¬ (Legal 9 (put_new_a ∷ []) (only_replies [] (reply_at 0 2 0 Exists ∷ [])))
+unfolding after
+kept_where_absent legal =
+    let found = (legal.answered 0 (omega arith)).0.right.0 in
+    let value : map_get found.1.key (after [] 0) ≡ Some found.0 = found.1.value in
+    cc
+
+kept_with_an_update : ¬ (Legal 9 (put_new_a ∷ []) (only_replies (put_a ∷ []) (reply_at 0 2 1 Exists ∷ [])))
+kept_with_an_update legal =
+    let none = (legal.answered 0 (omega arith)).0.right.1 in
+    none 0 put_a (omega arith) (record { by = refl; for_line = refl })
+
+new_slot_used_up : Legal 1 (put_new_twice ∷ []) (only_replies (put_a ∷ []) (reply_at 0 2 1 (PutReply false) ∷ no_slot 0 3 ∷ []))
+new_slot_used_up = record {
+  clients = refl;
+  answered = answered;
+  made = made_once (put_new_twice ∷ []) ((reply_at 0 2 1 (PutReply false) ∷ no_slot 0 3 ∷ []) ∷ []) put_a (omega arith)
+      (new_made (reply_at 0 2 1 (PutReply false)) (record { asked = line 3 (PutNew (codes "a") 8); placed = no_slot 0 3 } ∷ []) refl);
+}
+  where
+    answered : (c : ℕ) → c < 1 → AreAnswered (record { dir = two_names; updates = put_a ∷ []; client = c; slots = 1 }) [] (lines_of (put_new_twice ∷ []) c)
+        (replies_of (only_replies (put_a ∷ []) (reply_at 0 2 1 (PutReply false) ∷ no_slot 0 3 ∷ [])) c)
+    answered zero below = (first_new 1, (record { client = refl; line = refl; order = tt; right = omega arith }, tt))
+    answered (suc c) below = absurd (omega arith)
+
+new_one_early : ¬ (Legal 2 (put_new_twice ∷ []) (only_replies (put_a ∷ []) (reply_at 0 2 1 (PutReply false) ∷ no_slot 0 3 ∷ [])))
+new_one_early legal = let used : 2 ≤ 1 = (legal.answered 0 (omega arith)).1.0.right in omega arith
+
 no_update : ¬ (Legal 1 ((line 2 (Delete (codes "a")) ∷ line 3 (Put (codes "a") 7) ∷ []) ∷ [])
     (run [] ((reply_at 0 2 0 Deleted ∷ no_slot 0 3 ∷ []) ∷ [])))
 no_update legal = let used : 1 ≤ 0 = (legal.answered 0 (omega arith)).1.0.right in omega arith
@@ -267,6 +361,14 @@ run_rows = record {
   one_update_early = one_early;
   by_a_later_line = by_later;
   by_another_client = by_other;
+  new_and_kept = new_and_kept;
+  new_that_replaced = λ legal. absurd (legal.answered 0 (omega arith)).0.right;
+  new_made_twice = new_made_twice;
+  kept_where_absent = kept_where_absent;
+  kept_with_an_update = kept_with_an_update;
+  new_slot_used_up = new_slot_used_up;
+  new_one_update_early = new_one_early;
+  new_counts = refl;
   stale_page_beside = stale_page_beside;
   page_of_two_moments = page_of_two_moments;
   stale_put = stale_put;

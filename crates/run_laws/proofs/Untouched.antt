@@ -16,15 +16,15 @@ use Rattle.bucket_terms.specs.declared.list_query.ListQuery.{ListQuery}
 use Rattle.bucket_terms.specs.declared.token_point.TokenPoint.{TokenPoint}
 use Rattle.bucket_terms.specs.declared.page.Page.{Page}
 use Rattle.bucket_terms.specs.declared.request.Request.{Request}
-use Rattle.bucket_terms.specs.declared.request.Request.TheVariants.{Put, Delete, Head, List as ListRequest, Next}
+use Rattle.bucket_terms.specs.declared.request.Request.TheVariants.{Put, PutNew, Delete, Head, List as ListRequest, Next}
 use Rattle.bucket_terms.specs.declared.reply.Reply.{Reply}
-use Rattle.bucket_terms.specs.declared.reply.Reply.TheVariants.{Put as PutReply, Deleted, Found, Missing, Listed, BadToken, NoSlot}
+use Rattle.bucket_terms.specs.declared.reply.Reply.TheVariants.{Put as PutReply, Exists, Deleted, Found, Missing, Listed, BadToken, NoSlot}
 use Rattle.bucket_terms.specs.declared.reply.Placed.{Placed}
 use Rattle.bucket_terms.specs.Listing.{is_under, is_admitted, entry_of, is_same_group, next_token, entries_of, page_of, page_point}
 use Rattle.bucket_terms.specs.PageParts.{cut_at}
 use Rattle.bucket_terms.specs.LegalRun.{RequestLine, Setting, Answered, Run, IsLegal, IsRight, IsOf, IsChangeOf, IsMadeBy, HasUsedItsSlots, UpdateStands, Finds, Lists, Resumed, AreAnswered, next_of, update_at, last_listing, answered_lines, lines_of, replies_of}
 use Rattle.bucket_terms.specs.RunParts.{IsPlacedBelow, head_by, setting_of, updates_in}
-use Rattle.bucket_terms.proofs.Finds.{map_has-none}
+use Rattle.bucket_terms.proofs.Finds.{map_has-none, map_has-some}
 use Rattle.bucket_terms.proofs.LastListing.{last_listing-push}
 use Rattle.sample_laws.specs.Alone.{rank_of}
 use Rattle.sample_laws.specs.Own.{updates_of}
@@ -83,6 +83,7 @@ next-keeps dir own last next keeps e = cc
 -- a request that keeps to the keys changes such a key, and one that leaves them alone another one
 kept_change : (dir : List (List ℕ)) (own : ℕ → Bool) (u : Update) (request : Request) → Rises dir → KeepsTo dir own request → IsChangeOf dir u request → own u.key ≡ true
 kept_change dir own u (Put name val) rising keeps change = subst (λ (key : ℕ). own key ≡ true) (rank_of-is dir name u.key rising change.0) keeps
+kept_change dir own u (PutNew name val) rising keeps change = subst (λ (key : ℕ). own key ≡ true) (rank_of-is dir name u.key rising change.0) keeps
 kept_change dir own u (Delete name) rising keeps change = subst (λ (key : ℕ). own key ≡ true) (rank_of-is dir name u.key rising change.0) keeps
 kept_change dir own u (Head name) rising keeps change = absurd change
 kept_change dir own u (ListRequest query) rising keeps change = absurd change
@@ -90,6 +91,7 @@ kept_change dir own u Next rising keeps change = absurd change
 
 other_change : (dir : List (List ℕ)) (own : ℕ → Bool) (u : Update) (request : Request) → Rises dir → LeavesAlone dir own request → IsChangeOf dir u request → own u.key ≡ false
 other_change dir own u (Put name val) rising left change = subst (λ (key : ℕ). own key ≡ false) (rank_of-is dir name u.key rising change.0) left
+other_change dir own u (PutNew name val) rising left change = subst (λ (key : ℕ). own key ≡ false) (rank_of-is dir name u.key rising change.0) left
 other_change dir own u (Delete name) rising left change = subst (λ (key : ℕ). own key ≡ false) (rank_of-is dir name u.key rising change.0) left
 other_change dir own u (Head name) rising left change = absurd change
 other_change dir own u (ListRequest query) rising left change = absurd change
@@ -238,6 +240,31 @@ module _ (s : Setting) (own : ℕ → Bool) (rising : Rises s.dir) (split : (t :
           kept = kept;
         }
     comes last line (Put name val) None NoSlot a p kept keeps right same known = absurd (no_want line right)
+    comes last line (PutNew name val) (Some q) (PutReply false) a p kept keeps right same known =
+        let us = own_upto s p in
+        let adds = own_adds p q line name (PutVal val) false a right (known q refl) in
+        let out : Bool → Outcome = λ b. if b then looks us Exists else makes s.client line us (rank_of s.dir name) (PutVal val) (PutReply false) in
+        let absent = had p q line name (PutVal val) false a keeps right adds in
+        record {
+          start = None;
+          resolved = refl;
+          reply_is = ap (λ b. (out b).reply) absent;
+          behind = pushed p q line name (PutVal val) false a keeps right adds ∙ ap (λ b. (out b).updates) absent;
+          kept = kept;
+        }
+    comes last line (PutNew name val) (Some q) Exists a p kept keeps right same known =
+        let us = own_upto s p in
+        let stays = only_stays line p q a (no_own p q line a (ap (λ (l : RequestLine). l.line) same) right.1) (known q refl) in
+        let out : Bool → Outcome = λ b. if b then looks us Exists else makes s.client line us (rank_of s.dir name) (PutVal val) (PutReply false) in
+        let there = sym (map_has-some (rank_of s.dir name) (map_of us) right.0.0 (look_finds p q stays name (Some right.0.0) keeps right.0.1)) in
+        record {
+          start = None;
+          resolved = refl;
+          reply_is = ap (λ b. (out b).reply) there;
+          behind = stays.same ∙ ap (λ b. (out b).updates) there;
+          kept = kept;
+        }
+    comes last line (PutNew name val) None NoSlot a p kept keeps right same known = absurd (no_want line right)
     comes last line (Delete name) (Some q) Deleted a p kept keeps (inl right) same known =
         let us = own_upto s p in
         let adds = own_adds p q line name Remove true a right (known q refl) in
@@ -269,6 +296,7 @@ module _ (s : Setting) (own : ℕ → Bool) (rising : Rises s.dir) (split : (t :
     comes last line (Head name) (Some q) Missing a p kept keeps right same known =
         let stays = only_stays line p q a (no_change (Head name) p q a (ap (λ (l : RequestLine). l.request) same) (λ u h. h)) (known q refl) in
         record { start = None; resolved = refl; reply_is = sym (ap head_by (look_finds p q stays name None keeps right)); behind = stays.same; kept = kept }
+    comes last line (Head name) None NoSlot a p kept keeps right same known = absurd right
     comes last line (ListRequest query) (Some q) (Listed shown page) a p kept keeps right same known =
         let stays = only_stays line p q a (no_change (ListRequest query) p q a (ap (λ (l : RequestLine). l.request) same) (λ u h. h)) (known q refl) in
         record {

@@ -1,6 +1,6 @@
 -- What a client alone is answered, one request after the other, also to a token and to NEXT: each reply with its place, and
 -- the updates that stand behind it.
-use Rattle.std.specs.Prelude.{◌≡◌, ℕ, ◌+◌, if◌then◌else◌, List, [], ◌∷◌, ◌++◌, length, Option, Some, None}
+use Rattle.std.specs.Prelude.{◌≡◌, ℕ, ◌+◌, false, if◌then◌else◌, List, [], ◌∷◌, ◌++◌, length, Option, Some, None}
 use Rattle.key_map.specs.declared.update.Update.{Update}
 use Rattle.key_map.specs.declared.update.Change.{Change}
 use Rattle.key_map.specs.declared.update.Change.TheVariants.{Put as PutVal, Remove}
@@ -8,9 +8,9 @@ use Rattle.key_map.specs.KeyMap.{map_has}
 use Rattle.bucket_terms.specs.declared.list_query.ListQuery.{ListQuery}
 use Rattle.bucket_terms.specs.declared.token_point.TokenPoint.{TokenPoint}
 use Rattle.bucket_terms.specs.declared.request.Request.{Request}
-use Rattle.bucket_terms.specs.declared.request.Request.TheVariants.{Put, Delete, Head, List as ListRequest, Next}
+use Rattle.bucket_terms.specs.declared.request.Request.TheVariants.{Put, PutNew, Delete, Head, List as ListRequest, Next}
 use Rattle.bucket_terms.specs.declared.reply.Reply.{Reply}
-use Rattle.bucket_terms.specs.declared.reply.Reply.TheVariants.{Put as PutReply, Deleted, Listed, BadToken}
+use Rattle.bucket_terms.specs.declared.reply.Reply.TheVariants.{Put as PutReply, Exists, Deleted, Listed, BadToken}
 use Rattle.bucket_terms.specs.declared.reply.Placed.{Placed}
 use Rattle.bucket_terms.specs.Listing.{page_of}
 use Rattle.bucket_terms.specs.LegalRun.{RequestLine, Resumed, IsPointOf, next_of, is_listing}
@@ -55,6 +55,8 @@ next_on dir us None = is_refused us
 abbrev pub outcome_on : List (List ℕ) → ℕ → List Update → Option Reply → ℕ → Request → Option (Option TokenPoint) → Outcome
 outcome_on dir client us last line (Put name val) start =
     makes client line us (rank_of dir name) (PutVal val) (PutReply (map_has (rank_of dir name) (map_of us)))
+outcome_on dir client us last line (PutNew name val) start =
+    if map_has (rank_of dir name) (map_of us) then looks us Exists else makes client line us (rank_of dir name) (PutVal val) (PutReply false)
 outcome_on dir client us last line (Delete name) start =
     if map_has (rank_of dir name) (map_of us) then makes client line us (rank_of dir name) Remove Deleted else looks us Deleted
 outcome_on dir client us last line (Head name) start = looks us (head_answer (rank_of dir name) (map_of us))

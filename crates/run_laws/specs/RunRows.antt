@@ -1,5 +1,5 @@
 -- Small sessions of one, two and three clients: runs that are legal, and runs beside them that are not.
-use Rattle.std.specs.Prelude.{ℕ, List, [], ◌∷◌, ◌++◌, codes, Bool, true, false, Option, Some, None}
+use Rattle.std.specs.Prelude.{◌≡◌, ℕ, List, [], ◌∷◌, ◌++◌, codes, Bool, true, false, Option, Some, None}
 use Rattle.key_map.specs.declared.update.Update.{Update}
 use Rattle.key_map.specs.declared.update.Change.{Change}
 use Rattle.key_map.specs.declared.update.Change.TheVariants.{Put as PutVal, Remove}
@@ -7,11 +7,11 @@ use Rattle.bucket_terms.specs.declared.list_query.ListQuery.{ListQuery}
 use Rattle.bucket_terms.specs.declared.page.PageEntry.{PageEntry}
 use Rattle.bucket_terms.specs.declared.page.PageEntry.TheVariants.{Key}
 use Rattle.bucket_terms.specs.declared.request.Request.{Request}
-use Rattle.bucket_terms.specs.declared.request.Request.TheVariants.{Put, Delete, Head, List as ListRequest}
+use Rattle.bucket_terms.specs.declared.request.Request.TheVariants.{Put, PutNew, Delete, Head, List as ListRequest}
 use Rattle.bucket_terms.specs.declared.reply.Reply.{Reply}
-use Rattle.bucket_terms.specs.declared.reply.Reply.TheVariants.{Put as PutReply, Deleted, Found, Missing, Listed, NoSlot}
+use Rattle.bucket_terms.specs.declared.reply.Reply.TheVariants.{Put as PutReply, Exists, Deleted, Found, Missing, Listed, NoSlot}
 use Rattle.bucket_terms.specs.declared.reply.Placed.{Placed}
-use Rattle.bucket_terms.specs.LegalRun.{RequestLine, Run, IsLegal}
+use Rattle.bucket_terms.specs.LegalRun.{RequestLine, Run, IsLegal, slots_of}
 use Rattle.request_lines.specs.Queries.{plain_query}
 
 -- the directory of the names `a` and `b`
@@ -70,6 +70,16 @@ second_refused = run (put_a ∷ []) ((reply_at 0 2 1 (PutReply false) ∷ no_slo
 abbrev pub first_refused : Run
 first_refused = run (update 0 3 1 (PutVal 8) ∷ []) ((no_slot 0 2 ∷ reply_at 0 3 1 (PutReply false) ∷ []) ∷ [])
 
+-- a client puts `a` where it is not there; a second such line, of the same client or of another one, finds it there
+abbrev pub put_new_a : List RequestLine
+put_new_a = line 2 (PutNew (codes "a") 7) ∷ []
+
+abbrev pub put_new_twice : List RequestLine
+put_new_twice = line 2 (PutNew (codes "a") 7) ∷ line 3 (PutNew (codes "a") 8) ∷ []
+
+abbrev pub only_replies : List Update → List Placed → Run
+only_replies updates replies = run updates (replies ∷ [])
+
 -- beside the writer, another client has one request, which is answered behind the update of `a` and these
 abbrev pub beside : Request → List (List RequestLine)
 beside request = writer ∷ (line 4 request ∷ []) ∷ []
@@ -107,6 +117,17 @@ pub record RunRowsLaw : Type 0 where
   pub by_a_later_line : ¬ (Legal 1 (two_puts ∷ []) first_refused)
   pub by_another_client : ¬ (Legal 1 ((line 4 (Put (codes "b") 8) ∷ []) ∷ two_puts ∷ [])
       (run (update 1 2 0 (PutVal 7) ∷ update 1 3 1 (PutVal 8) ∷ []) ((no_slot 0 4 ∷ []) ∷ (reply_at 1 2 1 (PutReply false) ∷ reply_at 1 3 2 (PutReply false) ∷ []) ∷ [])))
+  -- the first of two puts of a new key is made, and the second one finds it there
+  pub new_and_kept : Legal 9 (put_new_twice ∷ []) (only_replies (put_a ∷ []) (reply_at 0 2 1 (PutReply false) ∷ reply_at 0 3 1 Exists ∷ []))
+  pub new_that_replaced : ¬ (Legal 9 (put_new_a ∷ []) (only_replies (put_a ∷ []) (reply_at 0 2 1 (PutReply true) ∷ [])))
+  pub new_made_twice : ¬ (Legal 9 (put_new_twice ∷ [])
+      (only_replies (put_a ∷ update 0 3 0 (PutVal 8) ∷ []) (reply_at 0 2 1 (PutReply false) ∷ reply_at 0 3 2 (PutReply false) ∷ [])))
+  pub kept_where_absent : ¬ (Legal 9 (put_new_a ∷ []) (only_replies [] (reply_at 0 2 0 Exists ∷ [])))
+  pub kept_with_an_update : ¬ (Legal 9 (put_new_a ∷ []) (only_replies (put_a ∷ []) (reply_at 0 2 1 Exists ∷ [])))
+  -- a PUTNEW line may use up a slot, and counts for the slots that a client has
+  pub new_slot_used_up : Legal 1 (put_new_twice ∷ []) (only_replies (put_a ∷ []) (reply_at 0 2 1 (PutReply false) ∷ no_slot 0 3 ∷ []))
+  pub new_one_update_early : ¬ (Legal 2 (put_new_twice ∷ []) (only_replies (put_a ∷ []) (reply_at 0 2 1 (PutReply false) ∷ no_slot 0 3 ∷ [])))
+  pub new_counts : slots_of (put_new_twice ∷ []) 0 ≡ 3
   -- what another client changed before the place, this client's first: a page, a put, a removal and a HEAD are of one moment
   pub stale_page_beside : ¬ (Legal 9 (beside list_all) (answered_beside [] (reply_at 1 4 1 (page []))))
   pub page_of_two_moments : ¬ (Legal 9 (three_changes list_all) (after_three (reply_at 1 6 3 (page (Key 0 7 ∷ Key 1 8 ∷ [])))))

@@ -3,7 +3,7 @@ use Rattle.std.specs.Prelude.{◌≡◌, ◌≢◌, ℕ, ◌<◌, Bool, true, fa
 use Rattle.key_names.specs.Names.{Rises}
 use Rattle.key_map.specs.declared.pair.Pair.{Pair}
 use Rattle.bucket_terms.specs.declared.request.Request.{Request}
-use Rattle.bucket_terms.specs.declared.request.Request.TheVariants.{Put, Delete, Head, List as ListRequest, Next}
+use Rattle.bucket_terms.specs.declared.request.Request.TheVariants.{Put, PutNew, Delete, Head, List as ListRequest, Next}
 use Rattle.bucket_terms.specs.declared.reply.Placed.{Placed}
 use Rattle.bucket_terms.specs.Listing.{is_under}
 use Rattle.bucket_terms.specs.LegalRun.{RequestLine, Run, IsLegal, lines_of, replies_of}
@@ -15,6 +15,7 @@ use Rattle.run_laws.specs.Alone.{AreAlone}
 -- the request names just such keys: a listing, each name under its prefix. NEXT goes on from a listing.
 abbrev pub KeepsTo : List (List ℕ) → (ℕ → Bool) → Request → Type 0
 KeepsTo dir own (Put name val) = IsTrue (own (rank_of dir name))
+KeepsTo dir own (PutNew name val) = IsTrue (own (rank_of dir name))
 KeepsTo dir own (Delete name) = IsTrue (own (rank_of dir name))
 KeepsTo dir own (Head name) = IsTrue (own (rank_of dir name))
 KeepsTo dir own (ListRequest query) = (p : Pair) → IsTrue (is_under dir query p) → IsTrue (own p.key)
@@ -23,6 +24,7 @@ KeepsTo dir own Next = Unit {0}
 -- the request changes no such key
 abbrev pub LeavesAlone : List (List ℕ) → (ℕ → Bool) → Request → Type 0
 LeavesAlone dir own (Put name val) = own (rank_of dir name) ≡ false
+LeavesAlone dir own (PutNew name val) = own (rank_of dir name) ≡ false
 LeavesAlone dir own (Delete name) = own (rank_of dir name) ≡ false
 LeavesAlone dir own request = Unit {0}
 

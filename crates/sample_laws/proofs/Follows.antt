@@ -13,14 +13,14 @@ use Rattle.key_map.specs.declared.update.Change.TheVariants.{Put as PutVal, Remo
 use Rattle.key_map.specs.Map.{map_has, map_get, map_put, map_remove}
 use Rattle.key_map.specs.History.{updated, after}
 use Rattle.key_map.proofs.MapLaws.{map_remove-absent}
-use Rattle.bucket_terms.proofs.Finds.{map_has-none}
+use Rattle.bucket_terms.proofs.Finds.{map_has-none, map_has-some}
 use Rattle.bucket_terms.specs.declared.list_query.ListQuery.{ListQuery}
 use Rattle.bucket_terms.specs.declared.token_point.TokenPoint.{TokenPoint}
 use Rattle.bucket_terms.specs.declared.page.Page.{Page}
 use Rattle.bucket_terms.specs.declared.request.Request.{Request}
-use Rattle.bucket_terms.specs.declared.request.Request.TheVariants.{Put, Delete, Head, List as ListRequest}
+use Rattle.bucket_terms.specs.declared.request.Request.TheVariants.{Put, PutNew, Delete, Head, List as ListRequest}
 use Rattle.bucket_terms.specs.declared.reply.Reply.{Reply}
-use Rattle.bucket_terms.specs.declared.reply.Reply.TheVariants.{Put as PutReply, Deleted, Listed}
+use Rattle.bucket_terms.specs.declared.reply.Reply.TheVariants.{Put as PutReply, Exists, Deleted, Listed}
 use Rattle.bucket_terms.specs.Listing.{is_under, is_admitted, entry_of, is_same_group, entries_of, page_of}
 use Rattle.bucket_terms.specs.PageParts.{listing, cut_at}
 use Rattle.std.specs.List.{dedup}
@@ -98,6 +98,22 @@ module _ (s : Setting) (prefix : List ℕ) (rising : Rises s.dir) (split : (t : 
         named = subst (IsRank s.dir name) (sym rank) stands.rank;
       }
 
+  same_was : (b c : Bool) → PutReply b ≡ PutReply c → b ≡ c
+  same_was b c is = cc
+
+  -- a put of a key that was not there is a put, of which the reply tells that it was not there
+  pub follows_new : (p q line val : ℕ) (name : List ℕ) (a : Answered) → IsTrue (begins_with name prefix) → UpdateStands s line name (PutVal val) false q
+      → ((v : Update) → update_at s q ≡ Some v → IsOf s line v → p < q) → Stays s p q ⊎ Adds s p q a → Follows s p q (PutNew name val) (PutReply false)
+  follows_new p q line val name a begins stands strict what =
+      let put = follows_put p q line val name false a begins stands strict what in
+      let absent : false ≡ map_has (rank_of s.dir name) (own_map s p) = same_was false (map_has (rank_of s.dir name) (own_map s p)) put.same_reply in
+      record {
+        same_reply = ap (λ (b : Bool). cond b Exists (PutReply false)) absent;
+        pairs = put.pairs ∙ ap (λ (b : Bool). cond b (own_map s p) (map_put (rank_of s.dir name) val (own_map s p))) absent;
+        count = put.count ∙ ap (λ (b : Bool). length (own_upto s p) + cond b 0 1) absent;
+        named = put.named;
+      }
+
   pub follows_removal : (p q line : ℕ) (name : List ℕ) (a : Answered) → IsTrue (begins_with name prefix) → UpdateStands s line name Remove true q
       → ((v : Update) → update_at s q ≡ Some v → IsOf s line v → p < q) → Stays s p q ⊎ Adds s p q a → Follows s p q (Delete name) Deleted
   follows_removal p q line name a begins stands strict (inl stays) =
@@ -144,6 +160,26 @@ module _ (s : Setting) (prefix : List ℕ) (rising : Rises s.dir) (split : (t : 
         pairs = ap made_by stays.same ∙ sym (map_remove-absent (rank_of s.dir name) (own_map s p) absent);
         count = size ∙ (omega arith) ∙ ap (λ (b : Bool). length (own_upto s p) + cond b 1 0) (sym absent);
         named = subst (IsRank s.dir name) (sym rank) missing.rank;
+      }
+
+  pub follows_kept : (p q line val : ℕ) (name : List ℕ) (a : Answered) → a.asked.line ≡ line → IsTrue (begins_with name prefix)
+      → ((there : ℕ) × Finds s name q (Some there)) × All (λ (u : Update). ¬ (IsOf s line u)) s.updates
+      → Stays s p q ⊎ Adds s p q a → Follows s p q (PutNew name val) Exists
+  follows_kept p q line val name a same begins found (inr adds) = absurd (no_update_of p q line a adds same found.1)
+  follows_kept p q line val name a same begins found (inl stays) =
+      let there = found.0.1 in
+      let rank = rank_of-is s.dir name there.key rising there.rank in
+      let mine = own_rank s.dir prefix name there.key begins there.rank in
+      let present : true ≡ map_has (rank_of s.dir name) (own_map s p) =
+      sym (map_has-some there.key (after s.updates q) found.0.0 there.value) ∙ has_own there.key q mine
+      ∙ ap (λ (us : List Update). map_has there.key (made_by us)) stays.same
+      ∙ sym (ap (λ (key : ℕ). map_has key (own_map s p)) rank) in
+      let size = ap (length {A = Update}) stays.same in
+      record {
+        same_reply = ap (λ (b : Bool). cond b Exists (PutReply false)) present;
+        pairs = ap made_by stays.same ∙ ap (λ (b : Bool). cond b (own_map s p) (map_put (rank_of s.dir name) val (own_map s p))) present;
+        count = size ∙ (omega arith) ∙ ap (λ (b : Bool). length (own_upto s p) + cond b 0 1) present;
+        named = subst (IsRank s.dir name) (sym rank) there.rank;
       }
 
   -- a look adds no update

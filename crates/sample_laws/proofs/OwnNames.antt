@@ -7,7 +7,7 @@ use Rattle.std.proofs.lemmas.List.Elements.{All-nil, All-head, All-tail, All-con
 use Rattle.key_map.specs.declared.update.Update.{Update}
 use Rattle.key_map.specs.History.{after}
 use Rattle.bucket_terms.specs.declared.request.Request.{Request}
-use Rattle.bucket_terms.specs.declared.request.Request.TheVariants.{Put, Delete, Head, List as ListRequest, Next}
+use Rattle.bucket_terms.specs.declared.request.Request.TheVariants.{Put, PutNew, Delete, Head, List as ListRequest, Next}
 use Rattle.bucket_terms.specs.declared.reply.Placed.{Placed}
 use Rattle.bucket_terms.specs.LegalRun.{RequestLine, Setting, Answered, Run, IsLegal, IsMadeBy, IsChangeOf, answered_lines, lines_of, replies_of}
 use Rattle.bucket_terms.specs.RunParts.{setting_of}
@@ -36,6 +36,7 @@ asked_all P (l ∷ lines) (r ∷ replies) all =
 own_change : (dir : List (List ℕ)) (prefix : List ℕ) (u : Update) (request : Request) → IsOwnRequest prefix request → IsChangeOf dir u request
     → is_own dir prefix u.key ≡ true
 own_change dir prefix u (Put name val) own change = own_rank dir prefix name u.key own change.0
+own_change dir prefix u (PutNew name val) own change = own_rank dir prefix name u.key own change.0
 own_change dir prefix u (Delete name) own change = own_rank dir prefix name u.key own change.0
 own_change dir prefix u (Head name) own change = absurd change
 own_change dir prefix u (ListRequest query) own change = absurd change

@@ -1,15 +1,15 @@
 -- Helper: the headline does not rest on this file.
 -- What a client has when it is alone: its requests are made one after the other on an empty map. These clients give no
 -- token and have no NEXT.
-use Rattle.std.specs.Prelude.{ℕ, ◌+◌, cond, not, nat_eq, List, [], ◌∷◌, None}
+use Rattle.std.specs.Prelude.{ℕ, ◌+◌, false, cond, not, nat_eq, List, [], ◌∷◌, None}
 use Rattle.std.specs.List.{prefix_len}
 use Rattle.std.specs.Cmp.Lexicographic.{pointwise}
 use Rattle.key_map.specs.declared.pair.Pair.{Pair}
 use Rattle.key_map.specs.Map.{map_has, map_put, map_remove}
 use Rattle.bucket_terms.specs.declared.request.Request.{Request}
-use Rattle.bucket_terms.specs.declared.request.Request.TheVariants.{Put, Delete, Head, List as ListRequest, Next}
+use Rattle.bucket_terms.specs.declared.request.Request.TheVariants.{Put, PutNew, Delete, Head, List as ListRequest, Next}
 use Rattle.bucket_terms.specs.declared.reply.Reply.{Reply}
-use Rattle.bucket_terms.specs.declared.reply.Reply.TheVariants.{Put as PutReply, Deleted, Listed, BadToken}
+use Rattle.bucket_terms.specs.declared.reply.Reply.TheVariants.{Put as PutReply, Exists, Deleted, Listed, BadToken}
 use Rattle.bucket_terms.specs.Listing.{page_of}
 use Rattle.bucket_terms.specs.RunParts.{head_answer}
 use Rattle.bucket_terms.specs.LegalRun.{RequestLine}
@@ -23,18 +23,21 @@ rank_of dir name = prefix_len (λ other. not (pointwise nat_eq other name)) dir
 -- the map behind a request
 abbrev pub map_behind : List (List ℕ) → List Pair → Request → List Pair
 map_behind dir m (Put name val) = map_put (rank_of dir name) val m
+map_behind dir m (PutNew name val) = cond (map_has (rank_of dir name) m) m (map_put (rank_of dir name) val m)
 map_behind dir m (Delete name) = map_remove (rank_of dir name) m
 map_behind dir m request = m
 
--- how many updates the request makes: a removal of an absent key is none
+-- how many updates the request makes: a PUTNEW of a key that is there is none, and so is a removal of an absent key
 abbrev pub updates_on : List (List ℕ) → List Pair → Request → ℕ
 updates_on dir m (Put name val) = 1
+updates_on dir m (PutNew name val) = cond (map_has (rank_of dir name) m) 0 1
 updates_on dir m (Delete name) = cond (map_has (rank_of dir name) m) 1 0
 updates_on dir m request = 0
 
 -- what the request is answered on the map; a listing without a token
 abbrev pub reply_on : List (List ℕ) → List Pair → Request → Reply
 reply_on dir m (Put name val) = PutReply (map_has (rank_of dir name) m)
+reply_on dir m (PutNew name val) = cond (map_has (rank_of dir name) m) Exists (PutReply false)
 reply_on dir m (Delete name) = Deleted
 reply_on dir m (Head name) = head_answer (rank_of dir name) m
 reply_on dir m (ListRequest query) = Listed query (page_of dir query None m)

@@ -6,7 +6,7 @@ use Rattle.key_names.specs.Names.{Rises, IsRank, name_at, begins_with}
 use Rattle.key_map.specs.declared.pair.Pair.{Pair}
 use Rattle.key_map.specs.declared.update.Update.{Update}
 use Rattle.bucket_terms.specs.declared.request.Request.{Request}
-use Rattle.bucket_terms.specs.declared.request.Request.TheVariants.{Put, Delete, Head, List as ListRequest, Next}
+use Rattle.bucket_terms.specs.declared.request.Request.TheVariants.{Put, PutNew, Delete, Head, List as ListRequest, Next}
 use Rattle.bucket_terms.specs.LegalRun.{RequestLine, lines_of}
 use Rattle.sample_laws.specs.Alone.{rank_of}
 
@@ -25,6 +25,7 @@ updates_of client updates = filter (λ (u : Update). u.client == client) updates
 -- the request is one on names that begin with the prefix
 abbrev pub IsOwnRequest : List ℕ → Request → Type 0
 IsOwnRequest prefix (Put name val) = IsTrue (begins_with name prefix)
+IsOwnRequest prefix (PutNew name val) = IsTrue (begins_with name prefix)
 IsOwnRequest prefix (Delete name) = IsTrue (begins_with name prefix)
 IsOwnRequest prefix (Head name) = IsTrue (begins_with name prefix)
 IsOwnRequest prefix (ListRequest query) = (query.prefix ≡ prefix) × (query.token ≡ [])
@@ -36,6 +37,7 @@ AreOwnRequests prefix lines = All (λ (l : RequestLine). IsOwnRequest prefix l.r
 -- the name of the request is in the directory
 abbrev pub IsNamed : List (List ℕ) → Request → Type 0
 IsNamed dir (Put name val) = IsRank dir name (rank_of dir name)
+IsNamed dir (PutNew name val) = IsRank dir name (rank_of dir name)
 IsNamed dir (Delete name) = IsRank dir name (rank_of dir name)
 IsNamed dir (Head name) = IsRank dir name (rank_of dir name)
 IsNamed dir request = Unit {0}

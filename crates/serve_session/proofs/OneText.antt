@@ -1,16 +1,15 @@
 -- The text of an input of one client is determined, and so is the refusal of an input.
-use Rattle.std.proofs.Common.{◌≡◌, ℕ, ◌<◌, List, [], ◌∷◌, ◌++◌, length, inl, inr, refl, sym, ap, ◌∙◌, subst, arith, Option, Some, None}
+use Rattle.std.proofs.Common.{◌≡◌, ℕ, List, [], ◌∷◌, ◌++◌, length, inl, inr, sym, ap, ◌∙◌, subst, arith, Some}
 use Rattle.std.proofs.lemmas.Option.{same_Some}
-use Rattle.bucket_terms.specs.LegalRun.{Run, RequestLine, IsLegal, slots_of}
+use Rattle.bucket_terms.specs.LegalRun.{Run, IsLegal, slots_of}
 use Rattle.request_lines.specs.declared.session.ClientPart.{ClientPart}
 use Rattle.request_lines.specs.declared.session.Session.{Session}
-use Rattle.request_lines.specs.declared.session_error.InputError.{InputError}
 use Rattle.request_lines.specs.Input.{IsSessionOf, refusal_of}
 use Rattle.key_names.specs.Names.{HoldsEachOnce}
 use Rattle.answer_text.specs.Lines.{session_text}
 use Rattle.run_laws.proofs.OneRun.{one_run}
 use Rattle.run_laws.proofs.Determined.{one_session, no_session, one_directory}
-use Rattle.serve_session.specs.Served.{HoldsOfSession, HoldsOfRun, client_lines}
+use Rattle.serve_session.specs.Served.{HoldsOfSession, client_lines}
 use Rattle.serve_session.specs.OneText.{OneTextLaw, OneRefusalLaw, RefusedOrServedLaw, RunnersRunLaw}
 
 -- the run of one client is the only one

@@ -8,7 +8,7 @@ use Rattle.key_names.specs.Names.{HoldsEachOnce}
 use Rattle.key_map.specs.declared.update.Update.{Update}
 use Rattle.bucket_terms.specs.declared.record.Record.{Record}
 use Rattle.bucket_terms.specs.declared.reply.Placed.{Placed}
-use Rattle.bucket_terms.specs.LegalRun.{IsLegal, Run, RequestLine, slots_of}
+use Rattle.bucket_terms.specs.LegalRun.{IsLegal, Run, slots_of}
 use Rattle.request_lines.specs.declared.session.ClientPart.{ClientPart}
 use Rattle.request_lines.specs.declared.session.Session.{Session}
 use Rattle.request_lines.specs.Session.{request_lines}

@@ -15,9 +15,9 @@ use Rattle.bucket_terms.specs.declared.list_query.ListQuery.{ListQuery}
 use Rattle.bucket_terms.specs.declared.token_point.TokenPoint.{TokenPoint}
 use Rattle.bucket_terms.specs.declared.page.Page.{Page}
 use Rattle.bucket_terms.specs.declared.request.Request.{Request}
-use Rattle.bucket_terms.specs.declared.request.Request.TheVariants.{Put, Delete, Head, List as ListRequest, Next}
+use Rattle.bucket_terms.specs.declared.request.Request.TheVariants.{Put, PutNew, Delete, Head, List as ListRequest, Next}
 use Rattle.bucket_terms.specs.declared.reply.Reply.{Reply}
-use Rattle.bucket_terms.specs.declared.reply.Reply.TheVariants.{Put as PutReply, Deleted, Found, Missing, Listed, BadToken, NoSlot}
+use Rattle.bucket_terms.specs.declared.reply.Reply.TheVariants.{Put as PutReply, Exists, Deleted, Found, Missing, Listed, BadToken, NoSlot}
 use Rattle.bucket_terms.specs.declared.reply.Placed.{Placed}
 use Rattle.bucket_terms.specs.Listing.{is_under, is_admitted, group_len, entry_by, entry_of, is_same_group, entries_of, page_of}
 use Rattle.bucket_terms.specs.PageParts.{listing}
@@ -107,6 +107,7 @@ module _ (dir : List (List ℕ)) (records : List Record) where
     reply_recorded : (last : Option Reply) (line : ℕ) (request : Request) (at : Option ℕ) (reply : Reply)
         → IsRight s last (record { line = line; request = request }) at reply → HasPageInRange dir reply → IsReplyOf dir records reply
     reply_recorded last line request at (PutReply was) right page = tt
+    reply_recorded last line request at Exists right page = tt
     reply_recorded last line request at Deleted right page = tt
     reply_recorded last line request at Missing right page = tt
     reply_recorded last line request at BadToken right page = tt
@@ -121,6 +122,8 @@ module _ (dir : List (List ℕ)) (records : List Record) where
         (right.1.1.1 ∙ ap (λ (d : List (List ℕ)). page_of d right.0.query (Some right.0.point) (after s.updates n)) same) page
     reply_recorded last line (Put name v) None (Found val) right page = absurd right
     reply_recorded last line (Put name v) (Some n) (Found val) right page = absurd right
+    reply_recorded last line (PutNew name v) None (Found val) right page = absurd right
+    reply_recorded last line (PutNew name v) (Some n) (Found val) right page = absurd right
     reply_recorded last line (Delete name) None (Found val) right page = absurd right
     reply_recorded last line (Delete name) (Some n) (Found val) right page = absurd right
     reply_recorded last line (ListRequest query) None (Found val) right page = absurd right
@@ -130,6 +133,8 @@ module _ (dir : List (List ℕ)) (records : List Record) where
     reply_recorded last line (Head name) None (Found val) right page = absurd right
     reply_recorded last line (Put name v) None (Listed query' page') right page = absurd right
     reply_recorded last line (Put name v) (Some n) (Listed query' page') right page = absurd right
+    reply_recorded last line (PutNew name v) None (Listed query' page') right page = absurd right
+    reply_recorded last line (PutNew name v) (Some n) (Listed query' page') right page = absurd right
     reply_recorded last line (Delete name) None (Listed query' page') right page = absurd right
     reply_recorded last line (Delete name) (Some n) (Listed query' page') right page = absurd right
     reply_recorded last line (Head name) None (Listed query' page') right page = absurd right
@@ -152,6 +157,7 @@ module _ (dir : List (List ℕ)) (count : ℕ) where
   change_below : (u : Update) (request : Request) (line : ℕ) → IsChangeOf dir u request → HasRecordBelow count (record { line = line; request = request })
       → PutsBelow count u.change × (u.key < length dir)
   change_below u (Put name val) line is below = (subst (PutsBelow count) (sym is.1) below, is.0.below)
+  change_below u (PutNew name val) line is below = (subst (PutsBelow count) (sym is.1) below, is.0.below)
   change_below u (Delete name) line is below = (subst (PutsBelow count) (sym is.1) tt, is.0.below)
   change_below u request line is below = absurd is
 

@@ -1,5 +1,6 @@
 pub mod Statuses
 pub mod Served
+pub mod Taken
 pub mod Texts
 pub mod Sending
 pub mod Summaries

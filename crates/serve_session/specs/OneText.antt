@@ -1,6 +1,6 @@
 -- Helper: the headline does not rest on this file.
 -- What the headline determines: the text of an input of one client, and the refusal of an input.
-use Rattle.std.specs.Prelude.{◌≡◌, ◌≢◌, ℕ, List, [], length, Option, Some}
+use Rattle.std.specs.Prelude.{◌≡◌, ◌≢◌, ◌⊎◌, ℕ, List, [], length, Option, Some}
 use Rattle.outside_io.specs.Streams.{one_more, IsTaken}
 use Rattle.bucket_terms.specs.declared.reply.Placed.{Placed}
 use Rattle.request_lines.specs.declared.session_error.InputError.{InputError}
@@ -29,5 +29,5 @@ RefusedOrServedLaw =
 -- a run that has replies has those of the runner, whose count of runs is one more
 abbrev pub RunnersRunLaw : Type 0
 RunnersRunLaw =
-    (old new : ℕ) (replied : List (List Placed)) (run : Run) → IsRunOf old new replied run → run.replies ≢ []
+    (old new : ℕ) (replied : List (List Placed)) (run : Run) → (run.replies ≡ []) ⊎ IsRunOf old new replied run → run.replies ≢ []
     → (run.replies ≡ replied) × (new ≡ one_more old)

@@ -1,7 +1,7 @@
 -- What a call of `serve` has read and written, by how it ended.
 use Rattle.std.specs.Prelude.{◌≡◌, ℕ, ◌≤◌, ◌⊎◌, List, [], length, map, Option, Some}
 use Rattle.key_names.specs.Names.{HoldsEachOnce}
-use Rattle.outside_io.specs.Streams.{one_more, IsReadToEnd}
+use Rattle.outside_io.specs.Streams.{one_more, IsReadToEnd, IsTaken}
 use Rattle.bucket_terms.specs.declared.record.Record.{Record}
 use Rattle.bucket_terms.specs.declared.reply.Placed.{Placed}
 use Rattle.bucket_terms.specs.LegalRun.{RequestLine, Run, IsLegal, slots_of}
@@ -12,8 +12,6 @@ use Rattle.request_lines.specs.declared.session_error.InputError.{InputError}
 use Rattle.request_lines.specs.Input.{IsSessionOf, refusal_of, most_input_bytes}
 use Rattle.request_lines.specs.Sample.{sample_text}
 use Rattle.answer_text.specs.Lines.{session_text}
-use Rattle.serve_session.specs.declared.status.Status.{Status}
-use Rattle.serve_session.specs.declared.status.Status.TheVariants.{BadWords, BadInput, TooLong, ReadFault}
 
 -- these are all the bytes that were left to read, and no more than the limit
 pub record HasRead (before after : Option (List ℕ)) (input : List ℕ) : Type 0 where
@@ -48,19 +46,21 @@ pub record HoldsOfInput (before after : Option (List ℕ)) (P : Run → List ℕ
 abbrev pub HoldsOfSample : ℕ → (Run → Type 0) → Type 0
 HoldsOfSample n P = (session : Session) × (IsSessionOf (sample_text n) session × HoldsOfSession session (λ run _. P run))
 
--- the replies of the run are those that a runner has now, whose count of runs was `old` before and is one more; where
--- there is no client there are none
+-- the replies of the run are those that a runner has now, whose count of runs was `old` before and is one more
 abbrev pub IsRunOf : (old new : ℕ) → List (List Placed) → Run → Type 0
-IsRunOf old new replied run = (run.replies ≡ []) ⊎ ((new ≡ one_more old) × (run.replies ≡ replied))
+IsRunOf old new replied run = (new ≡ one_more old) × (run.replies ≡ replied)
+
+-- an input was read, and of the text of one legal run of its session all (`IsTaken`) or a start (`TakesStart`) was
+-- taken
+abbrev pub Wrote : {S K : Type 0} → (Option (List ℕ) → Option (List ℕ) → List ℕ → Type 0) → (S → Option (List ℕ)) → S → S → (K → Option (List ℕ)) → K → K → Type 0
+Wrote Takes rest source source' taken sink sink' = HoldsOfInput (rest source) (rest source') (λ _ text. Takes (taken sink) (taken sink') text)
+
+-- the same of all, and the run is the runner's; where there is no client, there are no replies
+abbrev pub WroteBy : {S K R : Type 0} → (S → Option (List ℕ)) → S → S → (K → Option (List ℕ)) → K → K → (R → ℕ) → (R → List (List Placed)) → R → R → Type 0
+WroteBy rest source source' taken sink sink' runs replied runner runner' =
+    HoldsOfInput (rest source) (rest source') (λ run text. IsTaken (taken sink) (taken sink') text
+    × ((run.replies ≡ []) ⊎ IsRunOf (runs runner) (runs runner') (replied runner') run))
 
 -- the input was read and is refused: this is its first faulty line, with its first cause
 abbrev pub RefusedInput : Option (List ℕ) → Option (List ℕ) → InputError → Type 0
 RefusedInput before after e = (input : List ℕ) × (HasRead before after input × (refusal_of input ≡ Some e))
-
--- serving ended before there was anything to write
-abbrev pub EndsUnwritten : Status → Type 0
-EndsUnwritten BadWords = Unit {0}
-EndsUnwritten (BadInput e) = Unit {0}
-EndsUnwritten TooLong = Unit {0}
-EndsUnwritten ReadFault = Unit {0}
-EndsUnwritten status = ⊥

@@ -1,6 +1,7 @@
 -- Helper: the headline does not rest on this file.
--- The exit status of the process for each end of serving.
-use Rattle.std.specs.Prelude.{ℕ}
+-- The exit status of the process for each end of serving, and what standard error says of it.
+use Rattle.std.specs.Prelude.{ℕ, List, ◌++◌, codes, decimal}
+use Rattle.request_lines.specs.CauseNames.{cause_name}
 use Rattle.serve_session.specs.declared.status.Status.{Status}
 use Rattle.serve_session.specs.declared.status.Status.TheVariants.{Done, BadWords, BadInput, TooLong, ReadFault, WriteFault, NoMemory}
 
@@ -12,3 +13,13 @@ exit_code TooLong = 4
 exit_code ReadFault = 5
 exit_code WriteFault = 6
 exit_code NoMemory = 7
+
+-- behind the program's name, a colon and a space
+abbrev pub status_text : Status → List ℕ
+status_text Done = codes "done"
+status_text BadWords = codes "bad words"
+status_text (BadInput e) = codes "line " ++ decimal e.line ++ codes ": " ++ cause_name e.cause
+status_text TooLong = codes "input too long"
+status_text ReadFault = codes "read fault"
+status_text WriteFault = codes "write fault"
+status_text NoMemory = codes "no memory"

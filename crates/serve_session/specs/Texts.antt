@@ -2,15 +2,20 @@
 -- The parts of a run's text, and the members of a summary.
 use Rattle.std.specs.Prelude.{◌≡◌, ℕ, List, [], ◌∷◌, ◌++◌, All, codes, Option}
 use Rattle.std.specs.List.{flat_map}
+use Rattle.key_map.specs.declared.update.Update.{Update}
 use Rattle.bucket_terms.specs.declared.record.Record.{Record}
 use Rattle.bucket_terms.specs.declared.reply.Placed.{Placed}
 use Rattle.bucket_terms.specs.declared.summary.Summary.{Summary}
 use Rattle.serde_json.specs.Data.{Data}
 use Rattle.answer_text.specs.InRange.{IsReplyOf}
-use Rattle.answer_text.specs.Lines.{Member, always, object_of, whole}
+use Rattle.answer_text.specs.Lines.{Member, always, object_of, whole, session_text}
 use Rattle.answer_text.specs.Shown.{reply_lines}
 use Rattle.run_text.specs.declared.pieces.Piece.{Piece}
 use Rattle.run_text.specs.Pieces.{pieces_text, IsPieceOf}
+
+-- the text of the run that has these updates and replies
+abbrev pub text_of_run : List (List ℕ) → List Record → List Update → List (List Placed) → List ℕ
+text_of_run dir records updates replies = session_text dir records (record { updates = updates; replies = replies })
 
 -- the replies of each client, one client after another
 abbrev pub all_reply_lines : List (List ℕ) → List Record → List (List Placed) → List ℕ

@@ -1,8 +1,9 @@
 // The run of a session: its clients over one shared index, by a runner.
 ghost use Rattle.std.specs.Prelude.{◌≡◌, ◌⊎◌, OnOk, IsErrOf};
-ghost use Rattle.outside_io.specs.Streams.{one_more, IsTaken, TakesStart};
+ghost use Rattle.outside_io.specs.Streams.{one_more};
 ghost use Rattle.request_lines.specs.SessionLaws.{HasNames, HasRequests, HasLines, IsSmall};
-ghost use Rattle.serve_session.specs.Served.{HoldsOfSession, HoldsOfRun, IsRunOf};
+ghost use Rattle.serve_session.specs.Served.{HoldsOfSession, HoldsOfRun};
+ghost use Rattle.serve_session.specs.Taken.{TookBy, TookStart};
 ghost use Rattle.client_threads.specs.Sizes.{CanServe};
 
 use crate::writing::{write_last, write_run};
@@ -29,9 +30,9 @@ pub(crate) fn run_session<K: Sink, G: Gate + Sync, R: Runner<G>, Rt: Threads + W
     requires requests { HasRequests session }
     requires lines { HasLines session }
     requires small { IsSmall session }
-    ensures wrote { OnOk result (HoldsOfSession session (λ run text. IsTaken (K.taken sink.old) (K.taken sink.new) text × IsRunOf (R.runs runner.old) (R.runs runner.new) (R.replied runner.new) run)) }
-    ensures start { IsErrOf result Stop.Fault → HoldsOfSession session (λ _ text. TakesStart (K.taken sink.old) (K.taken sink.new) text) }
-    ensures no_memory { IsErrOf result Stop.NoMemory → (sink.new ≡ sink.old) ⊎ HoldsOfSession session (λ _ text. TakesStart (K.taken sink.old) (K.taken sink.new) text) }
+    ensures wrote { OnOk result (HoldsOfSession session (TookBy K.taken sink.old sink.new R.runs R.replied runner.old runner.new)) }
+    ensures start { IsErrOf result Stop.Fault → HoldsOfSession session (TookStart K.taken sink.old sink.new) }
+    ensures no_memory { IsErrOf result Stop.NoMemory → (sink.new ≡ sink.old) ⊎ HoldsOfSession session (TookStart K.taken sink.old sink.new) }
     ensures fault { IsErrOf result Stop.Fault → K.faults sink.new ≡ one_more (K.faults sink.old) }
     ensures quiet { ¬ (IsErrOf result Stop.Fault) → K.faults sink.new ≡ K.faults sink.old }
 {
@@ -64,9 +65,9 @@ fn run_clients<K: Sink, G: Gate + Sync, R: Runner<G>, Rt: Threads + Wait + Sync>
     runner: &mut R,
 ) -> Result<(), Stop>
     requires can { CanServe dir.now session.now }
-    ensures wrote { OnOk result (HoldsOfRun dir.now session.now.records session.now.clients (λ run text. IsTaken (K.taken sink.old) (K.taken sink.new) text × IsRunOf (R.runs runner.old) (R.runs runner.new) (R.replied runner.new) run)) }
-    ensures start { IsErrOf result Stop.Fault → HoldsOfRun dir.now session.now.records session.now.clients (λ _ text. TakesStart (K.taken sink.old) (K.taken sink.new) text) }
-    ensures no_memory { IsErrOf result Stop.NoMemory → (sink.new ≡ sink.old) ⊎ HoldsOfRun dir.now session.now.records session.now.clients (λ _ text. TakesStart (K.taken sink.old) (K.taken sink.new) text) }
+    ensures wrote { OnOk result (HoldsOfRun dir.now session.now.records session.now.clients (TookBy K.taken sink.old sink.new R.runs R.replied runner.old runner.new)) }
+    ensures start { IsErrOf result Stop.Fault → HoldsOfRun dir.now session.now.records session.now.clients (TookStart K.taken sink.old sink.new) }
+    ensures no_memory { IsErrOf result Stop.NoMemory → (sink.new ≡ sink.old) ⊎ HoldsOfRun dir.now session.now.records session.now.clients (TookStart K.taken sink.old sink.new) }
     ensures fault { IsErrOf result Stop.Fault → K.faults sink.new ≡ one_more (K.faults sink.old) }
     ensures quiet { ¬ (IsErrOf result Stop.Fault) → K.faults sink.new ≡ K.faults sink.old }
 {

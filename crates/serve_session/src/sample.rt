@@ -9,7 +9,7 @@ ghost use Rattle.request_lines.specs.SessionLaws.{HasNames, HasRequests, HasLine
 ghost use Rattle.sample_laws.specs.Sample.{sample_summary};
 ghost use Rattle.serve_session.specs.declared.status.Status.TheVariants.{Done as IsDone};
 ghost use Rattle.serve_session.specs.Sampled.{HoldsOfSampleRun};
-ghost use Rattle.serve_session.specs.Served.{HoldsOfSample};
+ghost use Rattle.serve_session.specs.Served.{HoldsOfSample, IsRunOf};
 ghost use Rattle.serve_session.specs.Summaries.{summary_text};
 
 use crate::Status;
@@ -37,7 +37,7 @@ pub(crate) fn serve_sample<K: Sink, G: Gate + Sync, R: Runner<G>, Rt: Threads + 
     requires some { 0 < n }
     requires most { n ≤ most_sample_requests }
     ensures done { result ≡ IsDone → IsTaken (K.taken sink.old) (K.taken sink.new) (summary_text (sample_summary n)) }
-    ensures runner { result ≡ IsDone → HoldsOfSample n (λ run. (R.runs runner.new ≡ one_more (R.runs runner.old)) × (run.replies ≡ R.replied runner.new)) }
+    ensures runner { result ≡ IsDone → HoldsOfSample n (IsRunOf (R.runs runner.old) (R.runs runner.new) (R.replied runner.new)) }
     ensures write_fault { result ≡ Status.WriteFault → TakesStart (K.taken sink.old) (K.taken sink.new) (summary_text (sample_summary n)) }
     ensures write_fault_only_where_faulted { result ≡ Status.WriteFault → K.faults sink.new ≡ one_more (K.faults sink.old) }
     ensures no_other_write_fault { ¬ (result ≡ Status.WriteFault) → K.faults sink.new ≡ K.faults sink.old }
@@ -64,7 +64,7 @@ fn run_sample<K: Sink, G: Gate + Sync, R: Runner<G>, Rt: Threads + Wait + Sync>(
     requires some { 0 < n }
     requires most { n ≤ most_sample_requests }
     ensures wrote { OnOk result (IsTaken (K.taken sink.old) (K.taken sink.new) (summary_text (sample_summary n))) }
-    ensures ran { OnOk result (HoldsOfSample n (λ run. (R.runs runner.new ≡ one_more (R.runs runner.old)) × (run.replies ≡ R.replied runner.new))) }
+    ensures ran { OnOk result (HoldsOfSample n (IsRunOf (R.runs runner.old) (R.runs runner.new) (R.replied runner.new))) }
     ensures start { IsErrOf result Stop.Fault → TakesStart (K.taken sink.old) (K.taken sink.new) (summary_text (sample_summary n)) }
     ensures no_memory { IsErrOf result Stop.NoMemory → sink.new ≡ sink.old }
     ensures fault { IsErrOf result Stop.Fault → K.faults sink.new ≡ one_more (K.faults sink.old) }
@@ -94,7 +94,7 @@ fn run_summed<G: Gate + Sync, R: Runner<G>, Rt: Threads + Wait + Sync>(
     requires lines { HasLines session }
     requires small { IsSmall session }
     ensures summary { IfOk result (λ summary. summary ≡ sample_summary n) }
-    ensures ran { OnOk result (HoldsOfSampleRun n (λ run. (R.runs runner.new ≡ one_more (R.runs runner.old)) × (run.replies ≡ R.replied runner.new))) }
+    ensures ran { OnOk result (HoldsOfSampleRun n (IsRunOf (R.runs runner.old) (R.runs runner.new) (R.replied runner.new))) }
 {
     let Session {
         clients,

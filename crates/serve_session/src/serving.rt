@@ -6,7 +6,7 @@ ghost use Rattle.request_lines.specs.declared.session_error.InputError.{InputErr
 ghost use Rattle.serve_session.specs.declared.status.Status.TheVariants.{Done as IsDone, BadWords as HasBadWords};
 ghost use Rattle.request_lines.specs.Input.{most_input_bytes};
 ghost use Rattle.sample_laws.specs.Sample.{sample_summary};
-ghost use Rattle.serve_session.specs.Served.{HoldsOfInput, HoldsOfSample, RefusedInput, EndsUnwritten, IsRunOf};
+ghost use Rattle.serve_session.specs.Served.{Wrote, WroteBy, HoldsOfSample, RefusedInput, IsRunOf};
 ghost use Rattle.serve_session.specs.Summaries.{summary_text};
 
 use crate::Status;
@@ -47,27 +47,35 @@ pub fn serve<S: Source, K: Sink, G: Gate + Sync, R: Runner<G>, Rt: Threads + Wai
     gate: &G,
     runner: &mut R,
 ) -> Status
-    ensures headline { IsRun words.now → result ≡ IsDone → HoldsOfInput (S.rest source.old) (S.rest source.new) (λ _ text. IsTaken (K.taken sink.old) (K.taken sink.new) text) }
-    ensures runner { IsRun words.now → result ≡ IsDone → HoldsOfInput (S.rest source.old) (S.rest source.new) (λ run text. IsTaken (K.taken sink.old) (K.taken sink.new) text × IsRunOf (R.runs runner.old) (R.runs runner.new) (R.replied runner.new) run) }
+    // A run that ends: one legal run of the input's session, and just its text. The run is the runner's.
+    ensures headline { IsRun words.now → result ≡ IsDone → Wrote IsTaken S.rest source.old source.new K.taken sink.old sink.new }
+    ensures runner { IsRun words.now → result ≡ IsDone → WroteBy S.rest source.old source.new K.taken sink.old sink.new R.runs R.replied runner.old runner.new }
+
+    // A sample: the line of the summary, which is a function of the number.
     ensures sample { (n : ℕ) → IsSample words.now n → result ≡ IsDone → IsTaken (K.taken sink.old) (K.taken sink.new) (summary_text (sample_summary n)) }
-    ensures sample_runner { (n : ℕ) → IsSample words.now n → result ≡ IsDone → HoldsOfSample n (λ run. (R.runs runner.new ≡ one_more (R.runs runner.old)) × (run.replies ≡ R.replied runner.new)) }
+    ensures sample_runner { (n : ℕ) → IsSample words.now n → result ≡ IsDone → HoldsOfSample n (IsRunOf (R.runs runner.old) (R.runs runner.new) (R.replied runner.new)) }
     ensures sample_ends { (n : ℕ) → IsSample words.now n → (result ≡ IsDone) ⊎ ((result ≡ Status.WriteFault) ⊎ (result ≡ Status.NoMemory)) }
+
+    // An end before anything is written: the words, the input or the source are why.
     ensures bad_words { result ≡ HasBadWords → ¬ (HasForm words.now) }
     ensures no_form { ¬ (HasForm words.now) → (result ≡ HasBadWords) ⊎ (result ≡ Status.NoMemory) }
     ensures nothing_read { ¬ (IsRun words.now) → source.new ≡ source.old }
-    ensures nothing_written { EndsUnwritten result → sink.new ≡ sink.old }
+    ensures nothing_written { ¬ (result ≡ IsDone) → ¬ (result ≡ Status.WriteFault) → ¬ (result ≡ Status.NoMemory) → sink.new ≡ sink.old }
     ensures nothing_written_without_form { ¬ (HasForm words.now) → sink.new ≡ sink.old }
     ensures bad_input { (e : InputError) → result ≡ Status.BadInput e → RefusedInput (S.rest source.old) (S.rest source.new) e }
     ensures too_long { result ≡ Status.TooLong → Gave (S.rest source.old) (S.rest source.new) (IsOver most_input_bytes) }
+
+    // Faults and want of memory: a fault is told exactly where one was counted, and what was taken is a start of the
+    // text.
     ensures read_fault { result ≡ Status.ReadFault → Gave (S.rest source.old) (S.rest source.new) (λ n. n ≤ most_input_bytes) }
     ensures read_fault_only_where_faulted { result ≡ Status.ReadFault → S.faults source.new ≡ one_more (S.faults source.old) }
     ensures no_other_read_fault { ¬ (result ≡ Status.ReadFault) → S.faults source.new ≡ S.faults source.old }
-    ensures write_fault { IsRun words.now → result ≡ Status.WriteFault → HoldsOfInput (S.rest source.old) (S.rest source.new) (λ _ text. TakesStart (K.taken sink.old) (K.taken sink.new) text) }
+    ensures write_fault { IsRun words.now → result ≡ Status.WriteFault → Wrote TakesStart S.rest source.old source.new K.taken sink.old sink.new }
     ensures sample_write_fault { (n : ℕ) → IsSample words.now n → result ≡ Status.WriteFault → TakesStart (K.taken sink.old) (K.taken sink.new) (summary_text (sample_summary n)) }
     ensures write_fault_only_where_faulted { result ≡ Status.WriteFault → K.faults sink.new ≡ one_more (K.faults sink.old) }
     ensures no_other_write_fault { ¬ (result ≡ Status.WriteFault) → K.faults sink.new ≡ K.faults sink.old }
     ensures no_memory_source { result ≡ Status.NoMemory → Gave (S.rest source.old) (S.rest source.new) (λ n. n ≤ most_input_bytes) }
-    ensures no_memory { IsRun words.now → result ≡ Status.NoMemory → (sink.new ≡ sink.old) ⊎ HoldsOfInput (S.rest source.old) (S.rest source.new) (λ _ text. TakesStart (K.taken sink.old) (K.taken sink.new) text) }
+    ensures no_memory { IsRun words.now → result ≡ Status.NoMemory → (sink.new ≡ sink.old) ⊎ Wrote TakesStart S.rest source.old source.new K.taken sink.old sink.new }
     ensures sample_no_memory { (n : ℕ) → IsSample words.now n → result ≡ Status.NoMemory → sink.new ≡ sink.old }
 {
     match form_of(alloc, words) {
@@ -87,20 +95,24 @@ fn serve_input<S: Source, K: Sink, G: Gate + Sync, R: Runner<G>, Rt: Threads + W
     gate: &G,
     runner: &mut R,
 ) -> Status
-    ensures headline { result ≡ IsDone → HoldsOfInput (S.rest source.old) (S.rest source.new) (λ _ text. IsTaken (K.taken sink.old) (K.taken sink.new) text) }
-    ensures runner { result ≡ IsDone → HoldsOfInput (S.rest source.old) (S.rest source.new) (λ run text. IsTaken (K.taken sink.old) (K.taken sink.new) text × IsRunOf (R.runs runner.old) (R.runs runner.new) (R.replied runner.new) run) }
+    ensures headline { result ≡ IsDone → Wrote IsTaken S.rest source.old source.new K.taken sink.old sink.new }
+    ensures runner { result ≡ IsDone → WroteBy S.rest source.old source.new K.taken sink.old sink.new R.runs R.replied runner.old runner.new }
+
+    // An end before anything is written.
     ensures reads { ¬ (result ≡ HasBadWords) }
-    ensures nothing_written { EndsUnwritten result → sink.new ≡ sink.old }
+    ensures nothing_written { ¬ (result ≡ IsDone) → ¬ (result ≡ Status.WriteFault) → ¬ (result ≡ Status.NoMemory) → sink.new ≡ sink.old }
     ensures bad_input { (e : InputError) → result ≡ Status.BadInput e → RefusedInput (S.rest source.old) (S.rest source.new) e }
     ensures too_long { result ≡ Status.TooLong → Gave (S.rest source.old) (S.rest source.new) (IsOver most_input_bytes) }
+
+    // Faults and want of memory.
     ensures read_fault { result ≡ Status.ReadFault → Gave (S.rest source.old) (S.rest source.new) (λ n. n ≤ most_input_bytes) }
     ensures read_fault_only_where_faulted { result ≡ Status.ReadFault → S.faults source.new ≡ one_more (S.faults source.old) }
     ensures no_other_read_fault { ¬ (result ≡ Status.ReadFault) → S.faults source.new ≡ S.faults source.old }
-    ensures write_fault { result ≡ Status.WriteFault → HoldsOfInput (S.rest source.old) (S.rest source.new) (λ _ text. TakesStart (K.taken sink.old) (K.taken sink.new) text) }
+    ensures write_fault { result ≡ Status.WriteFault → Wrote TakesStart S.rest source.old source.new K.taken sink.old sink.new }
     ensures write_fault_only_where_faulted { result ≡ Status.WriteFault → K.faults sink.new ≡ one_more (K.faults sink.old) }
     ensures no_other_write_fault { ¬ (result ≡ Status.WriteFault) → K.faults sink.new ≡ K.faults sink.old }
     ensures no_memory_source { result ≡ Status.NoMemory → Gave (S.rest source.old) (S.rest source.new) (λ n. n ≤ most_input_bytes) }
-    ensures no_memory { result ≡ Status.NoMemory → (sink.new ≡ sink.old) ⊎ HoldsOfInput (S.rest source.old) (S.rest source.new) (λ _ text. TakesStart (K.taken sink.old) (K.taken sink.new) text) }
+    ensures no_memory { result ≡ Status.NoMemory → (sink.new ≡ sink.old) ⊎ Wrote TakesStart S.rest source.old source.new K.taken sink.old sink.new }
 {
     let input = match read_all(alloc, source, MAX_INPUT_BYTES) {
         Ok(input) => input,

@@ -5,7 +5,8 @@ ghost use Rattle.serve_session.specs.Statuses.{exit_code};
 use request_lines::InputError;
 use std::fmt;
 
-/// How a call of `serve` ended. Shown as the line on standard error has it.
+/// How a call of `serve` ended. Shown as the line on standard error has it, behind the program's name: `status_text` of
+/// `specs/Statuses.antt`.
 ///
 /// ```
 /// let status = Status::BadInput(InputError { line: 3, cause: Cause::WrongFields });
@@ -55,6 +56,11 @@ impl Status {
 }
 
 impl fmt::Display for Status {
+    ghost use Rattle.std.specs.Prelude.{Some};
+    ghost use Rattle.serve_session.specs.Statuses.{status_text};
+
+    ghost output = { λ status. Some (status_text status) };
+
     fn fmt<W: fmt::Write>(&self, f: &mut fmt::Formatter<W>) -> fmt::Result {
         match self {
             Status::Done => write!(f, "done"),
@@ -62,7 +68,7 @@ impl fmt::Display for Status {
             Status::BadInput(e) => {
                 let line = e.line;
                 let cause = e.cause;
-                write!(f, "line {line}: {cause:?}")
+                write!(f, "line {line}: {cause}")
             }
             Status::TooLong => write!(f, "input too long"),
             Status::ReadFault => write!(f, "read fault"),

@@ -3,11 +3,11 @@ ghost use Rattle.std.specs.Prelude.{◌≡◌, ◌<◌, [], All, length, OnOk, I
 ghost use Rattle.key_map.specs.declared.update.Update.{Update};
 ghost use Rattle.bucket_terms.specs.declared.reply.Placed.{Placed};
 ghost use Rattle.outside_io.specs.Streams.{one_more, IsTaken, TakesStart};
-ghost use Rattle.answer_text.specs.Lines.{line_of, session_text};
+ghost use Rattle.answer_text.specs.Lines.{line_of};
 ghost use Rattle.answer_text.specs.Shown.{last_data};
 ghost use Rattle.answer_text.specs.InRange.{IsReplyOf};
 ghost use Rattle.run_text.specs.declared.stop.Stop.{Stop as Ended};
-ghost use Rattle.serve_session.specs.Texts.{AddsClients};
+ghost use Rattle.serve_session.specs.Texts.{text_of_run, AddsClients};
 
 use answer_text::last_line;
 use bucket_terms::Record;
@@ -34,8 +34,8 @@ pub(crate) fn write_run<K: Sink, G: Gate + Sync, R: Runner<G>, Rt: Threads + Syn
     requires clients { clients ≡ length (R.replied runner.now) }
     requires replies { All (All (λ (p : Placed). IsReplyOf dir.now records.now p.reply)) (R.replied runner.now) }
     requires keys { All (λ (u : Update). u.key < length dir.now) updates.now }
-    ensures taken { OnOk result (IsTaken (K.taken sink.old) (K.taken sink.new) (session_text dir.now records.now (record { updates = updates.now; replies = R.replied runner.now }))) }
-    ensures start { (stop : Ended) → IsErrOf result stop → TakesStart (K.taken sink.old) (K.taken sink.new) (session_text dir.now records.now (record { updates = updates.now; replies = R.replied runner.now })) }
+    ensures taken { OnOk result (IsTaken (K.taken sink.old) (K.taken sink.new) (text_of_run dir.now records.now updates.now (R.replied runner.now))) }
+    ensures start { (stop : Ended) → IsErrOf result stop → TakesStart (K.taken sink.old) (K.taken sink.new) (text_of_run dir.now records.now updates.now (R.replied runner.now)) }
     ensures fault { IsErrOf result Stop.Fault → K.faults sink.new ≡ one_more (K.faults sink.old) }
     ensures quiet { ¬ (IsErrOf result Stop.Fault) → K.faults sink.new ≡ K.faults sink.old }
 {

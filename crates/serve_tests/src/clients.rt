@@ -7,15 +7,28 @@ use std::test::Fail;
 
 const CLIENTS: u32 = 32;
 
-// A runner that runs one client after another never lets client 1 begin.
+// The one text of the two clients. No contract tells it to the test, so that it is not computed when that is checked.
+fn behind_the_second() -> &'static str {
+    "{\"At\":1,\"Client\":0,\"ETag\":\"e2\",\"LastModified\":20,\"Line\":2,\"Size\":2,\"Status\":200}\n\
+        {\"At\":1,\"Client\":1,\"Line\":4,\"Replaced\":false,\"Status\":200}\n\
+        {\"At\":1,\"Client\":1,\"Key\":\"b\",\"Line\":4,\"Verb\":\"PUT\"}\n\
+        {\"Updates\":1}\n"
+}
+
+// What the first client asks for is put by the second one alone, and the gate holds the first until that is answered. A
+// runner that runs one client after another never lets client 1 begin; and where the gate is told of another client, of
+// another line, or of an answer that is not made, client 0 may look too early.
 #[test]
 fn clients_run_at_once(rt: HostRuntime) -> Result<(), Fail> {
     let alloc = rt.alloc();
-    let input = b"CLIENT\nPUT a 1 e1 10\nCLIENT\nPUT b 2 e2 20\n".to_vec(alloc)?;
-    let (ended, gate) = watched(&rt, alloc, &["run"], input, Holds::FirstClient)?;
+    let input = b"CLIENT\nHEAD b\nCLIENT\nPUT b 2 e2 20\n".to_vec(alloc)?;
+    let holds = Holds::FirstClient { until: 4 };
+    let (ended, gate) = watched(&rt, alloc, &["run"], input, 2, holds)?;
     assert_eq!(rt; ended.status, Status::Done);
     assert_eq!(rt; gate.given_up.load(Ordering::SeqCst), false);
+    assert_eq!(rt; gate.astray.load(Ordering::SeqCst), false);
     assert_eq!(rt; gate.answered.load(Ordering::SeqCst), 2);
+    assert!(rt; ended.sink.taken() == behind_the_second().as_bytes());
     Ok(())
 }
 
@@ -25,20 +38,23 @@ fn clients_run_at_once(rt: HostRuntime) -> Result<(), Fail> {
 fn all_clients_are_at_work_at_once(rt: HostRuntime) -> Result<(), Fail> {
     let alloc = rt.alloc();
     let input = b"CLIENT\nHEAD a\n".repeat(alloc, CLIENTS as usize)?;
-    let (ended, gate) = watched(&rt, alloc, &["run"], input, Holds::UntilCome(CLIENTS))?;
+    let holds = Holds::UntilCome(CLIENTS);
+    let (ended, gate) = watched(&rt, alloc, &["run"], input, CLIENTS as usize, holds)?;
     assert_eq!(rt; ended.status, Status::Done);
     assert_eq!(rt; gate.given_up.load(Ordering::SeqCst), false);
+    assert_eq!(rt; gate.astray.load(Ordering::SeqCst), false);
     assert_eq!(rt; gate.come.load(Ordering::SeqCst), CLIENTS);
     Ok(())
 }
 
-// The gate is told of each request of each client once before and once after it is answered.
+// The gate is told of each request of each client once before and once after it is answered, with the same line.
 #[test]
 fn the_gate_is_told_of_each_request(rt: HostRuntime) -> Result<(), Fail> {
     let alloc = rt.alloc();
     let input = Vec::new(alloc);
-    let (ended, gate) = watched(&rt, alloc, &["sample", "7"], input, Holds::Nothing)?;
+    let (ended, gate) = watched(&rt, alloc, &["sample", "7"], input, 4, Holds::Nothing)?;
     assert_eq!(rt; ended.status, Status::Done);
+    assert_eq!(rt; gate.astray.load(Ordering::SeqCst), false);
     assert_eq!(rt; gate.come.load(Ordering::SeqCst), 28);
     assert_eq!(rt; gate.answered.load(Ordering::SeqCst), 28);
     assert_eq!(rt;

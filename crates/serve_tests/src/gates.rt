@@ -18,8 +18,8 @@ use std::thread::Threads;
 #[derive(Clone, Copy)]
 pub(super) enum Holds {
     Nothing,
-    // Those of client 0, until a request of another was answered.
-    FirstClient,
+    // Those of client 0, until this line of client 1 was answered.
+    FirstClient { until: u32 },
     // Each, until so many have come.
     UntilCome(u32),
 }
@@ -30,6 +30,13 @@ pub(super) struct Watch {
     pub(super) come: AtomicU32,
     pub(super) answered: AtomicU32,
     pub(super) given_up: AtomicBool,
+    // Whether it was told of an answer to another line than the one that came last from its client, or of a line that
+    // came before that was answered, or of a client that the session does not have.
+    pub(super) astray: AtomicBool,
+    // For each client the line that has come and is not answered, or 0.
+    at_work: Vec<AtomicU32>,
+    // The last line of client 1 that was answered.
+    second_at: AtomicU32,
     holds: Holds,
 }
 
@@ -39,17 +46,47 @@ const MOST_TURNS: u32 = 1_000_000;
 const AMPLE: usize = 100_000;
 
 impl Watch {
+    fn new(alloc: Global, clients: usize, holds: Holds) -> Result<Watch, Fail> {
+        let mut at_work = Vec::new(alloc);
+        for _ in 0..clients {
+            at_work.push(AtomicU32::new(0))?;
+        }
+        Ok(Watch {
+            come: AtomicU32::new(0),
+            answered: AtomicU32::new(0),
+            given_up: AtomicBool::new(false),
+            astray: AtomicBool::new(false),
+            at_work,
+            second_at: AtomicU32::new(0),
+            holds,
+        })
+    }
+
     fn is_held(&self, client: u32) -> bool {
         match self.holds {
             Holds::Nothing => false,
-            Holds::FirstClient => client == 0 && self.answered.load(Ordering::SeqCst) == 0,
+            Holds::FirstClient { until } => {
+                client == 0 && self.second_at.load(Ordering::SeqCst) != until
+            }
             Holds::UntilCome(count) => self.come.load(Ordering::SeqCst) < count,
+        }
+    }
+
+    // The client was at work on one line, or on none, and now is on another.
+    fn goes_on(&self, client: u32, from: u32, to: u32) {
+        let was = match self.at_work.get(client as usize) {
+            Some(line) => line.swap(to, Ordering::SeqCst),
+            None => u32::MAX,
+        };
+        if was != from {
+            self.astray.store(true, Ordering::SeqCst);
         }
     }
 }
 
 impl Gate for Watch {
     fn before(&self, client: u32, line: u32) {
+        self.goes_on(client, 0, line);
         self.come.fetch_add(1, Ordering::SeqCst);
         for _ in 0..MOST_TURNS {
             if !self.is_held(client) {
@@ -61,7 +98,11 @@ impl Gate for Watch {
     }
 
     fn after(&self, client: u32, line: u32) {
+        self.goes_on(client, line, 0);
         self.answered.fetch_add(1, Ordering::SeqCst);
+        if client == 1 {
+            self.second_at.store(line, Ordering::SeqCst);
+        }
     }
 }
 
@@ -95,23 +136,20 @@ pub(super) struct Ended {
     pub(super) sink: MemSink,
 }
 
-// Serves these words over this input, with the program's runner, and with a gate that holds these requests.
+// Serves these words over this input, of so many clients, with the program's runner, and with a gate that holds these
+// requests.
 pub(super) fn watched<Rt: Threads + Wait + Sync>(
     rt: &Rt,
     alloc: Global,
     words: &[&str],
     input: Vec<u8>,
+    clients: usize,
     holds: Holds,
 ) -> Result<(Ended, Watch), Fail> {
     let words = texts(alloc, words)?;
     let mut source = MemSource::new(input);
     let mut sink = MemSink::with_room(alloc, AMPLE)?;
-    let gate = Watch {
-        come: AtomicU32::new(0),
-        answered: AtomicU32::new(0),
-        given_up: AtomicBool::new(false),
-        holds,
-    };
+    let gate = Watch::new(alloc, clients, holds)?;
     let status = serve(
         rt,
         alloc,
@@ -124,7 +162,7 @@ pub(super) fn watched<Rt: Threads + Wait + Sync>(
     Ok((Ended { status, sink }, gate))
 }
 
-fn texts(alloc: Global, words: &[&str]) -> Result<Vec<Text>, Fail> {
+pub(super) fn texts(alloc: Global, words: &[&str]) -> Result<Vec<Text>, Fail> {
     let mut texts = Vec::new(alloc);
     for word in words {
         texts.push(Text::of(alloc, word)?)?;

@@ -4,3 +4,5 @@ pub mod OwnFacts
 pub mod KeyHomes
 -- A snapshot that was opened, to its caller.
 pub mod Begun
+-- An update that was made, and a key that was not found, to its caller.
+pub mod Made

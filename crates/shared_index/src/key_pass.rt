@@ -1,9 +1,17 @@
-//! A pass of the index keeps the clauses of a pass.
+//! A pass of the index keeps the clauses of a pass. Beside them stands which step of the call gives each place: the
+//! raise of an update of its own, or a load of the stamp.
+ghost use Rattle.std.specs.Prelude.{◌≡◌, ◌↔◌, None, IfOk, OnErr, IsErrOf};
+ghost use Rattle.bucket_terms.specs.PassView.{MadePut, AnsweredRemoval, Began, IsOutOfSlots};
+ghost use Rattle.table_steps.specs.Stamps.{IsFoundAt};
+ghost use Rattle.tree_update.specs.Calls.{IsPlaceOfPut, IsPlaceOfRemoval};
+ghost use Rattle.shared_index.specs.Keys.{home_of_pass};
+ghost use Rattle.shared_index.specs.Shown.{shown};
+
 use crate::facts::own_facts;
 use crate::pass::IndexPass;
 use bucket_terms::KeyPass;
 use index_words::Pair;
-use key_map::{Done, PassError};
+use key_map::{Done, New, PassError};
 use std::sync::Wait;
 
 impl<'t> KeyPass for IndexPass<'t> {
@@ -14,19 +22,52 @@ impl<'t> KeyPass for IndexPass<'t> {
 
     ghost view = { shown };
 
-    fn put<Rt: Wait>(&mut self, rt: &Rt, line: u32, key: u64, val: u64) -> Result<Done, PassError> {
+    fn put<Rt: Wait>(&mut self, rt: &Rt, line: u32, key: u64, val: u64) -> Result<Done, PassError>
+        requires closed { (shown self.old).opened ≡ None }
+        ensures made { IfOk result (MadePut (shown self.old) (shown self.new) line key val) }
+        ensures place { IfOk result (λ done. IsPlaceOfPut self.old line key val done self.new.view) }
+        ensures spent { IsErrOf result PassError.Spent ↔ ((shown self.old).left ≡ 0) }
+        ensures no_slot { IsErrOf result PassError.NoSlot ↔ IsOutOfSlots (shown self.old) }
+        ensures unchanged { OnErr result (shown self.new ≡ shown self.old) }
+        ensures home { home_of_pass self.new ≡ home_of_pass self.old }
+    {
         let answer = tree_update::put(&mut self.pass, rt, line, key, val);
         own_facts(&self.pass);
         answer
     }
 
-    fn remove<Rt: Wait>(&mut self, rt: &Rt, line: u32, key: u64) -> Result<Done, PassError> {
+    fn put_new<Rt: Wait>(
+        &mut self,
+        rt: &Rt,
+        line: u32,
+        key: u64,
+        val: u64,
+    ) -> Result<New, PassError> {
+        let answer = tree_update::put_new(&mut self.pass, rt, line, key, val);
+        own_facts(&self.pass);
+        answer
+    }
+
+    fn remove<Rt: Wait>(&mut self, rt: &Rt, line: u32, key: u64) -> Result<Done, PassError>
+        requires closed { (shown self.old).opened ≡ None }
+        ensures made { IfOk result (AnsweredRemoval (shown self.old) (shown self.new) line key) }
+        ensures place { IfOk result (λ done. IsPlaceOfRemoval self.old line key done self.new.view) }
+        ensures spent { IsErrOf result PassError.Spent ↔ ((shown self.old).left ≡ 0) }
+        ensures no_slot { IsErrOf result PassError.NoSlot ↔ IsOutOfSlots (shown self.old) }
+        ensures unchanged { OnErr result (shown self.new ≡ shown self.old) }
+        ensures home { home_of_pass self.new ≡ home_of_pass self.old }
+    {
         let answer = tree_update::remove(&mut self.pass, rt, line, key);
         own_facts(&self.pass);
         answer
     }
 
-    fn begin(&mut self) -> u64 {
+    fn begin(&mut self) -> u64
+        requires closed { (shown self.old).opened ≡ None }
+        ensures began { Began (shown self.old) (shown self.new) result }
+        ensures event { IsFoundAt self.old 1 result self.new.view }
+        ensures home { home_of_pass self.new ≡ home_of_pass self.old }
+    {
         let at = snapshot_read::begin(&mut self.pass);
         own_facts(&self.pass);
         self.way.forget();

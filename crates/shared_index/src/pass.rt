@@ -3,14 +3,16 @@ ghost use Rattle.std.specs.Prelude.{◌≡◌, ◌↔◌, ℕ, None, Some, IsSom
 ghost use Rattle.key_map.specs.History.{after};
 ghost use Rattle.key_map.specs.Map.{first_from};
 ghost use Rattle.bucket_terms.specs.PassView.{MadePut};
-ghost use Rattle.snapshot_read.specs.Looks.{IsAnswer, waits_after};
+ghost use Rattle.snapshot_read.specs.Looks.{IsAnswer, IsKnown, waits_after};
+ghost use Rattle.table_steps.specs.Passes.{IsAlone};
 ghost use Rattle.shared_index.specs.Keys.{home_of_pass, home_of_note};
 ghost use Rattle.shared_index.specs.Notes.{told_by, Hears};
 ghost use Rattle.shared_index.specs.Shown.{shown};
 ghost use Rattle.shared_index.specs.Tries.{SeesOn};
 ghost use Rattle.update_try.specs.Outcomes.{HasRisen};
+ghost use Rattle.tree_update.specs.Calls.{IsPlaceOfPut};
 ghost use Rattle.tree_update.specs.Settles.{HasTried};
-ghost use Rattle.tree_update.specs.Trying.{IsOutOfFreeSlots, IfDone, IfBusy, IfMoved, IfPending, UnlessDone};
+ghost use Rattle.tree_update.specs.Trying.{IsOutOfFreeSlots, IfDone, IfBusy, IfMoved, IfPending, UnlessDone, IsMade};
 
 use crate::facts::own_facts;
 use key_map::PassError;
@@ -90,6 +92,7 @@ impl<'t> IndexPass<'t> {
 
     /// Tries once to put the key with this value, for the request line `line`. It takes no memory and never waits: where it
     /// meets what another pass is doing, it gives all back and tells what it has met, and the count of this has risen.
+    /// A pass that is alone in its index meets nothing: its try is made, or refused by an error.
     ///
     /// # Errors
     /// `Spent` where no call is left. `NoSlot` where calls are left, but no node or fewer than four entries are free; a try
@@ -97,9 +100,11 @@ impl<'t> IndexPass<'t> {
     pub fn try_put(&mut self, line: u32, key: u64, val: u64) -> Result<Try, PassError>
         requires closed { (shown self.old).opened ≡ None }
         ensures made { IfOk result (λ tried. IfDone tried (MadePut (shown self.old) (shown self.new) line key val)) }
+        ensures place { IfOk result (λ tried. IfDone tried (λ done. IsPlaceOfPut self.old line key val done self.new.view)) }
         ensures busy { IfOk result (λ tried. IfBusy tried (HasRisen self.old.view.counts.busy self.new.view.counts.busy)) }
         ensures moved { IfOk result (λ tried. IfMoved tried (HasRisen self.old.view.counts.moves self.new.view.counts.moves)) }
         ensures pending { IfOk result (λ tried. IfPending tried (HasRisen self.old.view.counts.waits self.new.view.counts.waits)) }
+        ensures alone { IsAlone self.old.view → IfOk result IsMade }
         ensures kept { IfOk result (λ tried. UnlessDone tried (SeesOn (shown self.old) (shown self.new))) }
         ensures spent { IsErrOf result PassError.Spent ↔ ((shown self.old).left ≡ 0) }
         ensures no_slot { IsErrOf result PassError.NoSlot ↔ IsOutOfFreeSlots self.old.view }
@@ -112,11 +117,13 @@ impl<'t> IndexPass<'t> {
     }
 
     /// Looks once for the first pair of the open snapshot whose key is at least `key`. It takes no memory and never waits:
-    /// where an entry has no number yet it answers `Pending`, and the count of such entries rises.
+    /// where an entry has no number yet it answers `Pending`, and the count of such entries rises. A pass that is alone
+    /// in its index meets none.
     pub fn try_next_from(&mut self, key: u64) -> Look
         requires open { IsSome (shown self.old).opened }
         ensures first { (at : ℕ) → (shown self.old).opened ≡ Some at → IsAnswer result (first_from key (after (shown self.old).seen at)) }
         ensures waits { self.new.view.counts.waits ≡ waits_after result self.old.view.counts.waits }
+        ensures alone { IsAlone self.old.view → IsKnown result }
         ensures same { shown self.new ≡ shown self.old }
         ensures home { home_of_pass self.new ≡ home_of_pass self.old }
     {

@@ -1,5 +1,5 @@
 -- The answers of the calls that read.
-use Rattle.std.specs.Prelude.{◌≡◌, ℕ, Option, Some, None, IfSome}
+use Rattle.std.specs.Prelude.{◌≡◌, ℕ, Option, Some, None, IfSome, IfNone}
 use Rattle.key_map.specs.declared.pair.Pair.{Pair}
 use Rattle.bundle_reads.specs.Children.{waits_after as counted_after}
 use Rattle.snapshot_read.specs.declared.looks.Look.{Look}
@@ -14,6 +14,14 @@ told Pending = None
 -- what a look has come to is this, where it is known
 abbrev pub IsAnswer : Look → Option Pair → Type 0
 IsAnswer look first = IfSome (told look) (λ answer. answer ≡ first)
+
+-- what holds where it is not
+abbrev pub IfUnknown : Look → Type 0 → Type 0
+IfUnknown look fact = IfNone (told look) fact
+
+-- it is known
+abbrev pub IsKnown : Look → Type 0
+IsKnown look = IfUnknown look ⊥
 
 -- the count of entries without a stamp after a look: it has risen where the answer is not known
 abbrev pub waits_after : Look → ℕ → ℕ

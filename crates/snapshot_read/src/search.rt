@@ -3,11 +3,11 @@ ghost use Rattle.std.specs.Prelude.{◌≡◌, ℕ, ◌<◌};
 ghost use Rattle.key_map.specs.History.{after};
 ghost use Rattle.key_map.specs.Lists.{Every};
 ghost use Rattle.key_map.specs.Map.{first_from};
-ghost use Rattle.table_steps.specs.Passes.{IsSamePass};
+ghost use Rattle.table_steps.specs.Passes.{IsSamePass, IsAlone};
 ghost use Rattle.bundle_reads.specs.Links.{LeadsThere};
 ghost use Rattle.bundle_reads.specs.Reads.{HasRead};
 ghost use Rattle.snapshot_read.specs.Snapshots.{ReadsAt};
-ghost use Rattle.snapshot_read.specs.Looks.{IsAnswer, waits_after};
+ghost use Rattle.snapshot_read.specs.Looks.{IsAnswer, IfUnknown, waits_after};
 ghost use Rattle.snapshot_read.specs.Ways.{Covers, IsOnWay, IsKeptWay, keys_left};
 
 use crate::kept_way::{Search, Way};
@@ -65,6 +65,7 @@ pub(crate) fn look_on(pass: &mut TablePass<'_>, at: u64, key: u64, way: &mut Way
     ensures first { IsAnswer result (first_from key (after pass.old.view.history.seen at)) }
     ensures read { HasRead pass.old.view pass.new.view }
     ensures waits { pass.new.view.counts.waits ≡ waits_after result pass.old.view.counts.waits }
+    ensures alone { IfUnknown result (¬ IsAlone pass.new.view) }
     ensures kept { IsKeptWay pass.new.view way.new }
 {
     pass.facts();

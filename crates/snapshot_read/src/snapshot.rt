@@ -2,11 +2,11 @@
 ghost use Rattle.std.specs.Prelude.{◌≡◌, ℕ, Some};
 ghost use Rattle.key_map.specs.History.{after};
 ghost use Rattle.key_map.specs.Map.{first_from};
-ghost use Rattle.table_steps.specs.Passes.{AtRest, IsSamePass};
+ghost use Rattle.table_steps.specs.Passes.{AtRest, IsAlone, IsSamePass};
 ghost use Rattle.table_steps.specs.Stamps.{outside_again, HasOpened, IsFoundAt};
 ghost use Rattle.bundle_reads.specs.Reads.{HasRead};
 ghost use Rattle.snapshot_read.specs.Snapshots.{ReadsAt, IsReading, HasBegun};
-ghost use Rattle.snapshot_read.specs.Looks.{IsAnswer, waits_after};
+ghost use Rattle.snapshot_read.specs.Looks.{IsAnswer, IsKnown, waits_after};
 ghost use Rattle.snapshot_read.specs.Ways.{IsKeptWay};
 
 use crate::kept_way::Way;
@@ -40,8 +40,8 @@ pub fn end(pass: &mut TablePass<'_>)
 }
 
 /// One look for the first pair of the open snapshot whose key is at least `key`. It does not wait: where an entry has no
-/// stamp yet it answers `Pending`, and the count of such entries rises. The search goes on from the way that an earlier one
-/// of this snapshot has kept, and keeps its own.
+/// stamp yet it answers `Pending`, and the count of such entries rises; a pass that is alone on its table meets none.
+/// The search goes on from the way that an earlier one of this snapshot has kept, and keeps its own.
 pub fn try_next_on(pass: &mut TablePass<'_>, way: &mut Way, key: u64) -> Look
     requires reads { IsReading pass.old.view }
     requires kept { IsKeptWay pass.old.view way.old }
@@ -49,6 +49,7 @@ pub fn try_next_on(pass: &mut TablePass<'_>, way: &mut Way, key: u64) -> Look
     ensures first { (at : ℕ) → pass.old.view.reading.opened ≡ Some at → IsAnswer result (first_from key (after pass.old.view.history.seen at)) }
     ensures read { HasRead pass.old.view pass.new.view }
     ensures waits { pass.new.view.counts.waits ≡ waits_after result pass.old.view.counts.waits }
+    ensures alone { IsAlone pass.old.view → IsKnown result }
     ensures reads { IsReading pass.new.view }
     ensures kept { IsKeptWay pass.new.view way.new }
 {
@@ -65,6 +66,7 @@ pub fn try_next_from(pass: &mut TablePass<'_>, key: u64) -> Look
     ensures first { (at : ℕ) → pass.old.view.reading.opened ≡ Some at → IsAnswer result (first_from key (after pass.old.view.history.seen at)) }
     ensures read { HasRead pass.old.view pass.new.view }
     ensures waits { pass.new.view.counts.waits ≡ waits_after result pass.old.view.counts.waits }
+    ensures alone { IsAlone pass.old.view → IsKnown result }
     ensures reads { IsReading pass.new.view }
 {
     let mut way = Way::new();

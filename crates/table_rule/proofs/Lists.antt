@@ -1,5 +1,5 @@
 -- The views of a table, as the kit's table reads them and as the rule does.
-use Rattle.std.proofs.Common.{◌≡◌, ℕ, zero, suc, ◌<◌, List, [], ◌∷◌, ◌++◌, length, set, get_or, refl, ap, ◌∙◌, sym, arith, Some}
+use Rattle.std.proofs.Common.{◌≡◌, ◌≢◌, ℕ, zero, suc, ◌<◌, List, [], ◌∷◌, ◌++◌, length, set, get_or, refl, ap, ◌∙◌, sym, arith, Some}
 use Rattle.std.specs.List.{slice_get}
 use Rattle.std.proofs.lemmas.List.{length-set, get_or-set_same}
 use Rattle.std.proofs.lemmas.Option.{slice_get-get_or}
@@ -42,3 +42,10 @@ get_last [] y zero is = refl
 get_last [] y (suc n) is = absurd (omega arith)
 get_last (x ∷ xs) y zero is = absurd (omega arith)
 get_last (x ∷ xs) y (suc n) is = get_last xs y n (omega arith)
+
+pub set_else_get : {X : Type 0} (xs : List X) (i j : ℕ) (x : X) → j ≢ i → slice_get (set xs i x) j ≡ slice_get xs j
+set_else_get [] i j x apart = refl
+set_else_get (y ∷ xs) zero zero x apart = absurd (apart refl)
+set_else_get (y ∷ xs) zero (suc j) x apart = refl
+set_else_get (y ∷ xs) (suc i) zero x apart = refl
+set_else_get (y ∷ xs) (suc i) (suc j) x apart = set_else_get xs i j x (λ e. apart (ap suc e))

@@ -25,9 +25,9 @@ use Rattle.core_kept.proofs.StepLaw.{keeps}
 use Rattle.core_laws.proofs.ViewNeeds.{may_split_law, may_join_law}
 use Rattle.table_rule.specs.Homes.{IsLiveView}
 use Rattle.table_rule.specs.Running.{table, Stands}
-use Rattle.table_rule.specs.Seats.{Split}
+use Rattle.table_rule.specs.Seats.{Split, Join}
 use Rattle.table_rule.proofs.Happens.{holds, after_known}
-use Rattle.table_rule.proofs.Lists.{get_from_found, get_set, get_left, get_last, item_at}
+use Rattle.table_rule.proofs.Lists.{get_from_found, get_set, get_left, get_last, item_at, set_else_get}
 
 -- a made seat
 module _ (v : View) (n : ℕ) (size : PassSize) (may : MayMake v n size) where
@@ -113,18 +113,33 @@ module _ (v : View) (live : v.joined ≡ false) where
   }
 
 -- a seat that is joined into another
-pub join_joins : (z : Layout) (id other : ℕ) (v u : View) → MayJoin v u → Joins (holds z) id v other u (joined_with v u) spent_view
-join_joins z id other v u may s rule found apart also =
-    let e : Event = event_at z id JoinSeat Stamp other in
-    let at : slice_get s.views id ≡ Some v = get_from_found s.views id v found in
-    let of : slice_get s.views other ≡ Some u = get_from_found s.views other u (other_found s.views id other (joined_with v u) u apart also) in
-    let is : after (table z s.words s.views) e ≡ table z s.words (set (set s.views id (joined_with v u)) other spent_view)
-    = after_known (table z s.words s.views) e v Stamp at refl ∙ ap (λ o. table z s.words (join_found s.views id v other o)) of in
-    subst (λ (t : Table). InRule t.layout t.words t.views) is
-    (keeps (table z s.words s.views) e rule (may_join_law z v u id other apart may s.words s.views rule at of))
-  where
-    other_found : (vs : List View) (i j : ℕ) (x y : View) → j ≢ i → get_elem? (set vs i x) j ≡ some y → get_elem? vs j ≡ some y
-    other_found vs i j x y apart is = sym (set_else vs i j x apart) ∙ is
+module _ (z : Layout) (v u : View) (may : MayJoin v u) where
+  join_after : (words : List ℕ) (vs : List View) (id other : ℕ) → slice_get vs id ≡ Some v → slice_get vs other ≡ Some u
+      → after (table z words vs) (event_at z id JoinSeat Stamp other) ≡ table z words (set (set vs id (joined_with v u)) other spent_view)
+  join_after words vs id other at of =
+      after_known (table z words vs) (event_at z id JoinSeat Stamp other) v Stamp at refl ∙ ap (λ o. table z words (join_found vs id v other o)) of
+
+  pub join_happened : Join z v u (joined_with v u)
+  join_happened = record {
+    event = λ words vs id other rule apart at of.
+        let is = join_after words vs id other at of in
+        record {
+          met = may_join_law z v u id other apart may words vs rule at of;
+          both = ap (λ (t : Table). slice_get t.views id) is ∙ set_else_get (set vs id (joined_with v u)) other id spent_view (λ e. apart (sym e)) ∙ get_set vs id v (joined_with v u) at;
+          spent = ap (λ (t : Table). slice_get t.views other) is
+              ∙ get_set (set vs id (joined_with v u)) other u spent_view (set_else_get vs id other (joined_with v u) apart ∙ of);
+        };
+  }
+
+  pub join_joins : (id other : ℕ) → Joins (holds z) id v other u (joined_with v u) spent_view
+  join_joins id other s rule found apart also =
+      let at : slice_get s.views id ≡ Some v = get_from_found s.views id v found in
+      let of : slice_get s.views other ≡ Some u = get_from_found s.views other u (other_found s.views id other (joined_with v u) u apart also) in
+      subst (λ (t : Table). InRule t.layout t.words t.views) (join_after s.words s.views id other at of)
+      (keeps (table z s.words s.views) (event_at z id JoinSeat Stamp other) rule (may_join_law z v u id other apart may s.words s.views rule at of))
+    where
+      other_found : (vs : List View) (i j : ℕ) (x y : View) → j ≢ i → get_elem? (set vs i x) j ≡ some y → get_elem? vs j ≡ some y
+      other_found vs i j x y apart is = sym (set_else vs i j x apart) ∙ is
 
 -- what a load that changes nothing tells
 abbrev pub knows : Me ℕ View → ℕ → Me ℕ View → Type 0

@@ -5,7 +5,7 @@ ghost use Rattle.core_events.specs.Moves.{split_right, joined_with};
 ghost use Rattle.core_events.specs.Openings.{first_view, made_left, made_right, MayMake};
 ghost use Rattle.core_laws.specs.ViewNeeds.{MayJoin};
 ghost use Rattle.table_rule.specs.Homes.{IsOf, with_view, IsLiveView};
-ghost use Rattle.table_rule.specs.Seats.{Split as SplitHappened};
+ghost use Rattle.table_rule.specs.Seats.{Split as SplitHappened, Join as JoinHappened};
 
 use crate::ruled::{RuledTable, TableSeat};
 use atomic_table::{Join, Play, Split, Table};
@@ -142,6 +142,7 @@ impl RuledTable {
         requires other_of { IsOf self.now other }
         requires may { MayJoin seat.old.view other.view }
         ensures view { seat.new ≡ with_view seat.old (joined_with seat.old.view other.view) }
+        ensures event { JoinHappened self.now.layout seat.old.view other.view seat.new.view }
         ensures of { IsOf self.now seat.new }
     {
         let TableSeat { seat: other } = other;

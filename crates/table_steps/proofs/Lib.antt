@@ -11,9 +11,12 @@ pub mod RaiseFacts
 pub mod RaiseGives
 pub mod RaiseKeeps
 pub mod RetireSteps
+pub mod CutFacts
+pub mod CutSteps
 pub mod HeldLoads
 pub mod LoadBounds
 pub mod LoadSteps
 pub mod LockSteps
 pub mod StampSteps
 pub mod ReadSections
+pub mod Places

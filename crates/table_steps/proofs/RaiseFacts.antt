@@ -57,12 +57,12 @@ module _ (z : Layout) (words : List ℕ) (vs : List View) (right : InRule z word
   seat : SeatRight z m g v
   seat = seat_at z m vs g i v at right.rule
 
-  next_known : (node e next : ℕ) → HoldsNext v node e next → m (Entry Next e) ≡ next
+  pub next_known : (node e next : ℕ) → HoldsNext v node e next → m (Entry Next e) ≡ next
   next_known node e next h =
       let known : IsNextAt m g.bundles v.held.nodes h.item = every_item (IsNextAt m g.bundles v.held.nodes) v.held.nexts h.place h.item h.at seat.loaded.nexts in
       subst (λ d. m (Entry Next d) ≡ next) h.entry_is (known.is ∙ h.next_is)
 
-  chain_known : (node head : ℕ) (es : List ℕ) → HoldsChain v node head es → IsChain (λ e. m (Entry Next e)) head es
+  pub chain_known : (node head : ℕ) (es : List ℕ) → HoldsChain v node head es → IsChain (λ e. m (Entry Next e)) head es
   chain_known node head [] none = none
   chain_known node head (e ∷ es) held =
       (held.0, held.1, subst (λ n. IsChain (λ d. m (Entry Next d)) n es) (sym (next_known node e held.2.0 held.2.1)) (chain_known node held.2.0 es held.2.2))
@@ -75,10 +75,10 @@ module _ (z : Layout) (words : List ℕ) (vs : List View) (right : InRule z word
       subst (λ k. m (Node (Head Right) k) ≡ entry) same
       ((subst (λ (o : Option LoadedHead). IfSome o (HeadRight (m (Node (Head Right) n.node)) (λ e. m (Entry Number e)))) is known.right.head).0 ∙ entry_is)
 
-  head_known : (node : ℕ) (side : Side) (entry : ℕ) → HoldsHead v node side entry → m (Node (Head side) node) ≡ entry
+  pub head_known : (node : ℕ) (side : Side) (entry : ℕ) → HoldsHead v node side entry → m (Node (Head side) node) ≡ entry
   head_known node side entry h = loaded_by node entry side h.held h.loaded (every_item (IsNodeAt m) v.held.nodes h.place h.held h.at seat.loaded.nodes) h.head h.node_is h.entry_is
 
-  held_live_node : (node : ℕ) (side : Side) (entry : ℕ) → HoldsHead v node side entry → IsLive z vs node
+  pub held_live_node : (node : ℕ) (side : Side) (entry : ℕ) → HoldsHead v node side entry → IsLive z vs node
   held_live_node node side entry h =
       let locked : 0 < count node (held_slots v.held.nodes) = subst (λ k. 0 < count k (held_slots v.held.nodes)) h.node_is (held_counted v.held.nodes h.place h.held h.at) in
       held_live z vs g right.rule.slots i node v at (held_holds v node locked) (seat.locks node locked).0

@@ -43,7 +43,7 @@ use Rattle.table_steps.proofs.There.{free_entry_once, free_node_once, nodes_few,
 
 -- the entries that the seat holds are those that are kept
 module _ (v : View) (k : Held) (keeps : KeepsHeld v.layout v.held k) where
-  chain_kept : (node head : ℕ) (es : List ℕ) → HoldsChain v node head es → IsKeptChain k.next head es
+  pub chain_kept : (node head : ℕ) (es : List ℕ) → HoldsChain v node head es → IsKeptChain k.next head es
   chain_kept node head [] none = none
   chain_kept node head (e ∷ es) held =
       let h : HoldsNext v node e held.2.0 = held.2.1 in

@@ -68,7 +68,7 @@ same_slots k = record { nodes = refl; entries = refl }
 high_true : (a b : ℕ) → a ≤ b → leb a b ≡ true
 high_true a b low = grind (arith, nat_tests)
 
-within_true : (a b : ℕ) → 0 < a → a ≤ b → (ltb 0 a && leb a b) ≡ true
+pub within_true : (a b : ℕ) → 0 < a → a ≤ b → (ltb 0 a && leb a b) ≡ true
 within_true a b some low = grind (arith, nat_tests)
 
 found_step : (k : ℕ) (x h : HeldNode) (hs : List HeldNode) (b : Bool) → cond b (Some x) (held_at k hs) ≡ Some h → (held_at k hs ≡ Some h → 0 < count k (held_slots hs))

@@ -7,6 +7,7 @@ pub mod Stamps
 pub mod Updates
 pub mod Raises
 pub mod Retires
+pub mod Cuts
 pub mod Notes
 pub mod Opens
 pub mod Closes

@@ -6,6 +6,7 @@ use Rattle.index_words.specs.Views.{empty_view}
 use Rattle.key_map.specs.declared.update.Update.{Update}
 use Rattle.key_map.specs.History.{own_places}
 use Rattle.table_rule.specs.Homes.{Sat}
+use Rattle.table_rule.specs.Seats.{Split, Join}
 use Rattle.table_steps.specs.Passes.{Pass, Extends}
 
 -- the view of a note: without a number, it has seen so much, and owns nothing
@@ -16,6 +17,15 @@ note_view z seen = record (empty_view z) { history = record (empty_view z).histo
 pub record IsNoteOf (p : Pass) (s : Sat) : Type 0 where
   pub id : s.id ≡ p.id
   pub layout : s.view.layout ≡ p.view.layout
+
+-- the events of a hearing, by a seat with the view `v`, of another one with the view `u`: a copy of the seat is split
+-- off, the other one is joined into the seat, and so is the copy; the seat has the view `w` then
+pub record Hearing (z : Layout) (v u w : View) : Type 0 where
+  pub copy : View
+  pub split : Split z v 0 v copy
+  pub told : View
+  pub first : Join z v u told
+  pub second : Join z told copy w
 
 -- the places of the pass's own updates are just those at which updates of its number stand in what it has seen
 abbrev pub KnowsOwn : Pass → Type 0

@@ -36,6 +36,10 @@ pub record Inside (v : View) : Type 0 where
   pub odd : is_even v.section_word ≡ false
   pub unlocked : v.held.nodes ≡ []
 
+-- the table has no other pass
+abbrev pub IsAlone : View → Type 0
+IsAlone v = v.layout.passes ≡ 1
+
 -- what was seen goes on
 abbrev pub Extends : List Update → List Update → Type 0
 Extends old new = (more : List Update) × (new ≡ old ++ more)

@@ -16,6 +16,7 @@ use Rattle.core_events.specs.UpdateMoves.{raised_view, listed_entry}
 use Rattle.core_laws.specs.Owners.{HasFreeNode, HasFreeEntry}
 use Rattle.core_updates.specs.Held.{HoldsHead, raise_of}
 use Rattle.core_laws.specs.ViewNeeds.{HasFilled}
+use Rattle.table_rule.specs.Running.{Happened}
 use Rattle.table_steps.specs.Passes.{Pass, Extends}
 
 -- the slot of the new node and the heads of its left and its right bundle; 0 where there is none
@@ -108,3 +109,14 @@ pub record HasRaised (v : View) (u : Update) (new out : List ℕ) (at : ℕ) (w 
   pub entries : List ℕ
   pub holds : HoldsEntries v (nodes_out out) entries
   pub view : w ≡ raised_view others v (length others) u (record { added = slot_given (new_slot new); entries = new_entries_of new; taken = nodes_out out; taken_entries = entries })
+
+-- the update was raised at this place by a step that the pass has made since it was `p`: it had made no update between,
+-- and has made none since
+pub record IsRaisedSince (p : Pass) (u : Update) (at : ℕ) (w : View) : Type 0 where
+  pub before : View
+  pub found : ℕ
+  pub behind : View
+  pub event : Happened p.view.layout (raising p u) before found behind
+  pub place : at ≡ found + 1
+  pub since : before.history.mine ≡ p.view.history.mine
+  pub last : w.history.mine ≡ behind.history.mine

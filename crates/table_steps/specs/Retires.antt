@@ -1,4 +1,4 @@
--- The slots that a raise moves, as they are kept at run time.
+-- The slots that a raise or a cut retires, as they are kept at run time.
 use Rattle.std.specs.Prelude.{◌≡◌, ℕ, ◌+◌, ◌<◌, ◌≤◌, List, [], ◌∷◌, ◌++◌, length, Some}
 use Rattle.std.specs.List.{slice_get}
 use Rattle.pass_slots.specs.Owned.{KeptSlots, node_count, entry_count}

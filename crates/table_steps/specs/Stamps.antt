@@ -1,6 +1,6 @@
 -- Loads of the stamp and announcements: their events, what they leave in the pass's view, and the sections in which a pass
 -- reads.
-use Rattle.std.specs.Prelude.{◌≡◌, ℕ, ◌+◌, ◌==◌, List, length, Bool, true, Option, Some, None}
+use Rattle.std.specs.Prelude.{◌≡◌, ℕ, ◌+◌, ◌≤◌, ◌==◌, List, length, Bool, true, Option, Some, None}
 use Rattle.index_words.specs.declared.view.View.{View}
 use Rattle.index_words.specs.declared.view.reading.TreeNode.{TreeNode}
 use Rattle.index_words.specs.declared.word.Word.TheVariants.{Stamp, Announced}
@@ -84,6 +84,15 @@ pub record HasOpened (p : Pass) (fixes n : ℕ) (w : View) : Type 0 where
 -- fixed the number as a place
 abbrev pub IsFoundAt : Pass → ℕ → ℕ → View → Type 0
 IsFoundAt p fixes n w = (v : View) × Happened p.view.layout (loading_stamp p fixes) v n w
+
+-- so it was found, by a step that fixed it as a place, which the pass has made since it was `p`: it has counted a look
+-- since, and none behind that step
+pub record IsFoundSince (p : Pass) (n : ℕ) (w : View) : Type 0 where
+  pub before : View
+  pub behind : View
+  pub event : Happened p.view.layout (loading_stamp p 1) before n behind
+  pub since : p.view.history.looks ≤ before.history.looks
+  pub last : w.history.looks ≡ behind.history.looks
 
 -- the view of a pass that has left its section, and has taken its announcement back
 abbrev pub outside_again : View → View

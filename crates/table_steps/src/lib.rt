@@ -4,6 +4,7 @@
 #![tactic(auto)]
 
 mod close;
+mod cuts;
 mod free;
 mod held_words;
 mod kept;

@@ -1,7 +1,7 @@
 //! Notes: what a pass tells another one of the history.
 ghost use Rattle.std.specs.Prelude.{◌≡◌};
 ghost use Rattle.table_rule.specs.Seats.{Split as SplitHappened};
-ghost use Rattle.table_steps.specs.Notes.{HasHeard, IsNoteOf, KnowsOwn};
+ghost use Rattle.table_steps.specs.Notes.{HasHeard, Hearing, IsNoteOf, KnowsOwn};
 ghost use Rattle.table_steps.specs.Passes.{IsSamePass};
 
 use crate::pass::TablePass;
@@ -44,6 +44,7 @@ impl<'t> TablePass<'t> {
         requires { IsNoteOf self.old note }
         ensures same { IsSamePass self.old self.new }
         ensures heard { HasHeard self.old.view note.view.history.seen self.new.view }
+        ensures events { Hearing self.old.view.layout self.old.view note.view self.new.view }
         ensures own { KnowsOwn self.new }
     {
         let Note { seat } = note;

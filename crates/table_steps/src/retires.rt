@@ -1,4 +1,4 @@
-//! How a raise moves the slots that a pass keeps.
+//! How a raise and a cut move the slots that a pass keeps.
 ghost use Rattle.std.specs.Prelude.{◌≡◌, ℕ, ◌⊎◌, ◌++◌, ◌<◌, List, [], slice_index, length};
 ghost use Rattle.core_events.specs.UpdateMoves.{listed_entry};
 ghost use Rattle.table_steps.specs.Raises.{nodes_out};
@@ -8,8 +8,8 @@ use crate::held_words::HeldWords;
 use index_words::Side;
 use pass_slots::PassSlots;
 
-/// Retires the entries of a bundle from its head on, of at most so many.
-fn retire_bundle(slots: &mut PassSlots, held: &HeldWords, head: u32, limit: u32)
+/// Retires the entries of a bundle from this one on, which are at most so many.
+pub fn retire_bundle(slots: &mut PassSlots, held: &HeldWords, head: u32, limit: u32)
     requires chain { (es : List ℕ) × IsKeptChain held.now.next head es × HasRoomFor [] es limit slots.old }
     ensures { (es : List ℕ) → IsKeptChain held.now.next head es → slots.new ≡ with_retired [] es slots.old }
 {

@@ -3,6 +3,7 @@ ghost use Rattle.std.specs.Prelude.{◌≡◌};
 ghost use Rattle.core_events.specs.Moves.{joined_with, split_right};
 ghost use Rattle.core_laws.specs.ViewNeeds.{MayJoin};
 ghost use Rattle.table_rule.specs.Homes.{IsOf, with_view};
+ghost use Rattle.table_steps.specs.Notes.{Hearing};
 ghost use Rattle.table_steps.specs.Passes.{Extends};
 
 use std::marker::Model;
@@ -30,6 +31,7 @@ impl SharedTable {
         requires other_of { IsOf self.now other }
         requires may { MayJoin seat.old.view other.view }
         ensures view { seat.new ≡ with_view seat.old (joined_with (joined_with seat.old.view other.view) (split_right seat.old.view 0)) }
+        ensures events { Hearing self.now.layout seat.old.view other.view seat.new.view }
         ensures of { IsOf self.now seat.new }
         ensures old { Extends seat.old.view.history.seen seat.new.view.history.seen }
         ensures other { Extends other.view.history.seen seat.new.view.history.seen }

@@ -1,26 +1,29 @@
 -- The first put of a table by single steps: each step may be made at its stage.
-use Rattle.std.proofs.Common.{◌≡◌, ℕ, ◌<◌, List, [], ◌∷◌, length, false, arith, refl, ap, ◌∙◌, sym, subst, inl, inr, Some, None}
+use Rattle.std.proofs.Common.{◌≡◌, ℕ, ◌-◌, ◌<◌, List, [], ◌∷◌, length, take, drop, Bool, true, false, cond, arith, refl, ap, ◌∙◌, sym, subst, inl, inr, Some, None}
 use Rattle.std.specs.List.{slice_get}
-use Rattle.std.proofs.lemmas.List.{length-append}
+use Rattle.std.proofs.lemmas.List.{length-append, take_all}
 use Rattle.index_words.specs.declared.side.Side.TheVariants.{Left, Right}
 use Rattle.index_words.specs.declared.view.View.{View}
+use Rattle.index_words.specs.declared.view.reading.Filled.{Filled}
 use Rattle.index_words.specs.declared.view.reading.TreeNode.{TreeNode}
 use Rattle.index_words.specs.declared.view.update.HeldNode.{HeldNode}
 use Rattle.index_words.specs.declared.view.update.LoadedHead.{LoadedHead}
 use Rattle.index_words.specs.declared.word.Field.TheVariants.{Key, Val, Mark, Head}
 use Rattle.index_words.specs.declared.word.Part.TheVariants.{Child, Stamp as Number, Next}
 use Rattle.index_words.specs.declared.word.Word.{Word}
-use Rattle.index_words.specs.declared.word.Word.TheVariants.{Node, Entry}
+use Rattle.index_words.specs.declared.word.Word.TheVariants.{Node, Entry, Stamp, Section, Announced}
 use Rattle.index_words.specs.Words.{word_at}
 use Rattle.key_map.specs.declared.update.Update.{Update}
 use Rattle.key_map.specs.declared.update.Change.TheVariants.{Put}
 use Rattle.key_map.specs.History.{after}
+use Rattle.key_map.specs.Lists.{Every}
 use Rattle.key_map.specs.Map.{pair}
 use Rattle.core_invariant.proofs.TreeReads.{after_length}
-use Rattle.core_events.specs.FillMoves.{filled_view}
+use Rattle.core_events.specs.FillMoves.{filled_view, filled_with, with_filled}
 use Rattle.core_events.specs.LoadMoves.{bundle_link, head_loaded}
 use Rattle.core_events.specs.LockMoves.{nothing_loaded}
 use Rattle.core_events.specs.Moves.{entered}
+use Rattle.core_grace.specs.Sections.{is_even}
 use Rattle.core_events.specs.UpdateMoves.{prepared}
 use Rattle.core_laws.specs.ViewNeeds.{HasFilled, IsInside, MayFill, MayLoadStamp, MayPrepare, MayReadHead}
 use Rattle.core_events.specs.Versions.{tree_nodes}
@@ -33,7 +36,7 @@ use Rattle.table_steps.specs.Passes.{Pass}
 use Rattle.table_steps.specs.Stamps.{reading_at, with_seen, CanAnnounce, HasSeen, ReadsNow}
 use Rattle.table_steps.specs.Loads.{HasLoadedHead}
 use Rattle.table_steps.specs.Raises.{HasNew}
-use Rattle.table_tests.specs.FirstPut.{at_start, at_seen, at_announced, at_root, at_locked_root}
+use Rattle.table_tests.specs.FirstPut.{at_start, at_seen, at_announced, at_root, at_locked_root, MayStore}
 
 pub one_above : 0 < 1
 one_above = omega arith
@@ -108,6 +111,37 @@ pub number_filled : (v r w : View) (number value : ℕ) (word x : Word) → v �
 number_filled v r w number value word x is at found view =
     let same : x ≡ word = some_same x word (sym found ∙ ap (λ (u : View). word_at u.layout number) is ∙ at) in
     view ∙ ap (λ (u : View). filled_view u x value) is ∙ ap (λ (y : Word). filled_view r y value) same
+
+-- a fill leaves the free slots, so the pass may store to the same words behind it
+module _ (v : View) (fs : List Filled) where
+  abbrev u : View
+  u = with_filled v fs
+
+  may_still : (w : Word) → MayFill v w → MayFill u w
+  may_still Stamp may = absurd may
+  may_still (Section n) may = absurd may
+  may_still (Announced n) may = absurd may
+  may_still (Node field k) may = may
+  may_still (Entry part e) may = may
+
+  all_still : (ws : List Word) → Every (MayStore v) ws → Every (MayStore u) ws
+  all_still [] all = tt
+  all_still (w ∷ ws) all = ((all.0.0, may_still w all.0.1), all_still ws all.1)
+
+stores_still : (v : View) (word : Word) (value : ℕ) (ws : List Word) → Every (MayStore v) ws → Every (MayStore (filled_view v word value)) ws
+stores_still v word value ws all = by_test (is_even v.section_word)
+  where
+    by_test : (b : Bool) → Every (MayStore (cond b v (with_filled v (filled_with v.reading.filled word value)))) ws
+    by_test true = all
+    by_test false = all_still v (filled_with v.reading.filled word value) ws all
+
+-- and so to those behind the first one
+pub stores_later : (v : View) (word : Word) (value : ℕ) (ws : List Word) → Every (MayStore v) ws → Every (MayStore (filled_view v word value)) (take (length ws - 1) (drop 1 ws))
+stores_later v word value [] all = tt
+stores_later v word value (w ∷ ws) all =
+    let long : length (w ∷ ws) - 1 ≡ length ws = omega arith in
+    let rest : ws ≡ take (length (w ∷ ws) - 1) ws = sym (ap (λ n. take n ws) long ∙ take_all (length ws) ws (omega arith)) in
+    subst (Every (MayStore (filled_view v word value))) rest (stores_still v word value ws all.1)
 
 -- with its entry in front of the root's bundle
 abbrev pub at_prepared : View

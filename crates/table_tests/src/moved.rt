@@ -38,7 +38,7 @@ fn is_moved_by<R: Wait>(
     if !has_answer(other, rt, row) {
         return false;
     }
-    let ended = carry_out(pass, 1, &planned.plan, slots, &planned.entries);
+    let ended = carry_out(pass, at, 1, &planned.plan, slots, &planned.entries);
     ended == Err(Failed::Moved)
 }
 

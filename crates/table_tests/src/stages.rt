@@ -1,5 +1,5 @@
 // What one pass meets at the stages of an update of another pass, which stops at each of them.
-ghost use Rattle.std.specs.Prelude.{◌≡◌, ◌<◌, ℕ};
+ghost use Rattle.std.specs.Prelude.{◌≡◌, ◌<◌, ℕ, Some};
 ghost use Rattle.core_updates.specs.PlanEvents.{HasSlots};
 ghost use Rattle.plan_laws.specs.Fills.{AreApart};
 ghost use Rattle.plan_laws.specs.Raises.{HasFinalised};
@@ -17,7 +17,8 @@ use table_steps::TablePass;
 use tree_update::{Try, put, try_put};
 use update_search::{Found, begin_search, find_plan};
 use update_try::{
-    finalise_all, leave_section, make_ready, mark_all, plan_slots, raise_plan, unlock_all, validate,
+    finalise_all, leave_section, make_ready, mark_all, plan_slots, prune_all, raise_plan,
+    unlock_all, validate,
 };
 
 /// The answer of one look, in a snapshot of its own, and then that of one try of a put.
@@ -39,6 +40,7 @@ struct Before {
 #[derive(Clone, Copy)]
 struct Behind {
     numbered: Met,
+    pruned: Met,
     marked: Met,
     ended: Met,
 }
@@ -72,20 +74,24 @@ fn meet(pass: &mut TablePass<'_>) -> Met
     Met { look, tried }
 }
 
-/// Ends an update behind its raise. Another pass meets it with the numbers written, with the nodes that went out marked,
-/// and after its end.
+/// Ends an update behind its raise. Another pass meets it with the numbers written, with the bundles cut, with the
+/// nodes that went out marked, and after its end.
 fn end_in_stages(
     pass: &mut TablePass<'_>,
     other: &mut TablePass<'_>,
+    number: u64,
     plan: &Plan,
     slots: &PlanSlots,
 ) -> Behind
     requires raised { (at : ℕ) × HasFinalised pass.old.view pass.old.number plan.now slots.now at 0 }
     requires apart { AreApart slots.now }
+    requires least { pass.old.view.reading.least ≡ Some number }
     requires rest { AtRest other.old.view }
 {
     finalise_all(pass, plan, slots);
     let numbered = meet(other);
+    prune_all(pass, plan, slots, number);
+    let pruned = meet(other);
     mark_all(pass, plan);
     let marked = meet(other);
     unlock_all(pass, plan);
@@ -93,6 +99,7 @@ fn end_in_stages(
     let ended = meet(other);
     Behind {
         numbered,
+        pruned,
         marked,
         ended,
     }
@@ -103,6 +110,7 @@ fn end_in_stages(
 fn carry_in_stages(
     pass: &mut TablePass<'_>,
     other: &mut TablePass<'_>,
+    number: u64,
     plan: &Plan,
     slots: &PlanSlots,
     heads: &[u32; 9],
@@ -112,6 +120,7 @@ fn carry_in_stages(
     requires apart { AreApart slots.now }
     requires node { 0 < slots.now.node }
     requires left { 0 < pass.old.view.history.left }
+    requires reads { pass.old.view.reading.section ≡ Some number }
     requires rest { AtRest other.old.view }
 {
     if let Err(_failed) = validate(pass, plan, heads) {
@@ -122,7 +131,7 @@ fn carry_in_stages(
     let prepared = meet(other);
     raise_plan(pass, 1, plan, slots, heads);
     let raised = meet(other);
-    let behind = end_in_stages(pass, other, plan, slots);
+    let behind = end_in_stages(pass, other, number, plan, slots);
     let before = Before {
         locked,
         prepared,
@@ -147,7 +156,7 @@ fn put_in_stages(
     pass.number_fact();
     match find_plan(pass, at, 5, Change::Put(51)) {
         Found::Plan(planned) => {
-            carry_in_stages(pass, other, &planned.plan, slots, &planned.entries)
+            carry_in_stages(pass, other, at, &planned.plan, slots, &planned.entries)
         }
         Found::Absent => None,
         Found::Pending => None,
@@ -186,6 +195,7 @@ fn a_pass_meets_another_ones_update_at_its_stages(rt: HostRuntime) -> Result<(),
     assert_eq!(rt; before.prepared, pending);
     assert_eq!(rt; before.raised, pending);
     assert_eq!(rt; behind.numbered, answers(51, Try::Busy));
+    assert_eq!(rt; behind.pruned, answers(51, Try::Busy));
     assert_eq!(rt; behind.marked, answers(51, Try::Busy));
     let last = Try::Done(Done { at: 3, was: true });
     assert_eq!(rt; behind.ended, answers(51, last));

@@ -1,5 +1,5 @@
 -- From the begin of a call to its end: what each of its parts leaves of the pass's history and slots.
-use Rattle.std.proofs.Common.{◌≡◌, ℕ, ◌+◌, ◌≤◌, List, [], ◌∷◌, ◌++◌, length, arith, refl, ap, sym, ◌∙◌, subst}
+use Rattle.std.proofs.Common.{◌≡◌, ℕ, ◌+◌, ◌≤◌, Bool, List, [], ◌∷◌, ◌++◌, length, arith, refl, ap, sym, ◌∙◌, subst}
 use Rattle.std.proofs.lemmas.Bool.Decides.{nat_tests}
 use Rattle.std.proofs.lemmas.List.{length-append, append_assoc, append-nil}
 use Rattle.index_words.specs.declared.view.View.{View}
@@ -15,7 +15,7 @@ use Rattle.table_steps.specs.Stamps.{outside_again, HasOpened}
 use Rattle.table_steps.proofs.ReadSections.{opened_extends, within_history}
 use Rattle.bundle_reads.specs.Reads.{HasRead}
 use Rattle.snapshot_read.proofs.Begins.{Owned, owned, entered_owned}
-use Rattle.tree_update.specs.Calls.{GoesOn, FixesNone, StaysOn, MakesChange, MovesNodes, FindsAbsent}
+use Rattle.tree_update.specs.Calls.{GoesOn, FixesNone, StaysOn, MakesChange, MovesNodes, LooksFor}
 use Rattle.update_try.specs.Outcomes.{KeepsAll}
 use Rattle.tree_update.specs.Settles.{KeepsAllElse, KeepsSlotCounts}
 
@@ -61,13 +61,13 @@ made_more u v w n line key change done on made = record {
 risen_more : (a b c : ℕ) → a ≤ b → risen b ≤ c → risen a ≤ c
 risen_more a b c le up = grind (arith, nat_tests)
 
-pub absent_more : (u v w : View) (key at : ℕ) → GoesOn u v → FindsAbsent v w key at → FindsAbsent u w key at
-absent_more u v w key at on found = record {
+pub looked_more : (u v w : View) (key : ℕ) (there : Bool) (at : ℕ) → GoesOn u v → LooksFor v w key there at → LooksFor u w key there at
+looked_more u v w key there at on found = record {
   goes = goes_more u v w on found.goes;
   found = found.found;
   place = found.place;
   looks = risen_more u.history.looks v.history.looks w.history.looks on.looks found.looks;
-  absent = found.absent;
+  tells = found.tells;
 }
 
 -- where the history is as it was, and the slots are, or are as many

@@ -1,4 +1,4 @@
--- An update that a try has carried out, and a key that a snapshot has not.
+-- An update that a try has carried out, and what a snapshot tells of a key.
 use Rattle.std.proofs.Common.{◌≡◌, ◌↔◌, ◌⊎◌, ℕ, ◌+◌, ◌-◌, ◌<◌, ◌≤◌, List, [], ◌∷◌, ◌++◌, length, drop, Bool, true, false, arith, refl, ap, sym, ◌∙◌, subst, Option, Some, None, is_some, Ok, Err, IsErrOf, MatchBool, inl, inr}
 use Rattle.std.proofs.lemmas.Bool.Decides.{nat_tests}
 use Rattle.std.proofs.lemmas.List.{length-append, take-append-drop, length_push}
@@ -7,8 +7,10 @@ use Rattle.index_words.specs.declared.view.history.SeenHistory.{SeenHistory}
 use Rattle.key_map.specs.declared.pair.Pair.{Pair}
 use Rattle.key_map.specs.declared.update.Update.{Update}
 use Rattle.key_map.specs.declared.update.Change.{Change}
-use Rattle.key_map.specs.declared.update.Change.TheVariants.{Remove}
+use Rattle.key_map.specs.declared.update.Change.TheVariants.{Put, Remove}
 use Rattle.key_map.specs.declared.pass.Done.{Done}
+use Rattle.key_map.specs.declared.pass.New.{New}
+use Rattle.key_map.specs.declared.pass.New.TheVariants.{Made, Kept}
 use Rattle.key_map.specs.declared.pass.PassError.{PassError}
 use Rattle.key_map.specs.declared.pass.PassError.TheVariants.{NoSlot, Spent}
 use Rattle.key_map.specs.History.{after}
@@ -22,8 +24,8 @@ use Rattle.core_updates.specs.Plans.{key_of, change_of}
 use Rattle.plan_laws.specs.Answers.{owned_nodes, owned_entries, was_there, MovesNodes as PlanMovesNodes}
 use Rattle.plan_laws.specs.Raises.{update_by}
 use Rattle.snapshot_read.specs.Snapshots.{HasBegun}
-use Rattle.tree_update.specs.Calls.{GoesOn, FixesNone, StaysOn, MakesChange, MovesNodes, FindsAbsent, HasMade, AnswersRemoval, IsOutOfSlots, IsRefusal}
-use Rattle.tree_update.proofs.CallSteps.{fixes_more, made_more, absent_more}
+use Rattle.tree_update.specs.Calls.{GoesOn, FixesNone, StaysOn, MakesChange, MovesNodes, LooksFor, HasMade, Inserts, AnswersPutNew, AnswersRemoval, IsOutOfSlots, IsRefusal}
+use Rattle.tree_update.proofs.CallSteps.{fixes_more, made_more, looked_more}
 use Rattle.update_try.specs.Carried.{HasCarriedOut}
 
 -- the nodes of a plan, by its change
@@ -78,14 +80,14 @@ module _ (v w : View) (n line : ℕ) (plan : Plan) (place : ℕ) (done : HasCarr
   pub carried_fixes : FixesNone v w
   carried_fixes = record { looks = done.looks; found = done.found }
 
--- a key without a value is not there
-none_has : (key : ℕ) (m : List Pair) → is_some (map_get key m) ≡ false → map_has key m ≡ false
-none_has key [] none = refl
-none_has key (p ∷ ps) none = grind (arith, nat_tests, none_has key ps)
+-- a key is there exactly where it has a value
+has_value : (key : ℕ) (m : List Pair) → map_has key m ≡ is_some (map_get key m)
+has_value key [] = refl
+has_value key (p ∷ ps) = grind (arith, nat_tests, has_value key ps)
 
-not_first : (key t : ℕ) (us : List Update) → is_some (value_at key (first_from key (after us t))) ≡ false → map_has key (after us t) ≡ false
-not_first key t us none =
-    none_has key (after us t) (ap (λ (o : Option ℕ). is_some o) (map_get-first_from key 0 (after us t) (IsMap-after us t)) ∙ none)
+has_first : (key t : ℕ) (us : List Update) → map_has key (after us t) ≡ is_some (value_at key (first_from key (after us t)))
+has_first key t us =
+    has_value key (after us t) ∙ ap (λ (o : Option ℕ). is_some o) (map_get-first_from key 0 (after us t) (IsMap-after us t))
 
 risen_least : (n : ℕ) → n ≤ risen n
 risen_least n = grind (arith, nat_tests)
@@ -100,17 +102,17 @@ begun_goes v w at begun = record {
   looks = omega (arith, begun.looks, risen_least v.history.looks);
 }
 
--- from the begin of a snapshot, in which the key was not found, to its end
-pub absent_found : (v b w : View) (key at : ℕ) (first : Option Pair) → HasBegun v b at → StaysOn b w → w.history ≡ b.history → GoesOn v w
-    → first ≡ first_from key (after b.history.seen at) → is_some (value_at key first) ≡ false → FindsAbsent v w key at
-absent_found v b w key at first begun stays same goes is none = record {
+-- from the begin of a snapshot, in which the key was looked for, to its end
+pub looked_found : (v b w : View) (key at : ℕ) (there : Bool) (first : Option Pair) → HasBegun v b at → StaysOn b w → w.history ≡ b.history → GoesOn v w
+    → first ≡ first_from key (after b.history.seen at) → there ≡ is_some (value_at key first) → LooksFor v w key there at
+looked_found v b w key at there first begun stays same goes is tells = record {
   goes = goes;
   found = stays.fixes.found ∙ begun.found;
   place = sym begun.whole ∙ ap (λ (h : SeenHistory). length h.seen) (sym same);
   looks = omega (arith, stays.fixes.looks, begun.looks);
-  absent =
+  tells =
       ap (λ (h : SeenHistory). map_has key (after h.seen at)) same
-      ∙ not_first key at b.history.seen (ap (λ (o : Option Pair). is_some (value_at key o)) (sym is) ∙ none);
+      ∙ has_first key at b.history.seen ∙ ap (λ (o : Option Pair). is_some (value_at key o)) (sym is) ∙ sym tells;
 }
 
 -- an update that was made, by the key and the change of its plan, and from an earlier view on
@@ -157,12 +159,21 @@ accepted_slots v is x = (λ err. absurd (no_error err), λ out. absurd (either o
 -- a removal that was made is one that found its key
 pub removal_answers : (v w : View) (n line key : ℕ) (done : Done) → MakesChange v w n line key Remove done → AnswersRemoval v w n line key done
 removal_answers v w n line key done made =
-    subst (λ (b : Bool). MatchBool b (MakesChange v w n line key Remove done) (FindsAbsent v w key done.at)) (sym made.nodes.0) made
+    subst (λ (b : Bool). MatchBool b (MakesChange v w n line key Remove done) (LooksFor v w key false done.at)) (sym made.nodes.0) made
 
 -- an answer holds from an earlier view on
 pub removal_more : (u v w : View) (n line key : ℕ) (done : Done) → GoesOn u v → AnswersRemoval v w n line key done → AnswersRemoval u w n line key done
 removal_more u v w n line key done on = by_answer done.was
   where
-    by_answer : (b : Bool) → MatchBool b (MakesChange v w n line key Remove done) (FindsAbsent v w key done.at) → MatchBool b (MakesChange u w n line key Remove done) (FindsAbsent u w key done.at)
+    by_answer : (b : Bool) → MatchBool b (MakesChange v w n line key Remove done) (LooksFor v w key false done.at) → MatchBool b (MakesChange u w n line key Remove done) (LooksFor u w key false done.at)
     by_answer true made = made_more u v w n line key Remove done on made
-    by_answer false absent = absent_more u v w key done.at on absent
+    by_answer false absent = looked_more u v w key false done.at on absent
+
+-- a put that was made of a key that was not there
+pub inserts : (v w : View) (n line key val : ℕ) (done : Done) → MakesChange v w n line key (Put val) done → done.was ≡ false → Inserts v w n line key val done.at
+inserts v w n line key val done made none =
+    subst (λ (b : Bool). MakesChange v w n line key (Put val) (record { at = done.at; was = b })) none made
+
+pub new_more : (u v w : View) (n line key val : ℕ) (answer : New) → GoesOn u v → AnswersPutNew v w n line key val answer → AnswersPutNew u w n line key val answer
+new_more u v w n line key val (Made at) on made = made_more u v w n line key (Put val) (record { at = at; was = false }) on made
+new_more u v w n line key val (Kept at) on found = looked_more u v w key true at on found

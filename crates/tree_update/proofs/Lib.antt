@@ -3,5 +3,9 @@ pub mod SettleSteps
 -- The calls that update the map.
 pub mod CallSteps
 pub mod CallsMade
+-- The place that a removal answers.
+pub mod Places
 -- One try of an update.
 pub mod TryMade
+-- A pass that is alone on its table makes each put that it tries.
+pub mod Alone

@@ -1,22 +1,28 @@
 -- One try of an update: from its begin on, the slots that it may take stay free, and no count falls.
-use Rattle.std.proofs.Common.{◌≡◌, ℕ, ◌+◌, ◌≤◌, cond, Bool, true, false, arith, refl, ap, sym, ◌∙◌, subst}
+use Rattle.std.proofs.Common.{◌≡◌, ℕ, ◌+◌, ◌≤◌, List, ◌++◌, length, cond, Bool, true, false, arith, refl, ap, sym, ◌∙◌, subst}
+use Rattle.std.proofs.lemmas.List.{length-append}
 use Rattle.index_words.specs.declared.view.View.{View}
 use Rattle.index_words.specs.declared.view.history.Counts.{Counts}
 use Rattle.index_words.specs.declared.view.slots.Slots.{Slots}
 use Rattle.index_words.specs.Views.{no_slots, no_looks}
+use Rattle.key_map.specs.declared.update.Update.{Update}
+use Rattle.key_map.specs.History.{after}
 use Rattle.key_map.specs.Lists.{count}
+use Rattle.key_map.specs.Map.{map_has}
 use Rattle.key_map.proofs.Counting.{count-append}
+use Rattle.key_map.proofs.HistoryLaws.{after-append}
 use Rattle.core_events.specs.LoadMoves.{risen}
 use Rattle.core_events.specs.Moves.{in_section}
 use Rattle.core_grace.specs.Batches.{all_passed, batch_freed, batch_taken, is_empty, settled}
 use Rattle.core_updates.specs.declared.plan.PlanSlots.{PlanSlots}
 use Rattle.plan_laws.specs.Frames.{CountsGrow}
-use Rattle.table_steps.specs.Passes.{Pass}
+use Rattle.table_steps.specs.Passes.{Pass, Extends}
 use Rattle.table_steps.specs.Stamps.{HasOpened}
+use Rattle.table_steps.proofs.ReadSections.{opened_extends}
 use Rattle.bundle_reads.specs.Reads.{HasRead}
 use Rattle.update_try.specs.declared.outcome.Failed.{Failed}
 use Rattle.update_try.specs.Outcomes.{HasRisen, IsCounted}
-use Rattle.tree_update.specs.Trying.{OffersSlots}
+use Rattle.tree_update.specs.Trying.{OffersSlots, WasAbsent}
 use Rattle.update_try.proofs.Counted.{counted_through, rises}
 
 -- an enter changes no count, and takes no free slot away
@@ -108,3 +114,17 @@ module _ (p : Pass) (b x : View) (n : ℕ) (opened : HasOpened p 0 n b) (read : 
   pub search_waited : (w : View) → x.counts.waits ≡ risen b.counts.waits → w.counts ≡ x.counts → HasRisen v.counts.waits w.counts.waits
   search_waited w rose same =
       rises v.counts.waits w.counts.waits (ap (λ (c : Counts). c.waits) same ∙ rose ∙ ap (λ (c : Counts). risen c.waits) opened_counts)
+
+  -- a key that was not there at the number of the search is missed at it
+  pub was_absent : (key : ℕ) (w : View) → Extends x.history.seen w.history.seen → map_has key (after b.history.seen n) ≡ false → WasAbsent v w key
+  was_absent key w goes absent =
+      let more = opened_extends p 0 n b opened in
+      let read_same : x.history.seen ≡ b.history.seen = ap (λ (u : View). u.history.seen) read.view in
+      let longer : w.history.seen ≡ b.history.seen ++ goes.0 = goes.1 ∙ ap (λ (us : List Update). us ++ goes.0) read_same in
+      record {
+        at = n;
+        above = omega (arith, opened.seen.whole, ap (λ (us : List Update). length us) more.1, length-append v.history.seen more.0);
+        within = omega (arith, opened.seen.whole, ap (λ (us : List Update). length us) longer, length-append b.history.seen goes.0);
+        absent = ap (λ (us : List Update). map_has key (after us n)) longer
+            ∙ ap (map_has key) (after-append b.history.seen goes.0 n (omega (arith, opened.seen.whole))) ∙ absent;
+      }

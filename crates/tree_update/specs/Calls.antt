@@ -5,12 +5,17 @@ use Rattle.key_map.specs.declared.update.Update.{Update}
 use Rattle.key_map.specs.declared.update.Change.{Change}
 use Rattle.key_map.specs.declared.update.Change.TheVariants.{Put, Remove}
 use Rattle.key_map.specs.declared.pass.Done.{Done}
+use Rattle.key_map.specs.declared.pass.New.{New}
+use Rattle.key_map.specs.declared.pass.New.TheVariants.{Made, Kept}
 use Rattle.key_map.specs.declared.pass.PassError.{PassError}
 use Rattle.key_map.specs.declared.pass.PassError.TheVariants.{NoSlot, Spent}
 use Rattle.key_map.specs.History.{after}
 use Rattle.key_map.specs.Map.{map_has}
 use Rattle.plan_laws.specs.Answers.{owned_nodes, owned_entries}
-use Rattle.table_steps.specs.Passes.{Extends}
+use Rattle.core_updates.specs.Ready.{update_of}
+use Rattle.table_steps.specs.Passes.{Pass, Extends}
+use Rattle.table_steps.specs.Raises.{IsRaisedSince}
+use Rattle.table_steps.specs.Stamps.{IsFoundSince}
 use Rattle.update_try.specs.Outcomes.{HasRisen}
 
 -- the pass made no update: what it has seen goes on, its own updates, how many it may still make and how many slots it owns
@@ -61,17 +66,37 @@ pub record MakesPut (v w : View) (n line key val : ℕ) (done : Done) : Type 0 w
   pub made : MakesChange v w n line key (Put val) done
   pub fixes : FixesNone v w
 
--- the key was not there at the place that the last load of the stamp has fixed, in this call: no update was made
-pub record FindsAbsent (v w : View) (key at : ℕ) : Type 0 where
+-- a look has told whether the key is there at the place that the last load of the stamp has fixed, in this call: no
+-- update was made
+pub record LooksFor (v w : View) (key : ℕ) (there : Bool) (at : ℕ) : Type 0 where
   pub goes : GoesOn v w
   pub found : w.history.found ≡ at
   pub place : at ≡ length w.history.seen
   pub looks : HasRisen v.history.looks w.history.looks
-  pub absent : map_has key (after w.history.seen at) ≡ false
+  pub tells : map_has key (after w.history.seen at) ≡ there
 
 -- a removal was answered: `was` tells whether the key was there
 abbrev pub AnswersRemoval : View → View → ℕ → ℕ → ℕ → Done → Type 0
-AnswersRemoval v w n line key done = MatchBool done.was (MakesChange v w n line key Remove done) (FindsAbsent v w key done.at)
+AnswersRemoval v w n line key done = MatchBool done.was (MakesChange v w n line key Remove done) (LooksFor v w key false done.at)
+
+-- a put of a key that was not there was made
+abbrev pub Inserts : View → View → ℕ → ℕ → ℕ → ℕ → ℕ → Type 0
+Inserts v w n line key val at = MakesChange v w n line key (Put val) (record { at = at; was = false })
+
+-- a put that is made only where its key is not there was answered
+abbrev pub AnswersPutNew : View → View → ℕ → ℕ → ℕ → ℕ → New → Type 0
+AnswersPutNew v w n line key val (Made at) = Inserts v w n line key val at
+AnswersPutNew v w n line key val (Kept at) = LooksFor v w key true at
+
+-- the place that a put answers: that of its own raise, a step of the call
+abbrev pub IsPlaceOfPut : Pass → ℕ → ℕ → ℕ → Done → View → Type 0
+IsPlaceOfPut p line key val done w = IsRaisedSince p (update_of p.number line key (Put val)) done.at w
+
+-- the place that a removal answers: that of its own raise, or the number that was found in the stamp at a step of the
+-- call
+abbrev pub IsPlaceOfRemoval : Pass → ℕ → ℕ → Done → View → Type 0
+IsPlaceOfRemoval p line key done w =
+    MatchBool done.was (IsRaisedSince p (update_of p.number line key Remove) done.at w) (IsFoundSince p done.at w)
 
 -- calls are left, but not the slots that an update may take: one node and four entries, free or not
 abbrev pub IsOutOfSlots : View → Type 0

@@ -1,10 +1,11 @@
 -- What a try to settle does with the slots of a pass that wait to become free.
-use Rattle.std.specs.Prelude.{◌≡◌, ◌≢◌, ℕ, ◌+◌, ◌<◌, length, true, false, Some}
+use Rattle.std.specs.Prelude.{◌≡◌, ◌≢◌, ℕ, ◌+◌, ◌<◌, ◌≤◌, List, length, true, false}
 use Rattle.index_words.specs.declared.view.View.{View}
+use Rattle.index_words.specs.declared.view.slots.SectionFound.{SectionFound}
 use Rattle.index_words.specs.declared.view.slots.Slots.{Slots}
 use Rattle.index_words.specs.Views.{no_slots, no_looks}
 use Rattle.key_map.specs.Lists.{has}
-use Rattle.core_grace.specs.Batches.{batch_taken, batch_freed, both, first_found, is_empty, is_number, looked_at}
+use Rattle.core_grace.specs.Batches.{batch_taken, batch_freed, both, is_empty, is_number, looked_at, times_found}
 use Rattle.core_grace.specs.Sections.{is_even}
 use Rattle.table_rule.specs.Running.{Happened}
 use Rattle.table_steps.specs.Gives.{looking}
@@ -75,6 +76,14 @@ IsTaking v w = batch_taken w ≡ record (batch_taken v) { grace = (batch_taken w
 abbrev pub KeepsPassed : View → View → Type 0
 KeepsPassed v w = (n : ℕ) → has n (batch_taken v).grace.passed ≡ true → has n (batch_taken w).grace.passed ≡ true
 
+-- the words that were found since the batch was taken
+abbrev pub found_of : View → List SectionFound
+found_of v = (batch_taken v).grace.found
+
+-- each word was found as often as before, or more often
+abbrev pub KeepsFound : View → View → Type 0
+KeepsFound v w = (n word : ℕ) → times_found n word (found_of v) ≤ times_found n word (found_of w)
+
 -- the pass is the own one, or was passed
 abbrev pub IsDoneWith : ℕ → View → Type 0
 IsDoneWith other v = is_number other v.number ≡ false → has other (batch_taken v).grace.passed ≡ true
@@ -83,22 +92,26 @@ IsDoneWith other v = is_number other v.number ≡ false → has other (batch_tak
 pub record HasPassed (v : View) (other : ℕ) (w : View) : Type 0 where
   pub taking : IsTaking v w
   pub keeps : KeepsPassed v w
+  pub found : KeepsFound v w
   pub done : IsDoneWith other w
 
--- a look found this word as another pass's section word, when a look had found it before, since the batch was taken
-pub record FoundAgain (p : Pass) (seat word : ℕ) (w : View) : Type 0 where
+-- this word was found as another pass's section word by two looks at least since the batch was taken, the last of them
+-- in this call, with which it ends
+pub record FoundTwice (p : Pass) (seat word : ℕ) (w : View) : Type 0 where
   pub before : View
   pub batch : HasBatch p.view before
-  pub first : first_found seat before.grace.found ≡ Some word
   pub event : Happened p.view.layout (looking p seat) before word w
+  pub twice : 2 ≤ times_found seat word w.grace.found
+  pub now : times_found seat word (found_of p.view) < times_found seat word w.grace.found
 
--- another pass holds the batch: it is in the section in which it was found at two steps since the batch was taken
+-- another pass holds the batch: it was found in one section by two looks since the batch was taken, the later one in
+-- this call
 pub record IsHeld (p : Pass) (seat word : ℕ) (w : View) : Type 0 where
   pub there : seat < p.view.layout.passes
   pub other : seat ≢ p.number
   pub odd : is_even word ≡ false
   pub batch : HasBatch p.view w
-  pub again : FoundAgain p seat word w
+  pub twice : FoundTwice p seat word w
 
 -- what a try to settle comes to
 abbrev pub HasTried : Pass → Settling → View → Type 0

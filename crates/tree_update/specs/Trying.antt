@@ -1,16 +1,19 @@
 -- What one try of an update comes to.
-use Rattle.std.specs.Prelude.{◌≡◌, ◌<◌}
+use Rattle.std.specs.Prelude.{◌≡◌, ℕ, ◌<◌, ◌≤◌, false, length}
 use Rattle.index_words.specs.declared.view.View.{View}
 use Rattle.key_map.specs.declared.pass.Done.{Done}
 use Rattle.key_map.specs.declared.update.Change.{Change}
 use Rattle.key_map.specs.declared.update.Change.TheVariants.{Remove}
+use Rattle.key_map.specs.History.{after}
+use Rattle.key_map.specs.Map.{map_has}
 use Rattle.core_updates.specs.declared.plan.PlanSlots.{PlanSlots}
 use Rattle.core_updates.specs.PlanEvents.{HasSlots}
 use Rattle.plan_laws.specs.Fills.{AreApart}
 use Rattle.tree_update.specs.declared.trying.Missed.{Missed}
-use Rattle.tree_update.specs.declared.trying.Missed.TheVariants.{Absent, Failed}
+use Rattle.tree_update.specs.declared.trying.Missed.TheVariants.{Absent, There, Failed}
 use Rattle.tree_update.specs.declared.trying.Try.{Try}
 use Rattle.tree_update.specs.declared.trying.Try.TheVariants.{Done as Made, Busy, Moved, Pending}
+use Rattle.table_steps.specs.Passes.{IsAlone}
 use Rattle.update_try.specs.FreeSlots.{LacksFreeSlots}
 use Rattle.update_try.specs.Outcomes.{IsCounted}
 
@@ -24,10 +27,19 @@ pub record OffersSlots (v : View) (slots : PlanSlots) : Type 0 where
   pub apart : AreApart slots
   pub node : 0 < slots.node
 
--- why a try of this change was not made: the search has not found the key of a removal, or the count of the failure has risen
-abbrev pub IsMissed : Change → View → View → Missed → Type 0
-IsMissed change v w Absent = change ≡ Remove
-IsMissed change v w (Failed failed) = IsCounted failed v w
+-- the key was not in the map after so many updates: all that the pass had seen when it began to read
+pub record WasAbsent (v w : View) (key : ℕ) : Type 0 where
+  pub at : ℕ
+  pub above : length v.history.seen ≤ at
+  pub within : at ≤ length w.history.seen
+  pub absent : map_has key (after w.history.seen at) ≡ false
+
+-- why a try of this change was not made: the key of a removal was not there; or the count of the failure has risen, for
+-- what another pass did. A key that is there stops none of these tries.
+abbrev pub IsMissed : ℕ → Change → View → View → Missed → Type 0
+IsMissed key change v w Absent = (change ≡ Remove) × WasAbsent v w key
+IsMissed key change v w There = ⊥
+IsMissed key change v w (Failed failed) = IsCounted failed v w × ¬ IsAlone w
 
 -- what holds where a try has made its update, by its answer
 abbrev pub IfDone : Try → (Done → Type 0) → Type 0
@@ -61,3 +73,7 @@ UnlessDone (Made done) fact = Unit {0}
 UnlessDone Busy fact = fact
 UnlessDone Moved fact = fact
 UnlessDone Pending fact = fact
+
+-- the put was made
+abbrev pub IsMade : Try → Type 0
+IsMade tried = UnlessDone tried ⊥

@@ -1,18 +1,19 @@
-//! The calls that update the map: a put and a removal.
+//! The calls that update the map: a put, a put that is made only where the key is not there, and a removal.
 //!
 //! Each tries until a try comes through. It waits between the tries alone: outside of the section, with no lock held and
 //! nothing pending, so that no other pass waits for it meanwhile.
 ghost use Rattle.std.specs.Prelude.{◌≡◌, ◌↔◌, ◌<◌, ◌≤◌, None, is_some, IfOk, IfSome, IsErrOf, OnErr};
 ghost use Rattle.key_map.specs.Map.{value_at};
 ghost use Rattle.table_steps.specs.Passes.{AtRest, IsSamePass};
-ghost use Rattle.tree_update.specs.Calls.{StaysOn, GoesOn, MakesPut, FindsAbsent, AnswersRemoval, IsRefusal, IsOutOfSlots};
+ghost use Rattle.table_steps.specs.Stamps.{IsFoundSince};
+ghost use Rattle.tree_update.specs.Calls.{StaysOn, GoesOn, MakesPut, LooksFor, AnswersPutNew, AnswersRemoval, IsPlaceOfPut, IsPlaceOfRemoval, IsRefusal, IsOutOfSlots};
 ghost use Rattle.tree_update.specs.Trying.{OffersSlots};
 
 use crate::settle::try_settle;
-use crate::trying::{Missed, try_update};
+use crate::trying::{Missed, try_insert, try_update};
 use core_updates::PlanSlots;
 use index_words::{Change, Pair};
-use key_map::{Done, PassError};
+use key_map::{Done, New, PassError};
 use snapshot_read::{begin, end, next_from};
 use std::hint::spin_loop;
 use std::sync::Wait;
@@ -77,21 +78,21 @@ fn wait_for_slots<R: Wait>(pass: &mut TablePass<'_>, rt: &R) -> PlanSlots
     unreachable!()
 }
 
-/// Looks for a key in a snapshot of its own. Where it is not there, this answers the snapshot's place.
-fn look_absent<R: Wait>(pass: &mut TablePass<'_>, rt: &R, key: u64) -> Option<u64>
+/// Looks for a key in a snapshot of its own: the snapshot's place, and whether the key was there.
+fn look_for<R: Wait>(pass: &mut TablePass<'_>, rt: &R, key: u64) -> Done
     requires rest { AtRest pass.old.view }
     ensures same { IsSamePass pass.old pass.new }
     ensures rest { AtRest pass.new.view }
-    ensures goes { GoesOn pass.old.view pass.new.view }
-    ensures absent { IfSome result (FindsAbsent pass.old.view pass.new.view key) }
+    ensures found { IsFoundSince pass.old result.at pass.new.view }
+    ensures looked { LooksFor pass.old.view pass.new.view key result.was result.at }
 {
     let at = begin(pass);
     let first = next_from(pass, rt, key);
     end(pass);
-    if is_of_key(first, key) {
-        return None;
+    Done {
+        at,
+        was: is_of_key(first, key),
     }
-    Some(at)
 }
 
 /// One try of a removal. Where its search has not found the key, a snapshot tells whether it is there.
@@ -108,15 +109,53 @@ fn try_removal<R: Wait>(
     ensures same { IsSamePass pass.old pass.new }
     ensures rest { AtRest pass.new.view }
     ensures answered { IfSome result (AnswersRemoval pass.old.view pass.new.view pass.old.number line key) }
+    ensures place { IfSome result (λ done. IsPlaceOfRemoval pass.old line key done pass.new.view) }
     ensures goes { result ≡ None → GoesOn pass.old.view pass.new.view }
 {
     match try_update(pass, line, key, Change::Remove, slots) {
         Ok(done) => Some(done),
-        Err(Missed::Absent) => match look_absent(pass, rt, key) {
-            Some(at) => Some(Done { at, was: false }),
-            None => None,
-        },
-        Err(Missed::Failed(_)) => None,
+        Err(Missed::Absent) => {
+            let found = look_for(pass, rt, key);
+            if found.was {
+                return None;
+            }
+            Some(Done {
+                at: found.at,
+                was: false,
+            })
+        }
+        Err(Missed::There | Missed::Failed(_)) => None,
+    }
+}
+
+/// One try of a put that is made only where the key is not there. Where its search has found the key, a snapshot tells
+/// whether it is there.
+fn try_new<R: Wait>(
+    pass: &mut TablePass<'_>,
+    rt: &R,
+    line: u32,
+    key: u64,
+    val: u64,
+    slots: &PlanSlots,
+) -> Option<New>
+    requires rest { AtRest pass.old.view }
+    requires left { 0 < pass.old.view.history.left }
+    requires slots { OffersSlots pass.old.view slots.now }
+    ensures same { IsSamePass pass.old pass.new }
+    ensures rest { AtRest pass.new.view }
+    ensures answered { IfSome result (AnswersPutNew pass.old.view pass.new.view pass.old.number line key val) }
+    ensures goes { result ≡ None → GoesOn pass.old.view pass.new.view }
+{
+    match try_insert(pass, line, key, val, slots) {
+        Ok(at) => Some(New::Made { at }),
+        Err(Missed::There) => {
+            let found = look_for(pass, rt, key);
+            if found.was {
+                return Some(New::Kept { at: found.at });
+            }
+            None
+        }
+        Err(Missed::Absent | Missed::Failed(_)) => None,
     }
 }
 
@@ -127,11 +166,31 @@ fn make_put<R: Wait>(pass: &mut TablePass<'_>, rt: &R, line: u32, key: u64, val:
     ensures same { IsSamePass pass.old pass.new }
     ensures rest { AtRest pass.new.view }
     ensures made { MakesPut pass.old.view pass.new.view pass.old.number line key val result }
+    ensures place { IsPlaceOfPut pass.old line key val result pass.new.view }
 {
     'tries: for _ in rt.forever() {
         let slots = wait_for_slots(pass, rt);
         if let Ok(done) = try_update(pass, line, key, Change::Put(val), &slots) {
             return done;
+        }
+        pause();
+    }
+    unreachable!()
+}
+
+/// Tries a put that is made only where the key is not there until it is made, or until a snapshot shows that the key is
+/// there.
+fn make_new<R: Wait>(pass: &mut TablePass<'_>, rt: &R, line: u32, key: u64, val: u64) -> New
+    requires rest { AtRest pass.old.view }
+    requires left { 0 < pass.old.view.history.left }
+    ensures same { IsSamePass pass.old pass.new }
+    ensures rest { AtRest pass.new.view }
+    ensures answered { AnswersPutNew pass.old.view pass.new.view pass.old.number line key val result }
+{
+    'tries: for _ in rt.forever() {
+        let slots = wait_for_slots(pass, rt);
+        if let Some(answer) = try_new(pass, rt, line, key, val, &slots) {
+            return answer;
         }
         pause();
     }
@@ -145,6 +204,7 @@ fn make_removal<R: Wait>(pass: &mut TablePass<'_>, rt: &R, line: u32, key: u64) 
     ensures same { IsSamePass pass.old pass.new }
     ensures rest { AtRest pass.new.view }
     ensures answered { AnswersRemoval pass.old.view pass.new.view pass.old.number line key result }
+    ensures place { IsPlaceOfRemoval pass.old line key result pass.new.view }
 {
     'tries: for _ in rt.forever() {
         let slots = wait_for_slots(pass, rt);
@@ -169,6 +229,7 @@ pub fn put<R: Wait>(
     ensures same { IsSamePass pass.old pass.new }
     ensures rest { AtRest pass.new.view }
     ensures made { IfOk result (MakesPut pass.old.view pass.new.view pass.old.number line key val) }
+    ensures place { IfOk result (λ done. IsPlaceOfPut pass.old line key val done pass.new.view) }
     ensures spent { IsErrOf result PassError.Spent ↔ (pass.old.view.history.left ≡ 0) }
     ensures no_slot { IsErrOf result PassError.NoSlot ↔ IsOutOfSlots pass.old.view }
     ensures unchanged { OnErr result (pass.new ≡ pass.old) }
@@ -176,6 +237,29 @@ pub fn put<R: Wait>(
     match refusal(pass) {
         Some(error) => Err(error),
         None => Ok(make_put(pass, rt, line, key, val)),
+    }
+}
+
+/// Puts the key with this value where it is not there, for the request line `line`. Where it is there, no update is
+/// made: the answer is that of a snapshot. The conditions on calls and slots are the same then.
+pub fn put_new<R: Wait>(
+    pass: &mut TablePass<'_>,
+    rt: &R,
+    line: u32,
+    key: u64,
+    val: u64,
+) -> Result<New, PassError>
+    requires rest { AtRest pass.old.view }
+    ensures same { IsSamePass pass.old pass.new }
+    ensures rest { AtRest pass.new.view }
+    ensures answered { IfOk result (AnswersPutNew pass.old.view pass.new.view pass.old.number line key val) }
+    ensures spent { IsErrOf result PassError.Spent ↔ (pass.old.view.history.left ≡ 0) }
+    ensures no_slot { IsErrOf result PassError.NoSlot ↔ IsOutOfSlots pass.old.view }
+    ensures unchanged { OnErr result (pass.new ≡ pass.old) }
+{
+    match refusal(pass) {
+        Some(error) => Err(error),
+        None => Ok(make_new(pass, rt, line, key, val)),
     }
 }
 
@@ -191,6 +275,7 @@ pub fn remove<R: Wait>(
     ensures same { IsSamePass pass.old pass.new }
     ensures rest { AtRest pass.new.view }
     ensures answered { IfOk result (AnswersRemoval pass.old.view pass.new.view pass.old.number line key) }
+    ensures place { IfOk result (λ done. IsPlaceOfRemoval pass.old line key done pass.new.view) }
     ensures spent { IsErrOf result PassError.Spent ↔ (pass.old.view.history.left ≡ 0) }
     ensures no_slot { IsErrOf result PassError.NoSlot ↔ IsOutOfSlots pass.old.view }
     ensures unchanged { OnErr result (pass.new ≡ pass.old) }

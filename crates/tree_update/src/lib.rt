@@ -1,11 +1,11 @@
-//! Updates on the running table: the calls that put and remove, one try of a put, and how slots become free. A try is a
-//! search, which finds the plan of an update, and then carries the plan out.
+//! Updates on the running table: the calls that put, put a new key and remove, one try of a put, and how slots become
+//! free. A try is a search, which finds the plan of an update, and then carries the plan out.
 #![tactic(auto)]
 
 mod calls;
 mod settle;
 mod trying;
 
-pub use calls::{put, remove};
+pub use calls::{put, put_new, remove};
 pub use settle::{Settling, try_settle};
 pub use trying::{Try, try_put};

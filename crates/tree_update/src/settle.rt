@@ -12,7 +12,7 @@ use table_steps::TablePass;
 pub enum Settling {
     /// Every slot of the batch is free, or nothing was retired.
     Settled,
-    /// The batch waits for this pass: its section word was found to be this odd word at two steps since the batch was
+    /// The batch waits for this pass: its section word was found to be this odd word by two looks since the batch was
     /// taken.
     Held { seat: u32, word: u64 },
 }

@@ -1,12 +1,15 @@
 //! One try of an update: a search, and the try of the plan that it has found, in one section. It never waits.
-ghost use Rattle.std.specs.Prelude.{◌≡◌, ◌↔◌, ◌<◌, None, IfOk, IfErr, IsErrOf, OnErr};
+ghost use Rattle.std.specs.Prelude.{◌≡◌, ◌↔◌, ◌<◌, Some, None, IfOk, IfErr, IsErrOf, OnErr};
 ghost use Rattle.core_updates.specs.Plans.{key_of, change_of};
+ghost use Rattle.core_updates.specs.Ready.{update_of};
 ghost use Rattle.plan_laws.specs.Answers.{was_there as had_key};
+ghost use Rattle.plan_laws.specs.Raises.{update_by};
 ghost use Rattle.plan_laws.specs.Tries.{IsSearched};
-ghost use Rattle.table_steps.specs.Passes.{AtRest, IsSamePass};
-ghost use Rattle.tree_update.specs.Calls.{StaysOn, HasMade, MakesPut};
+ghost use Rattle.table_steps.specs.Passes.{AtRest, IsAlone, IsSamePass};
+ghost use Rattle.table_steps.specs.Raises.{IsRaisedSince};
+ghost use Rattle.tree_update.specs.Calls.{StaysOn, HasMade, MakesPut, IsPlaceOfPut, Inserts};
 ghost use Rattle.update_try.specs.Outcomes.{HasRisen, IsCounted};
-ghost use Rattle.tree_update.specs.Trying.{IsMissed, IsOutOfFreeSlots, OffersSlots, IfDone, IfBusy, IfMoved, IfPending, UnlessDone};
+ghost use Rattle.tree_update.specs.Trying.{IsMissed, IsOutOfFreeSlots, OffersSlots, IfDone, IfBusy, IfMoved, IfPending, UnlessDone, IsMade};
 ghost use Rattle.bundle_reads.specs.Links.{InsideAt};
 
 use core_updates::{Plan, PlanSlots};
@@ -19,9 +22,11 @@ use update_try::{Failed, carry_out, plan_slots};
 /// Why one try of an update was not made. It has changed nothing.
 #[derive(Clone, Copy, Debug, PartialEq, Eq)]
 pub(crate) enum Missed {
-    /// The search has not found the key of a removal.
+    /// The search has not found the key of a removal: at the number at which it read it was not there.
     Absent,
-    /// The count of this failure has risen. A later try may come through.
+    /// The search has found the key of a put that is made only where the key is not there.
+    There,
+    /// The count of this failure has risen, for what another pass did. A later try may come through.
     Failed(Failed),
 }
 
@@ -66,9 +71,10 @@ fn give_up(pass: &mut TablePass<'_>, at: u64)
     pass.close_section();
 }
 
-/// Carries out a plan that a search has found, with these slots.
+/// Carries out a plan that a search has found at the number `at`, with these slots.
 fn carry_found(
     pass: &mut TablePass<'_>,
+    at: u64,
     line: u32,
     planned: &Planned,
     slots: &PlanSlots,
@@ -76,15 +82,19 @@ fn carry_found(
     requires searched { IsSearched pass.old.view pass.old.number planned.now.plan planned.now.entries }
     requires slots { OffersSlots pass.old.view slots.now }
     requires left { 0 < pass.old.view.history.left }
+    requires reads { pass.old.view.reading.section ≡ Some at }
     ensures same { IsSamePass pass.old pass.new }
     ensures rest { AtRest pass.new.view }
     ensures made { IfOk result (HasMade pass.old.view pass.new.view pass.old.number line (key_of planned.now.plan) (change_of planned.now.plan)) }
+    ensures raise { IfOk result (λ done. IsRaisedSince pass.old (update_by pass.old.number line planned.now.plan) done.at pass.new.view) }
+    ensures was { IfOk result (λ done. done.was ≡ had_key planned.now.plan) }
     ensures stays { IfErr result (λ failed. StaysOn pass.old.view pass.new.view) }
     ensures counted { IfErr result (λ failed. IsCounted failed pass.old.view pass.new.view) }
+    ensures alone { IfErr result (λ failed. ¬ IsAlone pass.new.view) }
 {
-    match carry_out(pass, line, &planned.plan, slots, &planned.entries) {
-        Ok(at) => Ok(Done {
-            at,
+    match carry_out(pass, at, line, &planned.plan, slots, &planned.entries) {
+        Ok(place) => Ok(Done {
+            at: place,
             was: was_there(&planned.plan),
         }),
         Err(failed) => Err(failed),
@@ -106,14 +116,15 @@ pub(crate) fn try_update(
     ensures same { IsSamePass pass.old pass.new }
     ensures rest { AtRest pass.new.view }
     ensures made { IfOk result (HasMade pass.old.view pass.new.view pass.old.number line key change) }
-    ensures missed { IfErr result (IsMissed change pass.old.view pass.new.view) }
+    ensures raise { IfOk result (λ done. IsRaisedSince pass.old (update_of pass.old.number line key change) done.at pass.new.view) }
+    ensures missed { IfErr result (IsMissed key change pass.old.view pass.new.view) }
     ensures stays { IfErr result (λ missed. StaysOn pass.old.view pass.new.view) }
 {
     let at = begin_search(pass);
     pass.facts();
     pass.number_fact();
     match find_plan(pass, at, key, change) {
-        Found::Plan(planned) => match carry_found(pass, line, &planned, slots) {
+        Found::Plan(planned) => match carry_found(pass, at, line, &planned, slots) {
             Ok(done) => Ok(done),
             Err(failed) => Err(Missed::Failed(failed)),
         },
@@ -128,6 +139,40 @@ pub(crate) fn try_update(
     }
 }
 
+/// One try of a put that is made only where the key is not there, in a section of its own, with these slots. It answers
+/// the place of its update.
+pub(crate) fn try_insert(
+    pass: &mut TablePass<'_>,
+    line: u32,
+    key: u64,
+    val: u64,
+    slots: &PlanSlots,
+) -> Result<u64, Missed>
+    requires rest { AtRest pass.old.view }
+    requires left { 0 < pass.old.view.history.left }
+    requires slots { OffersSlots pass.old.view slots.now }
+    ensures same { IsSamePass pass.old pass.new }
+    ensures rest { AtRest pass.new.view }
+    ensures made { IfOk result (Inserts pass.old.view pass.new.view pass.old.number line key val) }
+    ensures stays { IfErr result (λ missed. StaysOn pass.old.view pass.new.view) }
+{
+    let at = begin_search(pass);
+    pass.facts();
+    pass.number_fact();
+    let Found::Plan(planned) = find_plan(pass, at, key, Change::Put(val)) else {
+        give_up(pass, at);
+        return Err(Missed::Failed(Failed::Pending));
+    };
+    if was_there(&planned.plan) {
+        give_up(pass, at);
+        return Err(Missed::There);
+    }
+    match carry_found(pass, at, line, &planned, slots) {
+        Ok(done) => Ok(done.at),
+        Err(failed) => Err(Missed::Failed(failed)),
+    }
+}
+
 /// One try of a put with these slots.
 fn try_with(pass: &mut TablePass<'_>, line: u32, key: u64, val: u64, slots: &PlanSlots) -> Try
     requires rest { AtRest pass.old.view }
@@ -136,9 +181,11 @@ fn try_with(pass: &mut TablePass<'_>, line: u32, key: u64, val: u64, slots: &Pla
     ensures same { IsSamePass pass.old pass.new }
     ensures rest { AtRest pass.new.view }
     ensures made { IfDone result (MakesPut pass.old.view pass.new.view pass.old.number line key val) }
+    ensures place { IfDone result (λ done. IsPlaceOfPut pass.old line key val done pass.new.view) }
     ensures busy { IfBusy result (HasRisen pass.old.view.counts.busy pass.new.view.counts.busy) }
     ensures moved { IfMoved result (HasRisen pass.old.view.counts.moves pass.new.view.counts.moves) }
     ensures pending { IfPending result (HasRisen pass.old.view.counts.waits pass.new.view.counts.waits) }
+    ensures alone { UnlessDone result (¬ IsAlone pass.new.view) }
     ensures kept { UnlessDone result (StaysOn pass.old.view pass.new.view) }
 {
     match try_update(pass, line, key, Change::Put(val), slots) {
@@ -146,12 +193,13 @@ fn try_with(pass: &mut TablePass<'_>, line: u32, key: u64, val: u64, slots: &Pla
         Err(Missed::Failed(Failed::Busy)) => Try::Busy,
         Err(Missed::Failed(Failed::Moved)) => Try::Moved,
         Err(Missed::Failed(Failed::Pending)) => Try::Pending,
-        Err(Missed::Absent) => unreachable!(),
+        Err(Missed::Absent | Missed::There) => unreachable!(),
     }
 }
 
 /// Tries once to put the key with this value, for the request line `line`. It takes no memory and never waits: where it
-/// meets what another pass is doing, it gives all back and tells what it has met, and the count of this has risen.
+/// meets what another pass is doing, it gives all back and tells what it has met, and the count of this has risen. A
+/// pass that is alone on its table meets nothing: its try is made, or refused by an error.
 ///
 /// # Errors
 /// `Spent` where no call is left. `NoSlot` where calls are left, but no node or fewer than four entries are free; a try
@@ -161,9 +209,11 @@ pub fn try_put(pass: &mut TablePass<'_>, line: u32, key: u64, val: u64) -> Resul
     ensures same { IsSamePass pass.old pass.new }
     ensures rest { AtRest pass.new.view }
     ensures made { IfOk result (λ tried. IfDone tried (MakesPut pass.old.view pass.new.view pass.old.number line key val)) }
+    ensures place { IfOk result (λ tried. IfDone tried (λ done. IsPlaceOfPut pass.old line key val done pass.new.view)) }
     ensures busy { IfOk result (λ tried. IfBusy tried (HasRisen pass.old.view.counts.busy pass.new.view.counts.busy)) }
     ensures moved { IfOk result (λ tried. IfMoved tried (HasRisen pass.old.view.counts.moves pass.new.view.counts.moves)) }
     ensures pending { IfOk result (λ tried. IfPending tried (HasRisen pass.old.view.counts.waits pass.new.view.counts.waits)) }
+    ensures alone { IsAlone pass.old.view → IfOk result IsMade }
     ensures kept { IfOk result (λ tried. UnlessDone tried (StaysOn pass.old.view pass.new.view)) }
     ensures spent { IsErrOf result PassError.Spent ↔ (pass.old.view.history.left ≡ 0) }
     ensures no_slot { IsErrOf result PassError.NoSlot ↔ IsOutOfFreeSlots pass.old.view }

@@ -33,6 +33,7 @@ opened_fresh p n w opened inside =
     record {
       reads = record { section = ap (λ (u : View). u.reading.section) opened.reads.view; inside = inside };
       whole = omega (arith, opened.seen.whole);
+      least = ap (λ (u : View). u.reading.least) opened.reads.view;
       none =
           subst HasNoneRetired (sym (happened_view z (loading_stamp p 0) v w n Stamp refl refl tt h))
           (none_retired (table z h.words h.views) p.seat v false h.rule (item_at h.views p.seat v h.seat) (omega arith));
@@ -43,6 +44,7 @@ pub fresh_on : (v w : View) (t : ℕ) → HasRead v w → IsFresh v t → IsFres
 fresh_on v w t read fresh = record {
   reads = inside_on v w t read fresh.reads;
   whole = subst (λ (u : View). length u.history.seen ≤ t) (sym read.view) fresh.whole;
+  least = ap (λ (u : View). u.reading.least) read.view ∙ fresh.least;
   none = subst HasNoneRetired (sym read.view) fresh.none;
 }
 
@@ -60,7 +62,7 @@ planned_ready v w t n key change p read fresh own live is =
       read = known.is.nodes_are;
       planned = (is.plan known.tree (tree_before v w known.tree read known.is)).tree_is;
     }
-    now.reads.section now.whole now.reads.inside.unlocked now.none is.looks
+    now.reads.section now.least now.whole now.reads.inside.unlocked now.none is.looks
 
 pub found_ready : (v w : View) (t n key : ℕ) (change : Change) (found : Found) → HasSearched v w → IsLiveView w → IsFound v w key change found → IsFresh v t → v.number ≡ Some n → IsReadyToTry w n found
 found_ready v w t n key change (Plan p) more live is fresh own = planned_ready v w t n key change p more.read fresh own live is

@@ -23,6 +23,12 @@ waits_found Pending n = risen n
 waits_found Absent n = n
 waits_found (Plan planned) n = n
 
+-- what holds where such an entry was met
+abbrev pub IfPending : Found → Type 0 → Type 0
+IfPending Pending fact = fact
+IfPending Absent fact = Unit {0}
+IfPending (Plan planned) fact = Unit {0}
+
 -- where a plan was found, the pass with this number can try it: it is at the begin of a try
 abbrev pub IsReadyToTry : View → ℕ → Found → Type 0
 IsReadyToTry w n (Plan planned) = IsSearched w n planned.plan planned.entries

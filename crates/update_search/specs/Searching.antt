@@ -1,5 +1,5 @@
 -- A pass that searches: at which number, and which tree it reads.
-use Rattle.std.specs.Prelude.{◌≡◌, ℕ, ◌<◌, ◌≤◌, length}
+use Rattle.std.specs.Prelude.{◌≡◌, ℕ, ◌<◌, ◌≤◌, length, Some}
 use Rattle.key_map.specs.Lists.{count, IsItem}
 use Rattle.index_words.specs.declared.view.View.{View}
 use Rattle.index_words.specs.declared.view.reading.TreeNode.{TreeNode}
@@ -10,10 +10,12 @@ use Rattle.core_events.specs.Versions.{tree_nodes}
 use Rattle.plan_laws.specs.Searches.{HasNoneRetired}
 use Rattle.bundle_reads.specs.Links.{InsideAt}
 
--- the pass reads at the number of all updates that it has seen, and it has taken out none of the nodes that it reads
+-- the pass reads at the number of all updates that it has seen, which is its least number too, and it has taken out
+-- none of the nodes that it reads
 pub record IsFresh (v : View) (t : ℕ) : Type 0 where
   pub reads : InsideAt v t
   pub whole : length v.history.seen ≤ t
+  pub least : v.reading.least ≡ Some t
   pub none : HasNoneRetired v
 
 -- the tree that it reads: a search tree that names each of its nodes once, of which the view has the nodes

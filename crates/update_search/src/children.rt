@@ -1,6 +1,6 @@
 //! The two children of a node of the tree that a pass reads.
-ghost use Rattle.std.specs.Prelude.{◌≡◌, IfSome};
-ghost use Rattle.table_steps.specs.Passes.{IsSamePass};
+ghost use Rattle.std.specs.Prelude.{◌≡◌, IfSome, IfNone};
+ghost use Rattle.table_steps.specs.Passes.{IsAlone, IsSamePass};
 ghost use Rattle.bundle_reads.specs.Links.{InsideAt, HasSearched};
 ghost use Rattle.bundle_reads.specs.Children.{waits_after};
 ghost use Rattle.update_search.specs.Searching.{IsInTree};
@@ -26,6 +26,7 @@ pub(crate) fn children_of(pass: &mut TablePass<'_>, at: u64, node: u32) -> Optio
     ensures searched { HasSearched pass.old.view pass.new.view }
     ensures seen { IfSome result (AreChildren pass.old.view pass.new.view node) }
     ensures waits { pass.new.view.counts.waits ≡ waits_after result pass.old.view.counts.waits }
+    ensures alone { IfNone result (¬ IsAlone pass.new.view) }
 {
     let left = child_at(
         pass,

@@ -1,6 +1,6 @@
 //! The search for a key, down the tree that a pass reads.
-ghost use Rattle.std.specs.Prelude.{◌≡◌, ◌<◌, IfSome, MatchOption};
-ghost use Rattle.table_steps.specs.Passes.{IsSamePass};
+ghost use Rattle.std.specs.Prelude.{◌≡◌, ◌<◌, IfSome, IfNone, MatchOption};
+ghost use Rattle.table_steps.specs.Passes.{IsAlone, IsSamePass};
 ghost use Rattle.bundle_reads.specs.Links.{InsideAt, LeadsThere, HasSearched};
 ghost use Rattle.bundle_reads.specs.Children.{waits_after};
 ghost use Rattle.update_search.specs.Searching.{IsInTree, IsKeyThere, IsValThere};
@@ -95,6 +95,7 @@ pub(crate) fn find_end(pass: &mut TablePass<'_>, at: u64, key: u64) -> Option<En
     ensures searched { HasSearched pass.old.view pass.new.view }
     ensures end { IfSome result (IsEnd pass.old.view pass.new.view key) }
     ensures waits { pass.new.view.counts.waits ≡ waits_after result pass.old.view.counts.waits }
+    ensures alone { IfNone result (¬ IsAlone pass.new.view) }
 {
     pass.facts();
     let mut search = Search {

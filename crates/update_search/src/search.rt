@@ -1,13 +1,13 @@
 //! The search for the plan of an update.
-ghost use Rattle.std.specs.Prelude.{◌≡◌, IfSome, Some};
+ghost use Rattle.std.specs.Prelude.{◌≡◌, IfSome, IfNone, Some};
 ghost use Rattle.key_map.specs.declared.update.Change.TheVariants.{Remove};
-ghost use Rattle.table_steps.specs.Passes.{IsSamePass};
+ghost use Rattle.table_steps.specs.Passes.{IsAlone, IsSamePass};
 ghost use Rattle.bundle_reads.specs.Links.{InsideAt, HasSearched};
 ghost use Rattle.bundle_reads.specs.Children.{waits_after};
 ghost use Rattle.update_search.specs.Searching.{IsFresh};
 ghost use Rattle.update_search.specs.Children.{AreChildren};
 ghost use Rattle.update_search.specs.Descents.{EndsFound};
-ghost use Rattle.update_search.specs.Found.{IsFound, IsReadyToTry, waits_found};
+ghost use Rattle.update_search.specs.Found.{IsFound, IsReadyToTry, IfPending, waits_found};
 ghost use Rattle.update_search.specs.Planned.{IsPlanned};
 
 use crate::children::{Children, children_of};
@@ -46,6 +46,7 @@ fn plan_removal(
     ensures searched { HasSearched pass.old.view pass.new.view }
     ensures planned { IfSome result (IsPlanned pass.old.view pass.new.view key Remove) }
     ensures waits { pass.new.view.counts.waits ≡ waits_after result pass.old.view.counts.waits }
+    ensures alone { IfNone result (¬ IsAlone pass.new.view) }
 {
     if children.left.child == 0 {
         return Some(lift_right(key, link, seen, children));
@@ -72,6 +73,7 @@ fn plan_found(
     ensures searched { HasSearched pass.old.view pass.new.view }
     ensures planned { IfSome result (IsPlanned pass.old.view pass.new.view key change) }
     ensures waits { pass.new.view.counts.waits ≡ waits_after result pass.old.view.counts.waits }
+    ensures alone { IfNone result (¬ IsAlone pass.new.view) }
 {
     pass.facts();
     let children = children_of(pass, at, seen.child)?;
@@ -88,6 +90,7 @@ fn search_plan(pass: &mut TablePass<'_>, at: u64, key: u64, change: Change) -> F
     ensures searched { HasSearched pass.old.view pass.new.view }
     ensures found { IsFound pass.old.view pass.new.view key change result }
     ensures waits { pass.new.view.counts.waits ≡ waits_found result pass.old.view.counts.waits }
+    ensures alone { IfPending result (¬ IsAlone pass.new.view) }
 {
     let Some(end) = find_end(pass, at, key) else {
         return Found::Pending;
@@ -114,6 +117,7 @@ pub fn find_plan(pass: &mut TablePass<'_>, at: u64, key: u64, change: Change) ->
     ensures found { IsFound pass.old.view pass.new.view key change result }
     ensures ready { IsFresh pass.old.view at → pass.old.view.number ≡ Some pass.old.number → IsReadyToTry pass.new.view pass.old.number result }
     ensures waits { pass.new.view.counts.waits ≡ waits_found result pass.old.view.counts.waits }
+    ensures alone { IfPending result (¬ IsAlone pass.new.view) }
 {
     let found = search_plan(pass, at, key, change);
     pass.facts();

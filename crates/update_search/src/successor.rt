@@ -1,6 +1,6 @@
 //! The walk from a node to its successor: once to the right, and then to the left.
-ghost use Rattle.std.specs.Prelude.{◌≡◌, ◌<◌, IfSome};
-ghost use Rattle.table_steps.specs.Passes.{IsSamePass};
+ghost use Rattle.std.specs.Prelude.{◌≡◌, ◌<◌, IfSome, IfNone};
+ghost use Rattle.table_steps.specs.Passes.{IsAlone, IsSamePass};
 ghost use Rattle.index_words.specs.declared.side.Side.TheVariants.{Left, Right};
 ghost use Rattle.core_updates.specs.Plans.{link_of};
 ghost use Rattle.bundle_reads.specs.Links.{InsideAt, LeadsThere, HasSearched};
@@ -97,6 +97,7 @@ fn end_walk(
     ensures searched { HasSearched pass.old.view pass.new.view }
     ensures next { IfSome result (IsNext pass.old.view pass.new.view node) }
     ensures waits { pass.new.view.counts.waits ≡ waits_after result pass.old.view.counts.waits }
+    ensures alone { IfNone result (¬ IsAlone pass.new.view) }
 {
     pass.facts();
     let val = val_at(pass, at, walk.seen.child);
@@ -137,6 +138,7 @@ pub(crate) fn find_next(
     ensures searched { HasSearched pass.old.view pass.new.view }
     ensures next { IfSome result (IsNext pass.old.view pass.new.view node) }
     ensures waits { pass.new.view.counts.waits ≡ waits_after result pass.old.view.counts.waits }
+    ensures alone { IfNone result (¬ IsAlone pass.new.view) }
 {
     pass.facts();
     let mut walk = begin_walk(pass, at, node, right);

@@ -1,5 +1,5 @@
 -- What a try that came through has done, from its begin to its end.
-use Rattle.std.proofs.Common.{◌≡◌, ℕ, ◌+◌, List, [], ◌∷◌, ◌++◌, length, take, ap, sym, ◌∙◌, subst, arith}
+use Rattle.std.proofs.Common.{◌≡◌, ℕ, ◌+◌, ◌≤◌, List, [], ◌∷◌, ◌++◌, length, take, ap, sym, ◌∙◌, subst, arith}
 use Rattle.std.proofs.lemmas.List.{length-append}
 use Rattle.index_words.specs.declared.view.View.{View}
 use Rattle.index_words.specs.declared.view.history.SeenHistory.{SeenHistory}
@@ -14,7 +14,8 @@ use Rattle.core_updates.specs.declared.plan.Plan.{Plan}
 use Rattle.core_updates.specs.declared.plan.PlanSlots.{PlanSlots}
 use Rattle.core_updates.specs.Plans.{key_of, fronts_of}
 use Rattle.plan_laws.specs.Answers.{owned_nodes, owned_entries, was_there, MovesNodes}
-use Rattle.plan_laws.specs.Frames.{KeepsOwned, KeepsPass}
+use Rattle.plan_laws.specs.Frames.{KeepsPass}
+use Rattle.plan_laws.specs.Prunes.{KeepsPruned}
 use Rattle.plan_laws.specs.Raises.{update_by}
 use Rattle.plan_laws.proofs.Answered.{four_entries}
 use Rattle.table_steps.specs.Passes.{Pass}
@@ -31,7 +32,7 @@ owned_entries_same v w free batch retired =
     omega (arith, ap (λ (s : Slots). length s.entries) free, ap (λ (s : Slots). length s.entries) batch, ap (λ (s : Slots). length s.entries) retired)
 
 module _ (v w : View) (p q : Pass) (line : ℕ) (plan : Plan) (slots : PlanSlots) (place : ℕ) (before : KeepsPass v p.view) (owned : owned_entries p.view + length (fronts_of plan slots) ≡ owned_entries v)
-    (raised : IsRaisedBy p q line plan slots place) (behind : KeepsOwned q.view w) where
+    (raised : IsRaisedBy p q line plan slots place) (behind : KeepsPruned q.view w) where
   abbrev stamp : ℕ
   stamp = held_by raised.t Stamp
 
@@ -51,7 +52,12 @@ module _ (v w : View) (p q : Pass) (line : ℕ) (plan : Plan) (slots : PlanSlots
   nodes_before = owned_nodes_same v p.view before.nodes before.batch before.retired
 
   nodes_behind : owned_nodes w ≡ owned_nodes q.view
-  nodes_behind = owned_nodes_same q.view w (ap (λ (s : Slots). s.nodes) behind.free) behind.batch behind.retired
+  nodes_behind =
+      omega (arith, ap (λ (s : Slots). length s.nodes) behind.free, ap (λ (s : Slots). length s.nodes) behind.batch, ap (λ (xs : List ℕ). length xs) behind.nodes)
+
+  -- what was cut is owned
+  entries_behind : owned_entries q.view ≤ owned_entries w
+  entries_behind = omega (arith, ap (λ (s : Slots). length s.entries) behind.free, ap (λ (s : Slots). length s.entries) behind.batch, behind.entries)
 
   pub has_done : HasCarriedOut v w p.number line plan place
   has_done = record {
@@ -65,7 +71,7 @@ module _ (v w : View) (p q : Pass) (line : ℕ) (plan : Plan) (slots : PlanSlots
     looks = ap (λ (h : SeenHistory). h.looks) behind.history ∙ raised.answers.looks ∙ ap (λ (h : SeenHistory). h.looks) before.history;
     was = subst (λ k. map_has (key_of plan) (after others k) ≡ was_there plan) stamp_len raised.answers.was;
     nodes = subst (λ k. MovesNodes plan k (owned_nodes w)) nodes_before (subst (λ k. MovesNodes plan (owned_nodes p.view) k) (sym nodes_behind) raised.answers.nodes);
-    entries = omega (arith, owned, raised.answers.entries, four_entries plan slots, entries_long (fronts_of plan slots), owned_entries_same q.view w behind.free behind.batch behind.retired);
+    entries = omega (arith, owned, raised.answers.entries, four_entries plan slots, entries_long (fronts_of plan slots), entries_behind);
   }
 
 pub entries_filled : (v w x : View) (count : ℕ) → w.free ≡ v.free → w.batch ≡ v.batch → w.retired ≡ v.retired → owned_entries x + count ≡ owned_entries w → owned_entries x + count ≡ owned_entries v

@@ -45,6 +45,8 @@ use Rattle.table_rule.specs.Homes.{IsLiveView}
 use Rattle.table_rule.specs.Running.{Stands, table}
 use Rattle.table_rule.proofs.Lists.{item_at}
 use Rattle.table_steps.specs.Raises.{HoldsNext, HoldsChain}
+use Rattle.plan_laws.proofs.Prunes.{prune_step}
+use Rattle.update_try.specs.Pruning.{KeepsUpdate, KeepsLeast}
 use Rattle.update_try.specs.Walked.{StandsOn, HoldsPart, KeepsNexts, KeepsLooks}
 
 id_keeps : (look : Look) → KeepsLook (λ (h : HeldNode). h) look
@@ -57,7 +59,7 @@ pub part_ends : (v : View) (node head : ℕ) (es : List ℕ) → HoldsPart v nod
 part_ends v node head [] part = part
 part_ends v node head (e ∷ es) part = (part.0, part.1, (part.2.0, part.2.1, part_ends v node part.2.0 es part.2.2))
 
-part_kept : (v w : View) (node head entry : ℕ) (es : List ℕ) → KeepsNexts v w → HoldsPart v node head es entry → HoldsPart w node head es entry
+pub part_kept : (v w : View) (node head entry : ℕ) (es : List ℕ) → KeepsNexts v w → HoldsPart v node head es entry → HoldsPart w node head es entry
 part_kept v w node head entry [] keeps part = part
 part_kept v w node head entry (e ∷ es) keeps part =
     let h = part.2.1 in
@@ -143,7 +145,7 @@ module _ (v : View) (at : Link) (head entry : ℕ) (on : StandsOn v at head entr
         ∙ ap (λ b. with_place (with_held v v.held.nodes (kept_if b v.held.nexts item)) (AtEntry at.node at.side next None) on.found links) (count-locks at.node v.held.nodes on.locked)
 
     keeps_then : KeepsPass v then
-    keeps_then = record { layout = refl; joined = refl; number = refl; word = refl; announced = refl; history = refl; section = refl; opened = refl; tree = refl; nodes = refl; retired = refl; batch = refl; raised = refl; taken = refl }
+    keeps_then = record { layout = refl; joined = refl; number = refl; word = refl; announced = refl; history = refl; section = refl; opened = refl; least = refl; tree = refl; nodes = refl; retired = refl; batch = refl; raised = refl; taken = refl }
 
     pub walked_try : KeepsTry v w
     walked_try = subst (KeepsTry v) (sym view_is) (record { pass = keeps_then; free = refl; grown = same-counts v then refl })
@@ -191,5 +193,18 @@ module _ (v : View) (at : Link) (head entry : ℕ) (on : StandsOn v at head entr
       next_is = refl;
     })
 
-    pub walked_part : (es : List ℕ) → HoldsPart v at.node head es entry → HoldsPart w at.node head (es ++ entry ∷ []) next
-    walked_part es part = part_more w at.node head entry next es (part_kept v w at.node head entry es walked_nexts part) some next_held
+    -- a part from any entry on goes on
+    pub walked_part : (start : ℕ) (es : List ℕ) → HoldsPart v at.node start es entry → HoldsPart w at.node start (es ++ entry ∷ []) next
+    walked_part start es part = part_more w at.node start entry next es (part_kept v w at.node start entry es walked_nexts part) some next_held
+
+    pub walked_update : KeepsUpdate v w
+    walked_update = subst (λ (u : View). KeepsUpdate v u) (sym gives) (λ n plan slots h. (prune_step v n plan slots h).next entry next)
+
+    pub walked_least : KeepsLeast v w
+    walked_least = subst (λ (u : View). KeepsLeast v u) (sym view_is) (record { section = refl; least = refl; looked = refl; number = refl; layout = refl; taken = refl })
+
+    pub walked_list : w.held.nexts ≡ v.held.nexts ++ item ∷ []
+    walked_list = ap (λ (u : View). u.held.nexts) view_is
+
+    pub walked_held : w.held.nodes ≡ v.held.nodes
+    walked_held = ap (λ (u : View). u.held.nodes) view_is

@@ -24,19 +24,19 @@ use Rattle.core_updates.specs.PlanEvents.{looked_node}
 use Rattle.core_updates.specs.Plans.{locks_of, looks_of}
 use Rattle.plan_laws.specs.Frames.{KeepsTry}
 use Rattle.plan_laws.specs.Looks.{IsUnmarked, HoldsEntry, HoldsNumbered, HasLooked}
-use Rattle.plan_laws.specs.Tries.{IsTrying, HasLockedAll, FailsCounted}
+use Rattle.plan_laws.specs.Tries.{IsTrying, HasLockedAll, FailsCounted, FailsNever}
 use Rattle.plan_laws.proofs.Frames.{steps_keep}
 use Rattle.plan_laws.specs.Searches.{FindsPlanned}
 use Rattle.plan_laws.proofs.Items.{got-every}
 use Rattle.plan_laws.proofs.Looks.{looked-locked, mark_look, head_look, number_look, key_look, val_look}
 use Rattle.plan_laws.proofs.Searches.{pairs_found}
-use Rattle.plan_laws.proofs.Tries.{try_fails}
+use Rattle.plan_laws.proofs.Tries.{try_fails, try_alone}
 use Rattle.table_rule.specs.Homes.{IsLiveView}
 use Rattle.table_rule.specs.Running.{Happened, table}
 use Rattle.table_rule.proofs.Happens.{happened_word}
 use Rattle.table_rule.proofs.Lists.{item_at}
 use Rattle.table_steps.specs.Loads.{loading_head, loading_number, loading_mark, loading_pair, HasLoadedHead, HasLoadedMark}
-use Rattle.table_steps.specs.Passes.{Pass}
+use Rattle.table_steps.specs.Passes.{Pass, IsAlone}
 use Rattle.table_steps.proofs.There.{locked_high}
 use Rattle.update_try.specs.Outcomes.{HasRisen}
 use Rattle.update_try.specs.Walked.{StandsOn, KeepsNexts}
@@ -55,6 +55,11 @@ one_of k some low = omega (arith, some, low)
 fails : (e : Event) (v w : View) (n found : ℕ) (plan : Plan) (entries nodes : List ℕ) → (h : Happened v.layout e v found w) → IsTrying v n plan entries nodes
     → FailsCounted (table v.layout h.words h.views) e v w plan entries
 fails e v w n found plan entries nodes h t = try_fails (table v.layout h.words h.views) e v w n plan entries nodes h.rule h.met h.seat h.view t
+
+-- on a table of one pass none fails
+never : (e : Event) (v w : View) (n found : ℕ) (plan : Plan) (entries nodes : List ℕ) → (h : Happened v.layout e v found w) → IsAlone v → IsTrying v n plan entries nodes
+    → FailsNever (table v.layout h.words h.views) e plan entries
+never e v w n found plan entries nodes h one t = try_alone (table v.layout h.words h.views) e v n plan entries nodes h.rule one h.met h.seat t
 
 -- a look at a link: what is looked at is locked
 module _ (p : Pass) (n : ℕ) (plan : Plan) (entries : List ℕ) (place child : ℕ) (at : Link) (live : IsLiveView p.view) (h : HasLooked p.view n plan entries place)
@@ -100,6 +105,11 @@ module _ (p : Pass) (n : ℕ) (plan : Plan) (entries : List ℕ) (place child : 
         ((fails (loading_mark p at.node) v w n g.found plan entries (locks_of plan) g.event h.trying).mark at.node (looked-locked plan place (LinkLook at child) is) refl
         (word_named z (Node Mark at.node) (node_there z at.node at_low)) (mark_word ∙ found_one set))
 
+    pub mark_others : marked ≡ true → ¬ IsAlone v
+    mark_others set one =
+        (never (loading_mark p at.node) v w n g.found plan entries (locks_of plan) g.event one h.trying).mark at.node (looked-locked plan place (LinkLook at child) is) refl
+        (word_named z (Node Mark at.node) (node_there z at.node at_low)) (mark_word ∙ found_one set)
+
     pub unmarked : marked ≡ false → HasLooked w n plan entries place × IsUnmarked w at.node
     unmarked clear =
         subst (λ (u : View). HasLooked u n plan entries place × IsUnmarked u at.node) (sym (g.view ∙ ap (mark_loaded v at.node) (g.clear clear)))
@@ -127,6 +137,11 @@ module _ (p : Pass) (n : ℕ) (plan : Plan) (entries : List ℕ) (place child : 
         rises v.counts.moves w.counts.moves
         ((fails (loading_head p at.node at.side) v w n head plan entries (locks_of plan) event h.trying).head place child at is refl
         (word_named z (Node (Head at.side) at.node) (node_there z at.node at_low)) (λ e. other (sym head_word ∙ e)))
+
+    pub head_others : ¬ (head ≡ entry) → ¬ IsAlone v
+    head_others other one =
+        other (sym head_word ∙ (never (loading_head p at.node at.side) v w n head plan entries (locks_of plan) event one h.trying).head place child at is refl
+        (word_named z (Node (Head at.side) at.node) (node_there z at.node at_low)))
 
     pub head_same : head ≡ entry → HasLooked w n plan entries place × HoldsEntry w at entry
     head_same same =
@@ -179,6 +194,12 @@ module _ (p : Pass) (n : ℕ) (plan : Plan) (entries : List ℕ) (place child : 
       rises p.view.counts.waits w.counts.waits
       ((fails (loading_number p head) p.view w n x plan entries (locks_of plan) event h.trying).waits head refl
       (word_named p.view.layout (Entry Number head) (entry_there p.view.layout head some low)) (number_word ∙ none))
+
+  pub number_others : x ≡ 0 → ¬ IsAlone p.view
+  number_others none one =
+      let written = (never (loading_number p head) p.view w n x plan entries (locks_of plan) event one h.trying).number head refl (word_named p.view.layout (Entry Number head) (entry_there p.view.layout head some low)) in
+      let nothing : 0 < 0 = subst (λ k. 0 < k) (number_word ∙ none) written in
+      omega (arith, nothing)
 
   pub number_nexts : KeepsNexts p.view w
   number_nexts i item at_item = subst (λ (u : View). IsItem u.held.nexts i item) (sym g) at_item

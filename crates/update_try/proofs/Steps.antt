@@ -44,7 +44,7 @@ owned_same v = record { layout = refl; joined = refl; number = refl; history = r
 
 pub try_same : (v : View) → KeepsTry v v
 try_same v = record {
-  pass = record { layout = refl; joined = refl; number = refl; word = refl; announced = refl; history = refl; section = refl; opened = refl; tree = refl; nodes = refl; retired = refl; batch = refl; raised = refl; taken = refl };
+  pass = record { layout = refl; joined = refl; number = refl; word = refl; announced = refl; history = refl; section = refl; opened = refl; least = refl; tree = refl; nodes = refl; retired = refl; batch = refl; raised = refl; taken = refl };
   free = refl;
   grown = record { busy = omega arith; waits = omega arith; moves = omega arith };
 }

@@ -3,4 +3,5 @@ pub mod Holding
 pub mod Outcomes
 pub mod Preparing
 pub mod Walked
+pub mod Pruning
 pub mod Carried

@@ -1,11 +1,14 @@
-//! What follows the raise of an update. The entries get their numbers first, so that readers go on; then the nodes that
-//! went out are marked; and no lock is given back before both are done.
+//! What follows the raise of an update, beside the cuts. The entries get their numbers first, so that readers go on;
+//! then the bundles that the update changed are cut; then the nodes that went out are marked; and no lock is given back
+//! before that is done.
 ghost use Rattle.std.specs.Prelude.{◌≡◌, ℕ, length};
 ghost use Rattle.std.specs.List.{slice_get};
+ghost use Rattle.core_updates.specs.declared.plan.PlanSlots.{PlanSlots as UpdateSlots};
 ghost use Rattle.core_updates.specs.Plans.{locks_of, entries_of, fronts_of};
 ghost use Rattle.plan_laws.specs.Fills.{AreApart};
 ghost use Rattle.plan_laws.specs.Frames.{KeepsOwned};
-ghost use Rattle.plan_laws.specs.Raises.{HasFinalised, HasMarked, fresh_entries, raised_entries};
+ghost use Rattle.plan_laws.specs.Prunes.{HasNumbered};
+ghost use Rattle.plan_laws.specs.Raises.{HasFinalised, fresh_entries, raised_entries};
 ghost use Rattle.plan_laws.specs.Releases.{IsReleasing};
 ghost use Rattle.table_steps.specs.Passes.{IsSamePass};
 
@@ -51,7 +54,8 @@ pub fn finalise_all(pass: &mut TablePass<'_>, plan: &Plan, slots: &PlanSlots)
     requires raised { (at : ℕ) × HasFinalised pass.old.view pass.old.number plan.now slots.now at 0 }
     requires apart { AreApart slots.now }
     ensures same { IsSamePass pass.old pass.new }
-    ensures finalised { HasMarked pass.new.view pass.new.number plan.now 0 }
+    ensures numbered { HasNumbered pass.new.view pass.new.number plan.now slots.now }
+    ensures reading { pass.new.view.reading ≡ pass.old.view.reading }
     ensures keeps { KeepsOwned pass.old.view pass.new.view }
 {
     let mut place = 0;
@@ -63,7 +67,7 @@ pub fn finalise_all(pass: &mut TablePass<'_>, plan: &Plan, slots: &PlanSlots)
 
 /// Marks the nodes that went out, in the plan's order.
 pub fn mark_all(pass: &mut TablePass<'_>, plan: &Plan)
-    requires finalised { HasMarked pass.old.view pass.old.number plan.now 0 }
+    requires numbered { (slots : UpdateSlots) × HasNumbered pass.old.view pass.old.number plan.now slots }
     ensures same { IsSamePass pass.old pass.new }
     ensures marked { IsReleasing pass.new.view pass.new.number (locks_of plan.now) }
     ensures keeps { KeepsOwned pass.old.view pass.new.view }

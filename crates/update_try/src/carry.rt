@@ -2,17 +2,19 @@
 //!
 //! The order is that of the steps below. The nodes are locked in the plan's order, each by one try. The looks come under
 //! the locks, and what is filled and put in front of bundles comes behind the last look. Behind the raise the entries get
-//! their numbers before the nodes that went out are marked, and the marks come before the first unlock. The locks are
-//! given back on every way out, and the section is left.
-ghost use Rattle.std.specs.Prelude.{◌≡◌, ◌+◌, ◌<◌, ℕ, length, IfOk, IfErr};
+//! their numbers before the bundles are cut and the nodes that went out are marked, and the marks come before the first
+//! unlock. The locks are given back on every way out, and the section is left.
+ghost use Rattle.std.specs.Prelude.{◌≡◌, ◌+◌, ◌<◌, ℕ, length, IfOk, IfErr, Some};
 ghost use Rattle.core_updates.specs.PlanEvents.{HasSlots};
 ghost use Rattle.core_updates.specs.Plans.{fronts_of};
 ghost use Rattle.plan_laws.specs.Answers.{owned_entries};
 ghost use Rattle.plan_laws.specs.Fills.{AreApart, HasLookedAll};
 ghost use Rattle.plan_laws.specs.Frames.{KeepsOwned, KeepsPass, KeepsTry};
-ghost use Rattle.plan_laws.specs.Raises.{HasFinalised};
+ghost use Rattle.plan_laws.specs.Prunes.{KeepsPruned};
+ghost use Rattle.plan_laws.specs.Raises.{HasFinalised, update_by};
 ghost use Rattle.plan_laws.specs.Tries.{IsSearched};
-ghost use Rattle.table_steps.specs.Passes.{AtRest, IsSamePass};
+ghost use Rattle.table_steps.specs.Passes.{AtRest, IsAlone, IsSamePass};
+ghost use Rattle.table_steps.specs.Raises.{IsRaisedSince};
 ghost use Rattle.update_try.specs.Carried.{HasCarriedOut};
 ghost use Rattle.update_try.specs.Outcomes.{HasGivenUp, IsCounted, KeepsAll};
 ghost use Rattle.update_try.specs.Preparing.{HasPreparedAll};
@@ -23,6 +25,7 @@ use crate::fills::{fill_all, prepare_all};
 use crate::locking::lock_all;
 use crate::looking::look_all;
 use crate::outcome::Failed;
+use crate::pruning::prune_all;
 use crate::raising::raise_plan;
 use crate::release::{leave_section, unlock_all};
 use core_updates::{Plan, PlanSlots};
@@ -37,6 +40,7 @@ pub fn validate(pass: &mut TablePass<'_>, plan: &Plan, heads: &[u32; 9]) -> Resu
     ensures keeps { IfOk result (λ done. KeepsTry pass.old.view pass.new.view) }
     ensures given_up { IfErr result (λ failed. HasGivenUp pass.old.view pass.old.number pass.new.view) }
     ensures counted { IfErr result (λ failed. IsCounted failed pass.old.view pass.new.view) }
+    ensures alone { IfErr result (λ failed. ¬ IsAlone pass.new.view) }
 {
     if !lock_all(pass, plan, heads) {
         return Err(Failed::Busy);
@@ -61,24 +65,29 @@ pub fn make_ready(pass: &mut TablePass<'_>, plan: &Plan, slots: &PlanSlots, head
     prepare_all(pass, plan, slots, heads);
 }
 
-/// Ends an update behind its raise: the numbers, then the marks, then the locks, and then the section.
-fn end_update(pass: &mut TablePass<'_>, plan: &Plan, slots: &PlanSlots)
+/// Ends an update behind its raise: the numbers, then the cuts, then the marks, then the locks, and then the section.
+/// `number` is the one at which the pass reads.
+fn end_update(pass: &mut TablePass<'_>, number: u64, plan: &Plan, slots: &PlanSlots)
     requires raised { (at : ℕ) × HasFinalised pass.old.view pass.old.number plan.now slots.now at 0 }
     requires apart { AreApart slots.now }
+    requires least { pass.old.view.reading.least ≡ Some number }
     ensures same { IsSamePass pass.old pass.new }
     ensures rest { AtRest pass.new.view }
-    ensures keeps { KeepsOwned pass.old.view pass.new.view }
+    ensures keeps { KeepsPruned pass.old.view pass.new.view }
 {
     finalise_all(pass, plan, slots);
+    prune_all(pass, plan, slots, number);
     mark_all(pass, plan);
     unlock_all(pass, plan);
     leave_section(pass);
 }
 
-/// Carries a plan out by one try. `Ok` has the place of the update, which has taken effect. An error is the failure whose
-/// count has risen; then nothing has changed, and what the pass owns is as before. After both the pass is at rest.
+/// Carries a plan out by one try, in the section in which the pass reads at `number`. `Ok` has the place of the update,
+/// which has taken effect by a raise of this call. An error is the failure whose count has risen, for what another pass
+/// did; then nothing has changed, and what the pass owns is as before. After both the pass is at rest.
 pub fn carry_out(
     pass: &mut TablePass<'_>,
+    number: u64,
     line: u32,
     plan: &Plan,
     slots: &PlanSlots,
@@ -89,11 +98,14 @@ pub fn carry_out(
     requires apart { AreApart slots.now }
     requires node { 0 < slots.now.node }
     requires left { 0 < pass.old.view.history.left }
+    requires reads { pass.old.view.reading.section ≡ Some number }
     ensures same { IsSamePass pass.old pass.new }
     ensures rest { AtRest pass.new.view }
     ensures done { IfOk result (HasCarriedOut pass.old.view pass.new.view pass.old.number line plan.now) }
+    ensures raise { IfOk result (λ at. IsRaisedSince pass.old (update_by pass.old.number line plan.now) at pass.new.view) }
     ensures kept { IfErr result (λ failed. KeepsAll pass.old.view pass.new.view) }
     ensures counted { IfErr result (λ failed. IsCounted failed pass.old.view pass.new.view) }
+    ensures alone { IfErr result (λ failed. ¬ IsAlone pass.new.view) }
 {
     if let Err(failed) = validate(pass, plan, heads) {
         leave_section(pass);
@@ -101,6 +113,6 @@ pub fn carry_out(
     }
     make_ready(pass, plan, slots, heads);
     let at = raise_plan(pass, line, plan, slots, heads);
-    end_update(pass, plan, slots);
+    end_update(pass, number, plan, slots);
     Ok(at)
 }

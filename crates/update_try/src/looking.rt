@@ -9,7 +9,7 @@ ghost use Rattle.plan_laws.specs.Fills.{HasLookedAll};
 ghost use Rattle.plan_laws.specs.Frames.{KeepsTry};
 ghost use Rattle.plan_laws.specs.Looks.{HasLooked};
 ghost use Rattle.plan_laws.specs.Tries.{HasLockedAll};
-ghost use Rattle.table_steps.specs.Passes.{IsSamePass};
+ghost use Rattle.table_steps.specs.Passes.{IsAlone, IsSamePass};
 ghost use Rattle.update_try.specs.Outcomes.{HasGivenUp, IsCounted};
 ghost use Rattle.update_try.specs.Walked.{HasWalkedAll, IsWalkedAt, KeepsNexts, StandsOn};
 
@@ -34,6 +34,7 @@ fn look_at_link(
     ensures looked { IfOk result (λ done. HasLooked pass.new.view pass.new.number plan.now heads.now (place + 1)) }
     ensures locked { HasLockedAll pass.new.view pass.new.number plan.now heads.now }
     ensures counted { IfErr result (λ failed. IsCounted failed pass.old.view pass.new.view) }
+    ensures alone { IfErr result (λ failed. ¬ IsAlone pass.new.view) }
     ensures keeps { KeepsTry pass.old.view pass.new.view }
     ensures nexts { KeepsNexts pass.old.view pass.new.view }
     ensures stands { IfOk result (λ done. (at : TreeLink) → (child : ℕ) → slice_get (looks_of plan.now) place ≡ Some (LinkLook at child) → StandsOn pass.new.view at (slice_index heads.now place) (slice_index heads.now place)) }
@@ -85,6 +86,7 @@ fn look_along_link(
     ensures looked { IfOk result (λ done. HasLooked pass.new.view pass.new.number plan.now heads.now (place + 1)) }
     ensures locked { HasLockedAll pass.new.view pass.new.number plan.now heads.now }
     ensures counted { IfErr result (λ failed. IsCounted failed pass.old.view pass.new.view) }
+    ensures alone { IfErr result (λ failed. ¬ IsAlone pass.new.view) }
     ensures keeps { KeepsTry pass.old.view pass.new.view }
     ensures nexts { KeepsNexts pass.old.view pass.new.view }
     ensures walked { IfOk result (λ done. IsWalkedAt pass.new.view plan.now heads.now place) }
@@ -112,6 +114,7 @@ fn look_at(
     ensures looked { IfOk result (λ done. HasLooked pass.new.view pass.new.number plan.now heads.now (place + 1)) }
     ensures locked { HasLockedAll pass.new.view pass.new.number plan.now heads.now }
     ensures counted { IfErr result (λ failed. IsCounted failed pass.old.view pass.new.view) }
+    ensures alone { IfErr result (λ failed. ¬ IsAlone pass.new.view) }
     ensures keeps { KeepsTry pass.old.view pass.new.view }
     ensures nexts { KeepsNexts pass.old.view pass.new.view }
     ensures walked { IfOk result (λ done. IsWalkedAt pass.new.view plan.now heads.now place) }
@@ -144,6 +147,7 @@ pub(crate) fn look_all(
     ensures keeps { IfOk result (λ done. KeepsTry pass.old.view pass.new.view) }
     ensures given_up { IfErr result (λ failed. HasGivenUp pass.old.view pass.old.number pass.new.view) }
     ensures counted { IfErr result (λ failed. IsCounted failed pass.old.view pass.new.view) }
+    ensures alone { IfErr result (λ failed. ¬ IsAlone pass.new.view) }
 {
     let mut place = 0;
     'looks: while let Some(look) = plan.look(place) {

@@ -1,10 +1,11 @@
 //! The raise of a plan, at which its update takes effect.
 ghost use Rattle.std.specs.Prelude.{◌≡◌, ◌<◌, ◌^◌, ℕ, List};
+ghost use Rattle.core_events.specs.Moves.{nowhere};
 ghost use Rattle.core_updates.specs.Plans.{head_of, key_of as plan_key, out_of};
 ghost use Rattle.plan_laws.specs.Fills.{AreApart};
-ghost use Rattle.plan_laws.specs.Raises.{HasFinalised};
+ghost use Rattle.plan_laws.specs.Raises.{HasFinalised, update_by};
 ghost use Rattle.table_steps.specs.Passes.{IsSamePass};
-ghost use Rattle.table_steps.specs.Raises.{HoldsEntries};
+ghost use Rattle.table_steps.specs.Raises.{HoldsEntries, IsRaisedSince};
 ghost use Rattle.update_try.specs.Preparing.{HasPreparedAll, new_slots_of, out_slots_of, IsRaisedBy};
 
 use core_updates::{Fresh, NewNode, Plan, PlanSlots};
@@ -67,6 +68,8 @@ pub fn raise_plan(
     ensures same { IsSamePass pass.old pass.new }
     ensures raised { HasFinalised pass.new.view pass.new.number plan.now slots.now result 0 }
     ensures answers { IsRaisedBy pass.old pass.new line plan.now slots.now result }
+    ensures raise { IsRaisedSince pass.old (update_by pass.old.number line plan.now) result pass.new.view }
+    ensures reading { pass.new.view.reading ≡ nowhere pass.old.view.reading }
 {
     let new = new_slots(plan.new_node(slots));
     let out = out_slots(plan);

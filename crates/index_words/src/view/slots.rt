@@ -19,7 +19,7 @@ pub struct SectionFound {
 /// What the looks at other passes' sections have shown since a wait began.
 #[derive(Drop)]
 pub struct Looks {
-    /// The odd word that was found first, of each pass that was found inside a section.
+    /// The odd words that were found of passes that were not passed yet, one for each look, in the order of the looks.
     pub found: Items<SectionFound>,
     /// The passes that have been outside a section since the wait began.
     pub passed: Items<u32>,

@@ -1,15 +1,16 @@
-// What a gate is told, and when: each request's calls of the pass stand between the two calls of the gate.
+// What a gate is told, and when: each request's calls of the pass stand between the two calls of the gate. Both are
+// told the number of the pass and the line of the request.
 use super::*;
 use std::cell::RefCell;
 
 #[derive(Clone, Copy, Debug, PartialEq, Eq)]
 enum Told {
-    Before(u32),
+    Before(u32, u32),
     Called,
-    After(u32),
+    After(u32, u32),
 }
 
-// Keeps in order what the gate is told of client 0, and the calls of the pass.
+// Keeps in order what the gate is told, and the calls of the pass.
 #[derive(Drop)]
 struct Diary {
     told: RefCell<Vec<Told>>,
@@ -25,15 +26,11 @@ impl Diary {
 
 impl Gate for Diary {
     fn before(&self, client: u32, line: u32) {
-        if client == 0 {
-            self.note(Told::Before(line));
-        }
+        self.note(Told::Before(client, line));
     }
 
     fn after(&self, client: u32, line: u32) {
-        if client == 0 {
-            self.note(Told::After(line));
-        }
+        self.note(Told::After(client, line));
     }
 }
 
@@ -56,20 +53,20 @@ fn tells_the_gate_of_each_request(rt: HostRuntime) -> Result<(), Fail> {
     assert_eq!(rt;
         told.as_slice(),
         [
-            Told::Before(2),
+            Told::Before(CLIENT, 2),
             Told::Called,
-            Told::After(2),
-            Told::Before(4),
+            Told::After(CLIENT, 2),
+            Told::Before(CLIENT, 4),
             Told::Called,
-            Told::After(4),
-            Told::Before(5),
+            Told::After(CLIENT, 4),
+            Told::Before(CLIENT, 5),
             Told::Called,
-            Told::After(5),
-            Told::Before(6),
+            Told::After(CLIENT, 5),
+            Told::Before(CLIENT, 6),
             Told::Called,
-            Told::After(6),
-            Told::Before(7),
-            Told::After(7)
+            Told::After(CLIENT, 6),
+            Told::Before(CLIENT, 7),
+            Told::After(CLIENT, 7)
         ]
         .as_slice()
     );

@@ -1,7 +1,7 @@
-use Rattle.std.proofs.Common.{◌<◌, ◌≤◌, arith}
+use Rattle.std.proofs.Common.{◌≡◌, ◌<◌, ◌≤◌, arith}
 use Rattle.table_steps.specs.Loads.{FoundChild}
 use Rattle.bundle_reads.proofs.ReadTrees.{section_reader}
-use Rattle.bundle_reads.proofs.Bundles.{number_searched, pending_waits, may_child, at_selected, child_seen, child_searched, child_waits, may_next, next_searched, at_next, next_closer}
+use Rattle.bundle_reads.proofs.Bundles.{number_searched, pending_waits, pending_elsewhere, may_child, at_selected, child_seen, child_searched, child_waits, may_next, next_searched, at_next, next_closer}
 use Rattle.bundle_reads.proofs.child.look_along.Goals as goal
 
 pub returns-then-number-eq0-clause-searched : goal.returns-then-number-eq0-clause-searched
@@ -14,7 +14,10 @@ pub returns-then-number-eq0-clause-goes : goal.returns-then-number-eq0-clause-go
 returns-then-number-eq0-clause-goes c =
     let v = c.args.pass.now.view in
     let known = section_reader v c.args.at c.facts.ensures c.requires.reads in
-    pending_waits v c.args.at c.requires.reads known c.args.link c.requires.link c.args.entry c.requires.stands c.requires.some c.load_ts-number.result c.load_ts-number.new.self.view c.load_ts-number.ensures.view (omega arith)
+    let none : c.load_ts-number.result ≡ 0 = omega arith in (
+      pending_waits v c.args.at c.requires.reads known c.args.link c.requires.link c.args.entry c.requires.stands c.requires.some c.load_ts-number.result c.load_ts-number.new.self.view c.load_ts-number.ensures.view none,
+      pending_elsewhere v c.args.at c.requires.reads known c.args.link c.requires.link c.args.entry c.requires.stands c.requires.some c.load_ts-number.result c.load_ts-number.new.self.view c.load_ts-number.ensures.view c.args.pass.now.seat c.load_ts-number.ensures.event none,
+    )
 
 pub load_ptr-child-requires : goal.load_ptr-child-requires
 load_ptr-child-requires c =

@@ -11,6 +11,11 @@ returns-in-Put-clause-answers g c =
     subst (λ (r : Request). Answers c.args.dir.now (g.P.KeyPass.view c.args.pass.now) (g.P.KeyPass.view c.put.new.pass) (option_copied c.args.last)
     (record { asked = record { line = c.args.asked.now.line; request = r }; placed = c.put.result })) (sym c.in-Put.is) (c.put.ensures.answers (option_copied c.args.last))
 
+pub returns-in-PutNew-clause-answers : goal.returns-in-PutNew-clause-answers
+returns-in-PutNew-clause-answers g c =
+    subst (λ (r : Request). Answers c.args.dir.now (g.P.KeyPass.view c.args.pass.now) (g.P.KeyPass.view c.put_new.new.pass) (option_copied c.args.last)
+    (record { asked = record { line = c.args.asked.now.line; request = r }; placed = c.put_new.result })) (sym c.in-PutNew.is) (c.put_new.ensures.answers (option_copied c.args.last))
+
 pub returns-in-Delete-clause-answers : goal.returns-in-Delete-clause-answers
 returns-in-Delete-clause-answers g c =
     subst (λ (r : Request). Answers c.args.dir.now (g.P.KeyPass.view c.args.pass.now) (g.P.KeyPass.view c.delete.new.pass) (option_copied c.args.last)

@@ -1,6 +1,6 @@
-use Rattle.plan_laws.proofs.Finals.{finalise_step, finalise_end, mark_step, mark_end}
+use Rattle.plan_laws.proofs.Finals.{finalise_step, finalise_end, mark_start, mark_step, mark_end}
 use Rattle.plan_laws.proofs.Raises.{raise_step}
 use Rattle.plan_laws.proofs.end_laws.updates_raise.Goals as goal
 
 pub returns : goal.returns
-returns c = record { raise = raise_step; finalise = finalise_step; finalised = finalise_end; mark = mark_step; marked = mark_end }
+returns c = record { raise = raise_step; finalise = finalise_step; finalised = finalise_end; mark_start = mark_start; mark = mark_step; marked = mark_end }

@@ -1,9 +1,8 @@
-use Rattle.std.proofs.Common.{◌≡◌, ℕ, subst}
-use Rattle.outside_io.specs.Streams.{one_more, IsTaken, TakesStart}
-use Rattle.bucket_terms.specs.LegalRun.{Run}
+use Rattle.std.proofs.Common.{ℕ, subst}
+use Rattle.outside_io.specs.Streams.{IsTaken, TakesStart}
 use Rattle.command_words.specs.declared.form.Form.TheVariants.{Sample}
 use Rattle.sample_laws.specs.Sample.{sample_summary}
-use Rattle.serve_session.specs.Served.{HoldsOfSample}
+use Rattle.serve_session.specs.Served.{HoldsOfSample, IsRunOf}
 use Rattle.serve_session.specs.Summaries.{summary_text}
 use Rattle.serve_session.proofs.Forms.{one_number, found_form, found_none, no_form}
 use Rattle.serve_session.proofs.serving.serve.Goals as goal
@@ -16,7 +15,7 @@ returns-in-Ok-Some-Sample-clause-sample g c = λ n is done.
 
 pub returns-in-Ok-Some-Sample-clause-sample_runner : goal.returns-in-Ok-Some-Sample-clause-sample_runner
 returns-in-Ok-Some-Sample-clause-sample_runner g c = λ n is done.
-    subst (λ (k : ℕ). HoldsOfSample k (λ (run : Run). (g.R.Runner.runs c.serve_sample.new.runner ≡ one_more (g.R.Runner.runs c.args.runner.now)) × (run.replies ≡ g.R.Runner.replied c.serve_sample.new.runner)))
+    subst (λ (k : ℕ). HoldsOfSample k (IsRunOf (g.R.Runner.runs c.args.runner.now) (g.R.Runner.runs c.serve_sample.new.runner) (g.R.Runner.replied c.serve_sample.new.runner)))
     (one_number c.args.words.now c.in-Ok-Some-Sample.n n
     (found_form c.args.words.now c.in-Ok-Some-Sample.field-0 (Sample c.in-Ok-Some-Sample.n) (cc) c.in-Ok-Some-Sample.ensures.form) is) (c.serve_sample.ensures.runner done)
 

@@ -1,5 +1,6 @@
 use Rattle.std.proofs.Common.{ℕ, arith, sym, subst}
 use Rattle.plan_laws.specs.Tries.{IsSearched}
+use Rattle.bundle_reads.proofs.ReadMoves.{inside_on}
 use Rattle.tree_update.proofs.CallSteps.{search_stays}
 use Rattle.tree_update.proofs.TryMade.{offers_still}
 use Rattle.table_tests.proofs.stages.put_in_stages.Goals as goal
@@ -22,3 +23,7 @@ carry_in_stages-requires-clause-left c =
     let x = c.find_plan.new.pass.view in
     let stays = search_stays c.args.pass.now b x c.begin_search-at.result c.begin_search-at.ensures.opened c.find_plan.ensures.searched.read in
     omega (arith, c.requires.left, stays.goes.left)
+
+pub carry_in_stages-requires-clause-reads : goal.carry_in_stages-requires-clause-reads
+carry_in_stages-requires-clause-reads c =
+    (inside_on c.begin_search-at.new.pass.view c.find_plan.new.pass.view c.begin_search-at.result c.find_plan.ensures.searched.read c.begin_search-at.ensures.fresh.reads).section

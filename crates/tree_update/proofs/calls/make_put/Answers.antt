@@ -3,6 +3,9 @@ use Rattle.key_map.specs.declared.update.Change.TheVariants.{Put}
 use Rattle.tree_update.specs.Calls.{MakesChange}
 use Rattle.tree_update.proofs.CallSteps.{stays_nothing, stays_more, fixes_more, made_more}
 use Rattle.bundle_reads.proofs.ReadMoves.{same_pass, same_more}
+use Rattle.core_updates.specs.Ready.{update_of}
+use Rattle.table_steps.specs.Raises.{IsRaisedSince}
+use Rattle.table_steps.proofs.Places.{raised_later}
 use Rattle.tree_update.proofs.calls.make_put.Goals as goal
 
 pub tries-init : goal.tries-init
@@ -40,3 +43,14 @@ tries-preserved g c =
       stays_more p.view x.view w.view stays c.in_default.ensures.stays,
       same_more p x w (same_more p q x c.tries.invariant.2 c.wait_for_slots-slots.ensures.same) c.try_update.ensures.same,
     )
+
+pub returns-in-Ok-clause-place : goal.returns-in-Ok-clause-place
+returns-in-Ok-clause-place g c =
+    let p = c.args.pass.now in
+    let q = c.tries.pass in
+    let x = c.wait_for_slots-slots.new.pass in
+    let w = c.try_update.new.pass.view in
+    let stays = stays_more p.view q.view x.view c.tries.invariant.1 c.wait_for_slots-slots.ensures.stays in
+    let same = same_more p q x c.tries.invariant.2 c.wait_for_slots-slots.ensures.same in
+    raised_later p x (update_of p.number c.args.line c.args.key (Put c.args.val)) c.in-Ok.done.at w same stays.goes.mine
+    (subst (λ (n : ℕ). IsRaisedSince x (update_of n c.args.line c.args.key (Put c.args.val)) c.in-Ok.done.at w) same.number c.in-Ok.ensures.raise)

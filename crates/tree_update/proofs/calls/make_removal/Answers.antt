@@ -3,6 +3,7 @@ use Rattle.tree_update.specs.Calls.{AnswersRemoval}
 use Rattle.tree_update.proofs.CallSteps.{stays_nothing, goes_more}
 use Rattle.tree_update.proofs.CallsMade.{removal_more}
 use Rattle.bundle_reads.proofs.ReadMoves.{same_pass, same_more}
+use Rattle.tree_update.proofs.Places.{place_later}
 use Rattle.tree_update.proofs.calls.make_removal.Goals as goal
 
 pub tries-init : goal.tries-init
@@ -34,3 +35,13 @@ tries-preserved g c =
       goes_more p.view x.view w.view goes (c.try_removal.ensures.goes c.in_default.is),
       same_more p x w (same_more p q x c.tries.invariant.2 c.wait_for_slots-slots.ensures.same) c.try_removal.ensures.same,
     )
+
+pub returns-in-Some-try_removal-clause-place : goal.returns-in-Some-try_removal-clause-place
+returns-in-Some-try_removal-clause-place g c =
+    let p = c.args.pass.now in
+    let q = c.tries.pass in
+    let x = c.wait_for_slots-slots.new.pass in
+    let w = c.try_removal.new.pass in
+    let goes = goes_more p.view q.view x.view c.tries.invariant.1 c.wait_for_slots-slots.ensures.stays.goes in
+    let same = same_more p q x c.tries.invariant.2 c.wait_for_slots-slots.ensures.same in
+    place_later p x c.args.line c.args.key c.in-Some-try_removal.done w.view same goes c.in-Some-try_removal.ensures.place

@@ -1,18 +1,33 @@
-use Rattle.tree_update.proofs.CallSteps.{goes_more, absent_more}
+use Rattle.std.proofs.Common.{subst, Bool, false}
+use Rattle.tree_update.specs.Calls.{LooksFor}
+use Rattle.tree_update.proofs.CallSteps.{goes_more, looked_more}
 use Rattle.tree_update.proofs.CallsMade.{removal_answers}
+use Rattle.tree_update.proofs.Places.{removal_raised}
+use Rattle.table_steps.proofs.Places.{found_later}
 use Rattle.tree_update.proofs.calls.try_removal.Goals as goal
 
 pub returns-in-Ok-clause-answered : goal.returns-in-Ok-clause-answered
 returns-in-Ok-clause-answered g c =
     removal_answers c.args.pass.now.view c.try_update.new.pass.view c.args.pass.now.number c.args.line c.args.key c.in-Ok.done c.in-Ok.ensures.made.0
 
-pub returns-in-Some-clause-answered : goal.returns-in-Some-clause-answered
-returns-in-Some-clause-answered g c =
-    absent_more c.args.pass.now.view c.try_update.new.pass.view c.look_absent.new.pass.view c.args.key c.in-Some.at c.in-Err-Absent.ensures.stays.goes c.in-Some.ensures.absent
+pub returns-else-found-clause-answered : goal.returns-else-found-clause-answered
+returns-else-found-clause-answered g c =
+    let v = c.args.pass.now.view in
+    let u = c.try_update.new.pass.view in
+    let w = c.look_for-found.new.pass.view in
+    let found = c.look_for-found.result in
+    looked_more v u w c.args.key false found.at c.in-Err-Absent.ensures.stays.goes
+    (subst (λ (b : Bool). LooksFor u w c.args.key b found.at) c.if-found.false c.look_for-found.ensures.looked)
 
-pub returns-in-None-clause-goes : goal.returns-in-None-clause-goes
-returns-in-None-clause-goes g c = λ _.
-    goes_more c.args.pass.now.view c.try_update.new.pass.view c.look_absent.new.pass.view c.in-Err-Absent.ensures.stays.goes c.look_absent.ensures.goes
+pub returns-then-found-clause-goes : goal.returns-then-found-clause-goes
+returns-then-found-clause-goes g c = λ _.
+    goes_more c.args.pass.now.view c.try_update.new.pass.view c.look_for-found.new.pass.view c.in-Err-Absent.ensures.stays.goes c.look_for-found.ensures.looked.goes
 
-pub returns-in-Err-Failed-clause-goes : goal.returns-in-Err-Failed-clause-goes
-returns-in-Err-Failed-clause-goes g c = λ _. c.in-Err-Failed.ensures.stays.goes
+pub returns-in-Ok-clause-place : goal.returns-in-Ok-clause-place
+returns-in-Ok-clause-place g c =
+    removal_raised c.args.pass.now c.args.line c.args.key c.in-Ok.done c.args.pass.now.view c.try_update.new.pass.view c.args.pass.now.number c.in-Ok.ensures.made.0 c.in-Ok.ensures.raise
+
+pub returns-else-found-clause-place : goal.returns-else-found-clause-place
+returns-else-found-clause-place g c =
+    found_later c.args.pass.now c.try_update.new.pass c.look_for-found.result.at c.look_for-found.new.pass.view c.try_update.ensures.same
+    c.in-Err-Absent.ensures.stays.goes.looks c.look_for-found.ensures.found

@@ -8,8 +8,8 @@ returns-in-Ok-clause-made c =
     let v = c.args.pass.now.view in
     let w = c.carry_out.new.pass.view in
     let done = c.in-Ok.ensures.done in (
-      carried_made v w c.args.pass.now.number c.args.line c.args.planned.now.plan c.in-Ok.at done (record { at = c.in-Ok.at; was = c.was_there.result }) refl c.was_there.ensures,
-      carried_fixes v w c.args.pass.now.number c.args.line c.args.planned.now.plan c.in-Ok.at done,
+      carried_made v w c.args.pass.now.number c.args.line c.args.planned.now.plan c.in-Ok.place done (record { at = c.in-Ok.place; was = c.was_there.result }) refl c.was_there.ensures,
+      carried_fixes v w c.args.pass.now.number c.args.line c.args.planned.now.plan c.in-Ok.place done,
     )
 
 pub returns-in-Err-clause-stays : goal.returns-in-Err-clause-stays

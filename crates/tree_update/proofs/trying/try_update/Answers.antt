@@ -2,9 +2,15 @@ use Rattle.std.proofs.Common.{◌∙◌, ℕ, arith, sym, subst}
 use Rattle.plan_laws.specs.Tries.{IsSearched}
 use Rattle.tree_update.proofs.CallSteps.{search_stays, stays_more}
 use Rattle.tree_update.proofs.CallsMade.{made_as, has_made_more}
-use Rattle.update_search.proofs.ReadTrees.{reader}
-use Rattle.tree_update.proofs.TryMade.{offers_still, try_counted, search_waited}
-use Rattle.bundle_reads.proofs.ReadMoves.{inside_on}
+use Rattle.bundle_reads.proofs.ReadMoves.{inside_on, same_more}
+use Rattle.core_updates.specs.Plans.{key_of}
+use Rattle.core_updates.specs.Ready.{update_of}
+use Rattle.key_map.specs.declared.update.Change.{Change}
+use Rattle.table_steps.proofs.Places.{raised_later}
+use Rattle.table_steps.specs.Raises.{IsRaisedSince}
+use Rattle.tree_update.proofs.TryMade.{offers_still, try_counted, search_waited, was_absent}
+use Rattle.update_search.proofs.ReadTrees.{reader, absent_there}
+use Rattle.update_try.proofs.Alone.{others_stay}
 use Rattle.tree_update.proofs.trying.try_update.Goals as goal
 
 pub carry_found-requires-clause-searched : goal.carry_found-requires-clause-searched
@@ -25,6 +31,10 @@ carry_found-requires-clause-left c =
     let stays = search_stays c.args.pass.now b x c.begin_search-at.result c.begin_search-at.ensures.opened c.find_plan.ensures.searched.read in
     omega (arith, c.requires.left, stays.goes.left)
 
+pub carry_found-requires-clause-reads : goal.carry_found-requires-clause-reads
+carry_found-requires-clause-reads c =
+    (inside_on c.begin_search-at.new.pass.view c.find_plan.new.pass.view c.begin_search-at.result c.find_plan.ensures.searched.read c.begin_search-at.ensures.fresh.reads).section
+
 pub returns-in-Ok-clause-made : goal.returns-in-Ok-clause-made
 returns-in-Ok-clause-made c =
     let v = c.args.pass.now.view in
@@ -39,9 +49,11 @@ returns-in-Ok-clause-made c =
     (made_as x.view w x.number c.args.pass.now.number c.args.line c.args.key c.args.change c.in-Plan.planned.plan c.in-Ok.done number planned.key_is planned.change_is c.in-Ok.ensures.made)
 
 pub returns-in-Err-clause-missed : goal.returns-in-Err-clause-missed
-returns-in-Err-clause-missed c =
-    try_counted c.args.pass.now c.begin_search-at.new.pass.view c.find_plan.new.pass.view c.begin_search-at.result c.begin_search-at.ensures.opened
-    c.find_plan.ensures.searched.read c.in-Err.failed c.carry_found.new.pass.view c.in-Err.ensures.counted
+returns-in-Err-clause-missed c = (
+  try_counted c.args.pass.now c.begin_search-at.new.pass.view c.find_plan.new.pass.view c.begin_search-at.result c.begin_search-at.ensures.opened
+      c.find_plan.ensures.searched.read c.in-Err.failed c.carry_found.new.pass.view c.in-Err.ensures.counted,
+  c.in-Err.ensures.alone,
+)
 
 pub returns-in-Err-clause-stays : goal.returns-in-Err-clause-stays
 returns-in-Err-clause-stays c =
@@ -57,9 +69,15 @@ give_up-requires c =
 
 pub returns-in-Absent-clause-missed : goal.returns-in-Absent-clause-missed
 returns-in-Absent-clause-missed c =
-    let known = reader c.begin_search-at.new.pass.view c.begin_search-at.result c.facts.ensures c.begin_search-at.ensures.fresh.reads in
-    let none = c.in-Absent.ensures.found known.tree known.is in
-    none.0
+    let b = c.begin_search-at.new.pass.view in
+    let at = c.begin_search-at.result in
+    let opened = c.begin_search-at.ensures.opened in
+    let known = reader b at c.facts.ensures c.begin_search-at.ensures.fresh.reads in
+    let none = c.in-Absent.ensures.found known.tree known.is in (
+      none.0,
+      was_absent c.args.pass.now b c.find_plan.new.pass.view at opened c.find_plan.ensures.searched.read c.args.key c.give_up.new.pass.view c.give_up.ensures.stays.goes.seen
+          (absent_there b at c.args.key c.args.change known (omega (arith, opened.seen.whole)) none),
+    )
 
 pub returns-in-Absent-clause-stays : goal.returns-in-Absent-clause-stays
 returns-in-Absent-clause-stays c =
@@ -70,9 +88,11 @@ returns-in-Absent-clause-stays c =
     stays_more v x.view c.give_up.new.pass.view stays c.give_up.ensures.stays
 
 pub returns-in-Pending-clause-missed : goal.returns-in-Pending-clause-missed
-returns-in-Pending-clause-missed c =
-    search_waited c.args.pass.now c.begin_search-at.new.pass.view c.find_plan.new.pass.view c.begin_search-at.result c.begin_search-at.ensures.opened
-    c.find_plan.ensures.searched.read c.give_up-in-Pending.new.pass.view c.in-Pending.ensures.waits c.give_up-in-Pending.ensures.counts
+returns-in-Pending-clause-missed c = (
+  search_waited c.args.pass.now c.begin_search-at.new.pass.view c.find_plan.new.pass.view c.begin_search-at.result c.begin_search-at.ensures.opened
+      c.find_plan.ensures.searched.read c.give_up-in-Pending.new.pass.view c.in-Pending.ensures.waits c.give_up-in-Pending.ensures.counts,
+  others_stay c.find_plan.new.pass c.give_up-in-Pending.new.pass c.give_up-in-Pending.ensures.same c.in-Pending.ensures.alone,
+)
 
 pub returns-in-Pending-clause-stays : goal.returns-in-Pending-clause-stays
 returns-in-Pending-clause-stays c =
@@ -81,3 +101,21 @@ returns-in-Pending-clause-stays c =
     let x = c.find_plan.new.pass in
     let stays = search_stays c.args.pass.now b x.view c.begin_search-at.result c.begin_search-at.ensures.opened c.find_plan.ensures.searched.read in
     stays_more v x.view c.give_up-in-Pending.new.pass.view stays c.give_up-in-Pending.ensures.stays
+
+pub returns-in-Ok-clause-raise : goal.returns-in-Ok-clause-raise
+returns-in-Ok-clause-raise c =
+    let p = c.args.pass.now in
+    let b = c.begin_search-at.new.pass in
+    let x = c.find_plan.new.pass in
+    let w = c.carry_found.new.pass.view in
+    let plan = c.in-Plan.planned.plan in
+    let at = c.in-Ok.done.at in
+    let stays = search_stays p b.view x.view c.begin_search-at.result c.begin_search-at.ensures.opened c.find_plan.ensures.searched.read in
+    let known = reader b.view c.begin_search-at.result c.facts.ensures c.begin_search-at.ensures.fresh.reads in
+    let planned = c.in-Plan.ensures.found.plan known.tree known.is in
+    let same = same_more p b x c.begin_search-at.ensures.same c.find_plan.ensures.same in
+    let raised : IsRaisedSince x (update_of p.number c.args.line c.args.key c.args.change) at w
+    = subst (λ (n : ℕ). IsRaisedSince x (update_of n c.args.line c.args.key c.args.change) at w) same.number
+    (subst (λ (k : ℕ). IsRaisedSince x (update_of x.number c.args.line k c.args.change) at w) planned.key_is
+    (subst (λ (d : Change). IsRaisedSince x (update_of x.number c.args.line (key_of plan) d) at w) planned.change_is c.in-Ok.ensures.raise)) in
+    raised_later p x (update_of p.number c.args.line c.args.key c.args.change) at w same stays.goes.mine raised

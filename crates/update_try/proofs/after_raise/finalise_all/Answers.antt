@@ -1,6 +1,8 @@
-use Rattle.std.proofs.Common.{◌≡◌, ◌∙◌, sym, subst, arith, Some, None}
+use Rattle.std.proofs.Common.{◌≡◌, ◌∙◌, ap, sym, subst, arith, Some, None}
 use Rattle.std.specs.List.{slice_get}
-use Rattle.plan_laws.specs.Raises.{HasMarked, raised_entries}
+use Rattle.index_words.specs.declared.view.View.{View}
+use Rattle.plan_laws.specs.Prunes.{HasNumbered}
+use Rattle.plan_laws.specs.Raises.{raised_entries}
 use Rattle.plan_laws.proofs.Finals.{finalise_end}
 use Rattle.plan_laws.proofs.Frames.{keeps_owned}
 use Rattle.update_try.proofs.Finals.{may_finalise, finalised_next, raised_within, few_raised}
@@ -32,10 +34,11 @@ entries-preserved c =
       (at, next.0),
       keeps_owned c.args.pass.now.view v w c.entries.invariant.1 next.1,
       same_more c.args.pass.now c.entries.pass c.finalise.new.self c.entries.invariant.2 c.finalise.ensures.same,
+      ap (λ (u : View). u.reading) c.finalise.ensures.view ∙ c.entries.invariant.3,
     )
 
-pub returns-clause-finalised : goal.returns-clause-finalised
-returns-clause-finalised c =
+pub returns-clause-numbered : goal.returns-clause-numbered
+returns-clause-numbered c =
     let none : slice_get (raised_entries c.args.plan.now c.args.slots.now) c.entries.place ≡ None = sym c.raised_entry.ensures ∙ c.in_default.is in
-    subst (λ k. HasMarked c.entries.pass.view k c.args.plan.now 0) (sym c.entries.invariant.2.number)
+    subst (λ k. HasNumbered c.entries.pass.view k c.args.plan.now c.args.slots.now) (sym c.entries.invariant.2.number)
     (finalise_end c.entries.pass.view c.args.pass.now.number c.args.plan.now c.args.slots.now c.entries.invariant.0.0 c.entries.place c.entries.invariant.0.1 none)

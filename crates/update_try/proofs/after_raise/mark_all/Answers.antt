@@ -2,11 +2,17 @@ use Rattle.std.proofs.Common.{◌≡◌, ◌∙◌, sym, subst, Some, None}
 use Rattle.std.specs.List.{slice_get}
 use Rattle.core_updates.specs.Plans.{locks_of, out_of}
 use Rattle.plan_laws.specs.Releases.{IsReleasing}
-use Rattle.plan_laws.proofs.Finals.{mark_end}
+use Rattle.plan_laws.proofs.Finals.{mark_end, mark_start}
 use Rattle.plan_laws.proofs.Frames.{keeps_owned}
 use Rattle.update_try.proofs.Finals.{marked_next}
-use Rattle.update_try.proofs.Steps.{same_more}
+use Rattle.update_try.proofs.Steps.{owned_same, same_more, same_pass}
 use Rattle.update_try.proofs.after_raise.mark_all.Goals as goal
+
+pub nodes-init : goal.nodes-init
+nodes-init c =
+    let p = c.args.pass.now in
+    let numbered = c.requires.numbered in
+    (mark_start p.view p.number c.args.plan.now numbered.0 numbered.1, owned_same p.view, same_pass p)
 
 pub nodes-preserved : goal.nodes-preserved
 nodes-preserved c =

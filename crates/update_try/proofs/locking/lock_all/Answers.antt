@@ -4,6 +4,7 @@ use Rattle.core_updates.specs.Plans.{locks_of}
 use Rattle.plan_laws.specs.Releases.{IsReleasing}
 use Rattle.plan_laws.proofs.Frames.{keeps_try}
 use Rattle.plan_laws.proofs.Releases.{give_up}
+use Rattle.update_try.proofs.Alone.{others_stay, met_others}
 use Rattle.update_try.proofs.Steps.{same_more, few_locks, lock_within, lock_reach, lock_free, locked_next, met_same, all_kept}
 use Rattle.update_try.proofs.locking.lock_all.Goals as goal
 
@@ -94,3 +95,11 @@ locks-preserved c =
       keeps_try c.args.pass.now.view v w c.locks.invariant.1 next.1,
       same_more c.args.pass.now c.locks.pass c.try_lock.new.self c.locks.invariant.2 c.try_lock.ensures.same,
     )
+
+pub returns-then-not-try_lock-clause-alone : goal.returns-then-not-try_lock-clause-alone
+returns-then-not-try_lock-clause-alone c =
+    let p = c.locks.pass in
+    let q = c.try_lock.new.self in
+    let r = c.unlock_first.new.pass in
+    let met = c.if-not-try_lock.ensures.busy refl in
+    λ _. others_stay p r (same_more p q r c.try_lock.ensures.same c.unlock_first.ensures.same) (met_others p c.in-Some.node q.view met)

@@ -5,6 +5,7 @@ use Rattle.plan_laws.specs.Fills.{HasLookedAll}
 use Rattle.plan_laws.specs.Looks.{HasLooked}
 use Rattle.plan_laws.proofs.Fills.{look_end}
 use Rattle.plan_laws.proofs.Frames.{keeps_try}
+use Rattle.update_try.proofs.Alone.{others_stay}
 use Rattle.update_try.proofs.Outs.{walked_more, walked_end}
 use Rattle.update_try.proofs.Steps.{same_more}
 use Rattle.update_try.proofs.looking.look_all.Goals as goal
@@ -31,3 +32,6 @@ returns-clause-looked c =
     let none : slice_get (looks_of c.args.plan.now) c.looks.place ≡ None = sym c.look.ensures ∙ c.in_default.is in
     subst (λ k. HasLookedAll c.looks.pass.view k c.args.plan.now c.args.heads.now) (sym c.looks.invariant.2.number)
     (look_end c.looks.pass.view c.args.pass.now.number c.args.plan.now c.args.heads.now c.looks.place c.looks.invariant.0 none)
+
+pub returns-in-Err-clause-alone : goal.returns-in-Err-clause-alone
+returns-in-Err-clause-alone c = others_stay c.look_at.new.pass c.unlock_all.new.pass c.unlock_all.ensures.same c.in-Err.ensures.alone

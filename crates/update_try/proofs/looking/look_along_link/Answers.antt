@@ -1,10 +1,11 @@
-use Rattle.std.proofs.Common.{◌+◌, sym, subst}
+use Rattle.std.proofs.Common.{◌+◌, [], refl, sym, subst, slice_index}
 use Rattle.plan_laws.specs.Looks.{HasLooked}
 use Rattle.plan_laws.specs.Tries.{HasLockedAll}
 use Rattle.update_try.proofs.looking.look_along_link.Goals as goal
 
 pub walk_along-requires : goal.walk_along-requires
-walk_along-requires c = record { stands = c.in_ok-look_at_link.ensures.stands c.args.at c.requires.link.0 c.requires.link.1 }
+walk_along-requires c =
+    record { stands = (slice_index c.args.heads.now c.args.place, [], c.in_ok-look_at_link.ensures.stands c.args.at c.requires.link.0 c.requires.link.1, refl) }
 
 pub returns-clause-looked : goal.returns-clause-looked
 returns-clause-looked c =

@@ -7,9 +7,10 @@ use Rattle.core_updates.specs.Plans.{looks_of}
 use Rattle.plan_laws.specs.Looks.{HasLooked}
 use Rattle.plan_laws.specs.Tries.{HasLockedAll}
 use Rattle.plan_laws.proofs.Frames.{keeps_try}
+use Rattle.update_try.proofs.Alone.{others_stay}
 use Rattle.update_try.proofs.Counted.{rose_after}
 use Rattle.update_try.proofs.Steps.{same_more, few_looks, look_within}
-use Rattle.update_try.proofs.Looks.{may_mark, mark_keeps, mark_locked, mark_moved, unmarked, may_head, head_keeps, head_locked, head_moved, head_same, head_none, may_number, number_keeps, number_locked, number_pending, number_written, mark_nexts, head_nexts, head_place, head_stands, number_nexts, number_stands, keeps_nexts_more, link_same}
+use Rattle.update_try.proofs.Looks.{may_mark, mark_keeps, mark_locked, mark_moved, mark_others, head_others, number_others, unmarked, may_head, head_keeps, head_locked, head_moved, head_same, head_none, may_number, number_keeps, number_locked, number_pending, number_written, mark_nexts, head_nexts, head_place, head_stands, number_nexts, number_stands, keeps_nexts_more, link_same}
 use Rattle.update_try.specs.Walked.{StandsOn}
 use Rattle.update_try.proofs.looking.look_at_link.Goals as goal
 
@@ -572,3 +573,65 @@ returns-clause-stands c =
     let all = same_more p r s both last.same in
     let written : 0 < c.load_ts.result = omega (arith, c.if-load_ts-eq0.false) in
     λ other child2 other_is. subst (λ (x : Link). StandsOn s.view x (slice_index es place) (slice_index es place)) (link_same at other child child2 (sym is ∙ other_is)) (number_stands r n plan es place child at held.0 is held.1 head equal some low c.load_ts.result s.view last.event last.view written (head_place q n plan es place child at c.facts-2.ensures found.0 is found.1 head r.view more.event more.view))
+
+pub returns-then-load_mark-clause-alone : goal.returns-then-load_mark-clause-alone
+returns-then-load_mark-clause-alone c =
+    let p = c.args.pass.now in
+    let n = p.number in
+    let plan = c.args.plan.now in
+    let es = c.args.heads.now in
+    let place = c.args.place in
+    let at = c.in-Some-Link.at in
+    let child = c.in-Some-Link.field-0-1 in
+    let is : slice_get (looks_of plan) place ≡ Some (LinkLook at child) = sym c.look.ensures ∙ c.in-Some-Link.is ∙ ap Some c.in-Some-Link.field-0-is in
+    let q = c.load_mark.new.self in
+    let same = c.load_mark.ensures.same in
+    let one = c.load_mark.ensures.loads in
+    others_stay p q same (mark_others p n plan es place child at c.facts.ensures c.requires.looked is c.load_mark.result q.view one c.if-load_mark.true)
+
+pub returns-then-head-heads-clause-alone : goal.returns-then-head-heads-clause-alone
+returns-then-head-heads-clause-alone c =
+    let p = c.args.pass.now in
+    let n = p.number in
+    let plan = c.args.plan.now in
+    let es = c.args.heads.now in
+    let place = c.args.place in
+    let at = c.in-Some-Link.at in
+    let child = c.in-Some-Link.field-0-1 in
+    let is : slice_get (looks_of plan) place ≡ Some (LinkLook at child) = sym c.look.ensures ∙ c.in-Some-Link.is ∙ ap Some c.in-Some-Link.field-0-is in
+    let q = c.load_mark.new.self in
+    let same = c.load_mark.ensures.same in
+    let one = c.load_mark.ensures.loads in
+    let found = unmarked p n plan es place child at c.facts.ensures c.requires.looked is c.load_mark.result q.view one c.if-load_mark.false in
+    let head = c.load_head-head.result in
+    let r = c.load_head-head.new.self in
+    let more = c.load_head-head.ensures in
+    let both = same_more p q r same more.same in
+    others_stay q r more.same (head_others q n plan es place child at c.facts-2.ensures found.0 is found.1 head r.view more.event more.view c.if-head-heads.true)
+
+pub returns-then-load_ts-eq0-clause-alone : goal.returns-then-load_ts-eq0-clause-alone
+returns-then-load_ts-eq0-clause-alone c =
+    let p = c.args.pass.now in
+    let n = p.number in
+    let plan = c.args.plan.now in
+    let es = c.args.heads.now in
+    let place = c.args.place in
+    let at = c.in-Some-Link.at in
+    let child = c.in-Some-Link.field-0-1 in
+    let is : slice_get (looks_of plan) place ≡ Some (LinkLook at child) = sym c.look.ensures ∙ c.in-Some-Link.is ∙ ap Some c.in-Some-Link.field-0-is in
+    let q = c.load_mark.new.self in
+    let same = c.load_mark.ensures.same in
+    let one = c.load_mark.ensures.loads in
+    let found = unmarked p n plan es place child at c.facts.ensures c.requires.looked is c.load_mark.result q.view one c.if-load_mark.false in
+    let head = c.load_head-head.result in
+    let r = c.load_head-head.new.self in
+    let more = c.load_head-head.ensures in
+    let both = same_more p q r same more.same in
+    let equal : head ≡ slice_index es place = c.if-head-heads.false in
+    let some : 0 < head = omega (arith, c.if-head-eq0.false) in
+    let held = head_same q n plan es place child at c.facts-2.ensures found.0 is found.1 head r.view more.event more.view equal in
+    let low : head ≤ r.view.layout.entries = subst (λ (z : Layout). head ≤ z.entries) (sym more.same.layout) more.there in
+    let s = c.load_ts.new.self in
+    let last = c.load_ts.ensures in
+    let all = same_more p r s both last.same in
+    others_stay r s last.same (number_others r n plan es place child at held.0 is held.1 head equal some low c.load_ts.result s.view last.event last.view c.if-load_ts-eq0.true)

@@ -1,10 +1,12 @@
 use Rattle.std.proofs.Common.{◌≡◌, ◌∙◌, ap, sym, subst}
+use Rattle.index_words.specs.declared.view.View.{View}
 use Rattle.key_map.specs.declared.update.Change.{Change}
 use Rattle.core_updates.specs.Held.{MayRaise, raise_of}
 use Rattle.core_updates.specs.Plans.{key_of, change_of, new_node_of}
 use Rattle.core_updates.specs.Ready.{update_of}
 use Rattle.plan_laws.specs.Raises.{HasFinalised, update_by}
 use Rattle.table_rule.specs.Running.{Happened}
+use Rattle.table_steps.proofs.Places.{raised_here}
 use Rattle.table_steps.specs.Raises.{slot_given, new_slot, nodes_out}
 use Rattle.update_try.specs.Preparing.{IsRaisedBy, new_slots_of}
 use Rattle.update_try.proofs.Raised.{may_raise, raised_now, answers_now}
@@ -36,6 +38,9 @@ returns-clause-raised c =
     subst (λ k. HasFinalised q.view k plan slots c.raise.result 0) (sym c.raise.ensures.same.number)
     (subst (λ k. HasFinalised q.view p.number plan slots k 0) (sym c.raise.ensures.event.1) now)
 
+pub returns-clause-reading : goal.returns-clause-reading
+returns-clause-reading c = ap (λ (u : View). u.reading) c.raise.ensures.gives.view
+
 pub returns-clause-answers : goal.returns-clause-answers
 returns-clause-answers c =
     let p = c.args.pass.now in
@@ -48,3 +53,15 @@ returns-clause-answers c =
     (subst (λ (x : Change). Happened p.view.layout (raise_of p.view.layout p.seat (update_of p.number c.args.line c.key_of.result x)) p.view found q.view) c.change.ensures c.raise.ensures.event.2) in
     subst (IsRaisedBy p q c.args.line plan slots) (sym c.raise.ensures.event.1)
     (answers_now p plan slots c.args.heads.now c.requires.prepared c.requires.apart c.requires.node c.key_of.ensures.small c.requires.left c.args.line q found event)
+
+pub returns-clause-raise : goal.returns-clause-raise
+returns-clause-raise c =
+    let p = c.args.pass.now in
+    let q = c.raise.new.self in
+    let plan = c.args.plan.now in
+    let slots = c.args.slots.now in
+    let found = c.raise.ensures.event.0 in
+    let event : Happened p.view.layout (raise_of p.view.layout p.seat (update_by p.number c.args.line plan)) p.view found q.view
+    = subst (λ k. Happened p.view.layout (raise_of p.view.layout p.seat (update_of p.number c.args.line k (change_of plan))) p.view found q.view) c.key_of.ensures.key
+    (subst (λ (x : Change). Happened p.view.layout (raise_of p.view.layout p.seat (update_of p.number c.args.line c.key_of.result x)) p.view found q.view) c.change.ensures c.raise.ensures.event.2) in
+    raised_here p (update_by p.number c.args.line plan) c.raise.result found q.view c.raise.ensures.event.1 event

@@ -1,9 +1,9 @@
 use Rattle.std.proofs.Common.{ℕ, List, subst}
 use Rattle.key_names.specs.Names.{HoldsEachOnce}
-use Rattle.request_lines.proofs.Interned.{held_once}
+use Rattle.request_lines.proofs.Interned.{kept_once}
 use Rattle.request_lines.proofs.names.Names.into_directory.Goals as goal
 
 pub returns-in-Ok : goal.returns-in-Ok
 returns-in-Ok c =
     subst (λ (names : List (List ℕ)). HoldsEachOnce names c.in-Ok.dir) c.self.view_is
-    (held_once c.self.inside.distinct.items c.self.inside.order.items c.in-Ok.dir c.self.invariant c.in-Ok.ensures.names)
+    (kept_once c.self.inside.names.items c.self.inside.order c.in-Ok.dir c.self.invariant c.in-Ok.ensures.names)

@@ -1,0 +1,481 @@
+-- What is met where a count rises is what another pass did.
+use Rattle.std.proofs.Common.{◌≡◌, ◌≢◌, ℕ, zero, suc, ◌+◌, ◌-◌, ◌<◌, ◌≤◌, ◌⊎◌, cond, List, [], ◌∷◌, length, Bool, true, false, not, eqb, ltb, ◌&&◌, arith, refl, ap, ◌∙◌, sym, subst, inl, inr, Option, Some, None}
+use Rattle.std.specs.List.{slice_get}
+use Rattle.std.proofs.lemmas.Bool.{and_parts, cases_lt, eqb-true, eq-eqb}
+use Rattle.std.proofs.lemmas.Bool.Decides.{nat_tests, eqb_tells}
+use Rattle.index_words.specs.declared.layout.Layout.{Layout}
+use Rattle.index_words.specs.declared.side.Side.{Side}
+use Rattle.index_words.specs.declared.view.View.{View}
+use Rattle.index_words.specs.declared.view.history.Counts.{Counts}
+use Rattle.index_words.specs.declared.view.history.EndedPlace.{EndedPlace}
+use Rattle.index_words.specs.declared.view.reading.Link.{Link}
+use Rattle.index_words.specs.declared.view.reading.Reading.{Reading}
+use Rattle.index_words.specs.declared.view.reading.LinkSource.TheVariants.{Bundle}
+use Rattle.index_words.specs.declared.view.reading.Place.TheVariants.{Nowhere}
+use Rattle.index_words.specs.declared.view.update.Updating.{Updating}
+use Rattle.index_words.specs.declared.word.Field.TheVariants.{Key, Val, Lock, Mark, Head, Link as LinkField, Tag}
+use Rattle.index_words.specs.declared.word.Part.TheVariants.{Child, Stamp as Number}
+use Rattle.index_words.specs.declared.word.Word.{Word}
+use Rattle.index_words.specs.declared.word.Word.TheVariants.{Stamp, Section, Announced, Node, Entry}
+use Rattle.index_words.specs.Words.{Memory, word_at}
+use Rattle.index_words.proofs.Seats.{one_term, two_terms, at_item}
+use Rattle.key_map.specs.declared.update.Update.{Update}
+use Rattle.key_map.specs.Lists.{count, Every, IsItem}
+use Rattle.key_map.proofs.Counting.{count-append}
+use Rattle.core_grace.specs.Holds.{ReadsNode, held_slots, tree_slots, work_nodes, listed}
+use Rattle.core_grace.specs.Sections.{is_even}
+use Rattle.core_grace.specs.Slots.{own, own_free, nodes_of}
+use Rattle.core_links.specs.Bundle.{IsChain, select}
+use Rattle.core_events.specs.declared.event.Event.{Event}
+use Rattle.core_events.specs.declared.event.Kind.{Kind}
+use Rattle.core_events.specs.declared.event.Kind.TheVariants.{TryLock, LoadMark}
+use Rattle.core_events.specs.Tables.{Table, held_by}
+use Rattle.core_events.specs.LoadMoves.{locks}
+use Rattle.core_events.specs.LockNeeds.{names_pass, may_lock, may_try_lock, may_load_mark}
+use Rattle.core_events.specs.Needs.{is_lock}
+use Rattle.core_events.specs.Steps.{needs, carries, allowed_at}
+use Rattle.core_events.specs.Versions.{slots_of}
+use Rattle.core_events.proofs.Tests.{never, not_true, node_there, entry_there}
+use Rattle.core_invariant.specs.BundleRule.{IsPendingAt, IsLive, pending_count}
+use Rattle.core_invariant.specs.Histories.{IsGiven, update_at, made_by, own_place, ended_place, place_count}
+use Rattle.core_invariant.specs.Locks.{NamesHolder, lock_count}
+use Rattle.core_invariant.specs.Meanings.{Meaning}
+use Rattle.core_invariant.specs.Numbers.{number_count}
+use Rattle.core_invariant.specs.OwnPlaces.{HasNumber}
+use Rattle.core_invariant.specs.Readers.{IsReachable, PlaceRight, LinkRight, SourceRight, EntryRight}
+use Rattle.core_invariant.specs.Rule.{Rule, IsRight}
+use Rattle.core_invariant.specs.SeatRule.{SeatRight}
+use Rattle.core_invariant.specs.WaitingSlots.{IsNameless, WaitsRight}
+use Rattle.core_invariant.proofs.Frames.{Term, term_of, every_at, same_item, count-middle}
+use Rattle.core_invariant.proofs.HeldFacts.{count-locks}
+use Rattle.core_invariant.proofs.Idle.{nameless_idle, own_count, cond-le, number_low}
+use Rattle.core_invariant.proofs.OneView.{item_from_get, seat_at}
+use Rattle.core_invariant.proofs.Owned.{slot_is, reachable_live, held_live}
+use Rattle.core_laws.specs.Alone.{AnotherPass, HasLocked, HasPending, HasMovedHead, HasTakenOut, IsStoredBy, MetByOthers, MeetsNothing, OthersLaw, NothingLaw, AloneLaw}
+use Rattle.core_laws.specs.Counts.{MeetsLock, FindsNoNumber, FindsOtherHead, FindsMark}
+use Rattle.core_laws.proofs.CountFacts.{number_some}
+use Rattle.core_laws.proofs.Counts.{counts_law}
+use Rattle.core_laws.proofs.Owners.{found_at}
+use Rattle.core_laws.proofs.Remembered.{every_item}
+
+-- a pass number that a view has counts
+counted : (n : ℕ) (u : View) → HasNumber u n → 0 < number_count n u
+counted n u (inl own) = omega (arith, own_count n u.number own)
+counted n u (inr given) = omega (arith, given)
+
+number_there : (n passes : ℕ) → 0 < 0 + cond (ltb n passes) 1 0 → n < passes
+number_there n passes some = grind (arith, nat_tests)
+
+-- who holds a place of a pass has the pass's number
+own_placed : (n p : ℕ) (o : Option ℕ) (mine : List ℕ) → 0 < own_place n p o mine → o ≡ Some n
+own_placed n p None mine some = absurd (omega (arith, some))
+own_placed n p (Some k) mine some = by_test (eqb k n) refl some
+  where
+    by_test : (b : Bool) → eqb k n ≡ b → 0 < cond b (count p mine) 0 → Some k ≡ Some n
+    by_test true is some = let same : k ≡ n = eqb-true k n is in ap Some same
+    by_test false is some = absurd (omega (arith, some))
+
+-- and where it was none of its own, the place was given up to it
+placed_mine : (n p : ℕ) (o : Option ℕ) (mine : List ℕ) → count p mine ≡ 0 → own_place n p o mine ≡ 0
+placed_mine n p None mine none = refl
+placed_mine n p (Some k) mine none = by_test (eqb k n)
+  where
+    by_test : (b : Bool) → cond b (count p mine) 0 ≡ 0
+    by_test true = none
+    by_test false = refl
+
+given_placed : (n p : ℕ) (ended : List ℕ) (ps : List EndedPlace) → Every (IsGiven ended) ps → 0 < ended_place n p ps → 0 < count n ended
+given_placed n p ended [] all some = absurd (omega (arith, some))
+given_placed n p ended (q ∷ ps) all some = by_tests (eqb q.pass n) (eqb q.at p) refl some (given_placed n p ended ps all.1)
+  where
+    by_tests : (a b : Bool) → eqb q.pass n ≡ a → 0 < cond (a && b) 1 0 + ended_place n p ps → (0 < ended_place n p ps → 0 < count n ended) → 0 < count n ended
+    by_tests true b is some rest = let same : q.pass ≡ n = eqb-true q.pass n is in subst (λ k. 0 < count k ended) same all.0
+    by_tests false b is some rest = rest (omega (arith, some))
+
+-- a view with a number of its own, or that was given one
+some_number : (o : Option ℕ) (ended : List ℕ) → ((o ≡ None) × (ended ≡ []) → ⊥) → (n : ℕ) × ((o ≡ Some n) ⊎ (0 < count n ended))
+some_number (Some n) ended named = (n, inl refl)
+some_number None (n ∷ ended) named = (n, inr (omega (arith, ap (λ b. cond b 1 0 + count n ended) (eq-eqb n n refl))))
+some_number None [] named = absurd (named (refl, refl))
+
+-- the update at a place within the history
+update_there : (us : List Update) (p : ℕ) → 0 < p → p ≤ length us → (u : Update) × (update_at us p ≡ Some u)
+update_there us p low high =
+    let found = there us (p - 1) (omega (arith, low, high)) in
+    (found.0, ap (λ b. cond b None (slice_get us (p - 1))) (not_zero p low) ∙ found.1)
+  where
+    not_zero : (p : ℕ) → 0 < p → eqb p 0 ≡ false
+    not_zero p low = grind (arith, nat_tests)
+
+    there : (us : List Update) (p : ℕ) → p < length us → (u : Update) × (slice_get us p ≡ Some u)
+    there [] p high = absurd (omega (arith, high))
+    there (u ∷ us) zero high = (u, refl)
+    there (u ∷ us) (suc p) high = there us p (omega (arith, high))
+
+own_made : (u : Update) → made_by u.client (Some u) ≡ 1
+own_made u = omega (arith, ap (λ (b : Bool). 0 + cond b 1 0) (eq-eqb u.client u.client refl))
+
+-- a chain from a head begins with the head
+chain_begins : (next : ℕ → ℕ) (head : ℕ) (es : List ℕ) → IsChain next head es → 0 < head → 0 < count head es
+chain_begins next head [] chain some = absurd (omega (arith, chain, some))
+chain_begins next head (e ∷ es) chain some = omega (arith, ap (λ b. cond b 1 0 + count head es) (eq-eqb e head (sym chain.0)))
+
+-- and from 0 it has no entry
+chain_ends : (next : ℕ → ℕ) (head : ℕ) (es : List ℕ) → IsChain next head es → head ≡ 0 → es ≡ []
+chain_ends next head [] chain none = refl
+chain_ends next head (e ∷ es) chain none = absurd (omega (arith, chain.0, chain.1, none))
+
+module _ (t : Table) (right : IsRight t) (i : ℕ) (v : View) (at : IsItem t.views i v) where
+  abbrev z : Layout
+  z = t.layout
+
+  abbrev m : Memory
+  m = held_by t
+
+  abbrev vs : List View
+  vs = t.views
+
+  abbrev g : Meaning
+  g = right.meaning
+
+  rule : Rule z m vs g
+  rule = right.rule
+
+  seat : SeatRight z m g v
+  seat = seat_at z m vs g i v at rule
+
+  -- a seat that is at work has a number
+  named_by : (v.number ≡ None → ⊥) → (n : ℕ) × (v.number ≡ Some n)
+  named_by some = number_some v.number some
+
+  abbrev Given : ℕ → Type 0
+  Given n = 0 < count n v.history.ended
+
+  -- a number that is not the seat's own: another view has it, or it was given up to this one
+  number_apart : (own j n : ℕ) (u : View) → v.number ≡ Some own → IsItem vs j u → HasNumber u n → (j ≢ i) ⊎ Given n → n ≢ own
+  number_apart own j n u named of has (inl other) same =
+      let mine = counted own v (inl named) in
+      let theirs = counted n u has in
+      omega (
+        arith,
+        subst (λ k. 0 < number_count k u) same theirs,
+        mine,
+        two_terms (number_count own) vs i v u at (record { place = j; at = of; other = other }),
+        rule.numbers own,
+        cond-le (ltb own z.passes),
+      )
+  number_apart own j n u named of has (inr given) same =
+      omega (arith, subst (λ k. Given k) same given, own_count own v.number named, one_term (number_count own) vs i v at, rule.numbers own, cond-le (ltb own z.passes))
+
+  another : (does : ℕ → View → Type 0) (own j n : ℕ) (u : View) → v.number ≡ Some own → IsItem vs j u → HasNumber u n → (j ≢ i) ⊎ Given n → does n u → AnotherPass t v does
+  another does own j n u named of has other so = record {
+    own = own;
+    named = named;
+    own_there = number_low z vs i v own rule.numbers at named;
+    pass = n;
+    there = number_there n z.passes (omega (arith, counted n u has, one_term (number_count n) vs j u of, rule.numbers n));
+    apart = number_apart own j n u named of has other;
+    place = j;
+    view = u;
+    at = of;
+    has = has;
+    done = so;
+  }
+
+  -- another view is meant where a count differs
+  apart_by : (f : View → ℕ) (j : ℕ) (u : View) → IsItem vs j u → f v ≡ 0 → 0 < f u → j ≢ i
+  apart_by f j u of none some same = omega (arith, none, some, ap f (same_item vs i j v u at of same))
+
+  busy_named : (j : ℕ) (u : View) → IsItem vs j u → (u.update.pending ≡ [] → ⊥) → u.number ≡ None → ⊥
+  busy_named j u of busy none =
+      let idle = nameless_idle _ _ u (seat_at z m vs g j u of rule).section none in
+      busy (ap (λ (x : Updating). x.pending) idle.update)
+
+  outside_if : v.number ≡ None → is_even v.section_word ≡ true → is_even v.section_word ≡ true
+  outside_if none even = even
+
+  -- a lock that is held
+  lock_held : (own k : ℕ) → v.number ≡ Some own → lock_count k v ≡ 0 → 0 < m (Node Lock k) → (does : ℕ → View → Type 0) → ((n : ℕ) (u : View) → 0 < lock_count k u → does n u) → AnotherPass t v does
+  lock_held own k named free held does gives =
+      let term : Term (lock_count k) vs = term_of (lock_count k) vs (omega (arith, rule.locks k, held_word (m (Node Lock k)) held)) in
+      let u : View = term.item in
+      let holder = holder_of (m (Node Lock k)) u.number ((seat_at z m vs g term.place u term.at rule).locks k term.some).1 in
+      another does own term.place holder.0 u named term.at (inl holder.1) (inl (apart_by (lock_count k) term.place u term.at free term.some)) (gives holder.0 u term.some)
+    where
+      held_word : (x : ℕ) → 0 < x → 0 < 0 + cond (eqb x 0) 0 1
+      held_word x low = grind (arith, nat_tests)
+
+      holder_of : (word : ℕ) (o : Option ℕ) → NamesHolder word o → (n : ℕ) × (o ≡ Some n)
+      holder_of word None names = absurd names
+      holder_of word (Some n) names = (n, refl)
+
+  -- an entry of a live node's bundle that has no number, and is not the seat's
+  pending_elsewhere : (own k e : ℕ) (side : Side) → v.number ≡ Some own → IsLive z vs k → 0 < count e (g.bundles.bundle side k) → m (Entry Number e) ≡ 0 → count e v.update.pending ≡ 0
+      → (does : ℕ → View → Type 0) → ((n : ℕ) (u : View) → 0 < count e u.update.pending → does n u) → AnotherPass t v does
+  pending_elsewhere own k e side named live here none free does gives =
+      let pending : IsPendingAt vs k e = every_at (λ d. m (Entry Number d) ≡ 0 → IsPendingAt vs k d) e (g.bundles.bundle side k) (rule.bundles k live side).owned here none in
+      let term : Term (pending_count e) vs = term_of (pending_count e) vs (omega (arith, pending.0)) in
+      let u : View = term.item in
+      let holder = number_some u.number (busy_named term.place u term.at (λ empty. omega (arith, term.some, ap (count e) empty))) in
+      another does own term.place holder.0 u named term.at (inl holder.1) (inl (apart_by (pending_count e) term.place u term.at free term.some)) (gives holder.0 u term.some)
+
+  -- a written number of an entry that is no place of the seat's own updates
+  written_elsewhere : (mine x : ℕ) → v.number ≡ Some mine → 0 < x → x ≤ m Stamp → count x v.history.mine ≡ 0
+      → (does : ℕ → View → Type 0) → ((n : ℕ) (u : View) → 0 < place_count n x u → does n u) → AnotherPass t v does
+  written_elsewhere mine x named low high none does gives =
+      let made = update_there g.updates x low (omega (arith, high, rule.history.long)) in
+      let n : ℕ = made.0.client in
+      let one : made_by n (update_at g.updates x) ≡ 1 = ap (made_by n) made.1 ∙ own_made made.0 in
+      let term : Term (place_count n x) vs = term_of (place_count n x) vs (omega (arith, rule.history.places n x, one)) in
+      let u : View = term.item in
+      another does mine term.place n u named term.at (has_by n term.place u term.at term.some) (apart_if n term.place u term.at term.some) (gives n u term.some)
+    where
+      given_of : (n j : ℕ) (u : View) → IsItem vs j u → 0 < ended_place n x u.history.ended_places → 0 < count n u.history.ended
+      given_of n j u of some = given_placed n x u.history.ended u.history.ended_places (seat_at z m vs g j u of rule).seen.given some
+
+      has_by : (n j : ℕ) (u : View) → IsItem vs j u → 0 < place_count n x u → HasNumber u n
+      has_by n j u of some =
+          elim (cases_lt 0 (own_place n x u.number u.history.mine)) as (λ _. HasNumber u n) [
+            | inl here ↦ inl (own_placed n x u.number u.history.mine here)
+            | inr other ↦ inr (given_of n j u of (omega (arith, some, other)))
+          ]
+
+      apart_if : (n j : ℕ) (u : View) → IsItem vs j u → 0 < place_count n x u → (j ≢ i) ⊎ Given n
+      apart_if n j u of some =
+          elim (eqb_tells j i) as (λ _. (j ≢ i) ⊎ Given n) [
+            | inr other ↦ inl other.1
+            | inl same ↦
+                let one : v ≡ u = same_item vs i j v u at of same.1 in
+                inr (given_of n i v at (omega (arith, subst (λ (y : View). 0 < place_count n x y) (sym one) some, placed_mine n x v.number v.history.mine none)))
+          ]
+
+  -- a head that is another than the one that the seat remembers, and that the seat did not store
+  module _ (own place entry : ℕ) (l : Link) (named : v.number ≡ Some own) (is : IsItem v.reading.links place l) (source : l.source ≡ Bundle entry) where
+    abbrev head : ℕ
+    head = m (Node (Head l.side) l.node)
+
+    abbrev es : List ℕ
+    es = g.bundles.bundle l.side l.node
+
+    link_right : SourceRight (IsReachable z v l.node) (λ e. m (Entry Child e)) g.bundles.number es v.reading.section l.child (Bundle entry)
+    link_right =
+        subst (SourceRight (IsReachable z v l.node) (λ e. m (Entry Child e)) g.bundles.number es v.reading.section l.child) source
+        (every_item (LinkRight z (λ e. m (Entry Child e)) g.bundles v) v.reading.links place l is seat.links)
+
+    live : IsLive z vs l.node
+    live = reachable_live z vs g rule.slots i l.node v at link_right.reach
+
+    -- in an empty bundle no entry is remembered
+    null_remembered : (o : Option ℕ) → EntryRight (λ e. m (Entry Child e)) g.bundles.number es o l.child entry → es ≡ [] → entry ≡ 0
+    null_remembered None selected empty = selected.0
+    null_remembered (Some n) selected empty = sym selected.0 ∙ ap (select g.bundles.number n) empty
+
+    some_head : entry ≢ head → 0 < head
+    some_head apart =
+        elim (cases_lt 0 head) as (λ _. 0 < head) [
+          | inl some ↦ some
+          | inr low ↦
+              let none : head ≡ 0 = omega (arith, low) in
+              absurd (apart (null_remembered v.reading.section link_right.selected (chain_ends _ head es (rule.bundles l.node live l.side).chain none) ∙ sym none))
+        ]
+
+    head_elsewhere : entry ≢ head → count head v.update.pending ≡ 0 → count (m (Entry Number head)) v.history.mine ≡ 0
+        → (does : ℕ → View → Type 0) → ((n : ℕ) (u : View) → IsStoredBy t n u head → does n u) → AnotherPass t v does
+    head_elsewhere apart free none does gives =
+        let bundle = rule.bundles l.node live l.side in
+        let here : 0 < count head es = chain_begins _ head es bundle.chain (some_head apart) in
+        elim (cases_lt 0 (m (Entry Number head))) as (λ _. AnotherPass t v does) [
+          | inl written ↦
+              let number = every_at _ head es bundle.numbers here written in
+              written_elsewhere own (m (Entry Number head)) named written number.1 none does (λ n u some. gives n u (inr some))
+          | inr unwritten ↦ pending_elsewhere own l.node head l.side named live here (omega (arith, unwritten)) free does (λ n u some. gives n u (inl some))
+        ]
+
+  -- a marked node that the seat reads or has locked, and has not taken out itself
+  mark_elsewhere : (mine k : ℕ) → v.number ≡ Some mine → k ≤ z.nodes → ReadsNode v k → m (Node Mark k) ≡ 1 → count k v.retired.nodes ≡ 0
+      → (does : ℕ → View → Type 0) → ((n : ℕ) (u : View) → 0 < count k u.retired.nodes + count k u.batch.nodes → does n u) → AnotherPass t v does
+  mark_elsewhere mine k named high reads marked none does gives =
+      let live : IsLive z vs k = held_live z vs g rule.slots i k v at reads high in
+      let term : Term (own nodes_of k) vs = term_of (own nodes_of k) vs (omega (arith, rule.slots.nodes.one k, slot_is z.nodes k (no_root k marked) high, no_tree)) in
+      let u : View = term.item in
+      let waits : 0 < count k u.retired.nodes + count k u.batch.nodes = omega (arith, term.some, live.1, one_term (own_free nodes_of k) vs term.place u term.at) in
+      let holder = some_number u.number u.history.ended (λ nameless. nobody u (at_item WaitsRight vs term.place u term.at right.waits) nameless waits) in
+      another does mine term.place holder.0 u named term.at holder.1 (inl (not_own term.place u term.at waits)) (gives holder.0 u waits)
+    where
+      no_root : (j : ℕ) → m (Node Mark j) ≡ 1 → 0 < j
+      no_root zero marked = absurd (omega (arith, marked, rule.marks.root))
+      no_root (suc j) marked = omega arith
+
+      no_tree : count k (slots_of g.tree) ≡ 0
+      no_tree =
+          elim (cases_lt 0 (count k (slots_of g.tree))) as (λ _. count k (slots_of g.tree) ≡ 0) [
+            | inl here ↦ absurd (omega (arith, marked, rule.marks.nodes k here))
+            | inr gone ↦ omega (arith, gone)
+          ]
+
+      nobody : (u : View) → WaitsRight u → IsNameless u → 0 < count k u.retired.nodes + count k u.batch.nodes → ⊥
+      nobody u right nameless waits =
+          let empty = right.owned nameless in
+          omega (arith, waits, ap (λ (s : Rattle.index_words.specs.declared.view.slots.Slots.Slots). count k s.nodes) empty.0, ap (λ (s : Rattle.index_words.specs.declared.view.slots.Slots.Slots). count k s.nodes) empty.1)
+
+      not_own : (j : ℕ) (u : View) → IsItem vs j u → 0 < count k u.retired.nodes + count k u.batch.nodes → j ≢ i
+      not_own j u of waits same =
+          let one : v ≡ u = same_item vs i j v u at of same in
+          let mine : 0 < count k v.retired.nodes + count k v.batch.nodes = subst (λ (y : View). 0 < count k y.retired.nodes + count k y.batch.nodes) (sym one) waits in
+          (at_item WaitsRight vs i v at right.waits).apart k (omega (arith, mine, none)) reads
+
+-- what an allowed event meets
+module _ (t : Table) (e : Event) (right : IsRight t) (v : View) (at : IsItem t.views e.seat v) (word : Word) (found : word_at t.layout e.word ≡ Some word)
+    (met : needs e.kind t.layout (held_by t) t.views e.seat v word e.value e.update ≡ true) where
+  needs_of : (kind : Kind) → e.kind ≡ kind → needs kind t.layout (held_by t) t.views e.seat v word e.value e.update ≡ true
+  needs_of kind is = subst (λ k. needs k t.layout (held_by t) t.views e.seat v word e.value e.update ≡ true) is met
+
+  inside_named : not (is_even v.section_word) ≡ true → v.number ≡ None → ⊥
+  inside_named inside none =
+      let section = (seat_at t.layout (held_by t) t.views right.meaning e.seat v at right.rule).section in
+      absurd (never (sym (not_true (is_even v.section_word) inside) ∙ nameless_even none))
+    where
+      nameless_even : v.number ≡ None → is_even v.section_word ≡ true
+      nameless_even none = even_by v.number none (seat_at t.layout (held_by t) t.views right.meaning e.seat v at right.rule).section.section
+        where
+          even_by : (o : Option ℕ) → o ≡ None → Rattle.core_invariant.specs.SectionRule.IsOwnWord (λ n. held_by t (Section n)) o v.section_word → is_even v.section_word ≡ true
+          even_by None is own = ap is_even own
+          even_by (Some n) is own = cc
+
+  not_locked : (k : ℕ) → not (locks k v.held.nodes) ≡ true → lock_count k v ≡ 0
+  not_locked k none = counted_by (lock_count k v) refl
+    where
+      counted_by : (n : ℕ) → lock_count k v ≡ n → n ≡ 0
+      counted_by zero is = refl
+      counted_by (suc n) is = absurd (never (sym (not_true (locks k v.held.nodes) none) ∙ count-locks k v.held.nodes (omega (arith, is))))
+
+  lock_by : (u : Word) → word ≡ u → may_try_lock v u e.value ≡ true → MeetsLock t e → AnotherPass t v (HasLocked t e)
+  lock_by (Node Lock k) named may p =
+      let a = not (is_even v.section_word) in
+      let b = may_lock v k in
+      let c = not (locks k v.held.nodes) in
+      let one = and_parts (is_lock Lock && a && b && c) (names_pass v.number e.value) may in
+      let two = and_parts (is_lock Lock && a && b) c one.0 in
+      let three = and_parts (is_lock Lock && a) b two.0 in
+      let own = number_some v.number (inside_named (and_parts (is_lock Lock) a three.0).1) in
+      let here : word_at t.layout e.word ≡ Some (Node Lock k) = found ∙ ap Some named in
+      let held : 0 < held_by t (Node Lock k) = subst (λ x. 0 < x) (found_at t.layout t.words e.word (Node Lock k) here) p.held in
+      lock_held t right e.seat v at own.0 k own.1 (not_locked k two.1) held (HasLocked t e) (λ n u some. record { node = k; word = here; locked = some })
+  lock_by (Node Key k) named may p = absurd (never may)
+  lock_by (Node Val k) named may p = absurd (never may)
+  lock_by (Node Mark k) named may p = absurd (never may)
+  lock_by (Node (Head s) k) named may p = absurd (never may)
+  lock_by (Node (LinkField s) k) named may p = absurd (never may)
+  lock_by (Node (Tag s) k) named may p = absurd (never may)
+  lock_by Stamp named may p = absurd (never may)
+  lock_by (Section k) named may p = absurd (never may)
+  lock_by (Announced k) named may p = absurd (never may)
+  lock_by (Entry q d) named may p = absurd (never may)
+
+  number_by : FindsNoNumber t e v → AnotherPass t v (HasPending t e)
+  number_by p =
+      let side = p.watches.side in
+      let seat = seat_at t.layout (held_by t) t.views right.meaning e.seat v at right.rule in
+      let place = subst (PlaceRight t.layout (λ d. held_by t (Entry Number d)) right.meaning.bundles v) p.watches.place seat.place in
+      let stands = place.stands (entry_there t.layout e.word p.entry Number p.word) p.watches.watched in
+      let here : 0 < count p.entry (right.meaning.bundles.bundle side p.watches.node) = subst (λ es. 0 < count p.entry es) (sym stands.splits) (count-middle p.entry stands.front stands.back) in
+      let live = reachable_live t.layout t.views right.meaning right.rule.slots e.seat p.watches.node v at place.reach in
+      let own = number_some v.number (λ none. placed_named p none) in
+      pending_elsewhere t right e.seat v at own.0 p.watches.node p.entry side own.1 live here p.none p.other (HasPending t e) (λ n u some. record { entry = p.entry; word = p.word; pending = some })
+    where
+      placed_named : FindsNoNumber t e v → v.number ≡ None → ⊥
+      placed_named p none =
+          let idle = nameless_idle _ _ v (seat_at t.layout (held_by t) t.views right.meaning e.seat v at right.rule).section none in
+          let nowhere : v.reading.place ≡ Nowhere = ap (λ (r : Reading). r.place) idle.reading in
+          cc (sym nowhere ∙ p.watches.place)
+
+  head_by : FindsOtherHead t e v → AnotherPass t v (HasMovedHead t e)
+  head_by p =
+      let l : Link = p.other.link in
+      let m : Memory = held_by t in
+      let head_of : Side → ℕ → ℕ = λ s k. m (Node (Head s) k) in
+      let same : head_of l.side l.node ≡ head_of p.side p.node = ap (λ s. head_of s l.node) p.other.side_is ∙ ap (head_of p.side) p.other.node_is in
+      let own = number_some v.number (λ none. linked_named p none) in
+      head_elsewhere t right e.seat v at own.0 p.other.place p.other.entry l own.1 p.other.is p.other.source (λ is. p.other.apart (is ∙ same))
+      (subst (λ h. count h v.update.pending ≡ 0) (sym same) p.apart.0) (subst (λ h. count (m (Entry Number h)) v.history.mine ≡ 0) (sym same) p.apart.1) (HasMovedHead t e)
+      (λ n u stored. record { node = p.node; side = p.side; word = p.word; stored = subst (IsStoredBy t n u) same stored })
+    where
+      linked_named : FindsOtherHead t e v → v.number ≡ None → ⊥
+      linked_named p none =
+          let idle = nameless_idle _ _ v (seat_at t.layout (held_by t) t.views right.meaning e.seat v at right.rule).section none in
+          let empty : v.reading.links ≡ [] = ap (λ (r : Reading). r.links) idle.reading in
+          omega (arith, p.other.is.within, ap length empty)
+
+  mark_by : (u : Word) → word ≡ u → may_load_mark v u e.value ≡ true → FindsMark t e v → AnotherPass t v (HasTakenOut t e)
+  mark_by (Node f k) named may p =
+      let a = not (is_even v.section_word) in
+      let one = and_parts (Rattle.core_events.specs.LockNeeds.is_mark f && a) (eqb e.value 0) may in
+      let own = number_some v.number (inside_named (and_parts (Rattle.core_events.specs.LockNeeds.is_mark f) a one.0).1) in
+      elim p.reach as (λ _. AnotherPass t v (HasTakenOut t e)) [
+        | inl root ↦ absurd (omega (arith, p.marked, ap (λ j. held_by t (Node Mark j)) root, right.rule.marks.root))
+        | inr reads ↦
+            mark_elsewhere t right e.seat v at own.0 p.node own.1 (node_there t.layout e.word p.node Mark p.word) (read_by p.node reads) p.marked p.kept.1 (HasTakenOut t e)
+            (λ n u waits. record { node = p.node; word = p.word; waits = waits })
+      ]
+    where
+      read_by : (j : ℕ) → (0 < count j (tree_slots v.reading.tree)) ⊎ (0 < count j (held_slots v.held.nodes)) → ReadsNode v j
+      read_by j (inl tree) = omega (arith, tree, count-append j (tree_slots v.reading.tree) (work_nodes v))
+      read_by j (inr locked) =
+          omega (arith, locked, count-append j (tree_slots v.reading.tree) (work_nodes v), count-append j (held_slots v.held.nodes) (listed v.update.added))
+  mark_by Stamp named may p = absurd (never may)
+  mark_by (Section k) named may p = absurd (never may)
+  mark_by (Announced k) named may p = absurd (never may)
+  mark_by (Entry q d) named may p = absurd (never may)
+
+  met_by_others : MetByOthers t e v
+  met_by_others = record {
+    lock = λ p. lock_by word refl (needs_of TryLock p.kind) p;
+    number = number_by;
+    head = head_by;
+    mark = λ p. mark_by word refl (needs_of LoadMark p.kind) p;
+  }
+
+others_by : (t : Table) (e : Event) (v : View) (o : Option View) (w : Option Word) → slice_get t.views e.seat ≡ o → word_at t.layout e.word ≡ w → IsRight t → allowed_at t e o w ≡ true → o ≡ Some v → MetByOthers t e v
+others_by t e v None w is found right met one = absurd (never met)
+others_by t e v (Some u) None is found right met one = absurd (never met)
+others_by t e v (Some u) (Some w) is found right met one =
+    let a = carries e.kind u e.update in
+    let b = not u.joined in
+    let c = needs e.kind t.layout (held_by t) t.views e.seat u w e.value e.update in
+    let met_u = met_by_others t e right u (item_from_get t.views e.seat u is) w found (and_parts (a && b) c met).1 in
+    let same : u ≡ v = cc in
+    subst (MetByOthers t e) same met_u
+
+pub others : OthersLaw
+others t e v right met is = others_by t e v (slice_get t.views e.seat) (word_at t.layout e.word) refl refl right met is
+
+-- with one pass there is no other
+nobody_else : (t : Table) (v : View) (does : ℕ → View → Type 0) → t.layout.passes ≡ 1 → AnotherPass t v does → ⊥
+nobody_else t v does one other =
+    let apart : other.pass ≡ other.own → ⊥ = other.apart in
+    omega (arith, one, other.own_there, other.there, apart)
+
+same_counts : (a b : Counts) → a.busy ≡ b.busy → a.waits ≡ b.waits → a.moves ≡ b.moves → a ≡ b
+same_counts a b busy waits moves =
+    ap (λ n. record { busy = n; waits = a.waits; moves = a.moves }) busy ∙ ap (λ n. record { busy = b.busy; waits = n; moves = a.moves }) waits
+    ∙ ap (λ n. record { busy = b.busy; waits = b.waits; moves = n }) moves
+
+pub nothing : NothingLaw
+nothing t e v right one met before =
+    let by = others t e v right met before in
+    record {
+      lock = λ p. nobody_else t v (HasLocked t e) one (by.lock p);
+      number = λ p. nobody_else t v (HasPending t e) one (by.number p);
+      head = λ p. nobody_else t v (HasMovedHead t e) one (by.head p);
+      mark = λ p. nobody_else t v (HasTakenOut t e) one (by.mark p);
+    }
+
+pub alone : AloneLaw
+alone t e v w right one met before after =
+    let none = nothing t e v right one met before in
+    let rise = counts_law t e v w right met before after in
+    same_counts w.counts v.counts (rise.busy.stays none.lock) (rise.waits.stays none.number) (rise.moves.stays (no_move none))
+  where
+    no_move : MeetsNothing t e v → FindsOtherHead t e v ⊎ FindsMark t e v → ⊥
+    no_move none (inl p) = none.head p
+    no_move none (inr p) = none.mark p

@@ -1,0 +1,29 @@
+use Rattle.std.proofs.Common.{ℕ, arith, sym, subst}
+use Rattle.plan_laws.specs.Tries.{IsSearched}
+use Rattle.bundle_reads.proofs.ReadMoves.{inside_on}
+use Rattle.tree_update.proofs.CallSteps.{search_stays}
+use Rattle.tree_update.proofs.TryMade.{offers_still}
+use Rattle.index_runs.proofs.waits.put_slowly.Goals as goal
+
+pub carry_slowly-requires-clause-searched : goal.carry_slowly-requires-clause-searched
+carry_slowly-requires-clause-searched c =
+    let p = c.in-Plan.planned in
+    subst (λ (n : ℕ). IsSearched c.find_plan.new.pass.view n p.plan p.entries) (sym c.find_plan.ensures.same.number)
+    (c.in-Plan.ensures.ready c.begin_search-at.ensures.fresh c.number_fact.ensures)
+
+pub carry_slowly-requires-clause-free : goal.carry_slowly-requires-clause-free
+carry_slowly-requires-clause-free c =
+    let still = offers_still c.args.pass.now c.begin_search-at.new.pass.view c.find_plan.new.pass.view c.begin_search-at.result c.begin_search-at.ensures.opened
+    c.find_plan.ensures.searched.read c.args.slots.now c.requires.slots in
+    still.free
+
+pub carry_slowly-requires-clause-left : goal.carry_slowly-requires-clause-left
+carry_slowly-requires-clause-left c =
+    let b = c.begin_search-at.new.pass.view in
+    let x = c.find_plan.new.pass.view in
+    let stays = search_stays c.args.pass.now b x c.begin_search-at.result c.begin_search-at.ensures.opened c.find_plan.ensures.searched.read in
+    omega (arith, c.requires.left, stays.goes.left)
+
+pub carry_slowly-requires-clause-reads : goal.carry_slowly-requires-clause-reads
+carry_slowly-requires-clause-reads c =
+    (inside_on c.begin_search-at.new.pass.view c.find_plan.new.pass.view c.begin_search-at.result c.find_plan.ensures.searched.read c.begin_search-at.ensures.fresh.reads).section

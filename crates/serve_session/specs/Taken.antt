@@ -1,0 +1,16 @@
+-- Helper: the headline does not rest on this file.
+-- What a sink has taken of the text of a run.
+use Rattle.std.specs.Prelude.{◌≡◌, ◌⊎◌, ℕ, List, [], Option}
+use Rattle.outside_io.specs.Streams.{IsTaken, TakesStart}
+use Rattle.bucket_terms.specs.declared.reply.Placed.{Placed}
+use Rattle.bucket_terms.specs.LegalRun.{Run}
+use Rattle.serve_session.specs.Served.{IsRunOf}
+
+-- the sink took a start of the text
+abbrev pub TookStart : {K : Type 0} → (K → Option (List ℕ)) → K → K → Run → List ℕ → Type 0
+TookStart taken sink sink' run text = TakesStart (taken sink) (taken sink') text
+
+-- the sink took the whole text, and the run is the runner's; where there is no client, there are no replies
+abbrev pub TookBy : {K R : Type 0} → (K → Option (List ℕ)) → K → K → (R → ℕ) → (R → List (List Placed)) → R → R → Run → List ℕ → Type 0
+TookBy taken sink sink' runs replied runner runner' run text =
+    IsTaken (taken sink) (taken sink') text × ((run.replies ≡ []) ⊎ IsRunOf (runs runner) (runs runner') (replied runner') run)

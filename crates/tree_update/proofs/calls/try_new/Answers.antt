@@ -1,0 +1,17 @@
+use Rattle.std.proofs.Common.{subst, Bool, true}
+use Rattle.tree_update.specs.Calls.{LooksFor}
+use Rattle.tree_update.proofs.CallSteps.{goes_more, looked_more}
+use Rattle.tree_update.proofs.calls.try_new.Goals as goal
+
+pub returns-then-found-clause-answered : goal.returns-then-found-clause-answered
+returns-then-found-clause-answered g c =
+    let v = c.args.pass.now.view in
+    let u = c.try_insert.new.pass.view in
+    let w = c.look_for-found.new.pass.view in
+    let found = c.look_for-found.result in
+    looked_more v u w c.args.key true found.at c.in-Err-There.ensures.stays.goes
+    (subst (λ (b : Bool). LooksFor u w c.args.key b found.at) c.if-found.true c.look_for-found.ensures.looked)
+
+pub returns-else-found-clause-goes : goal.returns-else-found-clause-goes
+returns-else-found-clause-goes g c = λ _.
+    goes_more c.args.pass.now.view c.try_insert.new.pass.view c.look_for-found.new.pass.view c.in-Err-There.ensures.stays.goes c.look_for-found.ensures.looked.goes
