@@ -235,7 +235,6 @@ FAULTY = [
     (b" HEAD a", "UnknownVerb"),
     (b"PUT a 1 e1", "WrongFields"),
     (b"PUT a 1 e1 1 ", "WrongFields"),
-    (b"PUTNEW a 1 e1", "WrongFields"),
     (b"PUTNEW a", "WrongFields"),
     (b"HEAD", "WrongFields"),
     (b"LIST a b", "WrongFields"),
@@ -250,7 +249,6 @@ FAULTY = [
     (b"LIST marker=%", "BadEscape"),
     (b"LIST prefix=%zz", "BadEscape"),
     (b"PUT  1 e1 1", "EmptyKey"),
-    (b"PUTNEW  1 e1 1", "EmptyKey"),
     (b"DELETE ", "EmptyKey"),
     (b"HEAD " + b"k" * 1025, "KeyTooLong"),
     (b"PUT " + b"k" * 1025 + b" 1 e1 1", "KeyTooLong"),
@@ -260,14 +258,12 @@ FAULTY = [
     (b"LIST delimiter=" + b"k" * 1025, "KeyTooLong"),
     (b"LIST start-after=" + b"k" * 1025, "KeyTooLong"),
     (b"PUT a x e1 1", "BadNumber"),
-    (b"PUTNEW a x e1 1", "BadNumber"),
     (b"PUT a 1 e1 +1", "BadNumber"),
     (b"PUT a  e1 1", "BadNumber"),
     (b"PUT a 1 e1 ", "BadNumber"),
     ("PUT a ١ e1 1".encode(), "BadNumber"),
     (b"PUT a 18446744073709551616 e1 1", "NumberTooLarge"),
     (b"PUT a 1 e! 1", "BadEtag"),
-    (b"PUTNEW a 1 e! 1", "BadEtag"),
     (b'PUT a 1 " 1', "BadEtag"),
     (b'PUT a 1 "" 1', "BadEtag"),
     (b'PUT a 1 "e 1', "BadEtag"),
@@ -312,9 +308,12 @@ FAULTY = [
     (b"LIST list-type=1&list-type=1&x", "UnknownParameter"),
     (b"LIST x=1&prefix=%zz", "BadEscape"),
 ]
+# A PUTNEW line has the causes of a PUT line, in their order.
+FAULTY += [(line.replace(b"PUT", b"PUTNEW", 1), cause) for line, cause in FAULTY if line.startswith(b"PUT ")]
 
 REFUSED = [
     (b"PUT a 1 e1 1\nCLIENT\n", 1, "NoClient"),
+    (b"PUTNEW a 1 e1 1\nCLIENT\n", 1, "NoClient"),
     (b"\n\nLIST\n", 3, "NoClient"),
     (b"PUT a x e! 1\n", 1, "BadNumber"),
     # a byte order mark is a part of the line
@@ -335,7 +334,15 @@ REFUSED = [
         4004,
         "TooManyEntries",
     ),
+    # other lines change nothing of what a NEXT counts with
+    (b"CLIENT\nLIST\nPUT a 1 e 1\nPUTNEW b 1 e 1\nDELETE a\nHEAD a\n" + b"NEXT\n" * 4000, 4006, "TooManyEntries"),
     (b"CLIENT\n\n" + b"HEAD a\n" * 200_001, 200_003, "TooManyLines"),
+    # a request of each verb, and as many more as are one too many
+    (
+        b"CLIENT\nPUT a 1 e 1\nPUTNEW a 1 e 1\nDELETE a\nLIST max-keys=0\nNEXT\n" + b"HEAD a\n" * 199_996,
+        200_002,
+        "TooManyLines",
+    ),
     # over two limits at once
     (b"CLIENT\n" + b"LIST max-keys=20\n" * 200_000 + b"LIST max-keys=1\n", 200_002, "TooManyLines"),
 ]
