@@ -126,6 +126,8 @@ def try_a_stop(top):
     path = "%s:%s" % (top / "kit", os.environ["PATH"])
     here = {**os.environ, "PATH": path, "TMPDIR": str(top / "tmp"), "SLOW": "yes"}
     how = {"stdin": subprocess.DEVNULL, "stdout": subprocess.DEVNULL, "stderr": subprocess.PIPE, "start_new_session": True}
+    # Where this script runs in the background the signal is ignored, and a shell cannot trap one that it was given so.
+    how["preexec_fn"] = lambda: signal.signal(signal.SIGINT, signal.SIG_DFL)
     with subprocess.Popen([top / "bucketidx", "run"], env=here, **how) as started:
         for line in started.stderr:
             if b"proved key_map" in line:
