@@ -1,0 +1,14 @@
+pub mod Points
+pub mod Forms
+pub mod Changes
+pub mod Extending
+pub mod Matching
+pub mod NullLinks
+pub mod Ways
+pub mod Walks
+pub mod Stores
+pub mod Ahead
+pub mod Raises
+pub mod Inserts
+pub mod Turns
+pub mod Belows

@@ -1,0 +1,23 @@
+use Rattle.plain_trees.proofs.Walks.{begin_law, walk_law}
+use Rattle.plain_trees.proofs.NullLinks.{null_link}
+use Rattle.plain_trees.proofs.Stores.{store}
+use Rattle.plain_trees.proofs.Turns.{turn_law}
+use Rattle.plain_trees.proofs.Belows.{below_law}
+use Rattle.plain_trees.proofs.Ahead.{ahead_law}
+use Rattle.plain_trees.proofs.Inserts.{insert}
+use Rattle.plain_trees.proofs.Raises.{replace, remove}
+use Rattle.plain_trees.proofs.laws.plain_links_lead_right.Goals as goal
+
+pub returns : goal.returns
+returns c = record {
+  begin = begin_law;
+  walk = walk_law;
+  gap = null_link;
+  store = store;
+  turn = turn_law;
+  below = below_law;
+  ahead = ahead_law;
+  insert = insert;
+  replace = replace;
+  remove = remove;
+}

@@ -1,0 +1,9 @@
+pub mod Points
+pub mod Successors
+pub mod Matching
+pub mod Claims
+pub mod Walks
+pub mod NullLinks
+pub mod Stores
+pub mod Turns
+pub mod Raises
