@@ -1,27 +1,14 @@
 -- Before a removal with two children raises, searches below the removed node come to the successor.
-use Rattle.std.proofs.Common.{◌≡◌, ℕ, ◌+◌, ◌^◌, ◌<◌, ◌≤◌, ◌⊎◌, inl, inr, List, [], ◌∷◌, refl, ap, sym, ◌∙◌, subst, arith, Option, Some, None}
-use Rattle.std.proofs.lemmas.Bool.Decides.{eqb_tells}
+use Rattle.std.proofs.Common.{ℕ, ◌<◌, ◌≤◌, inl, inr, refl, sym, ◌∙◌, subst, arith}
 use Rattle.index_words.specs.declared.side.Side.{Side}
-use Rattle.index_words.specs.declared.side.Side.TheVariants.{Left, Right}
-use Rattle.core_trees.specs.NamedTree.{NamedTree, Null, Branch, IsWithin, IsLawful}
-use Rattle.core_trees.specs.Gaps.{IsNull, IsGapLink, child_of}
-use Rattle.core_trees.specs.Search.{EndsAt, end_node, end_side}
-use Rattle.core_trees.specs.TreeStep.{subtree_at, tree_put, tree_remove, put_here, remove_here, update, without_first, first_pair, joined}
-use Rattle.core_trees.specs.Slots.{occurs, NamesOnce}
-use Rattle.core_trees.specs.SpelledTree.{Graph, IsSpelled}
-use Rattle.core_trees.proofs.Slots.{one_at-same}
-use Rattle.core_trees.proofs.Gaps.{null-lacks, absent_gap}
-use Rattle.core_trees.proofs.Updates.{update-left, update-right, update-here, subtree_at-left, subtree_at-right, subtree_at-here, end_node-left, end_node-right, end_side-left, end_side-right}
-use Rattle.core_links.proofs.Compare.{compared, less, more, same}
-use Rattle.plain_trees.specs.Points.{point_of, Meets, EndsAtNull, IsOn, IsAbove, IsUnder, IsInTurns}
-use Rattle.plain_trees.specs.Successors.{LeadsTo, LeadsFrom}
-use Rattle.plain_trees.specs.Matching.{Undone, IsUnset, IsOut, IsBypassed, IsHeir, IsOrderly, IsTop, AllBelow, AllAbove, HasWayAhead, NodeCase, Same, Replaced, Copied, LiftedRight, LiftedLeft, Matches}
-use Rattle.plain_trees.specs.Claims.{IsWay, IsWaiting, IsExcepted, Claims, ClaimsInTurns}
-use Rattle.plain_trees.specs.Walks.{low_turn, high_turn, BeginLaw, WalkLaw}
-use Rattle.plain_trees.specs.NullLinks.{turn_of, EndedAt, NullLinkLaw}
-use Rattle.plain_trees.specs.Stores.{Relinks, Grows, Replaces, LiftsRight, LiftsLeft, Copies, Joins, IsStore, Insert, LiftRight, LiftLeft, Replace, Copy, Join, IsTest, Stores, ReachesNoNew, StoreLaw}
-use Rattle.plain_trees.specs.Turns.{HasKey, IsBelow, IsBeyond, TurnLaw, BelowLaw}
-use Rattle.plain_trees.specs.Raises.{Extends, IsSettled, IsFoundAt, IsLinkTo, IsFirst, LeavesSuccessor, LeavesUnset, AheadLaw, InsertLaw, ReplaceLaw, RemoveLaw}
+use Rattle.index_words.specs.declared.side.Side.TheVariants.{Left}
+use Rattle.core_trees.specs.NamedTree.{NamedTree, Null, Branch, IsWithin}
+use Rattle.core_trees.specs.Gaps.{IsNull}
+use Rattle.core_trees.specs.TreeStep.{first_pair}
+use Rattle.plain_trees.specs.Points.{point_of}
+use Rattle.plain_trees.specs.Successors.{LeadsTo}
+use Rattle.plain_trees.specs.Matching.{Undone, IsUnset, IsBypassed, AllBelow, Same, Replaced, Copied, LiftedRight, LiftedLeft, Matches}
+use Rattle.plain_trees.specs.Raises.{IsFirst, AheadLaw}
 
 null-first : (s key : ℕ) (t : NamedTree) → IsNull t → IsFirst s key t → ⊥
 null-first s key Null n h = h

@@ -1,29 +1,13 @@
 -- What the store of a plain link leaves of searches in the plain tree.
-use Rattle.std.proofs.Common.{◌≡◌, ℕ, ◌+◌, ◌^◌, ◌<◌, ◌≤◌, ◌⊎◌, inl, inr, List, [], ◌∷◌, refl, ap, sym, ◌∙◌, subst, arith, Option, Some, None}
-use Rattle.std.proofs.lemmas.Bool.Decides.{eqb_tells}
-use Rattle.index_words.specs.declared.side.Side.{Side}
-use Rattle.index_words.specs.declared.side.Side.TheVariants.{Left, Right}
-use Rattle.core_trees.specs.NamedTree.{NamedTree, Null, Branch, IsWithin, IsLawful}
-use Rattle.core_trees.specs.Gaps.{IsNull, IsGapLink, child_of}
-use Rattle.core_trees.specs.Search.{EndsAt, end_node, end_side}
-use Rattle.core_trees.specs.TreeStep.{subtree_at, tree_put, tree_remove, put_here, remove_here, update, without_first, first_pair, joined}
-use Rattle.core_trees.specs.Slots.{occurs, NamesOnce}
-use Rattle.core_trees.specs.SpelledTree.{Graph, IsSpelled}
-use Rattle.core_trees.proofs.Slots.{one_at-same}
-use Rattle.core_trees.proofs.Gaps.{null-lacks, absent_gap}
-use Rattle.core_trees.proofs.Updates.{update-left, update-right, update-here, subtree_at-left, subtree_at-right, subtree_at-here, end_node-left, end_node-right, end_side-left, end_side-right}
+use Rattle.std.proofs.Common.{◌≡◌, ℕ, ◌<◌, ◌≤◌, ◌⊎◌, inl, inr, refl, sym, subst, arith}
+use Rattle.core_trees.specs.NamedTree.{NamedTree, Null, Branch}
+use Rattle.core_trees.specs.Gaps.{IsNull}
 use Rattle.core_links.proofs.Compare.{compared, less, more, same}
-use Rattle.plain_trees.specs.Points.{point_of, Meets, EndsAtNull, IsOn, IsAbove, IsUnder, IsInTurns}
+use Rattle.plain_trees.specs.Points.{point_of, Meets}
 use Rattle.plain_trees.specs.Successors.{LeadsTo, LeadsFrom}
-use Rattle.plain_trees.specs.Matching.{Undone, IsUnset, IsOut, IsBypassed, IsHeir, IsOrderly, IsTop, AllBelow, AllAbove, HasWayAhead, NodeCase, Same, Replaced, Copied, LiftedRight, LiftedLeft, Matches}
-use Rattle.plain_trees.specs.Claims.{IsWay, IsWaiting, IsExcepted, Claims, ClaimsInTurns}
-use Rattle.plain_trees.specs.Walks.{low_turn, high_turn, BeginLaw, WalkLaw}
-use Rattle.plain_trees.specs.NullLinks.{turn_of, EndedAt, NullLinkLaw}
-use Rattle.plain_trees.specs.Stores.{Relinks, Grows, Replaces, LiftsRight, LiftsLeft, Copies, Joins, IsStore, Insert, LiftRight, LiftLeft, Replace, Copy, Join, IsTest, Stores, ReachesNoNew, StoreLaw}
-use Rattle.plain_trees.specs.Turns.{HasKey, IsBelow, IsBeyond, TurnLaw, BelowLaw}
-use Rattle.plain_trees.specs.Raises.{Extends, IsSettled, IsFoundAt, IsLinkTo, IsFirst, LeavesSuccessor, LeavesUnset, AheadLaw, InsertLaw, ReplaceLaw, RemoveLaw}
+use Rattle.plain_trees.specs.Stores.{Relinks, Grows, Replaces, LiftsRight, LiftsLeft, Copies, Joins}
 use Rattle.plain_trees.proofs.Forms.{LeavesMet, LeavesLeads, LeavesFrom}
-use Rattle.plain_trees.proofs.Points.{null-meets, null-leads, leads-below}
+use Rattle.plain_trees.proofs.Points.{leads-below}
 
 -- what is told of a node of a subtree is told of it in the tree
 abbrev pub Rises : (ℕ → NamedTree → Type 0) → Type 0
@@ -36,7 +20,7 @@ meets-on fine x other change rises leaves c Null u re meets = leaves c Null u re
 meets-on fine x other change rises leaves c (Branch s k v l r) u (inl top) meets = leaves c (Branch s k v l r) u top meets
 meets-on fine x other change rises leaves c (Branch s k v l r) u (inr far) meets =
     subst (λ t. Meets x c t ⊎ other c t) (sym far.2)
-        (below (λ h m. meets-on fine x other change rises leaves c l far.0 h m) (λ h m. meets-on fine x other change rises leaves c r far.1 h m) far.3 meets)
+    (below (λ h m. meets-on fine x other change rises leaves c l far.0 h m) (λ h m. meets-on fine x other change rises leaves c r far.1 h m) far.3 meets)
   where
     goes-left : Meets x c far.0 ⊎ other c far.0 → x < point_of k → Meets x c (Branch s k v far.0 far.1) ⊎ other c (Branch s k v far.0 far.1)
     goes-left (inl h) b = inl (inr (inl (b, h)))
@@ -62,7 +46,7 @@ leads-on fine bypassed x s change waits bares leaves Null u re leads = absurd le
 leads-on fine bypassed x s change waits bares leaves (Branch m k v l r) u (inl top) leads = leaves (Branch m k v l r) u top leads
 leads-on fine bypassed x s change waits bares leaves (Branch m k v l r) u (inr far) leads =
     subst (LeadsTo bypassed x s) (sym far.2)
-        (below (λ h d. leads-on fine bypassed x s change waits bares leaves l far.0 h d) (λ h d. leads-on fine bypassed x s change waits bares leaves r far.1 h d) far.3 leads)
+    (below (λ h d. leads-on fine bypassed x s change waits bares leaves l far.0 h d) (λ h d. leads-on fine bypassed x s change waits bares leaves r far.1 h d) far.3 leads)
   where
     left-null : (fine m → ⊥) → (Relinks fine change l far.0 × (IsNull l → fine m) × (r ≡ far.1)) ⊎ ((l ≡ far.0) × Relinks fine change r far.1) → IsNull l → IsNull far.0
     left-null not (inl h) n = absurd (not (h.1 n))
@@ -84,7 +68,7 @@ from-on fine bypassed gone x s change waits bares leads leaves c Null u re h = a
 from-on fine bypassed gone x s change waits bares leads leaves c (Branch m k v l r) u (inl top) h = leaves c (Branch m k v l r) u top h
 from-on fine bypassed gone x s change waits bares leads leaves c (Branch m k v l r) u (inr far) h =
     subst (λ t. LeadsFrom bypassed x s c t ⊎ gone c) (sym far.2)
-        (below (λ re d. from-on fine bypassed gone x s change waits bares leads leaves c l far.0 re d) (λ re d. from-on fine bypassed gone x s change waits bares leads leaves c r far.1 re d) far.3 h)
+    (below (λ re d. from-on fine bypassed gone x s change waits bares leads leaves c l far.0 re d) (λ re d. from-on fine bypassed gone x s change waits bares leads leaves c r far.1 re d) far.3 h)
   where
     goes-left : LeadsFrom bypassed x s c far.0 ⊎ gone c → LeadsFrom bypassed x s c (Branch m k v far.0 far.1) ⊎ gone c
     goes-left (inl d) = inl (inr (inl d))

@@ -1,5 +1,5 @@
 -- What a change of one subtree leaves of searches.
-use Rattle.std.proofs.Common.{◌≡◌, ℕ, ◌⊎◌}
+use Rattle.std.proofs.Common.{ℕ, ◌⊎◌}
 use Rattle.core_trees.specs.NamedTree.{NamedTree}
 use Rattle.plain_trees.specs.Points.{Meets}
 use Rattle.plain_trees.specs.Successors.{LeadsTo, LeadsFrom}

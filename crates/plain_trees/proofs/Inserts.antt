@@ -1,27 +1,14 @@
 -- A raised insert: the plain tree matches the tree after it.
-use Rattle.std.proofs.Common.{◌≡◌, ℕ, ◌+◌, ◌^◌, ◌<◌, ◌≤◌, ◌⊎◌, inl, inr, List, [], ◌∷◌, refl, ap, sym, ◌∙◌, subst, arith, Option, Some, None}
-use Rattle.std.proofs.lemmas.Bool.Decides.{eqb_tells}
+use Rattle.std.proofs.Common.{◌≡◌, ℕ, ◌<◌, ◌⊎◌, inl, inr, refl, sym, ◌∙◌, subst, arith}
 use Rattle.index_words.specs.declared.side.Side.{Side}
 use Rattle.index_words.specs.declared.side.Side.TheVariants.{Left, Right}
-use Rattle.core_trees.specs.NamedTree.{NamedTree, Null, Branch, IsWithin, IsLawful}
-use Rattle.core_trees.specs.Gaps.{IsNull, IsGapLink, child_of}
-use Rattle.core_trees.specs.Search.{EndsAt, end_node, end_side}
-use Rattle.core_trees.specs.TreeStep.{subtree_at, tree_put, tree_remove, put_here, remove_here, update, without_first, first_pair, joined}
-use Rattle.core_trees.specs.Slots.{occurs, NamesOnce}
-use Rattle.core_trees.specs.SpelledTree.{Graph, IsSpelled}
-use Rattle.core_trees.proofs.Slots.{one_at-same}
-use Rattle.core_trees.proofs.Gaps.{null-lacks, absent_gap}
-use Rattle.core_trees.proofs.Updates.{update-left, update-right, update-here, subtree_at-left, subtree_at-right, subtree_at-here, end_node-left, end_node-right, end_side-left, end_side-right}
+use Rattle.core_trees.specs.NamedTree.{NamedTree, Null, Branch}
+use Rattle.core_trees.specs.TreeStep.{tree_put, put_here}
+use Rattle.core_trees.proofs.Updates.{update-left, update-right, update-here}
 use Rattle.core_links.proofs.Compare.{compared, less, more, same}
-use Rattle.plain_trees.specs.Points.{point_of, Meets, EndsAtNull, IsOn, IsAbove, IsUnder, IsInTurns}
-use Rattle.plain_trees.specs.Successors.{LeadsTo, LeadsFrom}
-use Rattle.plain_trees.specs.Matching.{Undone, IsUnset, IsOut, IsBypassed, IsHeir, IsOrderly, IsTop, AllBelow, AllAbove, HasWayAhead, NodeCase, Same, Replaced, Copied, LiftedRight, LiftedLeft, Matches}
-use Rattle.plain_trees.specs.Claims.{IsWay, IsWaiting, IsExcepted, Claims, ClaimsInTurns}
-use Rattle.plain_trees.specs.Walks.{low_turn, high_turn, BeginLaw, WalkLaw}
-use Rattle.plain_trees.specs.NullLinks.{turn_of, EndedAt, NullLinkLaw}
-use Rattle.plain_trees.specs.Stores.{Relinks, Grows, Replaces, LiftsRight, LiftsLeft, Copies, Joins, IsStore, Insert, LiftRight, LiftLeft, Replace, Copy, Join, IsTest, Stores, ReachesNoNew, StoreLaw}
-use Rattle.plain_trees.specs.Turns.{HasKey, IsBelow, IsBeyond, TurnLaw, BelowLaw}
-use Rattle.plain_trees.specs.Raises.{Extends, IsSettled, IsFoundAt, IsLinkTo, IsFirst, LeavesSuccessor, LeavesUnset, AheadLaw, InsertLaw, ReplaceLaw, RemoveLaw}
+use Rattle.plain_trees.specs.Points.{point_of, EndsAtNull}
+use Rattle.plain_trees.specs.Matching.{Undone, IsUnset, IsOut, IsBypassed, IsOrderly, AllBelow, AllAbove, Same, Replaced, Copied, LiftedRight, LiftedLeft, Matches}
+use Rattle.plain_trees.specs.Raises.{Extends, InsertLaw}
 use Rattle.plain_trees.proofs.Points.{null-ends, leads-ends}
 use Rattle.plain_trees.proofs.Extending.{ahead-more, still}
 
@@ -91,11 +78,20 @@ module _ (u u' : Undone) (extends : Extends u u') (orderly : IsOrderly u) (node 
   inserts a p w d (Branch c k v l r) now (LiftedRight o h) (inl left) at =
       absurd (there (subst (IsOut u) (sym (null-ends (point_of key) node c side Left l h.1 left.1).0) o))
   inserts a p w d (Branch c k v l r) now (LiftedRight o h) (inr right) at =
-      LiftedRight (extends.outs c o) (extends.passes c h.0, h.1, put-above slot key val k now (omega (arith, right.0)) h.2, (h.3.0, extends.links p d c h.3.0 h.3.1),
-      inserts c p Right d r now h.4 right.1 (inl o))
+      LiftedRight (extends.outs c o) (
+        extends.passes c h.0,
+        h.1,
+        put-above slot key val k now (omega (arith, right.0)) h.2,
+        (h.3.0, extends.links p d c h.3.0 h.3.1),
+        inserts c p Right d r now h.4 right.1 (inl o),
+      )
   inserts a p w d (Branch c k v l r) now (LiftedLeft o h) (inl left) at =
-      LiftedLeft (extends.outs c o) (h.0, put-below slot key val k now (omega (arith, left.0)) h.1, (h.2.0, extends.links p d c h.2.0 h.2.1),
-      inserts c p Left d l now h.3 left.1 (inl o))
+      LiftedLeft (extends.outs c o) (
+        h.0,
+        put-below slot key val k now (omega (arith, left.0)) h.1,
+        (h.2.0, extends.links p d c h.2.0 h.2.1),
+        inserts c p Left d l now h.3 left.1 (inl o),
+      )
   inserts a p w d (Branch c k v l r) now (LiftedLeft o h) (inr right) at =
       absurd (there (subst (IsOut u) (sym (null-ends (point_of key) node c side Right r h.0 right.1).0) o))
 

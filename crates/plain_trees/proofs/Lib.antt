@@ -12,3 +12,5 @@ pub mod Raises
 pub mod Inserts
 pub mod Turns
 pub mod Belows
+pub mod Reaching
+pub mod Resting

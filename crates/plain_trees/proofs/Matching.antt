@@ -1,28 +1,12 @@
 -- A search that ends at a null link of the plain tree ends there in the tree at the stamp too, where the link's node is in that tree and no
 -- update has still to set the link.
-use Rattle.std.proofs.Common.{◌≡◌, ℕ, ◌+◌, ◌^◌, ◌<◌, ◌≤◌, ◌⊎◌, inl, inr, List, [], ◌∷◌, refl, ap, sym, ◌∙◌, subst, arith, Option, Some, None}
-use Rattle.std.proofs.lemmas.Bool.Decides.{eqb_tells}
+use Rattle.std.proofs.Common.{◌≡◌, ℕ, ◌<◌, ◌⊎◌, inl, inr, refl, sym, ◌∙◌, subst, arith}
 use Rattle.index_words.specs.declared.side.Side.{Side}
 use Rattle.index_words.specs.declared.side.Side.TheVariants.{Left, Right}
-use Rattle.core_trees.specs.NamedTree.{NamedTree, Null, Branch, IsWithin, IsLawful}
-use Rattle.core_trees.specs.Gaps.{IsNull, IsGapLink, child_of}
-use Rattle.core_trees.specs.Search.{EndsAt, end_node, end_side}
-use Rattle.core_trees.specs.TreeStep.{subtree_at, tree_put, tree_remove, put_here, remove_here, update, without_first, first_pair, joined}
-use Rattle.core_trees.specs.Slots.{occurs, NamesOnce}
-use Rattle.core_trees.specs.SpelledTree.{Graph, IsSpelled}
-use Rattle.core_trees.proofs.Slots.{one_at-same}
-use Rattle.core_trees.proofs.Gaps.{null-lacks, absent_gap}
-use Rattle.core_trees.proofs.Updates.{update-left, update-right, update-here, subtree_at-left, subtree_at-right, subtree_at-here, end_node-left, end_node-right, end_side-left, end_side-right}
+use Rattle.core_trees.specs.NamedTree.{NamedTree, Null, Branch}
 use Rattle.core_links.proofs.Compare.{compared, less, more, same}
-use Rattle.plain_trees.specs.Points.{point_of, Meets, EndsAtNull, IsOn, IsAbove, IsUnder, IsInTurns}
-use Rattle.plain_trees.specs.Successors.{LeadsTo, LeadsFrom}
-use Rattle.plain_trees.specs.Matching.{Undone, IsUnset, IsOut, IsBypassed, IsHeir, IsOrderly, IsTop, AllBelow, AllAbove, HasWayAhead, NodeCase, Same, Replaced, Copied, LiftedRight, LiftedLeft, Matches}
-use Rattle.plain_trees.specs.Claims.{IsWay, IsWaiting, IsExcepted, Claims, ClaimsInTurns}
-use Rattle.plain_trees.specs.Walks.{low_turn, high_turn, BeginLaw, WalkLaw}
-use Rattle.plain_trees.specs.NullLinks.{turn_of, EndedAt, NullLinkLaw}
-use Rattle.plain_trees.specs.Stores.{Relinks, Grows, Replaces, LiftsRight, LiftsLeft, Copies, Joins, IsStore, Insert, LiftRight, LiftLeft, Replace, Copy, Join, IsTest, Stores, ReachesNoNew, StoreLaw}
-use Rattle.plain_trees.specs.Turns.{HasKey, IsBelow, IsBeyond, TurnLaw, BelowLaw}
-use Rattle.plain_trees.specs.Raises.{Extends, IsSettled, IsFoundAt, IsLinkTo, IsFirst, LeavesSuccessor, LeavesUnset, AheadLaw, InsertLaw, ReplaceLaw, RemoveLaw}
+use Rattle.plain_trees.specs.Points.{point_of, EndsAtNull}
+use Rattle.plain_trees.specs.Matching.{Undone, IsUnset, IsOut, IsBypassed, IsOrderly, Same, Replaced, Copied, LiftedRight, LiftedLeft, Matches}
 use Rattle.plain_trees.proofs.Points.{null-ends, leads-ends}
 
 module _ (u : Undone) (orderly : IsOrderly u)
@@ -42,11 +26,17 @@ module _ (u : Undone) (orderly : IsOrderly u)
   -- the same node
   ends-now a p w d (Branch c k v l r) Null (Same h) ends at = absurd h
   ends-now a p w d (Branch c k v l r) (Branch m key val l' r') (Same h) (inl left) at =
-      inl (subst (λ z. x < point_of z) (sym h.1) left.0, subst (λ z. EndsAtNull x node side z Left l') (sym h.0)
-      (ends-now c c Left Left l l' h.2 left.1 (inr (refl, refl))))
+      inl (
+        subst (λ z. x < point_of z) (sym h.1) left.0,
+        subst (λ z. EndsAtNull x node side z Left l') (sym h.0)
+            (ends-now c c Left Left l l' h.2 left.1 (inr (refl, refl))),
+      )
   ends-now a p w d (Branch c k v l r) (Branch m key val l' r') (Same h) (inr right) at =
-      inr (subst (λ z. point_of z < x) (sym h.1) right.0, subst (λ z. EndsAtNull x node side z Right r') (sym h.0)
-      (ends-now c c Right Right r r' h.3 right.1 (inr (refl, refl))))
+      inr (
+        subst (λ z. point_of z < x) (sym h.1) right.0,
+        subst (λ z. EndsAtNull x node side z Right r') (sym h.0)
+            (ends-now c c Right Right r r' h.3 right.1 (inr (refl, refl))),
+      )
   -- a replaced node
   ends-now a p w d (Branch c k v l r) Null (Replaced o h) ends at = absurd h
   ends-now a p w d (Branch c k v l r) (Branch m key val l' r') (Replaced o h) (inl left) at =

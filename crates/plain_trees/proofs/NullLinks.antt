@@ -1,27 +1,21 @@
 -- What a seat has found at a null link holds of the tree at the stamp.
-use Rattle.std.proofs.Common.{◌≡◌, ℕ, ◌+◌, ◌^◌, ◌<◌, ◌≤◌, ◌⊎◌, inl, inr, List, [], ◌∷◌, refl, ap, sym, ◌∙◌, subst, arith, Option, Some, None}
+use Rattle.std.proofs.Common.{◌≡◌, ℕ, ◌^◌, ◌<◌, ◌⊎◌, inl, inr, [], refl, ap, sym, ◌∙◌, subst, arith, Option, Some}
 use Rattle.std.proofs.lemmas.Bool.Decides.{eqb_tells}
 use Rattle.index_words.specs.declared.side.Side.{Side}
 use Rattle.index_words.specs.declared.side.Side.TheVariants.{Left, Right}
-use Rattle.core_trees.specs.NamedTree.{NamedTree, Null, Branch, IsWithin, IsLawful}
-use Rattle.core_trees.specs.Gaps.{IsNull, IsGapLink, child_of}
-use Rattle.core_trees.specs.Search.{EndsAt, end_node, end_side}
-use Rattle.core_trees.specs.TreeStep.{subtree_at, tree_put, tree_remove, put_here, remove_here, update, without_first, first_pair, joined}
-use Rattle.core_trees.specs.Slots.{occurs, NamesOnce}
+use Rattle.core_trees.specs.NamedTree.{NamedTree, Null, Branch, IsLawful}
+use Rattle.core_trees.specs.Gaps.{IsNull, IsGapLink}
+use Rattle.core_trees.specs.Search.{EndsAt, end_node}
+use Rattle.core_trees.specs.TreeStep.{subtree_at}
+use Rattle.core_trees.specs.Slots.{occurs}
 use Rattle.core_trees.specs.SpelledTree.{Graph, IsSpelled}
-use Rattle.core_trees.proofs.Slots.{one_at-same}
 use Rattle.core_trees.proofs.Gaps.{null-lacks, absent_gap}
-use Rattle.core_trees.proofs.Updates.{update-left, update-right, update-here, subtree_at-left, subtree_at-right, subtree_at-here, end_node-left, end_node-right, end_side-left, end_side-right}
-use Rattle.core_links.proofs.Compare.{compared, less, more, same}
+use Rattle.core_trees.proofs.Updates.{subtree_at-left, subtree_at-right, end_node-left, end_node-right, end_side-left, end_side-right}
 use Rattle.plain_trees.specs.Points.{point_of, Meets, EndsAtNull, IsOn, IsAbove, IsUnder, IsInTurns}
-use Rattle.plain_trees.specs.Successors.{LeadsTo, LeadsFrom}
-use Rattle.plain_trees.specs.Matching.{Undone, IsUnset, IsOut, IsBypassed, IsHeir, IsOrderly, IsTop, AllBelow, AllAbove, HasWayAhead, NodeCase, Same, Replaced, Copied, LiftedRight, LiftedLeft, Matches}
-use Rattle.plain_trees.specs.Claims.{IsWay, IsWaiting, IsExcepted, Claims, ClaimsInTurns}
-use Rattle.plain_trees.specs.Walks.{low_turn, high_turn, BeginLaw, WalkLaw}
-use Rattle.plain_trees.specs.NullLinks.{turn_of, EndedAt, NullLinkLaw}
-use Rattle.plain_trees.specs.Stores.{Relinks, Grows, Replaces, LiftsRight, LiftsLeft, Copies, Joins, IsStore, Insert, LiftRight, LiftLeft, Replace, Copy, Join, IsTest, Stores, ReachesNoNew, StoreLaw}
-use Rattle.plain_trees.specs.Turns.{HasKey, IsBelow, IsBeyond, TurnLaw, BelowLaw}
-use Rattle.plain_trees.specs.Raises.{Extends, IsSettled, IsFoundAt, IsLinkTo, IsFirst, LeavesSuccessor, LeavesUnset, AheadLaw, InsertLaw, ReplaceLaw, RemoveLaw}
+use Rattle.plain_trees.specs.Successors.{LeadsTo}
+use Rattle.plain_trees.specs.Matching.{Undone, IsOut, IsBypassed, IsOrderly}
+use Rattle.plain_trees.specs.Claims.{IsWaiting, IsExcepted}
+use Rattle.plain_trees.specs.NullLinks.{turn_of, NullLinkLaw}
 use Rattle.plain_trees.proofs.Points.{null-leads, leads-sub}
 use Rattle.plain_trees.proofs.Matching.{ends-now}
 
@@ -35,11 +29,15 @@ meets-null : (g : Graph) (x node a p : ℕ) (side d : Side) (t : NamedTree) → 
     → EndsAtNull x node side p d t
 meets-null g x node a p side d Null spelled meets null on = absurd meets
 meets-null g x node a p Left d (Branch s k v l r) spelled (inl e) null on =
-    inl (omega (arith, on, sym (ap g.key (sym e)) ∙ spelled.2),
-    subst (EndsAtNull x node Left s Left) (sym (null-tree g (g.child Left s) l (ap (g.child Left) (sym e) ∙ null) spelled.4)) (e, refl))
+    inl (
+      omega (arith, on, sym (ap g.key (sym e)) ∙ spelled.2),
+      subst (EndsAtNull x node Left s Left) (sym (null-tree g (g.child Left s) l (ap (g.child Left) (sym e) ∙ null) spelled.4)) (e, refl),
+    )
 meets-null g x node a p Right d (Branch s k v l r) spelled (inl e) null on =
-    inr (omega (arith, on, sym (ap g.key (sym e)) ∙ spelled.2),
-    subst (EndsAtNull x node Right s Right) (sym (null-tree g (g.child Right s) r (ap (g.child Right) (sym e) ∙ null) spelled.5)) (e, refl))
+    inr (
+      omega (arith, on, sym (ap g.key (sym e)) ∙ spelled.2),
+      subst (EndsAtNull x node Right s Right) (sym (null-tree g (g.child Right s) r (ap (g.child Right) (sym e) ∙ null) spelled.5)) (e, refl),
+    )
 meets-null g x node a p side d (Branch s k v l r) spelled (inr (inl left)) null on =
     inl (left.0, meets-null g x node (g.child Left s) s side Left l spelled.4 left.1 null on)
 meets-null g x node a p side d (Branch s k v l r) spelled (inr (inr right)) null on =
@@ -97,7 +95,7 @@ null_link g u waits plain now node key side low high orderly waiting spelled mat
     met ne o (inl m) = meets-null g (point_of key) node (g.child Right 0) 0 side Right plain spelled m h.null (on ne)
     met ne o (inr x) =
         let found : (sub : NamedTree) × IsSpelled g node sub × LeadsTo (IsBypassed u) (point_of key) x.successor sub
-            = leads-sub g (IsBypassed u) (point_of key) x.successor node (g.child Right 0) plain spelled x.leads in
+        = leads-sub g (IsBypassed u) (point_of key) x.successor node (g.child Right 0) plain spelled x.leads in
         absurd (never-leads g u (point_of key) x.successor node side found.0 orderly (waiting x.removed x.successor x.waiting) h.there found.1 found.2 h.null (on ne))
 
     within : ¬ (node ≡ 0) → EndsAtNull (point_of key) node side 0 Right plain

@@ -1,28 +1,14 @@
 -- A raised replacement or removal: the plain tree, which stays, matches the tree after it.
-use Rattle.std.proofs.Common.{◌≡◌, ℕ, ◌+◌, ◌^◌, ◌<◌, ◌≤◌, ◌⊎◌, inl, inr, List, [], ◌∷◌, refl, ap, sym, ◌∙◌, subst, arith, Option, Some, None}
-use Rattle.std.proofs.lemmas.Bool.Decides.{eqb_tells}
+use Rattle.std.proofs.Common.{◌≡◌, ℕ, ◌+◌, ◌^◌, ◌<◌, ◌≤◌, inl, inr, refl, sym, ◌∙◌, subst, arith}
 use Rattle.index_words.specs.declared.side.Side.{Side}
 use Rattle.index_words.specs.declared.side.Side.TheVariants.{Left, Right}
-use Rattle.core_trees.specs.NamedTree.{NamedTree, Null, Branch, IsWithin, IsLawful}
-use Rattle.core_trees.specs.Gaps.{IsNull, IsGapLink, child_of}
-use Rattle.core_trees.specs.Search.{EndsAt, end_node, end_side}
-use Rattle.core_trees.specs.TreeStep.{subtree_at, tree_put, tree_remove, put_here, remove_here, update, without_first, first_pair, joined}
-use Rattle.core_trees.specs.Slots.{occurs, NamesOnce}
-use Rattle.core_trees.specs.SpelledTree.{Graph, IsSpelled}
-use Rattle.core_trees.proofs.Slots.{one_at-same}
-use Rattle.core_trees.proofs.Gaps.{null-lacks, absent_gap}
-use Rattle.core_trees.proofs.Updates.{update-left, update-right, update-here, subtree_at-left, subtree_at-right, subtree_at-here, end_node-left, end_node-right, end_side-left, end_side-right}
-use Rattle.core_links.proofs.Compare.{compared, less, more, same}
-use Rattle.plain_trees.specs.Points.{point_of, Meets, EndsAtNull, IsOn, IsAbove, IsUnder, IsInTurns}
-use Rattle.plain_trees.specs.Successors.{LeadsTo, LeadsFrom}
-use Rattle.plain_trees.specs.Matching.{Undone, IsUnset, IsOut, IsBypassed, IsHeir, IsOrderly, IsTop, AllBelow, AllAbove, HasWayAhead, NodeCase, Same, Replaced, Copied, LiftedRight, LiftedLeft, Matches}
-use Rattle.plain_trees.specs.Claims.{IsWay, IsWaiting, IsExcepted, Claims, ClaimsInTurns}
-use Rattle.plain_trees.specs.Walks.{low_turn, high_turn, BeginLaw, WalkLaw}
-use Rattle.plain_trees.specs.NullLinks.{turn_of, EndedAt, NullLinkLaw}
-use Rattle.plain_trees.specs.Stores.{Relinks, Grows, Replaces, LiftsRight, LiftsLeft, Copies, Joins, IsStore, Insert, LiftRight, LiftLeft, Replace, Copy, Join, IsTest, Stores, ReachesNoNew, StoreLaw}
-use Rattle.plain_trees.specs.Turns.{HasKey, IsBelow, IsBeyond, TurnLaw, BelowLaw}
-use Rattle.plain_trees.specs.Raises.{Extends, IsSettled, IsFoundAt, IsLinkTo, IsFirst, LeavesSuccessor, LeavesUnset, AheadLaw, InsertLaw, ReplaceLaw, RemoveLaw}
-use Rattle.plain_trees.proofs.Ahead.{null-plain, ahead, first-until, first-from, has-first}
+use Rattle.core_trees.specs.NamedTree.{NamedTree, Null, Branch, IsWithin}
+use Rattle.core_trees.specs.Gaps.{IsNull}
+use Rattle.core_trees.specs.TreeStep.{subtree_at, put_here, remove_here, update, without_first, first_pair, joined}
+use Rattle.core_trees.proofs.Updates.{update-left, update-right, update-here, subtree_at-left, subtree_at-right, subtree_at-here}
+use Rattle.plain_trees.specs.Matching.{Undone, IsUnset, IsOut, IsBypassed, IsHeir, AllBelow, AllAbove, Same, Replaced, Copied, LiftedRight, LiftedLeft, Matches}
+use Rattle.plain_trees.specs.Raises.{Extends, IsFoundAt, IsLinkTo, IsFirst, LeavesSuccessor, LeavesUnset, ReplaceLaw, RemoveLaw}
+use Rattle.plain_trees.proofs.Ahead.{null-plain, ahead, first-from, has-first}
 use Rattle.plain_trees.proofs.Points.{leads-keep}
 use Rattle.plain_trees.proofs.Extending.{ahead-more, still, moved}
 
@@ -99,7 +85,7 @@ module _ (u u' : Undone) (extends : Extends u u') where
   -- the node `n`, whose key this is, is changed by `f`; no update has still u u' extends to set the link to it, which is then to be set to `new`
   module _ (key n : ℕ) (Item : ℕ → Side → NamedTree → Type 0) (f : NamedTree → NamedTree) (keeps : KeepsBounds key n f) (brings : (q : ℕ) (w : Side) (was : ℕ) → IsUnset u q w was n → ⊥)
       (here : (low high p k v v' : ℕ) (d : Side) (l r l' r' : NamedTree) → key ≡ k → IsWithin low high (Branch n k v' l' r') → Matches u n Left l l'
-          → Matches u n Right r r' → Item p d (Branch n k v' l' r') → Matches u' p d (Branch n k v l r) (f (Branch n k v' l' r'))) where
+      → Matches u n Right r r' → Item p d (Branch n k v' l' r') → Matches u' p d (Branch n k v l r) (f (Branch n k v' l' r'))) where
     -- at the node itself
     at-node : (low high p c k v m k' v' : ℕ) (d : Side) (l r l' r' : NamedTree) → key ≡ k' → m ≡ n → m ≡ c → k' ≡ k → IsWithin low high (Branch m k' v' l' r')
         → Matches u c Left l l' → Matches u c Right r r' → Item p d (subtree_at key (Branch m k' v' l' r'))
@@ -107,9 +93,9 @@ module _ (u u' : Undone) (extends : Extends u u') where
     at-node low high p c k v m k' v' d l r l' r' e is same-slot same-key within left right item =
         let slot : n ≡ c = sym is ∙ same-slot in
         let on : Matches u' p d (Branch n k' v l r) (f (Branch n k' v' l' r'))
-            = here low high p k' v v' d l r l' r' e (subst (λ z. IsWithin low high (Branch z k' v' l' r')) is within)
-              (subst (λ z. Matches u z Left l l') (sym slot) left) (subst (λ z. Matches u z Right r r') (sym slot) right)
-              (subst (λ z. Item p d (Branch z k' v' l' r')) is (subst (Item p d) (subtree_at-here key m k' v' l' r' e) item)) in
+        = here low high p k' v v' d l r l' r' e (subst (λ z. IsWithin low high (Branch z k' v' l' r')) is within)
+        (subst (λ z. Matches u z Left l l') (sym slot) left) (subst (λ z. Matches u z Right r r') (sym slot) right)
+        (subst (λ z. Item p d (Branch z k' v' l' r')) is (subst (Item p d) (subtree_at-here key m k' v' l' r' e) item)) in
         subst (Matches u' p d (Branch c k v l r)) (sym (update-here key f m k' v' l' r' e))
         (subst (λ z. Matches u' p d (Branch c z v l r) (f (Branch m k' v' l' r'))) same-key
         (subst (λ z. Matches u' p d (Branch z k' v l r) (f (Branch m k' v' l' r'))) slot
@@ -143,20 +129,39 @@ module _ (u u' : Undone) (extends : Extends u u') where
     raise low high p d (Branch c k v l r) (Branch m k' v' l' r') (Copied o h) within (inl at) linked = absurd (brings p d c (subst (IsUnset u p d c) at.1 h.1))
     raise low high p d (Branch c k v l r) (Branch m k' v' l' r') (Copied o h) within (inr (inl at)) linked =
         subst (Matches u' p d (Branch c k v l r)) (sym (update-left key f m k' v' l' r' at.0))
-        (Copied (extends.outs c o) (h.0, extends.links p d c m h.1, update-below f key n keeps k l' at.1 h.2,
-        ahead-more u u' extends c k k' r h.3,
-        raise low k' m Left l l' h.4 within.2 at.1 (λ q w e. subst (Item q w) (subtree_at-left key m k' v' l' r' at.0) (linked q w (inr (inl e)))), still u u' extends m Right r r' h.5))
+        (Copied (extends.outs c o) (
+          h.0,
+          extends.links p d c m h.1,
+          update-below f key n keeps k l' at.1 h.2,
+          ahead-more u u' extends c k k' r h.3,
+          raise low k' m Left l l' h.4 within.2 at.1 (λ q w e. subst (Item q w) (subtree_at-left key m k' v' l' r' at.0) (linked q w (inr (inl e)))),
+          still u u' extends m Right r r' h.5,
+        ))
     raise low high p d (Branch c k v l r) (Branch m k' v' l' r') (Copied o h) within (inr (inr at)) linked =
         subst (Matches u' p d (Branch c k v l r)) (sym (update-right key f m k' v' l' r' at.0))
-        (Copied (extends.outs c o) (h.0, extends.links p d c m h.1, h.2,
-        ahead-more u u' extends c k k' r h.3,
-        still u u' extends m Left l l' h.4, raise (k' + 1) high m Right r r' h.5 within.3 at.1 (λ q w e. subst (Item q w) (subtree_at-right key m k' v' l' r' at.0) (linked q w (inr (inr e))))))
+        (Copied (extends.outs c o) (
+          h.0,
+          extends.links p d c m h.1,
+          h.2,
+          ahead-more u u' extends c k k' r h.3,
+          still u u' extends m Left l l' h.4,
+          raise (k' + 1) high m Right r r' h.5 within.3 at.1 (λ q w e. subst (Item q w) (subtree_at-right key m k' v' l' r' at.0) (linked q w (inr (inr e)))),
+        ))
     raise low high p d (Branch c k v l r) (Branch m k' v' l' r') (LiftedRight o h) within has linked =
-        LiftedRight (extends.outs c o) (extends.passes c h.0, h.1, update-above f key n keeps k (Branch m k' v' l' r') has h.2, (h.3.0, extends.links p d c h.3.0 h.3.1),
-        raise low high p d r (Branch m k' v' l' r') h.4 within has linked)
+        LiftedRight (extends.outs c o) (
+          extends.passes c h.0,
+          h.1,
+          update-above f key n keeps k (Branch m k' v' l' r') has h.2,
+          (h.3.0, extends.links p d c h.3.0 h.3.1),
+          raise low high p d r (Branch m k' v' l' r') h.4 within has linked,
+        )
     raise low high p d (Branch c k v l r) (Branch m k' v' l' r') (LiftedLeft o h) within has linked =
-        LiftedLeft (extends.outs c o) (h.0, update-below f key n keeps k (Branch m k' v' l' r') has h.1, (h.2.0, extends.links p d c h.2.0 h.2.1),
-        raise low high p d l (Branch m k' v' l' r') h.3 within has linked)
+        LiftedLeft (extends.outs c o) (
+          h.0,
+          update-below f key n keeps k (Branch m k' v' l' r') has h.1,
+          (h.2.0, extends.links p d c h.2.0 h.2.1),
+          raise low high p d l (Branch m k' v' l' r') h.3 within has linked,
+        )
 
   -- a replacement
   module _ (key n slot val : ℕ) (brings : (q : ℕ) (w : Side) (was : ℕ) → IsUnset u q w was n → ⊥)
@@ -180,10 +185,13 @@ module _ (u u' : Undone) (extends : Extends u u') where
     firsts low high p d (Branch c k v l r) (Branch m k' v' Null r') (Same h) within (inl at) linked =
         let slot : s ≡ c = sym at.1 ∙ h.0 in
         subst (λ z. Matches u' p d (Branch z k v l r) r') slot
-        (LiftedRight gone (bypassed,
-        null-plain u s c Left l Null (λ was child i. settled Left was child (subst (λ z. IsUnset u z Left was child) (sym slot) i)) h.2 tt,
-        within-above (k' + 1) high k r' within.3 (omega (arith, h.1)), linked p d (inl (at.1, refl, refl)),
-        still u u' extends p d r r' (moved u c p Right d r r' (λ was child i. settled Right was child (subst (λ z. IsUnset u z Right was child) (sym slot) i)) h.3)))
+        (LiftedRight gone (
+          bypassed,
+          null-plain u s c Left l Null (λ was child i. settled Left was child (subst (λ z. IsUnset u z Left was child) (sym slot) i)) h.2 tt,
+          within-above (k' + 1) high k r' within.3 (omega (arith, h.1)),
+          linked p d (inl (at.1, refl, refl)),
+          still u u' extends p d r r' (moved u c p Right d r r' (λ was child i. settled Right was child (subst (λ z. IsUnset u z Right was child) (sym slot) i)) h.3),
+        ))
     firsts low high p d (Branch c k v l r) (Branch m k' v' Null r') (Same h) within (inr below) linked = absurd below
     firsts low high p d (Branch c k v l r) (Branch m k' v' (Branch t k2 v2 l2 r2) r') (Same h) within (inl at) linked = absurd at.0
     firsts low high p d (Branch c k v l r) (Branch m k' v' (Branch t k2 v2 l2 r2) r') (Same h) within (inr below) linked =
@@ -195,30 +203,53 @@ module _ (u u' : Undone) (extends : Extends u u') where
     firsts low high p d (Branch c k v l r) (Branch m k' v' l' r') (Copied o h) within (inl at) linked = absurd (brings p d c (subst (IsUnset u p d c) at.1 h.1))
     firsts low high p d (Branch c k v l r) (Branch m k' v' Null r') (Copied o h) within (inr below) linked = absurd below
     firsts low high p d (Branch c k v l r) (Branch m k' v' (Branch t k2 v2 l2 r2) r') (Copied o h) within (inr below) linked =
-        Copied (extends.outs c o) (h.0, extends.links p d c m h.1, first-out-below k (Branch t k2 v2 l2 r2) h.2,
-        ahead-more u u' extends c k k' r h.3,
-        firsts low k' m Left l (Branch t k2 v2 l2 r2) h.4 within.2 below (λ q w e. linked q w (inr (inl e))), still u u' extends m Right r r' h.5)
+        Copied (extends.outs c o) (
+          h.0,
+          extends.links p d c m h.1,
+          first-out-below k (Branch t k2 v2 l2 r2) h.2,
+          ahead-more u u' extends c k k' r h.3,
+          firsts low k' m Left l (Branch t k2 v2 l2 r2) h.4 within.2 below (λ q w e. linked q w (inr (inl e))),
+          still u u' extends m Right r r' h.5,
+        )
     firsts low high p d (Branch c k v l r) (Branch m k' v' l' r') (LiftedRight o h) within first linked =
-        LiftedRight (extends.outs c o) (extends.passes c h.0, h.1, first-out-above k (Branch m k' v' l' r') h.2, (h.3.0, extends.links p d c h.3.0 h.3.1),
-        firsts low high p d r (Branch m k' v' l' r') h.4 within first linked)
+        LiftedRight (extends.outs c o) (
+          extends.passes c h.0,
+          h.1,
+          first-out-above k (Branch m k' v' l' r') h.2,
+          (h.3.0, extends.links p d c h.3.0 h.3.1),
+          firsts low high p d r (Branch m k' v' l' r') h.4 within first linked,
+        )
     firsts low high p d (Branch c k v l r) (Branch m k' v' l' r') (LiftedLeft o h) within first linked =
-        LiftedLeft (extends.outs c o) (h.0, first-out-below k (Branch m k' v' l' r') h.1, (h.2.0, extends.links p d c h.2.0 h.2.1),
-        firsts low high p d l (Branch m k' v' l' r') h.3 within first linked)
+        LiftedLeft (extends.outs c o) (
+          h.0,
+          first-out-below k (Branch m k' v' l' r') h.1,
+          (h.2.0, extends.links p d c h.2.0 h.2.1),
+          firsts low high p d l (Branch m k' v' l' r') h.3 within first linked,
+        )
 
   -- the removed node, by its children: it is bypassed to its right or to its left, or a copy takes its place, and then its successor is bypassed
   module _ (key n slot : ℕ) (left-settled : (was child : ℕ) → IsUnset u n Left was child → ⊥) (right-settled : (was child : ℕ) → IsUnset u n Right was child → ⊥) where
     pub lifted-right : (gone : IsOut u' n) (new low high p k v v' : ℕ) (d : Side) (l r r' : NamedTree) → IsBypassed u' n → IsWithin low high (Branch n k v' Null r') → Matches u n Left l Null
         → Matches u n Right r r' → IsUnset u' p d n new → Matches u' p d (Branch n k v l r) (remove_here slot (Branch n k v' Null r'))
     lifted-right gone new low high p k v v' d l r r' bypassed within left right item =
-        LiftedRight gone (bypassed, null-plain u n n Left l Null left-settled left tt, within-above (k + 1) high k r' within.3 (omega arith), (new, item),
-        still u u' extends p d r r' (moved u n p Right d r r' right-settled right))
+        LiftedRight gone (
+          bypassed,
+          null-plain u n n Left l Null left-settled left tt,
+          within-above (k + 1) high k r' within.3 (omega arith),
+          (new, item),
+          still u u' extends p d r r' (moved u n p Right d r r' right-settled right),
+        )
 
     pub lifted-left : (gone : IsOut u' n) (new low high p k v v' : ℕ) (d : Side) (l r l' : NamedTree) → ¬ IsNull l' → IsWithin low high (Branch n k v' l' Null) → Matches u n Left l l'
         → Matches u n Right r Null → IsUnset u' p d n new → Matches u' p d (Branch n k v l r) (remove_here slot (Branch n k v' l' Null))
     lifted-left gone new low high p k v v' d l r Null some within left right item = absurd (some tt)
     lifted-left gone new low high p k v v' d l r (Branch t c e l2 r2) some within left right item =
-        LiftedLeft gone (null-plain u n n Right r Null right-settled right tt, within-below low k k (Branch t c e l2 r2) within.2 (omega arith), (new, item),
-        still u u' extends p d l (Branch t c e l2 r2) (moved u n p Left d l (Branch t c e l2 r2) left-settled left))
+        LiftedLeft gone (
+          null-plain u n n Right r Null right-settled right tt,
+          within-below low k k (Branch t c e l2 r2) within.2 (omega arith),
+          (new, item),
+          still u u' extends p d l (Branch t c e l2 r2) (moved u n p Left d l (Branch t c e l2 r2) left-settled left),
+        )
 
     pub joined-deep : (gone : IsOut u' n) (low high p k v v' s t c e t' c' e' : ℕ) (d : Side) (l r l2 r2 l3 r3 : NamedTree) → (brings : (q : ℕ) (w : Side) (was : ℕ) → IsUnset u q w was s → ⊥)
         → ((w : Side) (was child : ℕ) → IsUnset u s w was child → ⊥) → IsOut u' s → IsBypassed u' s → IsHeir u' n s
@@ -229,11 +260,19 @@ module _ (u u' : Undone) (extends : Extends u u') where
         → Matches u' p d (Branch n k v l r) (remove_here slot (Branch n k v' (Branch t c e l2 r2) (Branch t' c' e' l3 r3)))
     joined-deep gone low high p k v v' s t c e t' c' e' d l r l2 r2 l3 r3 brings settled gone' bypassed heir within up first linked left right item =
         let right' : Matches u slot Right r (Branch t' c' e' l3 r3) = moved u n slot Right Right r (Branch t' c' e' l3 r3) right-settled right in
-        Copied gone (up, item, within-below low k k (Branch t c e l2 r2) within.2 (omega arith),
-        (s, heir, λ x a b. leads-keep (IsBypassed u) (IsBypassed u') x s r (λ z _. extends.passes z)
-            (ahead u s (first_pair c' e' l3).key x brings settled b slot (k + 1) high Right r (Branch t' c' e' l3 r3) right' within.3 first)),
-        still u u' extends slot Left l (Branch t c e l2 r2) (moved u n slot Left Left l (Branch t c e l2 r2) left-settled left),
-        firsts s (first_pair c' e' l3).key brings settled gone' bypassed (k + 1) high slot Right r (Branch t' c' e' l3 r3) right' within.3 first linked)
+        Copied gone (
+          up,
+          item,
+          within-below low k k (Branch t c e l2 r2) within.2 (omega arith),
+          (
+            s,
+            heir,
+            λ x a b. leads-keep (IsBypassed u) (IsBypassed u') x s r (λ z _. extends.passes z)
+                (ahead u s (first_pair c' e' l3).key x brings settled b slot (k + 1) high Right r (Branch t' c' e' l3 r3) right' within.3 first),
+          ),
+          still u u' extends slot Left l (Branch t c e l2 r2) (moved u n slot Left Left l (Branch t c e l2 r2) left-settled left),
+          firsts s (first_pair c' e' l3).key brings settled gone' bypassed (k + 1) high slot Right r (Branch t' c' e' l3 r3) right' within.3 first linked,
+        )
 
     -- in each case
     pub removed : (low high p k v v' : ℕ) (d : Side) (l r l' r' : NamedTree) → key ≡ k → IsWithin low high (Branch n k v' l' r') → Matches u n Left l l'
@@ -251,12 +290,12 @@ pub replace : ReplaceLaw
 replace u u' node slot key val plain now extends matches lawful found settled gone linked =
     raise u u' extends key node (λ q w t. IsUnset u' q w node slot) (put_here slot key val) (put-bounds key node slot val) settled.brings
     (λ low high p k v v' d l r l' r' e within left right item.
-        replaced u u' extends key node slot val settled.brings (settled.links Left) (settled.links Right) gone low high p k v v' d l r l' r' e within left right item)
+    replaced u u' extends key node slot val settled.brings (settled.links Left) (settled.links Right) gone low high p k v v' d l r l' r' e within left right item)
     0 (2 ^ 64) 0 Right plain now matches lawful found linked
 
 pub remove : RemoveLaw
 remove u u' node slot key plain now extends matches lawful found settled linked =
     raise u u' extends key node (λ q w t. LeavesUnset u u' slot q w t) (remove_here slot) (remove-bounds key node slot) settled.brings
     (λ low high p k v v' d l r l' r' e within left right item.
-        removed u u' extends key node slot (settled.links Left) (settled.links Right) low high p k v v' d l r l' r' e within left right item)
+    removed u u' extends key node slot (settled.links Left) (settled.links Right) low high p k v v' d l r l' r' e within left right item)
     0 (2 ^ 64) 0 Right plain now matches lawful found linked

@@ -1,7 +1,6 @@
 -- What a search on plain links claims of the place where it stands. The nodes of its way may be out of the plain tree by
 -- then; what holds is said of the nodes at which the way comes to the plain tree.
 use Rattle.std.specs.Prelude.{◌≡◌, ℕ, ◌<◌, ◌⊎◌, List, [], ◌∷◌, Option, Bool, true}
-use Rattle.index_words.specs.declared.side.Side.{Side}
 use Rattle.index_words.specs.declared.side.Side.TheVariants.{Left, Right}
 use Rattle.core_trees.specs.NamedTree.{NamedTree}
 use Rattle.core_trees.specs.Slots.{occurs}
@@ -15,7 +14,7 @@ IsWay g plain x [] from to = from ≡ to
 IsWay g plain x (node ∷ nodes) from to =
     (from ≡ node) × (0 < node) × (occurs node plain ≡ 0)
     × (((x < point_of (g.key node)) × IsWay g plain x nodes (g.child Left node) to)
-        ⊎ ((point_of (g.key node) < x) × IsWay g plain x nodes (g.child Right node) to))
+    ⊎ ((point_of (g.key node) < x) × IsWay g plain x nodes (g.child Right node) to))
 
 -- a removal that has not passed this seat yet took out the first node, and has still to unlink the second, its successor
 abbrev pub IsWaiting : (ℕ → ℕ → Bool) → ℕ → ℕ → Type 0

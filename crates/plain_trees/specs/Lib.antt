@@ -7,3 +7,5 @@ pub mod NullLinks
 pub mod Stores
 pub mod Turns
 pub mod Raises
+pub mod Reaching
+pub mod Resting

@@ -75,6 +75,6 @@ Matches u parent side (Branch slot key val left right) now =
     (IsOut u slot)
     (IsTop (λ m k l r. (k ≡ key) × IsUnset u parent side slot m × Matches u m Left left l × Matches u m Right right r) now)
     (IsTop (λ m k l r. (key < k) × IsUnset u parent side slot m × AllBelow key l × HasWayAhead u slot key k right
-        × Matches u m Left left l × Matches u m Right right r) now)
+    × Matches u m Left left l × Matches u m Right right r) now)
     (IsBypassed u slot × IsNull left × AllAbove key now × ((m : ℕ) × IsUnset u parent side slot m) × Matches u parent side right now)
     (IsNull right × AllBelow key now × ((m : ℕ) × IsUnset u parent side slot m) × Matches u parent side left now)

@@ -2,7 +2,7 @@
 -- in one of six forms.
 use Rattle.std.specs.Prelude.{◌≡◌, ℕ, ◌<◌, ◌≤◌, ◌⊎◌, List, Bool, true}
 use Rattle.index_words.specs.declared.side.Side.{Side}
-use Rattle.index_words.specs.declared.side.Side.TheVariants.{Left, Right}
+use Rattle.index_words.specs.declared.side.Side.TheVariants.{Right}
 use Rattle.core_trees.specs.NamedTree.{NamedTree, Null, Branch}
 use Rattle.core_trees.specs.Gaps.{IsNull}
 use Rattle.core_trees.specs.Slots.{occurs}
@@ -19,7 +19,7 @@ Relinks there change Null new = change Null new
 Relinks there change (Branch slot key val left right) new =
     change (Branch slot key val left right) new
     ⊎ ((l : NamedTree) × (r : NamedTree) × (new ≡ Branch slot key val l r)
-        × ((Relinks there change left l × (IsNull left → there slot) × (right ≡ r)) ⊎ ((left ≡ l) × Relinks there change right r)))
+    × ((Relinks there change left l × (IsNull left → there slot) × (right ≡ r)) ⊎ ((left ≡ l) × Relinks there change right r)))
 
 -- an insert: a node without children hangs at a null link
 pub record Grows (old new : NamedTree) : Type 0 where

@@ -1,20 +1,36 @@
 // Laws on plain trees. This call does nothing: its clauses are what is proved.
 ghost use Rattle.plain_trees.specs.NullLinks.{NullLinkLaw};
 ghost use Rattle.plain_trees.specs.Raises.{AheadLaw, InsertLaw, ReplaceLaw, RemoveLaw};
+ghost use Rattle.plain_trees.specs.Reaching.{ReachLaw, ReachedInLaw};
+ghost use Rattle.plain_trees.specs.Resting.{RestLaw};
 ghost use Rattle.plain_trees.specs.Stores.{StoreLaw};
 ghost use Rattle.plain_trees.specs.Turns.{TurnLaw, BelowLaw};
 ghost use Rattle.plain_trees.specs.Walks.{BeginLaw, WalkLaw};
 
-/// Laws.
-pub fn plain_links_lead_right()
+/// Why a search on plain links ends at the gap of its key, whatever updates other seats have half done.
+///
+/// Searches: `begin` and `walk` say what a search may claim at its start and at each step; `gap`, that each key between its
+/// turns is in the gap of the null link at which it has ended, in the tree at the stamp. `turn`: a node that was not taken
+/// out lies below a turn with its key beyond the turn's.
+///
+/// Raises leave the plain tree as it is, and match it still: `insert`, `replace` and `remove`, in each of its cases.
+/// `ahead`: before a removal with two children raises, each search below the removed node comes to the successor.
+///
+/// Stores of one plain link: `store`, what a search claims stays, in each of the six forms; `below`, what is below a turn
+/// stays there; `reach` and `reached`, which nodes plain links reach then. `rest`: once all links are set, the plain tree is
+/// the tree at the stamp.
+pub fn plain_links_lead_to_the_gap()
     ensures begin { BeginLaw }
     ensures walk { WalkLaw }
     ensures gap { NullLinkLaw }
-    ensures store { StoreLaw }
     ensures turn { TurnLaw }
-    ensures below { BelowLaw }
-    ensures ahead { AheadLaw }
     ensures insert { InsertLaw }
     ensures replace { ReplaceLaw }
     ensures remove { RemoveLaw }
+    ensures ahead { AheadLaw }
+    ensures store { StoreLaw }
+    ensures below { BelowLaw }
+    ensures reach { ReachLaw }
+    ensures reached { ReachedInLaw }
+    ensures rest { RestLaw }
 {}

@@ -4,4 +4,4 @@
 
 mod laws;
 
-pub use laws::plain_links_lead_right;
+pub use laws::plain_links_lead_to_the_gap;

@@ -7,14 +7,16 @@ use Rattle.key_map.specs.declared.update.Update.{Update}
 use Rattle.key_map.specs.declared.update.Change.{Change}
 use Rattle.key_map.specs.declared.update.Change.TheVariants.{Put, Remove}
 use Rattle.key_map.specs.declared.pass.Done.{Done}
+use Rattle.key_map.specs.declared.pass.New.{New}
+use Rattle.key_map.specs.declared.pass.New.TheVariants.{Made as MadeNew, Kept}
 use Rattle.key_map.specs.declared.pass.PassError.{PassError}
 use Rattle.key_map.specs.History.{own_places}
 use Rattle.core_events.specs.LoadMoves.{risen}
-use Rattle.bucket_terms.specs.PassView.{MadeUpdate, MadePut, Removed, LookedFor, AnsweredRemoval}
+use Rattle.bucket_terms.specs.PassView.{MadeUpdate, MadePut, Inserted, Removed, LookedFor, AnsweredPutNew, AnsweredRemoval}
 use Rattle.table_steps.specs.Passes.{Pass, IsSamePass}
 use Rattle.tree_update.specs.declared.trying.Try.{Try}
 use Rattle.tree_update.specs.declared.trying.Try.TheVariants.{Done as Made, Busy, Moved, Pending}
-use Rattle.tree_update.specs.Calls.{MakesUpdate, MakesPut, MakesChange, LooksFor, AnswersRemoval}
+use Rattle.tree_update.specs.Calls.{MakesUpdate, MakesPut, MakesChange, Inserts, LooksFor, AnswersPutNew, AnswersRemoval}
 use Rattle.tree_update.specs.Trying.{IfDone}
 use Rattle.shared_index.specs.Shown.{shown}
 
@@ -72,6 +74,28 @@ module _ (p q : Pass) (same : IsSamePass p q) (own : q.view.history.mine ≡ own
   try_shown (Ok tried) line key val made = tried_shown tried line key val made
   try_shown (Err error) line key val made = tt
 
+  -- a look in a snapshot of the call's own
+  looked_for : (key : ℕ) (there : Bool) (at : ℕ) → LooksFor p.view q.view key there at → LookedFor (shown p) (shown q) key there at
+  looked_for key there at is = record {
+    looked = record {
+      continues = record {
+        number = same.number;
+        seen = is.goes.seen;
+        mine = own;
+        looks = shown_least p.view.history.looks q.view.history.looks is.goes.looks;
+      };
+      found = is.found;
+      place = is.place;
+      mine = is.goes.mine;
+      left = is.goes.left;
+      nodes = is.goes.nodes;
+      entries = is.goes.entries;
+    };
+    looks = shown_rose p.view.history.looks q.view.history.looks is.looks;
+    tells = is.tells;
+    closed = closed;
+  }
+
   removal_by : (was : Bool) (line key : ℕ) (done : Done) → MatchBool was (MakesChange p.view q.view p.number line key Remove done) (LooksFor p.view q.view key false done.at)
       → MatchBool was (Removed (shown p) (shown q) line key done) (LookedFor (shown p) (shown q) key false done.at)
   removal_by true line key done made = record {
@@ -79,28 +103,23 @@ module _ (p q : Pass) (same : IsSamePass p q) (own : q.view.history.mine ≡ own
     there = sym made.was ∙ made.nodes.0;
     nodes = made.nodes.1;
   }
-  removal_by false line key done absent = record {
-    looked = record {
-      continues = record {
-        number = same.number;
-        seen = absent.goes.seen;
-        mine = own;
-        looks = shown_least p.view.history.looks q.view.history.looks absent.goes.looks;
-      };
-      found = absent.found;
-      place = absent.place;
-      mine = absent.goes.mine;
-      left = absent.goes.left;
-      nodes = absent.goes.nodes;
-      entries = absent.goes.entries;
-    };
-    looks = shown_rose p.view.history.looks q.view.history.looks absent.looks;
-    tells = absent.tells;
-    closed = closed;
-  }
+  removal_by false line key done absent = looked_for key false done.at absent
 
   -- a removal, where it was answered
   pub removal_shown : (answer : Result Done PassError) (line key : ℕ) → IfOk answer (AnswersRemoval p.view q.view p.number line key)
       → IfOk answer (AnsweredRemoval (shown p) (shown q) line key)
   removal_shown (Ok done) line key answered = removal_by done.was line key done answered
   removal_shown (Err error) line key answered = tt
+
+  inserted : (line key val at : ℕ) → Inserts p.view q.view p.number line key val at → Inserted (shown p) (shown q) line key val at
+  inserted line key val at made = record { update = made_update line key at (Put val) made.update; absent = sym made.was; nodes = made.nodes }
+
+  new_by : (line key val : ℕ) (answer : New) → AnswersPutNew p.view q.view p.number line key val answer → AnsweredPutNew (shown p) (shown q) line key val answer
+  new_by line key val (MadeNew at) made = inserted line key val at made
+  new_by line key val (Kept at) found = looked_for key true at found
+
+  -- a put that is made only where its key is not there, where it was answered
+  pub new_shown : (answer : Result New PassError) (line key val : ℕ) → IfOk answer (AnswersPutNew p.view q.view p.number line key val)
+      → IfOk answer (AnsweredPutNew (shown p) (shown q) line key val)
+  new_shown (Ok new) line key val answered = new_by line key val new answered
+  new_shown (Err error) line key val answered = tt

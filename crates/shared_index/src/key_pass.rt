@@ -1,9 +1,9 @@
 //! A pass of the index keeps the clauses of a pass. Beside them stands which step of the call gives each place: the
 //! raise of an update of its own, or a load of the stamp.
 ghost use Rattle.std.specs.Prelude.{◌≡◌, ◌↔◌, None, IfOk, OnErr, IsErrOf};
-ghost use Rattle.bucket_terms.specs.PassView.{MadePut, AnsweredRemoval, Began, IsOutOfSlots};
+ghost use Rattle.bucket_terms.specs.PassView.{MadePut, AnsweredPutNew, AnsweredRemoval, Began, IsOutOfSlots};
 ghost use Rattle.table_steps.specs.Stamps.{IsFoundAt};
-ghost use Rattle.tree_update.specs.Calls.{IsPlaceOfPut, IsPlaceOfRemoval};
+ghost use Rattle.tree_update.specs.Calls.{IsPlaceOfPut, IsPlaceOfNew, IsPlaceOfRemoval};
 ghost use Rattle.shared_index.specs.Keys.{home_of_pass};
 ghost use Rattle.shared_index.specs.Shown.{shown};
 
@@ -42,7 +42,15 @@ impl<'t> KeyPass for IndexPass<'t> {
         line: u32,
         key: u64,
         val: u64,
-    ) -> Result<New, PassError> {
+    ) -> Result<New, PassError>
+        requires closed { (shown self.old).opened ≡ None }
+        ensures answered { IfOk result (AnsweredPutNew (shown self.old) (shown self.new) line key val) }
+        ensures place { IfOk result (λ answer. IsPlaceOfNew self.old line key val answer self.new.view) }
+        ensures spent { IsErrOf result PassError.Spent ↔ ((shown self.old).left ≡ 0) }
+        ensures no_slot { IsErrOf result PassError.NoSlot ↔ IsOutOfSlots (shown self.old) }
+        ensures unchanged { OnErr result (shown self.new ≡ shown self.old) }
+        ensures home { home_of_pass self.new ≡ home_of_pass self.old }
+    {
         let answer = tree_update::put_new(&mut self.pass, rt, line, key, val);
         own_facts(&self.pass);
         answer

@@ -1,17 +1,19 @@
--- The place that a removal answers, from earlier in the call on.
-use Rattle.std.proofs.Common.{◌≡◌, ℕ, ◌≤◌, Bool, true, false, ap, sym, subst, ◌∙◌, arith}
+-- The place that a removal answers, or a put that is made only where its key is not there, from earlier in the call on.
+use Rattle.std.proofs.Common.{◌≡◌, ℕ, Bool, true, false, ap, sym, subst, arith}
 use Rattle.std.specs.Prelude.{MatchBool}
 use Rattle.index_words.specs.declared.view.View.{View}
 use Rattle.index_words.specs.declared.view.history.SeenHistory.{SeenHistory}
 use Rattle.key_map.specs.declared.pass.Done.{Done}
-use Rattle.key_map.specs.declared.update.Change.TheVariants.{Remove}
+use Rattle.key_map.specs.declared.pass.New.{New}
+use Rattle.key_map.specs.declared.pass.New.TheVariants.{Made, Kept}
+use Rattle.key_map.specs.declared.update.Change.TheVariants.{Put, Remove}
 use Rattle.core_updates.specs.Ready.{update_of}
 use Rattle.table_steps.specs.Passes.{Pass, IsSamePass}
 use Rattle.table_steps.specs.Raises.{IsRaisedSince}
 use Rattle.table_steps.specs.Stamps.{announced_within, HasOpened, IsFoundSince}
 use Rattle.table_steps.proofs.Places.{raised_later, found_later}
 use Rattle.table_steps.proofs.ReadSections.{within_history}
-use Rattle.tree_update.specs.Calls.{GoesOn, MakesChange, IsPlaceOfRemoval}
+use Rattle.tree_update.specs.Calls.{GoesOn, MakesChange, IsPlaceOfNew, IsPlaceOfRemoval}
 
 -- a snapshot was opened, and closed again
 pub found_here : (p : Pass) (n : ℕ) (b w : View) → HasOpened p 1 n b → w.history ≡ b.history → IsFoundSince p n w
@@ -38,3 +40,9 @@ place_later p q line key done w same goes = by_answer done.was
         raised_later p q (update_of p.number line key Remove) done.at w same goes.mine
         (subst (λ n. IsRaisedSince q (update_of n line key Remove) done.at w) same.number raised)
     by_answer false found = found_later p q done.at w same goes.looks found
+
+pub new_later : (p q : Pass) (line key val : ℕ) (answer : New) (w : View) → IsSamePass p q → GoesOn p.view q.view → IsPlaceOfNew q line key val answer w → IsPlaceOfNew p line key val answer w
+new_later p q line key val (Made at) w same goes raised =
+    raised_later p q (update_of p.number line key (Put val)) at w same goes.mine
+    (subst (λ n. IsRaisedSince q (update_of n line key (Put val)) at w) same.number raised)
+new_later p q line key val (Kept at) w same goes found = found_later p q at w same goes.looks found

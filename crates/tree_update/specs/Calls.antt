@@ -98,6 +98,12 @@ abbrev pub IsPlaceOfRemoval : Pass → ℕ → ℕ → Done → View → Type 0
 IsPlaceOfRemoval p line key done w =
     MatchBool done.was (IsRaisedSince p (update_of p.number line key Remove) done.at w) (IsFoundSince p done.at w)
 
+-- the place that a put answers which is made only where its key is not there: where it was made that of its own raise, and
+-- else the number that was found in the stamp at a step of the call
+abbrev pub IsPlaceOfNew : Pass → ℕ → ℕ → ℕ → New → View → Type 0
+IsPlaceOfNew p line key val (Made at) w = IsRaisedSince p (update_of p.number line key (Put val)) at w
+IsPlaceOfNew p line key val (Kept at) w = IsFoundSince p at w
+
 -- calls are left, but not the slots that an update may take: one node and four entries, free or not
 abbrev pub IsOutOfSlots : View → Type 0
 IsOutOfSlots v = (0 < v.history.left) × ((owned_nodes v < 1) ⊎ (owned_entries v < 4))

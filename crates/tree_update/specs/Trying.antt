@@ -1,5 +1,5 @@
 -- What one try of an update comes to.
-use Rattle.std.specs.Prelude.{◌≡◌, ℕ, ◌<◌, ◌≤◌, false, length}
+use Rattle.std.specs.Prelude.{◌≡◌, ℕ, ◌<◌, ◌≤◌, Bool, true, false, length}
 use Rattle.index_words.specs.declared.view.View.{View}
 use Rattle.key_map.specs.declared.pass.Done.{Done}
 use Rattle.key_map.specs.declared.update.Change.{Change}
@@ -34,12 +34,12 @@ pub record WasAbsent (v w : View) (key : ℕ) : Type 0 where
   pub within : at ≤ length w.history.seen
   pub absent : map_has key (after w.history.seen at) ≡ false
 
--- why a try of this change was not made: the key of a removal was not there; or the count of the failure has risen, for
--- what another pass did. A key that is there stops none of these tries.
-abbrev pub IsMissed : ℕ → Change → View → View → Missed → Type 0
-IsMissed key change v w Absent = (change ≡ Remove) × WasAbsent v w key
-IsMissed key change v w There = ⊥
-IsMissed key change v w (Failed failed) = IsCounted failed v w × ¬ IsAlone w
+-- why a try of this change was not made: the key of a removal was not there; or the key is there, and the change was to be
+-- made only where it is not; or the count of the failure has risen, for what another pass did
+abbrev pub IsMissed : Bool → ℕ → Change → View → View → Missed → Type 0
+IsMissed only_new key change v w Absent = (change ≡ Remove) × WasAbsent v w key
+IsMissed only_new key change v w There = only_new ≡ true
+IsMissed only_new key change v w (Failed failed) = IsCounted failed v w × ¬ IsAlone w
 
 -- what holds where a try has made its update, by its answer
 abbrev pub IfDone : Try → (Done → Type 0) → Type 0

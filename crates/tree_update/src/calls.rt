@@ -6,11 +6,11 @@ ghost use Rattle.std.specs.Prelude.{◌≡◌, ◌↔◌, ◌<◌, ◌≤◌, No
 ghost use Rattle.key_map.specs.Map.{value_at};
 ghost use Rattle.table_steps.specs.Passes.{AtRest, IsSamePass};
 ghost use Rattle.table_steps.specs.Stamps.{IsFoundSince};
-ghost use Rattle.tree_update.specs.Calls.{StaysOn, GoesOn, MakesPut, LooksFor, AnswersPutNew, AnswersRemoval, IsPlaceOfPut, IsPlaceOfRemoval, IsRefusal, IsOutOfSlots};
+ghost use Rattle.tree_update.specs.Calls.{StaysOn, GoesOn, MakesPut, LooksFor, AnswersPutNew, AnswersRemoval, IsPlaceOfPut, IsPlaceOfNew, IsPlaceOfRemoval, IsRefusal, IsOutOfSlots};
 ghost use Rattle.tree_update.specs.Trying.{OffersSlots};
 
 use crate::settle::try_settle;
-use crate::trying::{Missed, try_insert, try_update};
+use crate::trying::{Missed, try_update};
 use core_updates::PlanSlots;
 use index_words::{Change, Pair};
 use key_map::{Done, New, PassError};
@@ -112,7 +112,7 @@ fn try_removal<R: Wait>(
     ensures place { IfSome result (λ done. IsPlaceOfRemoval pass.old line key done pass.new.view) }
     ensures goes { result ≡ None → GoesOn pass.old.view pass.new.view }
 {
-    match try_update(pass, line, key, Change::Remove, slots) {
+    match try_update(pass, line, key, Change::Remove, false, slots) {
         Ok(done) => Some(done),
         Err(Missed::Absent) => {
             let found = look_for(pass, rt, key);
@@ -144,10 +144,11 @@ fn try_new<R: Wait>(
     ensures same { IsSamePass pass.old pass.new }
     ensures rest { AtRest pass.new.view }
     ensures answered { IfSome result (AnswersPutNew pass.old.view pass.new.view pass.old.number line key val) }
+    ensures place { IfSome result (λ answer. IsPlaceOfNew pass.old line key val answer pass.new.view) }
     ensures goes { result ≡ None → GoesOn pass.old.view pass.new.view }
 {
-    match try_insert(pass, line, key, val, slots) {
-        Ok(at) => Some(New::Made { at }),
+    match try_update(pass, line, key, Change::Put(val), true, slots) {
+        Ok(done) => Some(New::Made { at: done.at }),
         Err(Missed::There) => {
             let found = look_for(pass, rt, key);
             if found.was {
@@ -170,7 +171,7 @@ fn make_put<R: Wait>(pass: &mut TablePass<'_>, rt: &R, line: u32, key: u64, val:
 {
     'tries: for _ in rt.forever() {
         let slots = wait_for_slots(pass, rt);
-        if let Ok(done) = try_update(pass, line, key, Change::Put(val), &slots) {
+        if let Ok(done) = try_update(pass, line, key, Change::Put(val), false, &slots) {
             return done;
         }
         pause();
@@ -186,6 +187,7 @@ fn make_new<R: Wait>(pass: &mut TablePass<'_>, rt: &R, line: u32, key: u64, val:
     ensures same { IsSamePass pass.old pass.new }
     ensures rest { AtRest pass.new.view }
     ensures answered { AnswersPutNew pass.old.view pass.new.view pass.old.number line key val result }
+    ensures place { IsPlaceOfNew pass.old line key val result pass.new.view }
 {
     'tries: for _ in rt.forever() {
         let slots = wait_for_slots(pass, rt);
@@ -253,6 +255,7 @@ pub fn put_new<R: Wait>(
     ensures same { IsSamePass pass.old pass.new }
     ensures rest { AtRest pass.new.view }
     ensures answered { IfOk result (AnswersPutNew pass.old.view pass.new.view pass.old.number line key val) }
+    ensures place { IfOk result (λ answer. IsPlaceOfNew pass.old line key val answer pass.new.view) }
     ensures spent { IsErrOf result PassError.Spent ↔ (pass.old.view.history.left ≡ 0) }
     ensures no_slot { IsErrOf result PassError.NoSlot ↔ IsOutOfSlots pass.old.view }
     ensures unchanged { OnErr result (pass.new ≡ pass.old) }

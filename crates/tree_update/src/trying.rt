@@ -1,5 +1,5 @@
 //! One try of an update: a search, and the try of the plan that it has found, in one section. It never waits.
-ghost use Rattle.std.specs.Prelude.{◌≡◌, ◌↔◌, ◌<◌, Some, None, IfOk, IfErr, IsErrOf, OnErr};
+ghost use Rattle.std.specs.Prelude.{◌≡◌, ◌↔◌, ◌<◌, ◌&&◌, true, false, Some, None, IfOk, IfErr, IsErrOf, OnErr};
 ghost use Rattle.core_updates.specs.Plans.{key_of, change_of};
 ghost use Rattle.core_updates.specs.Ready.{update_of};
 ghost use Rattle.plan_laws.specs.Answers.{was_there as had_key};
@@ -7,7 +7,7 @@ ghost use Rattle.plan_laws.specs.Raises.{update_by};
 ghost use Rattle.plan_laws.specs.Tries.{IsSearched};
 ghost use Rattle.table_steps.specs.Passes.{AtRest, IsAlone, IsSamePass};
 ghost use Rattle.table_steps.specs.Raises.{IsRaisedSince};
-ghost use Rattle.tree_update.specs.Calls.{StaysOn, HasMade, MakesPut, IsPlaceOfPut, Inserts};
+ghost use Rattle.tree_update.specs.Calls.{StaysOn, HasMade, MakesPut, IsPlaceOfPut};
 ghost use Rattle.update_try.specs.Outcomes.{HasRisen, IsCounted};
 ghost use Rattle.tree_update.specs.Trying.{IsMissed, IsOutOfFreeSlots, OffersSlots, IfDone, IfBusy, IfMoved, IfPending, UnlessDone, IsMade};
 ghost use Rattle.bundle_reads.specs.Links.{InsideAt};
@@ -60,6 +60,13 @@ fn was_there(plan: &Plan) -> bool
     }
 }
 
+/// Whether an update is kept out by its key, which is there though it is to be made only where it is not.
+fn is_kept_out(only_new: bool, plan: &Plan) -> bool
+    ensures { result ≡ (only_new && had_key plan.now) }
+{
+    only_new && was_there(plan)
+}
+
 /// Leaves the section where nothing was locked.
 fn give_up(pass: &mut TablePass<'_>, at: u64)
     requires reads { InsideAt pass.old.view at }
@@ -102,12 +109,13 @@ fn carry_found(
 }
 
 /// One try of an update, in a section of its own, with these slots. The enter takes no free slot away, so they are free
-/// still where the plan is carried out.
+/// still where the plan is carried out. With `only_new` it is made only where its key is not there.
 pub(crate) fn try_update(
     pass: &mut TablePass<'_>,
     line: u32,
     key: u64,
     change: Change,
+    only_new: bool,
     slots: &PlanSlots,
 ) -> Result<Done, Missed>
     requires rest { AtRest pass.old.view }
@@ -117,17 +125,24 @@ pub(crate) fn try_update(
     ensures rest { AtRest pass.new.view }
     ensures made { IfOk result (HasMade pass.old.view pass.new.view pass.old.number line key change) }
     ensures raise { IfOk result (λ done. IsRaisedSince pass.old (update_of pass.old.number line key change) done.at pass.new.view) }
-    ensures missed { IfErr result (IsMissed key change pass.old.view pass.new.view) }
+    ensures absent { IfOk result (λ done. only_new ≡ true → done.was ≡ false) }
+    ensures missed { IfErr result (IsMissed only_new key change pass.old.view pass.new.view) }
     ensures stays { IfErr result (λ missed. StaysOn pass.old.view pass.new.view) }
 {
     let at = begin_search(pass);
     pass.facts();
     pass.number_fact();
     match find_plan(pass, at, key, change) {
-        Found::Plan(planned) => match carry_found(pass, at, line, &planned, slots) {
-            Ok(done) => Ok(done),
-            Err(failed) => Err(Missed::Failed(failed)),
-        },
+        Found::Plan(planned) => {
+            if is_kept_out(only_new, &planned.plan) {
+                give_up(pass, at);
+                return Err(Missed::There);
+            }
+            match carry_found(pass, at, line, &planned, slots) {
+                Ok(done) => Ok(done),
+                Err(failed) => Err(Missed::Failed(failed)),
+            }
+        }
         Found::Absent => {
             give_up(pass, at);
             Err(Missed::Absent)
@@ -136,40 +151,6 @@ pub(crate) fn try_update(
             give_up(pass, at);
             Err(Missed::Failed(Failed::Pending))
         }
-    }
-}
-
-/// One try of a put that is made only where the key is not there, in a section of its own, with these slots. It answers
-/// the place of its update.
-pub(crate) fn try_insert(
-    pass: &mut TablePass<'_>,
-    line: u32,
-    key: u64,
-    val: u64,
-    slots: &PlanSlots,
-) -> Result<u64, Missed>
-    requires rest { AtRest pass.old.view }
-    requires left { 0 < pass.old.view.history.left }
-    requires slots { OffersSlots pass.old.view slots.now }
-    ensures same { IsSamePass pass.old pass.new }
-    ensures rest { AtRest pass.new.view }
-    ensures made { IfOk result (Inserts pass.old.view pass.new.view pass.old.number line key val) }
-    ensures stays { IfErr result (λ missed. StaysOn pass.old.view pass.new.view) }
-{
-    let at = begin_search(pass);
-    pass.facts();
-    pass.number_fact();
-    let Found::Plan(planned) = find_plan(pass, at, key, Change::Put(val)) else {
-        give_up(pass, at);
-        return Err(Missed::Failed(Failed::Pending));
-    };
-    if was_there(&planned.plan) {
-        give_up(pass, at);
-        return Err(Missed::There);
-    }
-    match carry_found(pass, at, line, &planned, slots) {
-        Ok(done) => Ok(done.at),
-        Err(failed) => Err(Missed::Failed(failed)),
     }
 }
 
@@ -188,7 +169,7 @@ fn try_with(pass: &mut TablePass<'_>, line: u32, key: u64, val: u64, slots: &Pla
     ensures alone { UnlessDone result (¬ IsAlone pass.new.view) }
     ensures kept { UnlessDone result (StaysOn pass.old.view pass.new.view) }
 {
-    match try_update(pass, line, key, Change::Put(val), slots) {
+    match try_update(pass, line, key, Change::Put(val), false, slots) {
         Ok(done) => Try::Done(done),
         Err(Missed::Failed(Failed::Busy)) => Try::Busy,
         Err(Missed::Failed(Failed::Moved)) => Try::Moved,

@@ -2,6 +2,7 @@ use Rattle.std.proofs.Common.{◌∙◌, ℕ, arith, subst}
 use Rattle.tree_update.specs.Calls.{AnswersPutNew}
 use Rattle.tree_update.proofs.CallSteps.{stays_nothing, goes_more}
 use Rattle.tree_update.proofs.CallsMade.{new_more}
+use Rattle.tree_update.proofs.Places.{new_later}
 use Rattle.bundle_reads.proofs.ReadMoves.{same_pass, same_more}
 use Rattle.tree_update.proofs.calls.make_new.Goals as goal
 
@@ -34,3 +35,13 @@ tries-preserved g c =
       goes_more p.view x.view w.view goes (c.try_new.ensures.goes c.in_default.is),
       same_more p x w (same_more p q x c.tries.invariant.2 c.wait_for_slots-slots.ensures.same) c.try_new.ensures.same,
     )
+
+pub returns-in-Some-try_new-clause-place : goal.returns-in-Some-try_new-clause-place
+returns-in-Some-try_new-clause-place g c =
+    let p = c.args.pass.now in
+    let q = c.tries.pass in
+    let x = c.wait_for_slots-slots.new.pass in
+    let w = c.try_new.new.pass in
+    let goes = goes_more p.view q.view x.view c.tries.invariant.1 c.wait_for_slots-slots.ensures.stays.goes in
+    let same = same_more p q x c.tries.invariant.2 c.wait_for_slots-slots.ensures.same in
+    new_later p x c.args.line c.args.key c.args.val c.in-Some-try_new.answer w.view same goes c.in-Some-try_new.ensures.place

@@ -1,4 +1,5 @@
-use Rattle.std.proofs.Common.{◌∙◌, ℕ, arith, sym, subst}
+use Rattle.std.proofs.Common.{◌≡◌, ◌∙◌, ◌&&◌, ℕ, Bool, true, false, arith, refl, sym, subst}
+use Rattle.plan_laws.specs.Answers.{was_there}
 use Rattle.plan_laws.specs.Tries.{IsSearched}
 use Rattle.tree_update.proofs.CallSteps.{search_stays, stays_more}
 use Rattle.tree_update.proofs.CallsMade.{made_as, has_made_more}
@@ -75,7 +76,7 @@ returns-in-Absent-clause-missed c =
     let known = reader b at c.facts.ensures c.begin_search-at.ensures.fresh.reads in
     let none = c.in-Absent.ensures.found known.tree known.is in (
       none.0,
-      was_absent c.args.pass.now b c.find_plan.new.pass.view at opened c.find_plan.ensures.searched.read c.args.key c.give_up.new.pass.view c.give_up.ensures.stays.goes.seen
+      was_absent c.args.pass.now b c.find_plan.new.pass.view at opened c.find_plan.ensures.searched.read c.args.key c.give_up-in-Absent.new.pass.view c.give_up-in-Absent.ensures.stays.goes.seen
           (absent_there b at c.args.key c.args.change known (omega (arith, opened.seen.whole)) none),
     )
 
@@ -85,7 +86,7 @@ returns-in-Absent-clause-stays c =
     let b = c.begin_search-at.new.pass.view in
     let x = c.find_plan.new.pass in
     let stays = search_stays c.args.pass.now b x.view c.begin_search-at.result c.begin_search-at.ensures.opened c.find_plan.ensures.searched.read in
-    stays_more v x.view c.give_up.new.pass.view stays c.give_up.ensures.stays
+    stays_more v x.view c.give_up-in-Absent.new.pass.view stays c.give_up-in-Absent.ensures.stays
 
 pub returns-in-Pending-clause-missed : goal.returns-in-Pending-clause-missed
 returns-in-Pending-clause-missed c = (
@@ -119,3 +120,26 @@ returns-in-Ok-clause-raise c =
     (subst (λ (k : ℕ). IsRaisedSince x (update_of x.number c.args.line k c.args.change) at w) planned.key_is
     (subst (λ (d : Change). IsRaisedSince x (update_of x.number c.args.line (key_of plan) d) at w) planned.change_is c.in-Ok.ensures.raise)) in
     raised_later p x (update_of p.number c.args.line c.args.key c.args.change) at w same stays.goes.mine raised
+
+pub returns-in-Ok-clause-absent : goal.returns-in-Ok-clause-absent
+returns-in-Ok-clause-absent c = λ only.
+    let had = was_there c.in-Plan.planned.plan in
+    let out : (c.args.only_new && had) ≡ false = sym c.is_kept_out.ensures ∙ c.if-is_kept_out.false in
+    c.in-Ok.ensures.was ∙ subst (λ (b : Bool). (b && had) ≡ false) only out
+
+-- of two that hold together the first holds
+first_true : (a b : Bool) → (a && b) ≡ true → a ≡ true
+first_true true b both = refl
+first_true false b both = both
+
+pub returns-then-is_kept_out-clause-missed : goal.returns-then-is_kept_out-clause-missed
+returns-then-is_kept_out-clause-missed c =
+    first_true c.args.only_new (was_there c.in-Plan.planned.plan) (sym c.is_kept_out.ensures ∙ c.if-is_kept_out.true)
+
+pub returns-then-is_kept_out-clause-stays : goal.returns-then-is_kept_out-clause-stays
+returns-then-is_kept_out-clause-stays c =
+    let v = c.args.pass.now.view in
+    let b = c.begin_search-at.new.pass.view in
+    let x = c.find_plan.new.pass in
+    let stays = search_stays c.args.pass.now b x.view c.begin_search-at.result c.begin_search-at.ensures.opened c.find_plan.ensures.searched.read in
+    stays_more v x.view c.give_up.new.pass.view stays c.give_up.ensures.stays

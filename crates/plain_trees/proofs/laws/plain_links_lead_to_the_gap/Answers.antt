@@ -1,3 +1,5 @@
+use Rattle.plain_trees.proofs.Reaching.{reach_law, reached_in}
+use Rattle.plain_trees.proofs.Resting.{rest_law}
 use Rattle.plain_trees.proofs.Walks.{begin_law, walk_law}
 use Rattle.plain_trees.proofs.NullLinks.{null_link}
 use Rattle.plain_trees.proofs.Stores.{store}
@@ -6,7 +8,7 @@ use Rattle.plain_trees.proofs.Belows.{below_law}
 use Rattle.plain_trees.proofs.Ahead.{ahead_law}
 use Rattle.plain_trees.proofs.Inserts.{insert}
 use Rattle.plain_trees.proofs.Raises.{replace, remove}
-use Rattle.plain_trees.proofs.laws.plain_links_lead_right.Goals as goal
+use Rattle.plain_trees.proofs.laws.plain_links_lead_to_the_gap.Goals as goal
 
 pub returns : goal.returns
 returns c = record {
@@ -20,4 +22,7 @@ returns c = record {
   insert = insert;
   replace = replace;
   remove = remove;
+  reach = reach_law;
+  reached = reached_in;
+  rest = rest_law;
 }
