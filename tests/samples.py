@@ -23,8 +23,12 @@ BAD_WORDS = [
     "", "sample", "sample 0", "sample 00", "sample 01", "sample 007", "sample 40001", "sample 4294967297", "sample +1",
     "sample -1", "sample 1x", "sample x", "sample 1 1", "sample -- 1", "sample --help", "sample -h", "sample --number 1",
     "Sample 1", "--", "--help", "-h", "help", "help run", "help sample", "-V", "--version", "run --", "run --help", "run -h",
-    "run now", "run 1", "run sample 1", "run --slots 0", "run --slots 1", "run --slots=1", "run --slots 8193",
-    "run --slots=01", "run run",
+    "run now", "run 1", "run sample 1", "run --slots", "run --slots=", "run --slots 0", "run --slots=0",
+    "run --slots 8193", "run --slots=8193", "run --slots 10000", "run --slots=4294967297", "run --slots 01", "run --slots=01",
+    "run --slots +1", "run --slots=+1", "run --slots -1", "run --slots 1x", "run --slots =1", "run --slots==1", "run -slots=1",
+    "run --slot=1", "run --slots1", "run --Slots=1", "run --number 1", "run --slots 1 1", "run --slots 1 --slots 1",
+    "run --slots=1 --slots=2", "run --slots=1 --", "run -- --slots=1", "run --slots=1 run", "run --slots 1,2", "--slots 1 run",
+    "--slots=1 run", "--slots 1", "sample --slots 1", "sample 1 --slots 1", "sample --slots=1 1", "run run",
 ]
 
 
@@ -49,7 +53,8 @@ def model(n):
 
 def bad_words():
     """Lists of words of no form."""
-    return [words.split() for words in BAD_WORDS] + [[""], ["run", ""], ["sample", ""], ["sample", "1", ""], ["sample", " 1"]]
+    return [words.split() for words in BAD_WORDS] + [[""], ["run", ""], ["sample", ""], ["sample", "1", ""], ["sample", " 1"],
+        ["run", "--slots", ""], ["run", "--slots", "1", ""], ["run", "--slots=1", ""], ["run", "--slots= 1"], ["run", "--slots 1"]]
 
 
 def try_bad_words(program):

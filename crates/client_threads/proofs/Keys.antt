@@ -1,6 +1,7 @@
 -- From the keys of an opened index to the run of all clients, and to the history.
-use Rattle.std.proofs.Common.{◌≡◌, ℕ, zero, suc, ◌+◌, ◌*◌, ◌<◌, ◌≤◌, ◌==◌, All, length, get_or, map, List, [], ◌∷◌, Some, inl, inr, refl, sym, ap, ◌∙◌, subst, arith}
+use Rattle.std.proofs.Common.{◌≡◌, ℕ, zero, suc, ◌+◌, ◌*◌, ◌<◌, ◌≤◌, ◌==◌, All, length, get_or, map, List, [], ◌∷◌, Option, Some, inl, inr, refl, sym, ap, ◌∙◌, subst, arith}
 use Rattle.std.specs.List.{slice_get}
+use Rattle.std.specs.Option.{unwrap_or}
 use Rattle.std.proofs.lemmas.Bool.{cases_Bool}
 use Rattle.std.proofs.lemmas.Bool.Decides.{nat_tests}
 use Rattle.std.proofs.lemmas.List.{length-map, get_or-map}
@@ -13,7 +14,7 @@ use Rattle.key_map.specs.Lists.{count, Every}
 use Rattle.bucket_terms.specs.declared.reply.Placed.{Placed}
 use Rattle.bucket_terms.specs.PassView.{PassView, Extends}
 use Rattle.bucket_terms.specs.PlainPass.{fresh}
-use Rattle.bucket_terms.specs.LegalRun.{RequestLine, lines_of, slots_of}
+use Rattle.bucket_terms.specs.LegalRun.{RequestLine, lines_of}
 use Rattle.bucket_terms.specs.RunParts.{updates_in}
 use Rattle.request_lines.specs.declared.session.ClientPart.{ClientPart}
 use Rattle.request_lines.specs.declared.session.Session.{Session}
@@ -25,6 +26,7 @@ use Rattle.table_steps.specs.Closes.{BeginsWithSeen, AreMadeBy, StandAtOwnPlaces
 use Rattle.table_steps.specs.Passes.{Pass}
 use Rattle.shared_index.specs.Keys.{IsKeyOf, AreAllKeys, AreFresh}
 use Rattle.shared_index.specs.Shown.{shown}
+use Rattle.client_threads.specs.ClientSlots.{slots_under}
 use Rattle.client_threads.specs.Clients.{RanEach}
 use Rattle.client_threads.specs.Runs.{CanRunEach, RanOverEach, parts_of}
 use Rattle.client_threads.specs.Sizes.{CanServe, size_of, sizes_of}
@@ -96,26 +98,26 @@ fresh_at number (size ∷ sizes) (key ∷ keys) (suc c) e d are lt =
     fresh_at (number + 1) sizes keys c e d are.1 (omega arith) ∙ ap (λ (n : ℕ). fresh n (get_or sizes c e)) same
 
 -- the pass of a client at the start
-client_fresh : (clients : List ClientPart) (keys : List Pass) (c : ℕ) (d : Pass) → AreFresh 0 (sizes_of clients) keys → c < length (parts_of clients)
-    → shown (get_or keys c d) ≡ fresh c (size_of (get_or clients c no_part))
-client_fresh clients keys c d are lt =
+client_fresh : (named : Option ℕ) (clients : List ClientPart) (keys : List Pass) (c : ℕ) (d : Pass) → AreFresh 0 (sizes_of named clients) keys → c < length (parts_of clients)
+    → shown (get_or keys c d) ≡ fresh c (size_of named (get_or clients c no_part))
+client_fresh named clients keys c d are lt =
     let below : c < length clients = omega (arith, length-map clients request_lines) in
     let same : 0 + c ≡ c = omega arith in
-    fresh_at 0 (sizes_of clients) keys c (size_of no_part) d are (omega (arith, length-map clients size_of))
-    ∙ ap (λ (n : ℕ). fresh n (get_or (sizes_of clients) c (size_of no_part))) same
-    ∙ ap (fresh c) (get_or-map size_of clients c no_part (size_of no_part) below)
+    fresh_at 0 (sizes_of named clients) keys c (size_of named no_part) d are (omega (arith, length-map clients (size_of named)))
+    ∙ ap (λ (n : ℕ). fresh n (get_or (sizes_of named clients) c (size_of named no_part))) same
+    ∙ ap (fresh c) (get_or-map (size_of named) clients c no_part (size_of named no_part) below)
 
 -- a pass that has seen no update stands before each line
 pub none_seen : (pass : PassView) (line : ℕ) → pass.seen ≡ [] → IsLaterLine pass line
 none_seen pass line none = subst (λ (us : List Update). All (λ (u : Update). u.client ≡ pass.number → u.line < line) us) (sym none) (All-nil (λ (u : Update). u.client ≡ pass.number → u.line < line))
 
 -- the keys are those that a run of the session wants
-pub can_run : (dir : List (List ℕ)) (session : Session) (index : Home) (keys : List Pass) → CanServe dir session → AreAllKeys index keys → AreFresh 0 (sizes_of session.clients) keys
-    → CanRunEach dir index (parts_of session.clients) keys
-can_run dir session index keys can all are = record {
+pub can_run : (dir : List (List ℕ)) (named : Option ℕ) (session : Session) (index : Home) (keys : List Pass) → CanServe dir session → AreAllKeys index keys
+    → AreFresh 0 (sizes_of named session.clients) keys → CanRunEach dir index (parts_of session.clients) keys
+can_run dir named session index keys can all are = record {
   one_each = long;
   each = λ c d lt.
-      let is = client_fresh session.clients keys c d are lt in
+      let is = client_fresh named session.clients keys c d are lt in
       let below : c < length session.clients = omega (arith, length-map session.clients request_lines) in
       record {
         of = every_at (IsKeyOf index) keys all.of c d (omega (arith, long));
@@ -128,7 +130,7 @@ can_run dir session index keys can all are = record {
 }
   where
     long : length keys ≡ length (parts_of session.clients)
-    long = omega (arith, fresh_length 0 (sizes_of session.clients) keys are, length-map session.clients size_of, length-map session.clients request_lines)
+    long = omega (arith, fresh_length 0 (sizes_of named session.clients) keys are, length-map session.clients (size_of named), length-map session.clients request_lines)
 
 -- ---- the keys behind the run
 
@@ -186,17 +188,17 @@ module _ (dir : List (List ℕ)) (index : Home) (parts : List (List RequestLine)
     }
 
 -- the run of a session's clients over an index that was opened for it
-pub ran_session : (dir : List (List ℕ)) (session : Session) (index : Home) (keys back : List Pass) (replies : List (List Placed)) (updates : List Update)
-    → CanServe dir session → AreAllKeys index keys → AreFresh 0 (sizes_of session.clients) keys → RanOverEach dir index (parts_of session.clients) keys back replies
+pub ran_session : (dir : List (List ℕ)) (named : Option ℕ) (session : Session) (index : Home) (keys back : List Pass) (replies : List (List Placed)) (updates : List Update)
+    → CanServe dir session → AreAllKeys index keys → AreFresh 0 (sizes_of named session.clients) keys → RanOverEach dir index (parts_of session.clients) keys back replies
     → BeginsWithSeen back updates → AreMadeBy back updates → StandAtOwnPlaces back updates
-    → RanEach dir (parts_of session.clients) (slots_of (parts_of session.clients)) (record { updates = updates; replies = replies })
-ran_session dir session index keys back replies updates can all are ran begins made own =
-    ran_each dir index (parts_of session.clients) keys back replies (can_run dir session index keys can all are) ran updates begins made own (slots_of (parts_of session.clients))
+    → RanEach dir (parts_of session.clients) (slots_under named (parts_of session.clients)) (record { updates = updates; replies = replies })
+ran_session dir named session index keys back replies updates can all are ran begins made own =
+    ran_each dir index (parts_of session.clients) keys back replies (can_run dir named session index keys can all are) ran updates begins made own (slots_under named (parts_of session.clients))
     (λ c d lt.
-    let is = client_fresh session.clients keys c d are lt in
+    let is = client_fresh named session.clients keys c d are lt in
     let below : c < length session.clients = omega (arith, length-map session.clients request_lines) in
-    let lines = ap updates_in (lines_at session.clients c no_part below) in (
+    let slots = ap (λ (ls : List RequestLine). unwrap_or named (updates_in ls + 1)) (lines_at session.clients c no_part below) in (
       ap (λ (p : PassView). p.mine) is,
-      omega (arith, ap (λ (p : PassView). p.nodes) is, lines),
-      omega (arith, ap (λ (p : PassView). p.entries) is, lines),
+      omega (arith, ap (λ (p : PassView). p.nodes) is, slots),
+      omega (arith, ap (λ (p : PassView). p.entries) is, slots),
     ))

@@ -1,5 +1,5 @@
 -- A session's sizes fit a table.
-use Rattle.std.proofs.Common.{◌≡◌, ℕ, ◌+◌, ◌*◌, ◌≤◌, All, length, List, [], ◌∷◌, ap, ◌∙◌, arith, length-append}
+use Rattle.std.proofs.Common.{◌≡◌, ℕ, ◌+◌, ◌*◌, ◌≤◌, All, length, List, [], ◌∷◌, Option, Some, None, ap, ◌∙◌, arith, length-append}
 use Rattle.std.proofs.lemmas.List.{length-map}
 use Rattle.std.proofs.lemmas.List.Concat.{flat_map-cons}
 use Rattle.std.proofs.lemmas.List.Elements.{All-cons, All-map}
@@ -11,7 +11,7 @@ use Rattle.bucket_terms.specs.RunParts.{updates_in}
 use Rattle.request_lines.specs.declared.session.ClientPart.{ClientPart}
 use Rattle.request_lines.specs.Session.{request_line, request_lines}
 use Rattle.request_lines.specs.SessionLaws.{all_requests}
-use Rattle.client_threads.specs.Sizes.{AreFew, size_of, sizes_of}
+use Rattle.client_threads.specs.Sizes.{AreFew, IsNamable, size_of, sizes_of}
 
 -- a client has at most as many PUT and DELETE lines as requests
 updates_few : (part : ClientPart) → updates_in (request_lines part) ≤ length part.requests
@@ -27,37 +27,67 @@ part_few limit (part ∷ clients) few =
     let both = requests_cons part clients in
     All-cons (λ (p : ClientPart). length p.requests ≤ limit) part clients (omega arith) (part_few limit clients (omega arith))
 
-nodes_few : (clients : List ClientPart) → all_nodes (sizes_of clients) ≤ length (all_requests clients) + length clients
+nodes_few : (clients : List ClientPart) → all_nodes (sizes_of None clients) ≤ length (all_requests clients) + length clients
 nodes_few [] = omega arith
 nodes_few (part ∷ clients) =
-    omega (arith, nodes_few clients, updates_few part, requests_cons part clients, sum_by-cons (λ (s : PassSize). s.nodes) (size_of part) (sizes_of clients))
+    omega (arith, nodes_few clients, updates_few part, requests_cons part clients, sum_by-cons (λ (s : PassSize). s.nodes) (size_of None part) (sizes_of None clients))
 
-entries_few : (clients : List ClientPart) → all_entries (sizes_of clients) ≤ 4 * (length (all_requests clients) + length clients)
+entries_few : (clients : List ClientPart) → all_entries (sizes_of None clients) ≤ 4 * (length (all_requests clients) + length clients)
 entries_few [] = omega arith
 entries_few (part ∷ clients) =
-    omega (arith, entries_few clients, updates_few part, requests_cons part clients, sum_by-cons (λ (s : PassSize). s.entries) (size_of part) (sizes_of clients))
+    omega (arith, entries_few clients, updates_few part, requests_cons part clients, sum_by-cons (λ (s : PassSize). s.entries) (size_of None part) (sizes_of None clients))
 
-calls_few : (clients : List ClientPart) → all_calls (sizes_of clients) ≤ length (all_requests clients)
-calls_few [] = omega arith
-calls_few (part ∷ clients) =
-    omega (arith, calls_few clients, updates_few part, requests_cons part clients, sum_by-cons (λ (s : PassSize). s.calls) (size_of part) (sizes_of clients))
+-- with a named number each client has as many
+nodes_named : (n : ℕ) (clients : List ClientPart) → n ≤ 8192 → all_nodes (sizes_of (Some n) clients) ≤ 8192 * length clients
+nodes_named n [] most = omega arith
+nodes_named n (part ∷ clients) most =
+    omega (arith, nodes_named n clients most, most, sum_by-cons (λ (s : PassSize). s.nodes) (size_of (Some n) part) (sizes_of (Some n) clients))
 
-sizes_each : (clients : List ClientPart) → All IsPassSize (sizes_of clients)
-sizes_each clients = All-map IsPassSize size_of clients (λ k d below. (omega arith, omega arith))
+entries_named : (n : ℕ) (clients : List ClientPart) → n ≤ 8192 → all_entries (sizes_of (Some n) clients) ≤ 32768 * length clients
+entries_named n [] most = omega arith
+entries_named n (part ∷ clients) most =
+    omega (arith, entries_named n clients most, most, sum_by-cons (λ (s : PassSize). s.entries) (size_of (Some n) part) (sizes_of (Some n) clients))
 
-pub fit : (clients : List ClientPart) → AreFew clients → FitTable (sizes_of clients)
-fit clients few =
-    let count = length-map clients size_of in
+calls_few : (named : Option ℕ) (clients : List ClientPart) → all_calls (sizes_of named clients) ≤ length (all_requests clients)
+calls_few named [] = omega arith
+calls_few named (part ∷ clients) =
+    omega (
+      arith,
+      calls_few named clients,
+      updates_few part,
+      requests_cons part clients,
+      sum_by-cons (λ (s : PassSize). s.calls) (size_of named part) (sizes_of named clients),
+    )
+
+sizes_each : (named : Option ℕ) (clients : List ClientPart) → IsNamable named → All IsPassSize (sizes_of named clients)
+sizes_each None clients may = All-map IsPassSize (size_of None) clients (λ k d below. (omega arith, omega arith))
+sizes_each (Some n) clients may = All-map IsPassSize (size_of (Some n)) clients (λ k d below. (omega (arith, may), omega (arith, may)))
+
+fit_within : (named : Option ℕ) (clients : List ClientPart) → IsNamable named → AreFew clients → all_nodes (sizes_of named clients) ≤ 262144 → all_entries (sizes_of named clients) ≤ 1048576
+    → FitTable (sizes_of named clients)
+fit_within named clients may few nodes entries =
+    let count = length-map clients (size_of named) in
+    let requests : length (all_requests clients) ≤ 200000 = few.requests in
+    let clients_few : length clients ≤ 32 = few.few in
+    let calls = calls_few named clients in
+    record {
+      some = omega (arith, few.some);
+      few = omega arith;
+      each = sizes_each named clients may;
+      nodes = nodes;
+      entries = entries;
+      calls = omega arith;
+    }
+
+pub fit : (named : Option ℕ) (clients : List ClientPart) → IsNamable named → AreFew clients → FitTable (sizes_of named clients)
+fit None clients may few =
     let requests : length (all_requests clients) ≤ 200000 = few.requests in
     let clients_few : length clients ≤ 32 = few.few in
     let nodes = nodes_few clients in
     let entries = entries_few clients in
-    let calls = calls_few clients in
-    record {
-      some = omega (arith, few.some);
-      few = omega arith;
-      each = sizes_each clients;
-      nodes = omega arith;
-      entries = omega arith;
-      calls = omega arith;
-    }
+    fit_within None clients may few (omega arith) (omega arith)
+fit (Some n) clients may few =
+    let clients_few : length clients ≤ 32 = few.few in
+    let nodes = nodes_named n clients may.1 in
+    let entries = entries_named n clients may.1 in
+    fit_within (Some n) clients may few (omega arith) (omega arith)

@@ -1,13 +1,14 @@
 -- Helper: the headline does not rest on this file.
 -- The run of several clients, each over a pass of its own, and the one history of all of them.
-use Rattle.std.specs.Prelude.{◌≡◌, ℕ, ◌*◌, ◌<◌, ◌≤◌, List, [], length, Some, slice_get}
+use Rattle.std.specs.Prelude.{◌≡◌, ℕ, ◌*◌, ◌<◌, ◌≤◌, List, [], length, Option, Some, slice_get}
 use Rattle.key_map.specs.declared.update.Update.{Update}
 use Rattle.key_map.specs.History.{own_places}
 use Rattle.bucket_terms.specs.declared.reply.Placed.{Placed}
 use Rattle.bucket_terms.specs.PassView.{PassView, Extends}
-use Rattle.bucket_terms.specs.LegalRun.{RequestLine, Run, lines_of, replies_of, slots_of}
+use Rattle.bucket_terms.specs.LegalRun.{RequestLine, Run, lines_of, replies_of}
 use Rattle.request_lines.specs.declared.session.ClientPart.{ClientPart}
 use Rattle.client_run.specs.ClientRun.{RanClient}
+use Rattle.client_threads.specs.ClientSlots.{slots_under}
 use Rattle.client_threads.specs.Runs.{parts_of}
 
 -- one client's lines were answered over the pass of this number, which had made no update before and owned at
@@ -30,6 +31,8 @@ pub record RanEach (dir : List (List ℕ)) (parts : List (List RequestLine)) (sl
   pub each : (c : ℕ) → c < length parts → RanWithin dir run.updates c (slots c) (lines_of parts c) (replies_of run c)
   pub by_client : (i : ℕ) (u : Update) → slice_get run.updates i ≡ Some u → u.client < length parts
 
--- the clients of a session were run so, each with the slots that a session gives it, to these updates and replies
-abbrev pub RanSession : List (List ℕ) → List ClientPart → List Update → List (List Placed) → Type 0
-RanSession dir clients updates replies = RanEach dir (parts_of clients) (slots_of (parts_of clients)) (record { updates = updates; replies = replies })
+-- the clients of a session were run so, each with the slots that are named or that its lines ask for, to these updates
+-- and replies
+abbrev pub RanSession : List (List ℕ) → Option ℕ → List ClientPart → List Update → List (List Placed) → Type 0
+RanSession dir named clients updates replies =
+    RanEach dir (parts_of clients) (slots_under named (parts_of clients)) (record { updates = updates; replies = replies })

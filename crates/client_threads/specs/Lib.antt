@@ -1,3 +1,4 @@
+pub mod ClientSlots
 pub mod SlotsSuffice
 pub mod Clients
 pub mod Runs

@@ -1,6 +1,7 @@
 -- Helper: the headline does not rest on this file.
 -- The index of a session: which sessions it is opened for, and the sizes of its passes.
-use Rattle.std.specs.Prelude.{ℕ, ◌+◌, ◌*◌, ◌<◌, ◌≤◌, List, length, map, All}
+use Rattle.std.specs.Prelude.{ℕ, ◌+◌, ◌*◌, ◌<◌, ◌≤◌, List, length, map, All, Option, IfSome}
+use Rattle.std.specs.Option.{unwrap_or}
 use Rattle.key_map.specs.declared.pass.PassSize.{PassSize}
 use Rattle.bucket_terms.specs.RunParts.{updates_in}
 use Rattle.request_lines.specs.declared.session.ClientPart.{ClientPart}
@@ -9,16 +10,28 @@ use Rattle.request_lines.specs.InputParts.{most_clients, most_requests}
 use Rattle.request_lines.specs.Session.{request_lines}
 use Rattle.request_lines.specs.SessionLaws.{IsAskable, HasRecordBelow, Rise, all_requests}
 
--- the size of the pass of a client with so many PUT and DELETE lines: slots and calls for each, and the slots of one
--- update more
-abbrev pub size_for : ℕ → PassSize
-size_for writes = record { nodes = writes + 1; entries = 4 * (writes + 1); calls = writes }
+-- the most node slots that a client can be given by name
+abbrev pub most_slots : ℕ
+most_slots = 8192
 
-abbrev pub size_of : ClientPart → PassSize
-size_of part = size_for (updates_in (request_lines part))
+-- where a number of node slots is named, each client can be given as many
+abbrev pub IsNamable : Option ℕ → Type 0
+IsNamable named = IfSome named (λ n. (0 < n) × (n ≤ most_slots))
 
-abbrev pub sizes_of : List ClientPart → List PassSize
-sizes_of clients = map size_of clients
+-- the size of the pass of a client that may make so many updates: the node slots that are named, or one more than the
+-- updates; four entry slots for each; and a call for each update
+abbrev pub size_for : Option ℕ → ℕ → PassSize
+size_for named updates = record {
+  nodes = unwrap_or named (updates + 1);
+  entries = 4 * unwrap_or named (updates + 1);
+  calls = updates;
+}
+
+abbrev pub size_of : Option ℕ → ClientPart → PassSize
+size_of named part = size_for named (updates_in (request_lines part))
+
+abbrev pub sizes_of : Option ℕ → List ClientPart → List PassSize
+sizes_of named clients = map (size_of named) clients
 
 -- these clients are some and few, and ask no more than a session may
 pub record AreFew (clients : List ClientPart) : Type 0 where

@@ -24,7 +24,7 @@ use std::thread::Threads;
 ///
 /// ```
 /// let mut runner = Threaded::new();
-/// let updates = history_of(&rt, alloc, &session, &dir, &OpenGate, &mut runner)?;
+/// let updates = history_of(&rt, alloc, None, &session, &dir, &OpenGate, &mut runner)?;
 /// // the first client's, one for each of its request lines
 /// let replies = runner.replies(0);
 /// ```

@@ -1,5 +1,5 @@
 -- What clap reads of the words of each form.
-use Rattle.std.proofs.Common.{◌≡◌, ℕ, ◌<◌, ◌≤◌, ◌^◌, true, Bool, List, [], ◌∷◌, codes, length, get_or, Option, Some, None, refl, subst, sym, ap, ◌∙◌, inl, inr, arith}
+use Rattle.std.proofs.Common.{◌≡◌, ℕ, ◌<◌, ◌≤◌, ◌^◌, true, Bool, List, [], ◌∷◌, ◌++◌, codes, length, get_or, Option, Some, None, refl, subst, sym, ap, ◌∙◌, inl, inr, arith}
 use Rattle.std.specs.Fmt.{decimal}
 use Rattle.std.specs.Option.{option_map}
 use Rattle.std.specs.Char.{is_ascii_digit}
@@ -20,6 +20,7 @@ use Rattle.clap.proofs.OnLiterals.{clap_on_literals}
 use Rattle.command_words.specs.declared.form.Form.{Form}
 use Rattle.command_words.specs.declared.form.Form.TheVariants.{Run, Sample}
 use Rattle.command_words.specs.Program.{program, read_of, IsForm}
+use Rattle.command_words.specs.Words.{HasSlots}
 
 pub program_simple : is_simple program ≡ true
 unfolding clap_on_literals
@@ -29,7 +30,7 @@ takes_run : takes program (codes "run" ∷ []) ≡ true
 unfolding clap_on_literals
 takes_run = refl
 
-pub reads_run : option_map (λ p. p.0) (read_of (subcommand_of program (codes "run" ∷ []))) ≡ Some (codes "run")
+pub reads_run : read_of (subcommand_of program (codes "run" ∷ [])) ≡ Some (codes "run", None)
 unfolding clap_on_literals
 reads_run = refl
 
@@ -37,6 +38,13 @@ reads_run = refl
 
 abbrev sample_words : List ℕ → List (List ℕ)
 sample_words number = codes "sample" ∷ number ∷ []
+
+-- the option `--slots` of `run`: its number is the word behind it, or stands in the same word
+abbrev slots_words : List ℕ → List (List ℕ)
+slots_words number = codes "run" ∷ codes "--slots" ∷ number ∷ []
+
+abbrev joined_words : List ℕ → List (List ℕ)
+joined_words number = codes "run" ∷ (codes "--slots=" ++ number) ∷ []
 
 -- one of nine digits
 nine : (P : ℕ → Type 0) → P 49 → P 50 → P 51 → P 52 → P 53 → P 54 → P 55 → P 56 → P 57 → (d : ℕ) → 48 < d → d < 58 → P d
@@ -75,13 +83,29 @@ nine P p49 p50 p51 p52 p53 p54 p55 p56 p57 d low high =
           ]
     ]
 
-takes_digits : (digits : List ℕ) (d : ℕ) → 48 < d → d < 58 → takes program (sample_words (d ∷ digits)) ≡ true
+takes_sample_digits : (digits : List ℕ) (d : ℕ) → 48 < d → d < 58 → takes program (sample_words (d ∷ digits)) ≡ true
 unfolding clap_on_literals
-takes_digits digits = nine (λ d. takes program (sample_words (d ∷ digits)) ≡ true) refl refl refl refl refl refl refl refl refl
+takes_sample_digits digits = nine (λ d. takes program (sample_words (d ∷ digits)) ≡ true) refl refl refl refl refl refl refl refl refl
 
-reads_digits : (digits : List ℕ) (d : ℕ) → 48 < d → d < 58 → read_of (subcommand_of program (sample_words (d ∷ digits))) ≡ Some (codes "sample", Some (d ∷ digits))
+reads_sample_digits : (digits : List ℕ) (d : ℕ) → 48 < d → d < 58 → read_of (subcommand_of program (sample_words (d ∷ digits))) ≡ Some (codes "sample", Some (d ∷ digits))
 unfolding clap_on_literals
-reads_digits digits = nine (λ d. read_of (subcommand_of program (sample_words (d ∷ digits))) ≡ Some (codes "sample", Some (d ∷ digits))) refl refl refl refl refl refl refl refl refl
+reads_sample_digits digits = nine (λ d. read_of (subcommand_of program (sample_words (d ∷ digits))) ≡ Some (codes "sample", Some (d ∷ digits))) refl refl refl refl refl refl refl refl refl
+
+takes_slots_digits : (digits : List ℕ) (d : ℕ) → 48 < d → d < 58 → takes program (slots_words (d ∷ digits)) ≡ true
+unfolding clap_on_literals
+takes_slots_digits digits = nine (λ d. takes program (slots_words (d ∷ digits)) ≡ true) refl refl refl refl refl refl refl refl refl
+
+reads_slots_digits : (digits : List ℕ) (d : ℕ) → 48 < d → d < 58 → read_of (subcommand_of program (slots_words (d ∷ digits))) ≡ Some (codes "run", Some (d ∷ digits))
+unfolding clap_on_literals
+reads_slots_digits digits = nine (λ d. read_of (subcommand_of program (slots_words (d ∷ digits))) ≡ Some (codes "run", Some (d ∷ digits))) refl refl refl refl refl refl refl refl refl
+
+takes_joined_digits : (digits : List ℕ) (d : ℕ) → 48 < d → d < 58 → takes program (joined_words (d ∷ digits)) ≡ true
+unfolding clap_on_literals
+takes_joined_digits digits = nine (λ d. takes program (joined_words (d ∷ digits)) ≡ true) refl refl refl refl refl refl refl refl refl
+
+reads_joined_digits : (digits : List ℕ) (d : ℕ) → 48 < d → d < 58 → read_of (subcommand_of program (joined_words (d ∷ digits))) ≡ Some (codes "run", Some (d ∷ digits))
+unfolding clap_on_literals
+reads_joined_digits digits = nine (λ d. read_of (subcommand_of program (joined_words (d ∷ digits))) ≡ Some (codes "run", Some (d ∷ digits))) refl refl refl refl refl refl refl refl refl
 
 numerals : IsNumeralModel (λ digits. all_ascii_digits digits ≡ true) (digits_value 10)
 numerals = numerals_by_value _ tells_all_ascii_digits
@@ -104,21 +128,41 @@ first_digit (d ∷ digits) some first all = record { d = d; digits = digits; is 
 decimal_digit_first : (n : ℕ) → 0 < n → n < 2 ^ 64 → BeginsWithDigit (decimal n)
 decimal_digit_first n some small = first_digit (decimal n) (decimal_nonempty n small) (first_decimal n some small) (digits_decimal numerals n small)
 
-takes_number : (text : List ℕ) → BeginsWithDigit text → takes program (sample_words text) ≡ true
-takes_number text first = ap (λ (t : List ℕ). takes program (sample_words t)) first.is ∙ takes_digits first.digits first.d first.low first.high
+-- from digits to the numbers that they spell: clap takes these words, and reads this
+takes_decimal : (words : List ℕ → List (List ℕ)) → ((digits : List ℕ) (d : ℕ) → 48 < d → d < 58 → takes program (words (d ∷ digits)) ≡ true)
+    → (n : ℕ) → 0 < n → n < 2 ^ 64 → takes program (words (decimal n)) ≡ true
+takes_decimal words of_digits n some small =
+    let first = decimal_digit_first n some small in
+    ap (λ (t : List ℕ). takes program (words t)) first.is ∙ of_digits first.digits first.d first.low first.high
 
-reads_number : (text : List ℕ) → BeginsWithDigit text → read_of (subcommand_of program (sample_words text)) ≡ Some (codes "sample", Some text)
-reads_number text first =
-    ap (λ (t : List ℕ). read_of (subcommand_of program (sample_words t))) first.is ∙ reads_digits first.digits first.d first.low first.high
-    ∙ ap (λ (t : List ℕ). Some (codes "sample", Some t)) (sym first.is)
-
-pub reads_sample : (n : ℕ) → 0 < n → n ≤ 40000 → read_of (subcommand_of program (sample_words (decimal n))) ≡ Some (codes "sample", Some (decimal n))
-reads_sample n some most = reads_number (decimal n) (decimal_digit_first n some (omega arith))
+reads_decimal : (words : List ℕ → List (List ℕ)) (word : List ℕ)
+    → ((digits : List ℕ) (d : ℕ) → 48 < d → d < 58 → read_of (subcommand_of program (words (d ∷ digits))) ≡ Some (word, Some (d ∷ digits)))
+    → (n : ℕ) → 0 < n → n < 2 ^ 64 → read_of (subcommand_of program (words (decimal n))) ≡ Some (word, Some (decimal n))
+reads_decimal words word of_digits n some small =
+    let first = decimal_digit_first n some small in
+    ap (λ (t : List ℕ). read_of (subcommand_of program (words t))) first.is ∙ of_digits first.digits first.d first.low first.high
+    ∙ ap (λ (t : List ℕ). Some (word, Some t)) (sym first.is)
 
 -- clap takes the words of each form
+takes_slots : (words : List (List ℕ)) (n : ℕ) → HasSlots (codes "run") words n → takes program words ≡ true
+takes_slots words n is = elim is.spelled [
+  | inl apart ↦ ap (takes program) apart ∙ takes_decimal slots_words takes_slots_digits n is.some (omega (arith, is.most))
+  | inr joined ↦ ap (takes program) joined ∙ takes_decimal joined_words takes_joined_digits n is.some (omega (arith, is.most))
+]
+
 pub takes_form : (words : List (List ℕ)) (form : Form) → IsForm words form → takes program words ≡ true
-takes_form words Run is = ap (takes program) is ∙ takes_run
-takes_form words (Sample n) is = ap (takes program) is.spelled ∙ takes_number (decimal n) (decimal_digit_first n is.some (omega (arith, is.most)))
+takes_form words (Run None) is = ap (takes program) is ∙ takes_run
+takes_form words (Run (Some n)) is = takes_slots words n is
+takes_form words (Sample n) is = ap (takes program) is.spelled ∙ takes_decimal sample_words takes_sample_digits n is.some (omega (arith, is.most))
+
+-- and reads them
+reads_slots : (words : List (List ℕ)) (n : ℕ) → HasSlots (codes "run") words n → read_of (subcommand_of program words) ≡ Some (codes "run", Some (decimal n))
+reads_slots words n is = elim is.spelled [
+  | inl apart ↦
+      ap (λ (ws : List (List ℕ)). read_of (subcommand_of program ws)) apart ∙ reads_decimal slots_words (codes "run") reads_slots_digits n is.some (omega (arith, is.most))
+  | inr joined ↦
+      ap (λ (ws : List (List ℕ)). read_of (subcommand_of program ws)) joined ∙ reads_decimal joined_words (codes "run") reads_joined_digits n is.some (omega (arith, is.most))
+]
 
 -- ---- from the matches to what is read
 
@@ -141,10 +185,15 @@ rows_read m name inner word number =
 
 -- the form of the words is read
 pub form_read : (words : List (List ℕ)) (m : ArgMatches) (result : Option Form) (form : Form) → subcommand_rows_of m ≡ subcommand_of program words
-    → (option_map (λ p. p.0) (read_of (subcommand_rows_of m)) ≡ Some (codes "run") → result ≡ Some Run)
+    → (read_of (subcommand_rows_of m) ≡ Some (codes "run", None) → result ≡ Some (Run None))
+    → ((n : ℕ) → read_of (subcommand_rows_of m) ≡ Some (codes "run", Some (decimal n)) → n ≤ 8192 → result ≡ Some (Run (Some n)))
     → ((n : ℕ) → read_of (subcommand_rows_of m) ≡ Some (codes "sample", Some (decimal n)) → n ≤ 40000 → result ≡ Some (Sample n))
     → IsForm words form → result ≡ Some form
-form_read words m result Run rows run sample is =
-    run (ap (λ r. option_map (λ p. p.0) (read_of r)) rows ∙ ap (λ (ws : List (List ℕ)). option_map (λ p. p.0) (read_of (subcommand_of program ws))) is ∙ reads_run)
-form_read words m result (Sample n) rows run sample is =
-    sample n (ap read_of rows ∙ ap (λ (ws : List (List ℕ)). read_of (subcommand_of program ws)) is.spelled ∙ reads_sample n is.some is.most) is.most
+form_read words m result (Run None) rows run slots sample is =
+    run (ap read_of rows ∙ ap (λ (ws : List (List ℕ)). read_of (subcommand_of program ws)) is ∙ reads_run)
+form_read words m result (Run (Some n)) rows run slots sample is = slots n (ap read_of rows ∙ reads_slots words n is) is.most
+form_read words m result (Sample n) rows run slots sample is =
+    sample n
+    (ap read_of rows ∙ ap (λ (ws : List (List ℕ)). read_of (subcommand_of program ws)) is.spelled
+    ∙ reads_decimal sample_words (codes "sample") reads_sample_digits n is.some (omega (arith, is.most)))
+    is.most

@@ -11,17 +11,18 @@ use std::alloc::Global;
 /// What the program is asked to do.
 #[derive(Clone, Copy, Debug, PartialEq, Eq)]
 pub enum Form {
-    /// `run`: runs the session on standard input.
-    Run,
-    /// `sample N`: runs the generated session, with so many requests of each client.
+    /// `run`: runs the session on standard input. With `--slots N` or `--slots=N` each client has N node slots, from 1 to
+    /// 8,192; without it, one more than it has lines that may make an update.
+    Run { slots: Option<u32> },
+    /// `sample N`: runs the generated session, with so many requests of each client, from 1 to 40,000.
     Sample(u32),
 }
 
 /// The form of these words, which stand behind the program's name, or None where they are none.
 ///
 /// ```
-/// let words = [Text::of(alloc, "sample")?, Text::of(alloc, "7")?];
-/// assert_eq!(rt; form_of(alloc, &words)?, Some(Form::Sample(7)));
+/// let words = [Text::of(alloc, "run")?, Text::of(alloc, "--slots=8")?];
+/// assert_eq!(rt; form_of(alloc, &words)?, Some(Form::Run { slots: Some(8) }));
 /// ```
 pub fn form_of(alloc: Global, words: &[Text]) -> Result<Option<Form>, NoMemory>
     ensures form { IfOk result (λ found. MatchOption found ((form : TheForm) → ¬ (IsForm words.now form)) (IsForm words.now)) }

@@ -1,11 +1,12 @@
 // What clap reads of the words.
-ghost use Rattle.std.specs.Prelude.{◌≡◌, ◌≤◌, ℕ, List, true, map, codes, Some, IfOk, MatchOption};
+ghost use Rattle.std.specs.Prelude.{◌≡◌, ◌<◌, ◌≤◌, ◌^◌, ℕ, List, true, map, codes, false, Some, None, IfOk, MatchOption};
 ghost use Rattle.std.specs.Fmt.{decimal};
 ghost use Rattle.std.specs.Option.{option_map};
+ghost use Rattle.clap.specs.declared.builder.command.Command.TheViews.{out-Command};
 ghost use Rattle.clap.specs.Words.{app_of, subcommand_of, subcommand_rows_of, takes};
 ghost use Rattle.command_words.specs.declared.form.Form.{Form as TheForm};
 ghost use Rattle.command_words.specs.Program as spec;
-ghost use Rattle.command_words.specs.Program.{read_of, IsForm, most_asked};
+ghost use Rattle.command_words.specs.Program.{read_of, IsForm, most_asked, most_slots};
 
 use crate::form::Form;
 use clap::error::ErrorKind;
@@ -51,21 +52,37 @@ fn matches_of<'a>(alloc: Global, words: &'a [&'a str]) -> Result<Option<ArgMatch
     }
 }
 
-// The command: `run`, and `sample` with its number.
+// The command, with `run` and `sample`.
 fn program<'a>(alloc: Global) -> Result<Command<'a>, AllocError>
     ensures { IfOk result (λ command. app_of command ≡ spec.program) }
 {
-    let number = Arg::new(alloc, "number").required(true);
-    let run = Command::new(alloc, "run");
-    let sample = Command::new(alloc, "sample").arg(number)?;
+    let run = run_command(alloc)?;
+    let sample = sample_command(alloc)?;
     Command::new(alloc, "bucketidx")
         .no_binary_name(true)
         .subcommand(run)?
         .subcommand(sample)
 }
 
+// `run`, whose number is the value of an option.
+fn run_command<'a>(alloc: Global) -> Result<Command<'a>, AllocError>
+    ensures app { IfOk result (λ command. app_of command ≡ spec.run_app) }
+    ensures local { IfOk result (λ command. (out-Command command).has_globals ≡ false) }
+{
+    Command::new(alloc, "run").arg(Arg::new(alloc, "number").long("slots"))
+}
+
+// `sample` with its number.
+fn sample_command<'a>(alloc: Global) -> Result<Command<'a>, AllocError>
+    ensures app { IfOk result (λ command. app_of command ≡ spec.sample_app) }
+    ensures local { IfOk result (λ command. (out-Command command).has_globals ≡ false) }
+{
+    Command::new(alloc, "sample").arg(Arg::new(alloc, "number").required(true))
+}
+
 fn form_in(matches: &ArgMatches) -> Option<Form>
-    ensures run { option_map (λ p. p.0) (read_of (subcommand_rows_of matches.now)) ≡ Some (codes "run") → result ≡ Some Form.Run }
+    ensures run { read_of (subcommand_rows_of matches.now) ≡ Some (codes "run", None) → result ≡ Some (Form.Run None) }
+    ensures slots { (n : ℕ) → read_of (subcommand_rows_of matches.now) ≡ Some (codes "run", Some (decimal n)) → n ≤ most_slots → result ≡ Some (Form.Run (Some n)) }
     ensures sample { (n : ℕ) → read_of (subcommand_rows_of matches.now) ≡ Some (codes "sample", Some (decimal n)) → n ≤ most_asked → result ≡ Some (Form.Sample n) }
 {
     match matches.subcommand() {
@@ -75,21 +92,34 @@ fn form_in(matches: &ArgMatches) -> Option<Form>
 }
 
 fn form_named(name: &str, number: Option<&str>) -> Option<Form>
-    ensures run { name.now ≡ codes "run" → result ≡ Some Form.Run }
+    ensures run { name.now ≡ codes "run" → option_map (λ s. s.now) number.entry ≡ None → result ≡ Some (Form.Run None) }
+    ensures slots { (n : ℕ) → name.now ≡ codes "run" → option_map (λ s. s.now) number.entry ≡ Some (decimal n) → n ≤ most_slots → result ≡ Some (Form.Run (Some n)) }
     ensures sample { (n : ℕ) → name.now ≡ codes "sample" → option_map (λ s. s.now) number.entry ≡ Some (decimal n) → n ≤ most_asked → result ≡ Some (Form.Sample n) }
 {
     match name {
-        "run" => Some(Form::Run),
-        "sample" => sample_of(number?),
+        "run" => run_of(number),
+        "sample" => Some(Form::Sample(number_of(number?)?)),
         _ => None,
     }
 }
 
-fn sample_of(number: &str) -> Option<Form>
-    ensures { (n : ℕ) → number.now ≡ decimal n → n ≤ most_asked → result ≡ Some (Form.Sample n) }
+fn run_of(number: Option<&str>) -> Option<Form>
+    ensures run { option_map (λ s. s.now) number.entry ≡ None → result ≡ Some (Form.Run None) }
+    ensures slots { (n : ℕ) → option_map (λ s. s.now) number.entry ≡ Some (decimal n) → n ≤ most_slots → result ≡ Some (Form.Run (Some n)) }
 {
-    match number.parse::<u32>() {
-        Ok(n) => Some(Form::Sample(n)),
+    match number {
+        None => Some(Form::Run { slots: None }),
+        Some(text) => Some(Form::Run {
+            slots: Some(number_of(text)?),
+        }),
+    }
+}
+
+fn number_of(text: &str) -> Option<u32>
+    ensures { (n : ℕ) → text.now ≡ decimal n → n < 2 ^ 32 → result ≡ Some n }
+{
+    match text.parse::<u32>() {
+        Ok(n) => Some(n),
         Err(_) => None,
     }
 }

@@ -1,8 +1,8 @@
 // How a form is written.
-ghost use Rattle.std.specs.Prelude.{◌≡◌, ◌<◌, ◌≤◌, ◌↔◌, [], ◌∷◌, codes, IsTrue, IfOk};
+ghost use Rattle.std.specs.Prelude.{◌≡◌, ◌<◌, ◌≤◌, ◌↔◌, ◌⊎◌, [], ◌∷◌, ◌++◌, codes, IsTrue, IfOk};
 ghost use Rattle.std.specs.Fmt.{decimal};
-ghost use Rattle.command_words.specs.Program.{IsForm, most_asked};
-ghost use Rattle.command_words.specs.Words.{IsRun};
+ghost use Rattle.command_words.specs.Program.{IsForm, most_asked, most_slots};
+ghost use Rattle.command_words.specs.Words.{IsVerb, HasSlots};
 
 use crate::form::Form;
 use key_names::{NoMemory, Text};
@@ -11,30 +11,65 @@ use std::alloc::Global;
 /// The most requests of each client that `sample` may be asked for.
 const MOST_ASKED: u32 = 40_000;
 
+/// The most node slots that `run` may be asked to give each client.
+const MOST_SLOTS: u32 = 8192;
+
 /// Whether the words are just as the form is written.
 pub(crate) fn is_spelled(alloc: Global, words: &[Text], form: Form) -> Result<bool, NoMemory>
     ensures { IfOk result (λ spelled. IsTrue spelled ↔ IsForm words.now form) }
 {
     match form {
-        Form::Run => Ok(is_run(words)),
+        Form::Run { slots } => is_verb(alloc, words, b"run", slots),
         Form::Sample(n) => is_sample(alloc, words, n),
     }
 }
 
-fn is_run(words: &[Text]) -> bool
-    ensures { IsTrue result ↔ IsRun words.now }
+// Whether the words are the verb, alone or with this number of slots.
+fn is_verb(
+    alloc: Global,
+    words: &[Text],
+    verb: &[u8],
+    slots: Option<u32>,
+) -> Result<bool, NoMemory>
+    ensures { IfOk result (λ spelled. IsTrue spelled ↔ IsVerb verb.now words.now slots) }
+{
+    match slots {
+        None => Ok(is_alone(words, verb)),
+        Some(n) => has_slots(alloc, words, verb, n),
+    }
+}
+
+fn is_alone(words: &[Text], verb: &[u8]) -> bool
+    ensures { IsTrue result ↔ (words.now ≡ verb.now ∷ []) }
 {
     match words {
-        [word] => is_word(word, b"run"),
+        [word] => is_word(word, verb),
         _ => false,
     }
+}
+
+fn has_slots(alloc: Global, words: &[Text], verb: &[u8], n: u32) -> Result<bool, NoMemory>
+    ensures { IfOk result (λ spelled. IsTrue spelled ↔ HasSlots verb.now words.now n) }
+{
+    let number = digits_of(alloc, n)?;
+    let joined = joined_of(alloc, n)?;
+    let spelled = is_triple(words, verb, b"--slots", number.bytes())
+        || is_pair(words, verb, joined.bytes());
+    Ok(is_granted(n) && spelled)
+}
+
+// Whether each client may be given so many node slots.
+fn is_granted(n: u32) -> bool
+    ensures { IsTrue result ↔ ((0 < n) × (n ≤ most_slots)) }
+{
+    0 < n && n <= MOST_SLOTS
 }
 
 fn is_sample(alloc: Global, words: &[Text], n: u32) -> Result<bool, NoMemory>
     ensures { IfOk result (λ spelled. IsTrue spelled ↔ IsForm words.now (Form.Sample n)) }
 {
     let number = digits_of(alloc, n)?;
-    Ok(is_asked(n) && is_pair(words, number.bytes()))
+    Ok(is_asked(n) && is_pair(words, b"sample", number.bytes()))
 }
 
 // Whether `sample` may be asked for so many requests.
@@ -54,12 +89,32 @@ fn digits_of(alloc: Global, n: u32) -> Result<Text, NoMemory>
     }
 }
 
-// Whether the words are `sample` and this number.
-fn is_pair(words: &[Text], number: &[u8]) -> bool
-    ensures { IsTrue result ↔ (words.now ≡ codes "sample" ∷ number.now ∷ []) }
+// The option and the number in one word.
+fn joined_of(alloc: Global, n: u32) -> Result<Text, NoMemory>
+    ensures { IfOk result (λ text. text ≡ codes "--slots=" ++ decimal n) }
+{
+    match format!(in alloc; "--slots={n}") {
+        Ok(text) => Ok(Text::from_string(text)),
+        Err(_) => Err(NoMemory),
+    }
+}
+
+fn is_pair(words: &[Text], first: &[u8], second: &[u8]) -> bool
+    ensures { IsTrue result ↔ (words.now ≡ first.now ∷ second.now ∷ []) }
 {
     match words {
-        [verb, text] => is_word(verb, b"sample") && is_word(text, number),
+        [verb, text] => is_word(verb, first) && is_word(text, second),
+        _ => false,
+    }
+}
+
+fn is_triple(words: &[Text], first: &[u8], second: &[u8], third: &[u8]) -> bool
+    ensures { IsTrue result ↔ (words.now ≡ first.now ∷ second.now ∷ third.now ∷ []) }
+{
+    match words {
+        [verb, option, text] => {
+            is_word(verb, first) && is_word(option, second) && is_word(text, third)
+        }
         _ => false,
     }
 }

@@ -10,10 +10,18 @@ fn form(alloc: Global, texts: &[&str]) -> Result<Option<Form>, NoMemory> {
     form_of(alloc, &words)
 }
 
+fn run(slots: Option<u32>) -> Result<Option<Form>, NoMemory> {
+    Ok(Some(Form::Run { slots }))
+}
+
 #[test]
 fn forms_are_read(rt: HostRuntime) {
     let alloc = rt.alloc();
-    assert_eq!(rt; form(alloc, &["run"]), Ok(Some(Form::Run)));
+    assert_eq!(rt; form(alloc, &["run"]), run(None));
+    assert_eq!(rt; form(alloc, &["run", "--slots", "1"]), run(Some(1)));
+    assert_eq!(rt; form(alloc, &["run", "--slots=1"]), run(Some(1)));
+    assert_eq!(rt; form(alloc, &["run", "--slots", "8192"]), run(Some(8192)));
+    assert_eq!(rt; form(alloc, &["run", "--slots=8192"]), run(Some(8192)));
     assert_eq!(rt; form(alloc, &["sample", "1"]), Ok(Some(Form::Sample(1))));
     assert_eq!(rt;
         form(alloc, &["sample", "40000"]),
@@ -24,11 +32,21 @@ fn forms_are_read(rt: HostRuntime) {
 #[test]
 fn other_words_are_none(rt: HostRuntime) {
     let alloc = rt.alloc();
-    let others: [&[&str]; 7] = [
+    let others: [&[&str]; 17] = [
         &[],
         &["--help"],
+        &["run", "now"],
         &["run", "--"],
-        &["run", "--slots=1"],
+        &["run", "--slots"],
+        &["run", "--slots", "0"],
+        &["run", "--slots", "8193"],
+        &["run", "--slots="],
+        &["run", "--slots=0"],
+        &["run", "--slots=01"],
+        &["run", "--slots=8193"],
+        &["run", "--slots=1", "--slots=1"],
+        &["--slots=1", "run"],
+        &["sample", "--slots=1"],
         &["sample", "01"],
         &["sample", "40001"],
         &["help", "sample"],

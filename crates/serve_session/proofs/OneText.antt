@@ -1,5 +1,5 @@
 -- The text of an input of one client is determined, and so is the refusal of an input.
-use Rattle.std.proofs.Common.{◌≡◌, ℕ, List, [], ◌∷◌, ◌++◌, length, inl, inr, sym, ap, ◌∙◌, subst, arith, Some}
+use Rattle.std.proofs.Common.{◌≡◌, ℕ, List, [], ◌∷◌, ◌++◌, length, inl, inr, sym, ap, ◌∙◌, subst, arith, Some, None}
 use Rattle.std.proofs.lemmas.Option.{same_Some}
 use Rattle.bucket_terms.specs.LegalRun.{Run, IsLegal, slots_of}
 use Rattle.request_lines.specs.declared.session.ClientPart.{ClientPart}
@@ -21,7 +21,7 @@ same_run dir names (part ∷ []) a b one holds of_a of_b =
 same_run dir names (part ∷ next ∷ more) a b one holds of_a of_b = absurd (omega arith)
 
 -- and so is its text
-same_text : (session : Session) (P Q : Run → List ℕ → Type 0) → length session.clients ≡ 1 → (f : HoldsOfSession session P) → (g : HoldsOfSession session Q)
+same_text : (session : Session) (P Q : Run → List ℕ → Type 0) → length session.clients ≡ 1 → (f : HoldsOfSession None session P) → (g : HoldsOfSession None session Q)
     → session_text f.dir session.records f.text.run ≡ session_text g.dir session.records g.text.run
 same_text session P Q one f g =
     let dirs : f.dir ≡ g.dir = one_directory session.names f.dir g.dir f.names g.names in
@@ -34,7 +34,7 @@ text_law input taken x y after after' first second one =
     let of_first : IsSessionOf input first.session = subst (λ (bytes : List ℕ). IsSessionOf bytes first.session) first.has_read.all.0 first.of_input in
     let of_second : IsSessionOf input second.session = subst (λ (bytes : List ℕ). IsSessionOf bytes second.session) second.has_read.all.0 second.of_input in
     let same = one_session input second.session first.session of_second of_first in
-    let other = subst (λ (s : Session). HoldsOfSession s (λ _ text. y ≡ taken ++ text)) same second.text in
+    let other = subst (λ (s : Session). HoldsOfSession None s (λ _ text. y ≡ taken ++ text)) same second.text in
     first.text.text.holds
     ∙ ap (λ (text : List ℕ). taken ++ text) (same_text first.session _ _ one first.text other)
     ∙ sym other.text.holds
@@ -46,7 +46,7 @@ refusal_law input after after' e f first second =
     same_Some e f (sym of_first ∙ of_second)
 
 pub or_served_law : RefusedOrServedLaw
-or_served_law input after after' e refused served =
+or_served_law named input after after' e refused served =
     let of_first : refusal_of input ≡ Some e = ap refusal_of (sym refused.1.0.all.0) ∙ refused.1.1 in
     let of_input : IsSessionOf input served.session = subst (λ (bytes : List ℕ). IsSessionOf bytes served.session) served.has_read.all.0 served.of_input in
     no_session input served.session e of_input of_first

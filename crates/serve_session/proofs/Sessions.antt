@@ -8,35 +8,36 @@ use Rattle.key_names.specs.Names.{HoldsEachOnce}
 use Rattle.key_map.specs.declared.update.Update.{Update}
 use Rattle.bucket_terms.specs.declared.record.Record.{Record}
 use Rattle.bucket_terms.specs.declared.reply.Placed.{Placed}
-use Rattle.bucket_terms.specs.LegalRun.{IsLegal, Run, slots_of}
+use Rattle.bucket_terms.specs.LegalRun.{IsLegal, Run}
 use Rattle.request_lines.specs.declared.session.ClientPart.{ClientPart}
 use Rattle.request_lines.specs.declared.session.Session.{Session}
 use Rattle.request_lines.specs.Session.{request_lines}
 use Rattle.answer_text.specs.Lines.{line_of, session_text}
 use Rattle.answer_text.specs.Shown.{last_data}
+use Rattle.client_threads.specs.ClientSlots.{slots_under}
 use Rattle.client_threads.specs.Clients.{RanEach}
 use Rattle.serve_session.specs.Served.{HoldsOfInput, HoldsOfSession, HoldsOfRun}
 use Rattle.client_threads.proofs.Clients.{each_legal}
 
 -- ---- the run of the session
 
-pub run_holds : (session : Session) (dir names : List (List ℕ)) (P : Run → List ℕ → Type 0) → HoldsEachOnce session.names dir
-    → HoldsOfRun dir session.records session.clients P → HoldsOfSession session P
-run_holds session dir names P holds text = record { dir = dir; names = holds; text = text }
+pub run_holds : (named : Option ℕ) (session : Session) (dir names : List (List ℕ)) (P : Run → List ℕ → Type 0) → HoldsEachOnce session.names dir
+    → HoldsOfRun named dir session.records session.clients P → HoldsOfSession named session P
+run_holds named session dir names P holds text = record { dir = dir; names = holds; text = text }
 
 -- a run of the clients, with the parts of what is written as a call was given them
-pub written : (dir : List (List ℕ)) (records given : List Record) (clients : List ClientPart) (updates shown : List Update) (replies : List (List Placed)) (P : Run → List ℕ → Type 0)
-    → given ≡ records → shown ≡ updates → RanEach dir (map request_lines clients) (slots_of (map request_lines clients)) (record { updates = updates; replies = replies })
+pub written : (named : Option ℕ) (dir : List (List ℕ)) (records given : List Record) (clients : List ClientPart) (updates shown : List Update) (replies : List (List Placed)) (P : Run → List ℕ → Type 0)
+    → given ≡ records → shown ≡ updates → RanEach dir (map request_lines clients) (slots_under named (map request_lines clients)) (record { updates = updates; replies = replies })
     → P (record { updates = shown; replies = replies }) (session_text dir given (record { updates = shown; replies = replies }))
-    → HoldsOfRun dir records clients P
-written dir records given clients updates shown replies P same_records same_updates ran holds =
+    → HoldsOfRun named dir records clients P
+written named dir records given clients updates shown replies P same_records same_updates ran holds =
     let run : Run = record { updates = shown; replies = replies } in
     let parts = map request_lines clients in
     record {
       run = run;
       legal =
-          each_legal dir parts (slots_of parts) run
-          (subst (λ (us : List Update). RanEach dir parts (slots_of parts) (record { updates = us; replies = replies })) (sym same_updates) ran);
+          each_legal dir parts (slots_under named parts) run
+          (subst (λ (us : List Update). RanEach dir parts (slots_under named parts) (record { updates = us; replies = replies })) (sym same_updates) ran);
       holds = subst (λ (rs : List Record). P run (session_text dir rs run)) same_records holds;
     }
 
@@ -47,26 +48,26 @@ no_client (p ∷ ps) is = absurd (grind (arith, nat_tests))
 abbrev no_run : Run
 no_run = record { updates = []; replies = [] }
 
-legal_none : (dir : List (List ℕ)) → IsLegal dir [] (slots_of []) no_run
-legal_none dir = record {
+legal_none : (named : Option ℕ) (dir : List (List ℕ)) → IsLegal dir [] (slots_under named []) no_run
+legal_none named dir = record {
   clients = refl;
   answered = λ c lt. absurd (omega (arith, lt));
   made = λ i u is. let no : i < 0 = slice_get_within [] i u is in absurd (omega (arith, no));
 }
 
-pub none_holds : (session : Session) (dir : List (List ℕ)) (P : Run → List ℕ → Type 0) → (length session.clients == 0) ≡ true
-    → HoldsEachOnce session.names dir → P no_run (line_of (last_data 0)) → HoldsOfSession session P
-none_holds session dir P is names holds = record {
+pub none_holds : (named : Option ℕ) (session : Session) (dir : List (List ℕ)) (P : Run → List ℕ → Type 0) → (length session.clients == 0) ≡ true
+    → HoldsEachOnce session.names dir → P no_run (line_of (last_data 0)) → HoldsOfSession named session P
+none_holds named session dir P is names holds = record {
   dir = dir;
   names = names;
-  text = subst (λ (cs : List ClientPart). HoldsOfRun dir session.records cs P) (sym (no_client session.clients is))
-      (record { run = no_run; legal = legal_none dir; holds = holds });
+  text = subst (λ (cs : List ClientPart). HoldsOfRun named dir session.records cs P) (sym (no_client session.clients is))
+      (record { run = no_run; legal = legal_none named dir; holds = holds });
 }
 
 -- what holds of a run and its text, and more, holds of it
-pub input_first : (before after : Option (List ℕ)) (P Q : Run → List ℕ → Type 0)
-    → HoldsOfInput before after (λ (run : Run) (text : List ℕ). P run text × Q run text) → HoldsOfInput before after P
-input_first before after P Q both = record {
+pub input_first : (named : Option ℕ) (before after : Option (List ℕ)) (P Q : Run → List ℕ → Type 0)
+    → HoldsOfInput named before after (λ (run : Run) (text : List ℕ). P run text × Q run text) → HoldsOfInput named before after P
+input_first named before after P Q both = record {
   input = both.input;
   session = both.session;
   has_read = both.has_read;

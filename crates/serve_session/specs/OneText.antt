@@ -1,18 +1,19 @@
 -- Helper: the headline does not rest on this file.
 -- What the headline determines: the text of an input of one client, and the refusal of an input.
-use Rattle.std.specs.Prelude.{◌≡◌, ◌≢◌, ◌⊎◌, ℕ, List, [], length, Option, Some}
+use Rattle.std.specs.Prelude.{◌≡◌, ◌≢◌, ◌⊎◌, ℕ, List, [], length, Option, Some, None}
 use Rattle.outside_io.specs.Streams.{one_more, IsTaken}
 use Rattle.bucket_terms.specs.declared.reply.Placed.{Placed}
 use Rattle.request_lines.specs.declared.session_error.InputError.{InputError}
 use Rattle.bucket_terms.specs.LegalRun.{Run}
 use Rattle.serve_session.specs.Served.{HoldsOfInput, IsRunOf, RefusedInput}
 
--- from one input, where it has one client, and behind one text that was taken before, one text is taken
+-- from one input, where it has one client, whose node slots are not named, and behind one text that was taken before, one
+-- text is taken
 abbrev pub OneTextLaw : Type 0
 OneTextLaw =
     (input taken x y : List ℕ) (after after' : Option (List ℕ))
-    → (first : HoldsOfInput (Some input) after (λ (run : Run) (text : List ℕ). IsTaken (Some taken) (Some x) text))
-    → HoldsOfInput (Some input) after' (λ (run : Run) (text : List ℕ). IsTaken (Some taken) (Some y) text)
+    → (first : HoldsOfInput None (Some input) after (λ (run : Run) (text : List ℕ). IsTaken (Some taken) (Some x) text))
+    → HoldsOfInput None (Some input) after' (λ (run : Run) (text : List ℕ). IsTaken (Some taken) (Some y) text)
     → length first.session.clients ≡ 1 → x ≡ y
 
 -- an input has one refusal at most
@@ -23,8 +24,8 @@ OneRefusalLaw =
 -- and none where it has a session with a legal run
 abbrev pub RefusedOrServedLaw : Type 0
 RefusedOrServedLaw =
-    (input : List ℕ) (after after' : Option (List ℕ)) (e : InputError)
-    → RefusedInput (Some input) after e → ¬ (HoldsOfInput (Some input) after' (λ (run : Run) (text : List ℕ). Unit {0}))
+    (named : Option ℕ) (input : List ℕ) (after after' : Option (List ℕ)) (e : InputError)
+    → RefusedInput (Some input) after e → ¬ (HoldsOfInput named (Some input) after' (λ (run : Run) (text : List ℕ). Unit {0}))
 
 -- a run that has replies has those of the runner, whose count of runs is one more
 abbrev pub RunnersRunLaw : Type 0

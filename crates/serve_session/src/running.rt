@@ -4,7 +4,7 @@ ghost use Rattle.outside_io.specs.Streams.{one_more};
 ghost use Rattle.request_lines.specs.SessionLaws.{HasNames, HasRequests, HasLines, IsSmall};
 ghost use Rattle.serve_session.specs.Served.{HoldsOfSession, HoldsOfRun};
 ghost use Rattle.serve_session.specs.Taken.{TookBy, TookStart};
-ghost use Rattle.client_threads.specs.Sizes.{CanServe};
+ghost use Rattle.client_threads.specs.Sizes.{CanServe, IsNamable};
 
 use crate::writing::{write_last, write_run};
 use client_run::Gate;
@@ -21,18 +21,20 @@ use std::thread::Threads;
 pub(crate) fn run_session<K: Sink, G: Gate + Sync, R: Runner<G>, Rt: Threads + Wait + Sync>(
     rt: &Rt,
     alloc: Global,
+    slots: Option<u32>,
     session: Session,
     sink: &mut K,
     gate: &G,
     runner: &mut R,
 ) -> Result<(), Stop>
+    requires slots { IsNamable slots }
     requires names { HasNames session }
     requires requests { HasRequests session }
     requires lines { HasLines session }
     requires small { IsSmall session }
-    ensures wrote { OnOk result (HoldsOfSession session (TookBy K.taken sink.old sink.new R.runs R.replied runner.old runner.new)) }
-    ensures start { IsErrOf result Stop.Fault → HoldsOfSession session (TookStart K.taken sink.old sink.new) }
-    ensures no_memory { IsErrOf result Stop.NoMemory → (sink.new ≡ sink.old) ⊎ HoldsOfSession session (TookStart K.taken sink.old sink.new) }
+    ensures wrote { OnOk result (HoldsOfSession slots session (TookBy K.taken sink.old sink.new R.runs R.replied runner.old runner.new)) }
+    ensures start { IsErrOf result Stop.Fault → HoldsOfSession slots session (TookStart K.taken sink.old sink.new) }
+    ensures no_memory { IsErrOf result Stop.NoMemory → (sink.new ≡ sink.old) ⊎ HoldsOfSession slots session (TookStart K.taken sink.old sink.new) }
     ensures fault { IsErrOf result Stop.Fault → K.faults sink.new ≡ one_more (K.faults sink.old) }
     ensures quiet { ¬ (IsErrOf result Stop.Fault) → K.faults sink.new ≡ K.faults sink.old }
 {
@@ -51,27 +53,29 @@ pub(crate) fn run_session<K: Sink, G: Gate + Sync, R: Runner<G>, Rt: Threads + W
         names: Names::new(alloc),
         records,
     };
-    run_clients(rt, alloc, &session, &dir, sink, gate, runner)
+    run_clients(rt, alloc, slots, &session, &dir, sink, gate, runner)
 }
 
 // Runs the clients and writes the text.
 fn run_clients<K: Sink, G: Gate + Sync, R: Runner<G>, Rt: Threads + Wait + Sync>(
     rt: &Rt,
     alloc: Global,
+    slots: Option<u32>,
     session: &Session,
     dir: &Directory,
     sink: &mut K,
     gate: &G,
     runner: &mut R,
 ) -> Result<(), Stop>
+    requires slots { IsNamable slots }
     requires can { CanServe dir.now session.now }
-    ensures wrote { OnOk result (HoldsOfRun dir.now session.now.records session.now.clients (TookBy K.taken sink.old sink.new R.runs R.replied runner.old runner.new)) }
-    ensures start { IsErrOf result Stop.Fault → HoldsOfRun dir.now session.now.records session.now.clients (TookStart K.taken sink.old sink.new) }
-    ensures no_memory { IsErrOf result Stop.NoMemory → (sink.new ≡ sink.old) ⊎ HoldsOfRun dir.now session.now.records session.now.clients (TookStart K.taken sink.old sink.new) }
+    ensures wrote { OnOk result (HoldsOfRun slots dir.now session.now.records session.now.clients (TookBy K.taken sink.old sink.new R.runs R.replied runner.old runner.new)) }
+    ensures start { IsErrOf result Stop.Fault → HoldsOfRun slots dir.now session.now.records session.now.clients (TookStart K.taken sink.old sink.new) }
+    ensures no_memory { IsErrOf result Stop.NoMemory → (sink.new ≡ sink.old) ⊎ HoldsOfRun slots dir.now session.now.records session.now.clients (TookStart K.taken sink.old sink.new) }
     ensures fault { IsErrOf result Stop.Fault → K.faults sink.new ≡ one_more (K.faults sink.old) }
     ensures quiet { ¬ (IsErrOf result Stop.Fault) → K.faults sink.new ≡ K.faults sink.old }
 {
-    let updates = history_of(rt, alloc, session, dir, gate, runner)?;
+    let updates = history_of(rt, alloc, slots, session, dir, gate, runner)?;
     let records = session.records.as_slice();
     let clients = session.clients.len() as u32;
     write_run::<K, G, R, Rt>(rt, alloc, sink, dir, records, clients, runner, &updates)

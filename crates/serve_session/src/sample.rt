@@ -108,7 +108,7 @@ fn run_summed<G: Gate + Sync, R: Runner<G>, Rt: Threads + Wait + Sync>(
         names: Names::new(alloc),
         records,
     };
-    let updates = history_of(rt, alloc, &session, &dir, gate, runner)?;
+    let updates = history_of(rt, alloc, None, &session, &dir, gate, runner)?;
     // The summary is the same in every schedule.
     sample_laws::sample_session();
     summary_of::<G, R>(alloc, session.clients.len() as u32, runner, &updates)

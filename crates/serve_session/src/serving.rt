@@ -1,5 +1,5 @@
 // The whole of the program but for the real input and output.
-ghost use Rattle.std.specs.Prelude.{◌≡◌, ◌⊎◌, ◌≤◌, ℕ};
+ghost use Rattle.std.specs.Prelude.{◌≡◌, ◌⊎◌, ◌≤◌, ℕ, Option};
 ghost use Rattle.outside_io.specs.Streams.{one_more, Gave, IsOver, IsTaken, TakesStart};
 ghost use Rattle.command_words.specs.Words.{IsRun, IsSample, HasForm};
 ghost use Rattle.request_lines.specs.declared.session_error.InputError.{InputError};
@@ -8,6 +8,7 @@ ghost use Rattle.request_lines.specs.Input.{most_input_bytes};
 ghost use Rattle.sample_laws.specs.Sample.{sample_summary};
 ghost use Rattle.serve_session.specs.Served.{Wrote, WroteBy, HoldsOfSample, RefusedInput, IsRunOf};
 ghost use Rattle.serve_session.specs.Summaries.{summary_text};
+ghost use Rattle.client_threads.specs.Sizes.{IsNamable};
 
 use crate::Status;
 use crate::running::run_session;
@@ -23,8 +24,9 @@ use std::alloc::Global;
 use std::sync::Wait;
 use std::thread::Threads;
 
-/// Does what the words ask, which are those behind the program's name. The form `run` reads a session, runs its clients
-/// over one shared index and writes its text; the form `sample` runs the generated session and writes its summary. The
+/// Does what the words ask, which are those behind the program's name. The forms `run` read a session, run its clients
+/// over one shared index and write its text; the form `sample` runs the generated session and writes its summary. With
+/// `--slots N` each client of the session has N node slots, else one more than it has PUT, PUTNEW and DELETE lines. The
 /// runner runs the clients. The gate is told of each request before and after it is answered.
 /// After `Done` the text of one legal run of the input's session was written, or the line of the summary; after
 /// `WriteFault` a start of such a text or line; after `NoMemory` nothing or a start of one. Each other end comes before
@@ -48,8 +50,8 @@ pub fn serve<S: Source, K: Sink, G: Gate + Sync, R: Runner<G>, Rt: Threads + Wai
     runner: &mut R,
 ) -> Status
     // A run that ends: one legal run of the input's session, and just its text. The run is the runner's.
-    ensures headline { IsRun words.now → result ≡ IsDone → Wrote IsTaken S.rest source.old source.new K.taken sink.old sink.new }
-    ensures runner { IsRun words.now → result ≡ IsDone → WroteBy S.rest source.old source.new K.taken sink.old sink.new R.runs R.replied runner.old runner.new }
+    ensures headline { (slots : Option ℕ) → IsRun words.now slots → result ≡ IsDone → Wrote IsTaken slots S.rest source.old source.new K.taken sink.old sink.new }
+    ensures runner { (slots : Option ℕ) → IsRun words.now slots → result ≡ IsDone → WroteBy slots S.rest source.old source.new K.taken sink.old sink.new R.runs R.replied runner.old runner.new }
 
     // A sample: the line of the summary, which is a function of the number.
     ensures sample { (n : ℕ) → IsSample words.now n → result ≡ IsDone → IsTaken (K.taken sink.old) (K.taken sink.new) (summary_text (sample_summary n)) }
@@ -59,7 +61,7 @@ pub fn serve<S: Source, K: Sink, G: Gate + Sync, R: Runner<G>, Rt: Threads + Wai
     // An end before anything is written: the words, the input or the source are why.
     ensures bad_words { result ≡ HasBadWords → ¬ (HasForm words.now) }
     ensures no_form { ¬ (HasForm words.now) → (result ≡ HasBadWords) ⊎ (result ≡ Status.NoMemory) }
-    ensures nothing_read { ¬ (IsRun words.now) → source.new ≡ source.old }
+    ensures nothing_read { ((slots : Option ℕ) → ¬ (IsRun words.now slots)) → source.new ≡ source.old }
     ensures nothing_written { ¬ (result ≡ IsDone) → ¬ (result ≡ Status.WriteFault) → ¬ (result ≡ Status.NoMemory) → sink.new ≡ sink.old }
     ensures nothing_written_without_form { ¬ (HasForm words.now) → sink.new ≡ sink.old }
     ensures bad_input { (e : InputError) → result ≡ Status.BadInput e → RefusedInput (S.rest source.old) (S.rest source.new) e }
@@ -70,16 +72,16 @@ pub fn serve<S: Source, K: Sink, G: Gate + Sync, R: Runner<G>, Rt: Threads + Wai
     ensures read_fault { result ≡ Status.ReadFault → Gave (S.rest source.old) (S.rest source.new) (λ n. n ≤ most_input_bytes) }
     ensures read_fault_only_where_faulted { result ≡ Status.ReadFault → S.faults source.new ≡ one_more (S.faults source.old) }
     ensures no_other_read_fault { ¬ (result ≡ Status.ReadFault) → S.faults source.new ≡ S.faults source.old }
-    ensures write_fault { IsRun words.now → result ≡ Status.WriteFault → Wrote TakesStart S.rest source.old source.new K.taken sink.old sink.new }
+    ensures write_fault { (slots : Option ℕ) → IsRun words.now slots → result ≡ Status.WriteFault → Wrote TakesStart slots S.rest source.old source.new K.taken sink.old sink.new }
     ensures sample_write_fault { (n : ℕ) → IsSample words.now n → result ≡ Status.WriteFault → TakesStart (K.taken sink.old) (K.taken sink.new) (summary_text (sample_summary n)) }
     ensures write_fault_only_where_faulted { result ≡ Status.WriteFault → K.faults sink.new ≡ one_more (K.faults sink.old) }
     ensures no_other_write_fault { ¬ (result ≡ Status.WriteFault) → K.faults sink.new ≡ K.faults sink.old }
     ensures no_memory_source { result ≡ Status.NoMemory → Gave (S.rest source.old) (S.rest source.new) (λ n. n ≤ most_input_bytes) }
-    ensures no_memory { IsRun words.now → result ≡ Status.NoMemory → (sink.new ≡ sink.old) ⊎ Wrote TakesStart S.rest source.old source.new K.taken sink.old sink.new }
+    ensures no_memory { (slots : Option ℕ) → IsRun words.now slots → result ≡ Status.NoMemory → (sink.new ≡ sink.old) ⊎ Wrote TakesStart slots S.rest source.old source.new K.taken sink.old sink.new }
     ensures sample_no_memory { (n : ℕ) → IsSample words.now n → result ≡ Status.NoMemory → sink.new ≡ sink.old }
 {
     match form_of(alloc, words) {
-        Ok(Some(Form::Run)) => serve_input(rt, alloc, source, sink, gate, runner),
+        Ok(Some(Form::Run { slots })) => serve_input(rt, alloc, slots, source, sink, gate, runner),
         Ok(Some(Form::Sample(n))) => serve_sample(rt, alloc, n, sink, gate, runner),
         Ok(None) => Status::BadWords,
         Err(_) => Status::NoMemory,
@@ -90,13 +92,15 @@ pub fn serve<S: Source, K: Sink, G: Gate + Sync, R: Runner<G>, Rt: Threads + Wai
 fn serve_input<S: Source, K: Sink, G: Gate + Sync, R: Runner<G>, Rt: Threads + Wait + Sync>(
     rt: &Rt,
     alloc: Global,
+    slots: Option<u32>,
     source: &mut S,
     sink: &mut K,
     gate: &G,
     runner: &mut R,
 ) -> Status
-    ensures headline { result ≡ IsDone → Wrote IsTaken S.rest source.old source.new K.taken sink.old sink.new }
-    ensures runner { result ≡ IsDone → WroteBy S.rest source.old source.new K.taken sink.old sink.new R.runs R.replied runner.old runner.new }
+    requires slots { IsNamable slots }
+    ensures headline { result ≡ IsDone → Wrote IsTaken slots S.rest source.old source.new K.taken sink.old sink.new }
+    ensures runner { result ≡ IsDone → WroteBy slots S.rest source.old source.new K.taken sink.old sink.new R.runs R.replied runner.old runner.new }
 
     // An end before anything is written.
     ensures reads { ¬ (result ≡ HasBadWords) }
@@ -108,11 +112,11 @@ fn serve_input<S: Source, K: Sink, G: Gate + Sync, R: Runner<G>, Rt: Threads + W
     ensures read_fault { result ≡ Status.ReadFault → Gave (S.rest source.old) (S.rest source.new) (λ n. n ≤ most_input_bytes) }
     ensures read_fault_only_where_faulted { result ≡ Status.ReadFault → S.faults source.new ≡ one_more (S.faults source.old) }
     ensures no_other_read_fault { ¬ (result ≡ Status.ReadFault) → S.faults source.new ≡ S.faults source.old }
-    ensures write_fault { result ≡ Status.WriteFault → Wrote TakesStart S.rest source.old source.new K.taken sink.old sink.new }
+    ensures write_fault { result ≡ Status.WriteFault → Wrote TakesStart slots S.rest source.old source.new K.taken sink.old sink.new }
     ensures write_fault_only_where_faulted { result ≡ Status.WriteFault → K.faults sink.new ≡ one_more (K.faults sink.old) }
     ensures no_other_write_fault { ¬ (result ≡ Status.WriteFault) → K.faults sink.new ≡ K.faults sink.old }
     ensures no_memory_source { result ≡ Status.NoMemory → Gave (S.rest source.old) (S.rest source.new) (λ n. n ≤ most_input_bytes) }
-    ensures no_memory { result ≡ Status.NoMemory → (sink.new ≡ sink.old) ⊎ Wrote TakesStart S.rest source.old source.new K.taken sink.old sink.new }
+    ensures no_memory { result ≡ Status.NoMemory → (sink.new ≡ sink.old) ⊎ Wrote TakesStart slots S.rest source.old source.new K.taken sink.old sink.new }
 {
     let input = match read_all(alloc, source, MAX_INPUT_BYTES) {
         Ok(input) => input,
@@ -125,7 +129,7 @@ fn serve_input<S: Source, K: Sink, G: Gate + Sync, R: Runner<G>, Rt: Threads + W
         Err(SessionError::Input(error)) => return Status::BadInput(error),
         Err(SessionError::NoMemory) => return Status::NoMemory,
     };
-    match run_session(rt, alloc, session, sink, gate, runner) {
+    match run_session(rt, alloc, slots, session, sink, gate, runner) {
         Ok(()) => Status::Done,
         Err(Stop::Fault) => Status::WriteFault,
         Err(Stop::NoMemory) => Status::NoMemory,

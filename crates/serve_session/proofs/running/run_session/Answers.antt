@@ -8,16 +8,16 @@ use Rattle.serve_session.proofs.running.run_session.Goals as goal
 pub returns-then-is_empty-clause-wrote : goal.returns-then-is_empty-clause-wrote
 returns-then-is_empty-clause-wrote g c =
     IfOk-weaker c.write_last.result _ _
-    (λ done taken. none_holds c.args.session c.in_ok-dir.dir _ (sym c.is_empty.ensures ∙ c.if-is_empty.true) c.in_ok-dir.ensures (taken, inl refl))
+    (λ done taken. none_holds c.args.slots c.args.session c.in_ok-dir.dir _ (sym c.is_empty.ensures ∙ c.if-is_empty.true) c.in_ok-dir.ensures (taken, inl refl))
     c.write_last.ensures.taken
 
 pub returns-then-is_empty-clause-start : goal.returns-then-is_empty-clause-start
 returns-then-is_empty-clause-start g c = λ is.
-    none_holds c.args.session c.in_ok-dir.dir _ (sym c.is_empty.ensures ∙ c.if-is_empty.true) c.in_ok-dir.ensures (c.write_last.ensures.start Fault is)
+    none_holds c.args.slots c.args.session c.in_ok-dir.dir _ (sym c.is_empty.ensures ∙ c.if-is_empty.true) c.in_ok-dir.ensures (c.write_last.ensures.start Fault is)
 
 pub returns-then-is_empty-clause-no_memory : goal.returns-then-is_empty-clause-no_memory
 returns-then-is_empty-clause-no_memory g c = λ is.
-    inr (none_holds c.args.session c.in_ok-dir.dir _ (sym c.is_empty.ensures ∙ c.if-is_empty.true) c.in_ok-dir.ensures (c.write_last.ensures.start NoMemory is))
+    inr (none_holds c.args.slots c.args.session c.in_ok-dir.dir _ (sym c.is_empty.ensures ∙ c.if-is_empty.true) c.in_ok-dir.ensures (c.write_last.ensures.start NoMemory is))
 
 pub run_clients-requires-clause-can : goal.run_clients-requires-clause-can
 run_clients-requires-clause-can g c κs within =

@@ -1,11 +1,36 @@
-use Rattle.std.proofs.Common.{ℕ, subst}
+use Rattle.std.proofs.Common.{ℕ, inl, inr, subst}
 use Rattle.outside_io.specs.Streams.{IsTaken, TakesStart}
-use Rattle.command_words.specs.declared.form.Form.TheVariants.{Sample}
+use Rattle.command_words.specs.declared.form.Form.TheVariants.{Run, Sample}
 use Rattle.sample_laws.specs.Sample.{sample_summary}
 use Rattle.serve_session.specs.Served.{HoldsOfSample, IsRunOf}
 use Rattle.serve_session.specs.Summaries.{summary_text}
-use Rattle.serve_session.proofs.Forms.{one_number, found_form, found_none, no_form}
+use Rattle.serve_session.proofs.Forms.{one_number, input_named, found_form, found_none, no_form}
 use Rattle.serve_session.proofs.serving.serve.Goals as goal
+
+-- the slots that were found are those that the words name
+pub returns-in-Ok-Some-Run-clause-headline : goal.returns-in-Ok-Some-Run-clause-headline
+returns-in-Ok-Some-Run-clause-headline g c = λ slots is done.
+    input_named c.args.words.now c.in-Ok-Some-Run.slots slots _ _ _
+    (found_form c.args.words.now c.in-Ok-Some-Run.field-0 (Run c.in-Ok-Some-Run.slots) (cc) c.in-Ok-Some-Run.ensures.form) is (c.serve_input.ensures.headline done)
+
+pub returns-in-Ok-Some-Run-clause-runner : goal.returns-in-Ok-Some-Run-clause-runner
+returns-in-Ok-Some-Run-clause-runner g c = λ slots is done.
+    input_named c.args.words.now c.in-Ok-Some-Run.slots slots _ _ _
+    (found_form c.args.words.now c.in-Ok-Some-Run.field-0 (Run c.in-Ok-Some-Run.slots) (cc) c.in-Ok-Some-Run.ensures.form) is (c.serve_input.ensures.runner done)
+
+pub returns-in-Ok-Some-Run-clause-write_fault : goal.returns-in-Ok-Some-Run-clause-write_fault
+returns-in-Ok-Some-Run-clause-write_fault g c = λ slots is fault.
+    input_named c.args.words.now c.in-Ok-Some-Run.slots slots _ _ _
+    (found_form c.args.words.now c.in-Ok-Some-Run.field-0 (Run c.in-Ok-Some-Run.slots) (cc) c.in-Ok-Some-Run.ensures.form) is (c.serve_input.ensures.write_fault fault)
+
+pub returns-in-Ok-Some-Run-clause-no_memory : goal.returns-in-Ok-Some-Run-clause-no_memory
+returns-in-Ok-Some-Run-clause-no_memory g c = λ slots is none.
+    elim (c.serve_input.ensures.no_memory none) [
+      | inl quiet ↦ inl quiet
+      | inr wrote ↦ inr
+          (input_named c.args.words.now c.in-Ok-Some-Run.slots slots _ _ _
+          (found_form c.args.words.now c.in-Ok-Some-Run.field-0 (Run c.in-Ok-Some-Run.slots) (cc) c.in-Ok-Some-Run.ensures.form) is wrote)
+    ]
 
 pub returns-in-Ok-Some-Sample-clause-sample : goal.returns-in-Ok-Some-Sample-clause-sample
 returns-in-Ok-Some-Sample-clause-sample g c = λ n is done.
