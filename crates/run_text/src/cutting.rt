@@ -8,14 +8,15 @@ use key_map::Update;
 use key_names::{Directory, NoMemory};
 
 // The bytes of a line without names: of a reply about one key, of a listing without its entries, of an entry, of an
-// update.
-const REPLY_BYTES: usize = 100;
+// update. They are rather too many than too few, with tags of 32 bytes: a buffer that is too short is copied as it grows,
+// and of one that is too long the rest is never touched.
+const REPLY_BYTES: usize = 160;
 
-const LISTING_BYTES: usize = 300;
+const LISTING_BYTES: usize = 400;
 
-const ENTRY_BYTES: usize = 80;
+const ENTRY_BYTES: usize = 128;
 
-const UPDATE_BYTES: usize = 60;
+const UPDATE_BYTES: usize = 80;
 
 /// The bytes that a name of the directory has on average.
 pub(crate) fn name_bytes(dir: &Directory) -> usize {
