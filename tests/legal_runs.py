@@ -2,7 +2,7 @@
 """Checks that what the program writes for several clients is a legal run of its session.
 
     tests/legal_runs.py PROGRAM [--sessions N] [--most-clients N] [--requests N] [--seed N] [--seconds S]
-                        [--names N] [--least-interleaved N] [--rounds N] [--contenders N]
+                        [--names N] [--least-interleaved N] [--rounds N] [--contenders N] [--whole]
     tests/legal_runs.py --session FILE --text FILE
 
 Which of several legal texts is written depends on the schedule, so nothing is compared here: `fault_of` takes a
@@ -11,7 +11,8 @@ The first form runs random sessions, with few names and with many, and ends with
 the first run that takes too many seconds. It counts the texts that no run of the clients one after another writes, and
 ends with status 1 too where there are fewer of them than asked for. With --rounds each session is the same: two
 clients that put the same seven names, list them and remove them, each so many times. With --contenders so many clients put
-one name once, each where it is not there: exactly one of them is answered 200, and all others 412.
+one name once, each where it is not there: exactly one of them is answered 200, and all others 412. With --whole each session
+has as many clients, requests of each client and names as it may have at most.
 """
 import argparse
 import bisect
@@ -39,9 +40,20 @@ def want(holds, *what):
         raise Fault(" ".join(map(str, what)))
 
 
-def is_same(members, wanted):
-    """Whether both have one text: to Python alone true, 1 and 1.0 are equal."""
-    return line_text(members) == line_text(wanted)
+class Written(dict):
+    """The members of a line of the text, with the line itself."""
+
+    def __init__(self, line):
+        members = json.loads(line)
+        want(isinstance(members, dict), "no object:", line)
+        super().__init__(members)
+        self.line = line + "\n"
+        want(line_text(self) == self.line, "not in the form of a line:", line)
+
+
+def is_same(written, wanted):
+    """Whether the line has the text of these members: to Python alone true, 1 and 1.0 are equal."""
+    return written.line == line_text(wanted)
 
 
 class Asked:
@@ -76,10 +88,7 @@ class Run:
     def __init__(self, clients, text):
         lines = text.split("\n")
         want(lines.pop() == "", "the text does not end with LF")
-        data = [json.loads(line) for line in lines]
-        for line, members in zip(lines, data):
-            want(isinstance(members, dict), "no object:", line)
-            want(line_text(members) == line + "\n", "not in the form of a line:", line)
+        data = [Written(line) for line in lines]
         count = sum(map(len, clients))
         want(len(data) > count, "lines are missing")
         self.clients, self.updates = clients, data[count:-1]
@@ -277,13 +286,14 @@ def fault_of(raw, text, slots=default_slots):
 # ---- random sessions
 
 
-def random_session(rng, most_clients, most_requests, most_names):
+def random_session(rng, options):
     """A session of several clients over the same names, few or many of them. It stays below each limit: its pages are
     the smaller the more requests it has."""
-    count = min(rng.choice([1, 2, 3, 10, 200]), most_names)
+    count = options.names if options.whole else min(rng.choice([1, 2, 3, 10, 200]), options.names)
     names = ["".join(rng.choice("abc/é") for _ in range(rng.randint(1, 6))) for _ in range(count)]
-    clients = rng.randint(2, most_clients)
-    counts = [rng.randint(0, min(most_requests, MOST_REQUESTS // clients)) for _ in range(clients)]
+    clients = options.most_clients if options.whole else rng.randint(2, options.most_clients)
+    most = min(options.requests, MOST_REQUESTS // clients)
+    counts = [most if options.whole else rng.randint(0, most) for _ in range(clients)]
     most_keys = min(1000, MOST_LISTED // max(1, sum(counts)))
     parts = []
     for count in counts:
@@ -354,7 +364,7 @@ def session_of(rng, options):
         return rounds_session(options.rounds)
     if options.contenders:
         return contending_session(options.contenders)
-    return random_session(rng, options.most_clients, options.requests, options.names)
+    return random_session(rng, options)
 
 
 def check_contention(run):
@@ -394,6 +404,7 @@ def main():
     parser.add_argument("--least-interleaved", type=int, default=0)
     parser.add_argument("--rounds", type=int, default=0)
     parser.add_argument("--contenders", type=int, default=0)
+    parser.add_argument("--whole", action="store_true")
     parser.add_argument("--session")
     parser.add_argument("--text")
     options = parser.parse_args()

@@ -137,9 +137,12 @@ def page_members(records, query, point):
     return members
 
 
+JSON = json.JSONEncoder(separators=(",", ":"), ensure_ascii=False, sort_keys=True)
+
+
 def line_text(members):
     """A line of the text: the members by their names, without spaces."""
-    return json.dumps(members, separators=(",", ":"), ensure_ascii=False, sort_keys=True) + "\n"
+    return JSON.encode(members) + "\n"
 
 
 class Model:
