@@ -6,6 +6,8 @@
 Without a name it tries those of every crate. Each edit must be refused by the prover, as those in must-fail/
 must. A crate is tried on a copy of the sources in which its more-edits/ stand in the place of must-fail/.
 The script counts, and ends with status 1 where an edit is still proved, cannot be applied or was not tried.
+It says where only a proof that names what the edit took away has refused it: that tells little of the
+contract, and wants an edit of the same shape.
 """
 import argparse
 import re
@@ -16,7 +18,9 @@ import tempfile
 from pathlib import Path
 
 ROOT = Path(__file__).resolve().parent.parent
-RESULT = re.compile(r"must-fail (\S+)/(\S+\.edit): (refused|NOT REFUSED|BAD EDIT|NOT TRIED)")
+RESULT = re.compile(r"must-fail (\S+)/(\S+\.edit): (refused|NOT REFUSED|BAD EDIT|NOT TRIED)(.*)")
+# What `rt must-fail` says behind a refusal of that kind.
+BY_SHAPE = "only because a proof file names what the edit took away"
 
 
 def copied(folder):
@@ -27,14 +31,16 @@ def copied(folder):
 
 
 def tried(folder, crate):
-    """What each edit of a crate came to, and all that was said."""
+    """What each edit of a crate came to, which were refused by their shape alone, and all that was said."""
     home = folder / "crates" / crate
     shutil.rmtree(home / "must-fail", ignore_errors=True)
     shutil.move(home / "more-edits", home / "must-fail")
     subprocess.run(["rt", "check"], cwd=home, capture_output=True, text=True)
     run = subprocess.run(["rt", "must-fail", crate], cwd=folder, capture_output=True, text=True)
     said = run.stdout + run.stderr
-    return {match[2]: match[3] for match in RESULT.finditer(said)}, said
+    found = list(RESULT.finditer(said))
+    by_shape = {match[2] for match in found if BY_SHAPE in match[4]}
+    return {match[2]: match[3] for match in found}, by_shape, said
 
 
 def main():
@@ -42,20 +48,21 @@ def main():
     parser.add_argument("names", nargs="*", help="crates; without one, all that have more-edits/")
     names = parser.parse_args().names
     names = names or sorted(at.parent.name for at in ROOT.glob("crates/*/more-edits"))
-    passed = failed = 0
+    passed = failed = shapes = 0
     with tempfile.TemporaryDirectory() as made:
         folder = Path(made)
         copied(folder)
         for crate in names:
             edits = sorted(at.name for at in (folder / "crates" / crate / "more-edits").glob("*.edit"))
-            results, said = tried(folder, crate)
+            results, by_shape, said = tried(folder, crate)
             for edit in edits:
                 result = results.get(edit, "NOT TRIED")
                 passed, failed = passed + (result == "refused"), failed + (result != "refused")
-                print(f"{crate}/{edit}: {result}", flush=True)
+                shapes += edit in by_shape
+                print(f"{crate}/{edit}: {result}{' by its shape alone' * (edit in by_shape)}", flush=True)
             if any(edit not in results for edit in edits):
                 print(said[-2000:], file=sys.stderr)
-    print(f"{passed} passed, {failed} failed")
+    print(f"{passed} passed, {shapes} of them by their shape alone, {failed} failed")
     return 1 if failed else 0
 
 
