@@ -63,6 +63,38 @@ def pages_of_moto(s3, bucket, query):
         asked["ContinuationToken"] = page["NextContinuationToken"]
 
 
+def v1_pages_of_moto(s3, bucket, query):
+    """The pages of the same listing by version 1, each from the next marker, or without one from the last key."""
+    asked = dict(Bucket=bucket, MaxKeys=int(query["max-keys"]), Prefix=query.get("prefix", ""), Delimiter=query.get("delimiter", ""))
+    while True:
+        page = s3.list_objects(**asked)
+        yield asked.get("Marker", ""), v1_shown(page)
+        if not page["IsTruncated"]:
+            return
+        asked["Marker"] = page.get("NextMarker") or page["Contents"][-1]["Key"]
+
+
+def v1_shown(page):
+    """What both tell of a page of version 1."""
+    return {
+        "Contents": [(item["Key"], item["ETag"].strip('"'), item["Size"]) for item in page.get("Contents", [])],
+        "CommonPrefixes": [item["Prefix"] for item in page.get("CommonPrefixes", [])],
+        **{name: page[name] for name in ("IsTruncated", "MaxKeys")},
+        "NextMarker": page.get("NextMarker", ""),
+    }
+
+
+def v1_pages_of_program(program, session, query, markers):
+    given = {name: value for name, value in query.items() if name != "start-after"}
+    text = session
+    for marker in markers:
+        asked = dict(given, marker=marker)
+        text += "LISTV1 " + "&".join("%s=%s" % (name, quote(value, safe="")) for name, value in asked.items()) + "\n"
+    ran = subprocess.run([program, "run"], input=text.encode(), capture_output=True, check=True)
+    replies = [json.loads(line) for line in ran.stdout.decode().splitlines()]
+    return [v1_shown(reply) for reply in replies if "Contents" in reply]
+
+
 def shown(page):
     """What both tell of a page. Times are not compared, and an etag without its quotes."""
     return {
@@ -102,6 +134,12 @@ def compare(program, buckets, seed):
             got = pages_of_program(program, session, query, len(wanted))
             if got != wanted:
                 sys.exit("keys %r\nquery %r\nprogram %r\nmoto    %r" % (keys, query, got, wanted))
+            pages += len(wanted)
+            asked = list(v1_pages_of_moto(s3, bucket, query))
+            wanted = [page for _, page in asked]
+            got = v1_pages_of_program(program, session, query, [marker for marker, _ in asked])
+            if got != wanted:
+                sys.exit("version 1: keys %r\nquery %r\nprogram %r\nmoto    %r" % (keys, query, got, wanted))
             pages += len(wanted)
     print("%d pages are those of moto; %d listings were left out, since `start-after` is inside a common prefix" % (pages, left_out))
 

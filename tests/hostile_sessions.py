@@ -36,7 +36,10 @@ FAULTY_LINES = [
     b"PUT a 1 e! 1", b'PUT a 1 "" 1', b'PUT a 1 "e 1', b"PUT a 1 %65 1", b"LIST marker=a", b"LIST =a", b"LIST Prefix=a",
     b"LIST prefix=a&prefix=b", b"LIST max-keys=1&prefix=a&max-keys=1", b"LIST list-type=1", b"LIST list-type=",
     b"LIST max-keys=-1", b"LIST max-keys=", b"LIST max-keys=2147483648", b"LIST encoding-type=gzip", b"LIST encoding-type=URL",
-    b"LIST fetch-owner=yes", b"LIST ??prefix=a", b"LIST max-keys=x&fetch-owner=yes", b"CLIENT", b"CLIENT 1",
+    b"LIST fetch-owner=yes", b"LIST ??prefix=a", b"LISTV1 list-type=2", b"LISTV1 start-after=a", b"LISTV1 marker=a&marker=a",
+    b"LISTV1 continuation-token=S2E", b"LISTV1 fetch-owner=true", b"LISTV1 marker=%zz", b"LISTV1 max-keys=x", b"LISTV1 encoding-type=gzip",
+    b"LISTV1 a b", b"LISTV2", b"listv1", b"LISTV1 =", b"LISTV1 marker=" + b"k" * 1025, b"LISTV1 start-after=" + b"k" * 1025,
+    b"LISTV1 x&delimiter=" + b"k" * 1025, b"LIST marker=" + b"k" * 1025, b"LIST max-keys=x&fetch-owner=yes", b"CLIENT", b"CLIENT 1",
     b"HEAD " + b"k" * 1025, b"LIST delimiter=" + b"%c3%a9" * 513,
 ]
 NASTY = [b"%", b" ", b"\xff", b"\x80", b"\n", b"\r", b"&", b"=", b'"', b"\x00", b"+", b"?", b"%2", b"\n\n", b"\r\n", b"9"]

@@ -22,7 +22,7 @@ import subprocess
 import sys
 from pathlib import Path
 
-from random_sessions import base64url, line_text, make_ready, page_members, point_of, token_text
+from random_sessions import base64url, line_text, make_ready, page_members, point_of, token_text, v1_members
 from session_model import command_of, lines_of
 
 MOST_REQUESTS = 200_000
@@ -219,6 +219,8 @@ def check_answer(bucket, asked, reply, listing):
     elif asked.verb == "HEAD":
         record = bucket.records.get(asked.rest[0].encode())
         wanted = dict(common, Status=200, **record) if record else dict(common, Status=404)
+    elif asked.verb == "LISTV1":
+        wanted = dict(common, Status=200, **v1_members(bucket.records, asked.rest[0]))
     else:
         wanted = dict(common, Status=200, **page_members(bucket.records, *listing))
     want(is_same(reply, wanted), "line", asked.line, "is answered", reply, "for", wanted)
@@ -337,6 +339,10 @@ def random_line(rng, names, most_keys):
         query.append("delimiter=" + rng.choice("/a"))
     if rng.random() < 0.3:
         query.append("prefix=" + rng.choice("abc"))
+    if kind < 0.91:
+        if rng.random() < 0.5:
+            query.append("marker=" + rng.choice([name, name[:2]]))
+        return "LISTV1 " + "&".join(query) if query else "LISTV1"
     if rng.random() < 0.2:
         query.append("start-after=" + name)
     if rng.random() < 0.2:

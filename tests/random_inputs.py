@@ -27,22 +27,23 @@ ODD_VALUES = [
 ]
 ODD_LINES = [
     b"", b"\r", b"\r\r", b" ", b"CLIENT", b"CLIENT ", b"client", b"LIST", b"LIST ", b"LIST  ", b"LIST ?", b"LIST &&", b"LIST =",
+    b"LISTV1", b"LISTV1 ", b"LISTV1  ", b"LISTV1 ?", b"LISTV1 marker", b"listv1", b"LISTV2", b"LISTV1 a b",
     b"NEXT", b"NEXT ", b"PUT", b"PUT a 1 e1 1 1", b"HEAD", b"HEAD  a", b"DELETE a b", b"\xff", b"HEAD a\r", b"HEAD a\r\r", b"GET a",
 ]
 
 
 def odd_query(rng):
-    names = [name.encode() for name in PARAMETERS] + [b"marker", b"", b"Prefix"]
+    names = [name.encode() for name in PARAMETERS["LIST"]] + [b"marker", b"marker", b"", b"Prefix"]
     pieces = [rng.choice(names) + rng.choice([b"=", b"=", b"=", b""]) + rng.choice(ODD_VALUES) for _ in range(rng.randint(0, 4))]
     return rng.choice([b"", b"", b"?"]) + rng.choice([b"&", b"&", b"&&"]).join(pieces)
 
 
 def odd_line(rng):
-    verb = rng.choice([b"PUT", b"PUT", b"PUTNEW", b"DELETE", b"HEAD", b"LIST", b"LIST", b"LIST", b"ANY"])
+    verb = rng.choice([b"PUT", b"PUT", b"PUTNEW", b"DELETE", b"HEAD", b"LIST", b"LIST", b"LIST", b"LISTV1", b"LISTV1", b"ANY"])
     if verb == b"ANY":
         return rng.choice(ODD_LINES)
-    if verb == b"LIST":
-        return b"LIST " + odd_query(rng)
+    if verb in (b"LIST", b"LISTV1"):
+        return verb + b" " + odd_query(rng)
     put = [b"key", b"1", b"e1", b"2"]
     good = {b"PUT": put, b"PUTNEW": put, b"DELETE": [b"key"], b"HEAD": [b"key"]}[verb]
     fields = [rng.choice(ODD_FIELDS) if rng.random() < 0.4 else field for field in good]

@@ -137,6 +137,38 @@ def page_members(records, query, point):
     return members
 
 
+def is_common_prefix(query, text):
+    """Whether the text is a common prefix of the query: it begins with the prefix, and the first delimiter behind the
+    prefix's length ends it."""
+    prefix, delimiter = query["prefix"], query["delimiter"]
+    if not delimiter or not text.startswith(prefix):
+        return False
+    start = text.find(delimiter, len(prefix))
+    return start >= 0 and start + len(delimiter) == len(text)
+
+
+def marker_point(query):
+    """Behind what a listing of version 1 begins: None, a key or a common prefix."""
+    marker = query["marker"]
+    if not marker:
+        return None
+    return b"P" if is_common_prefix(query, marker) else b"K", marker.encode()
+
+
+def v1_members(records, query):
+    """The members of the page of this query of version 1, in the bucket of these records."""
+    plain = dict(query, start_after="", token="")
+    entries, truncated = page_of(records, plain, marker_point(query))
+    shown = (lambda text: quote(text, safe="-._~/")) if query["url"] else (lambda text: text)
+    members = page_members(records, plain, marker_point(query))
+    del members["KeyCount"]
+    members.pop("NextContinuationToken", None)
+    members["Marker"] = shown(query["marker"])
+    if truncated and query["delimiter"]:
+        members["NextMarker"] = shown(entries[-1][1].decode())
+    return members
+
+
 JSON = json.JSONEncoder(separators=(",", ":"), ensure_ascii=False, sort_keys=True)
 
 
@@ -151,6 +183,8 @@ class Model:
     def __init__(self):
         self.records, self.journal, self.answers = {}, [], []
         self.last_query, self.next_token = None, None
+        # The last entry of the last page of version 1, where it was truncated.
+        self.next_marker = None
         self.tokens = collections.Counter()
 
     def answer(self, line, status, **members):
@@ -189,6 +223,11 @@ class Model:
         self.next_token = members.get("NextContinuationToken")
         self.answer(line, 200, **members)
 
+    def listv1(self, line, query):
+        entries, truncated = page_of(self.records, dict(query, start_after=""), marker_point(query))
+        self.next_marker = entries[-1][1].decode() if truncated else None
+        self.answer(line, 200, **v1_members(self.records, query))
+
     def next(self, line):
         if self.next_token is None:
             self.answer(line, 400)
@@ -214,7 +253,7 @@ class Session:
         self.rng, self.model, self.lines = rng, Model(), ["CLIENT"]
         self.with_token = with_token
         self.names = [self.word(1, 5) for _ in range(rng.randint(1, 25))]
-        asks = [self.put] * 30 + [self.putnew] * 10 + [self.delete] * 10 + [self.head] * 8 + [self.list] * 22 + [self.next] * 20
+        asks = [self.put] * 30 + [self.putnew] * 10 + [self.delete] * 10 + [self.head] * 8 + [self.list] * 22 + [self.next] * 20 + [self.listv1] * 16
         for _ in range(rng.randint(1, 60)):
             rng.choice(asks)()
 
@@ -305,7 +344,37 @@ class Session:
     def list(self):
         rng = self.rng
         query = dict(prefix="", delimiter="", start_after="", token="", max_keys=1000, url=False)
-        written = []
+        written = self.bounds(query)
+        if rng.random() < 0.3:
+            query["start_after"] = rng.choice([self.name(), self.word(0, 3)])
+            written.append("start-after=" + self.escaped(query["start_after"]))
+        if rng.random() < self.with_token:
+            query["token"] = self.token(query)
+            written.append("continuation-token=" + query["token"])
+        if rng.random() < 0.1:
+            written.append("fetch-owner=true")
+        self.model.list(self.ask_query("LIST", written), query)
+
+    def listv1(self):
+        rng = self.rng
+        query = dict(prefix="", delimiter="", marker="", max_keys=1000, url=False)
+        written = self.bounds(query)
+        if rng.random() < 0.7:
+            name = self.name()
+            cut = name[: name.find(query["delimiter"]) + len(query["delimiter"])] if query["delimiter"] in name else name
+            # Mostly where the page before ended, or the common prefix of a name, which the prefix may not begin.
+            query["marker"] = rng.choice([self.model.next_marker or name, cut, cut, query["prefix"] + cut, self.word(0, 3)])[:250]
+            written.append("marker=" + self.escaped(query["marker"]))
+        self.model.listv1(self.ask_query("LISTV1", written), query)
+
+    def ask_query(self, verb, written):
+        self.rng.shuffle(written)
+        mark = self.rng.choice(["", "?"])
+        return self.ask(verb + " " + mark + "&".join(written) if written else verb)
+
+    def bounds(self, query):
+        """The parameters that both verbs have, put into the query; and as they are written."""
+        rng, written = self.rng, []
         if rng.random() < 0.01:
             query["delimiter"] = rng.choice("/é") * 512 * rng.randint(1, 2)
             query["delimiter"] = query["delimiter"].encode()[:1024].decode()
@@ -319,12 +388,6 @@ class Session:
         elif rng.random() < 0.4:
             query["prefix"] = rng.choice([self.word(0, 2), self.name()[:1]])
             written.append("prefix=" + self.escaped(query["prefix"]))
-        if rng.random() < 0.3:
-            query["start_after"] = rng.choice([self.name(), self.word(0, 3)])
-            written.append("start-after=" + self.escaped(query["start_after"]))
-        if rng.random() < self.with_token:
-            query["token"] = self.token(query)
-            written.append("continuation-token=" + query["token"])
         if rng.random() < 0.75:
             most = rng.choice([0, 1, 1, 1, 2, 2, 3, 5, 2000])
             query["max_keys"] = min(most, 1000)
@@ -332,11 +395,7 @@ class Session:
         if rng.random() < 0.3:
             query["url"] = True
             written.append("encoding-type=url")
-        if rng.random() < 0.1:
-            written.append("fetch-owner=true")
-        rng.shuffle(written)
-        mark = rng.choice(["", "?"])
-        self.model.list(self.ask("LIST " + mark + "&".join(written) if written else "LIST"), query)
+        return written
 
     def input(self):
         return "".join(line + "\n" for line in self.lines)

@@ -222,6 +222,11 @@ RIGHT = [
     "LIST max-keys=0002147483647",
     "LIST max-keys=%31&continuation-token=&encoding-type=",
     "LIST ?list-type=2&&prefix=a%2Fb&delimiter=/&start-after=a&fetch-owner=true&",
+    "LISTV1 ",
+    "LISTV1 ?",
+    "LISTV1 marker",
+    "LISTV1 ?marker=a%2Fb&&prefix=a&delimiter=/&max-keys=0&encoding-type=url&",
+    "LISTV1 marker=" + "m" * 1024,
 ]
 
 FAULTY = [
@@ -291,6 +296,30 @@ FAULTY = [
     (b"LIST encoding-type=URL", "BadEncoding"),
     (b"LIST fetch-owner=yes", "BadFetchOwner"),
     (b"LIST fetch-owner=TRUE", "BadFetchOwner"),
+    # a LISTV1 line has the parameters of version 1 alone
+    (b"listv1", "UnknownVerb"),
+    (b"LISTV2", "UnknownVerb"),
+    (b"LISTV1 a b", "WrongFields"),
+    (b"LISTV1 marker=%", "BadEscape"),
+    (b"LISTV1 marker=%FF", "BadEscape"),
+    (b"LISTV1 marker=" + b"k" * 1025, "KeyTooLong"),
+    (b"LISTV1 prefix=" + b"k" * 1025, "KeyTooLong"),
+    (b"LISTV1 delimiter=" + b"k" * 1025, "KeyTooLong"),
+    (b"LISTV1 x&marker=" + b"%c3%a9" * 513, "KeyTooLong"),
+    # it takes no `start-after`, but a long one is first too long
+    (b"LISTV1 start-after=" + b"k" * 1025, "KeyTooLong"),
+    (b"LISTV1 start-after=a", "UnknownParameter"),
+    (b"LIST marker=" + b"k" * 1025, "UnknownParameter"),
+    (b"LISTV1 list-type=2", "UnknownParameter"),
+    (b"LISTV1 list-type=1", "UnknownParameter"),
+    (b"LISTV1 continuation-token=S2E", "UnknownParameter"),
+    (b"LISTV1 fetch-owner=", "UnknownParameter"),
+    (b"LISTV1 Marker=a", "UnknownParameter"),
+    (b"LISTV1 start-after=a&start-after=a", "UnknownParameter"),
+    (b"LISTV1 marker=a&marker=a", "RepeatedParameter"),
+    (b"LISTV1 marker=a&max-keys=x&marker=", "RepeatedParameter"),
+    (b"LISTV1 encoding-type=gzip&max-keys=x", "BadMaxKeys"),
+    (b"LISTV1 encoding-type=gzip", "BadEncoding"),
     # the first of several causes, in the grammar's order
     (b"PUT %2 x e! 1", "BadEscape"),
     (b"PUT  x e! 1", "EmptyKey"),
@@ -334,6 +363,11 @@ REFUSED = [
         4004,
         "TooManyEntries",
     ),
+    # a LISTV1 counts with its own number, and changes nothing of what a NEXT counts with
+    (b"CLIENT\n" + b"LISTV1\n" * 4001, 4002, "TooManyEntries"),
+    (b"CLIENT\nLISTV1\n" + b"NEXT\n" * 10 + b"LIST\n" * 3999 + b"LISTV1 max-keys=1\n", 4012, "TooManyEntries"),
+    (b"CLIENT\nLIST\nLISTV1 max-keys=0\n" + b"NEXT\n" * 4000, 4003, "TooManyEntries"),
+    (b"\nLISTV1\nCLIENT\n", 2, "NoClient"),
     # other lines change nothing of what a NEXT counts with
     (b"CLIENT\nLIST\nPUT a 1 e 1\nPUTNEW b 1 e 1\nDELETE a\nHEAD a\n" + b"NEXT\n" * 4000, 4006, "TooManyEntries"),
     (b"CLIENT\n\n" + b"HEAD a\n" * 200_001, 200_003, "TooManyLines"),

@@ -8,10 +8,13 @@ import re
 
 from random_sessions import Model
 
-PARAMETERS = [
-    "list-type", "prefix", "delimiter", "max-keys", "start-after", "continuation-token", "encoding-type", "fetch-owner",
-]
-FIELDS = {"CLIENT": (1, 1), "PUT": (5, 5), "PUTNEW": (5, 5), "DELETE": (2, 2), "HEAD": (2, 2), "LIST": (1, 2), "NEXT": (1, 1)}
+# By verb the parameters that a query may have, and those whose values are compared with names.
+PARAMETERS = {
+    "LIST": ["list-type", "prefix", "delimiter", "max-keys", "start-after", "continuation-token", "encoding-type", "fetch-owner"],
+    "LISTV1": ["prefix", "delimiter", "max-keys", "marker", "encoding-type"],
+}
+COMPARED = {"LIST": ["prefix", "delimiter", "start-after"], "LISTV1": ["prefix", "delimiter", "start-after", "marker"]}
+FIELDS = {"CLIENT": (1, 1), "PUT": (5, 5), "PUTNEW": (5, 5), "DELETE": (2, 2), "HEAD": (2, 2), "LIST": (1, 2), "LISTV1": (1, 2), "NEXT": (1, 1)}
 
 
 class Refused(Exception):
@@ -51,28 +54,29 @@ def is_long(text):
     return len(text.encode()) > 1024
 
 
-def query_of(text):
-    """The query as (name, value) pairs, tested for its own causes in their order, as the model's query."""
+def query_of(verb, text):
+    """The query of a verb as (name, value) pairs, tested for its own causes in their order, as the model's query."""
     pieces = [piece.partition("=") for piece in text.removeprefix("?").split("&") if piece]
     pairs = [(name, unescaped(value)) for name, _, value in pieces]
     names = [name for name, _ in pairs]
     given = dict(reversed(pairs))
-    refuse_if(any(is_long(value) for name, value in pairs if name in ("prefix", "delimiter", "start-after")), "KeyTooLong")
-    refuse_if(any(name not in PARAMETERS for name in names), "UnknownParameter")
+    refuse_if(any(is_long(value) for name, value in pairs if name in COMPARED[verb]), "KeyTooLong")
+    refuse_if(any(name not in PARAMETERS[verb] for name in names), "UnknownParameter")
     refuse_if(len(set(names)) < len(names), "RepeatedParameter")
     refuse_if(given.get("list-type", "2") != "2", "BadListType")
     most = given.get("max-keys", "1000")
     refuse_if(not is_number(most) or int(most) > 2147483647, "BadMaxKeys")
     refuse_if(given.get("encoding-type", "") not in ("", "url"), "BadEncoding")
     refuse_if(given.get("fetch-owner", "") not in ("", "true", "false"), "BadFetchOwner")
-    return dict(
+    query = dict(
         prefix=given.get("prefix", ""),
         delimiter=given.get("delimiter", ""),
-        start_after=given.get("start-after", ""),
-        token=given.get("continuation-token", ""),
         max_keys=min(int(most), 1000),
         url=given.get("encoding-type") == "url",
     )
+    if verb == "LISTV1":
+        return dict(query, marker=given.get("marker", ""))
+    return dict(query, start_after=given.get("start-after", ""), token=given.get("continuation-token", ""))
 
 
 def put_of(size, etag, modified):
@@ -93,8 +97,8 @@ def command_of(line):
     refuse_if(verb not in FIELDS, "UnknownVerb")
     least, most = FIELDS[verb]
     refuse_if(not least <= len(fields) <= most, "WrongFields")
-    if verb == "LIST":
-        return verb, [query_of(rest[0] if rest else "")]
+    if verb in PARAMETERS:
+        return verb, [query_of(verb, rest[0] if rest else "")]
     if verb in ("CLIENT", "NEXT"):
         return verb, []
     key = unescaped(rest[0])
@@ -119,6 +123,8 @@ class Limits:
             self.acting = rest[0]["max_keys"]
         if verb in ("LIST", "NEXT"):
             self.entries += self.acting
+        if verb == "LISTV1":
+            self.entries += rest[0]["max_keys"]
         refuse_if(self.clients == 0, "NoClient")
         refuse_if(verb == "CLIENT" and self.clients > 32, "TooManyClients")
         refuse_if(self.lines > 200000, "TooManyLines")

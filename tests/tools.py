@@ -4,7 +4,7 @@
     tests/tools.py PROGRAM
 
 A folder becomes a session, the program lists it page by page, the pages become the JSON that
-`aws s3api list-objects-v2` prints, and that becomes a session again: the same PUT lines, in byte order. And so
+`aws s3api list-objects-v2` prints, or of version 1 `list-objects`, and that becomes a session again: the same PUT lines, in byte order. And so
 does a listing whose names are escaped, as the service escapes them. What the scripts cannot use they refuse with one line.
 """
 import json
@@ -69,8 +69,8 @@ def listing_of(names):
 
 # The script with its words, its input, and what its one line has.
 REFUSED = [
-    (["from_listing"], '{"Error": {"Code": "NoSuchBucket"}}', "standard input: not what `aws s3api list-objects-v2` prints"),
-    (["from_listing"], "[]", "not what `aws s3api list-objects-v2` prints"),
+    (["from_listing"], '{"Error": {"Code": "NoSuchBucket"}}', "standard input: not what `aws s3api list-objects-v2` or `list-objects` prints"),
+    (["from_listing"], "[]", "not what `aws s3api list-objects-v2` or `list-objects` prints"),
     (["from_listing"], "An error occurred", "not JSON"),
     (["from_listing"], '{"Contents": [{"Key": "a"}]}', 'not an object with Key, Size, ETag and LastModified: {"Key": "a"}'),
     (["from_listing"], listing_of(map(str, range(200001))), "200001 names, and a session takes at most 200000 requests"),
@@ -105,7 +105,9 @@ def main():
         session = text_of([EXAMPLES / "from_folder", top])
     if session.count("PUT ") != len(FILES):
         sys.exit("not all files have a line:\n" + session)
-    for asked in ("LIST max-keys=5\nNEXT\nNEXT\n", "LIST\n", "LIST encoding-type=url&max-keys=7\nNEXT\n"):
+    for asked in (
+        "LIST max-keys=5\nNEXT\nNEXT\n", "LIST\n", "LIST encoding-type=url&max-keys=7\nNEXT\n", "LISTV1\n", "LISTV1 encoding-type=url\n",
+    ):
         answer = text_of(program, session + asked)
         listings = text_of([EXAMPLES / "to_listing"], answer)
         back = text_of([EXAMPLES / "from_listing"], listings)
@@ -116,7 +118,7 @@ def main():
     if sorted_lines(back) != sorted_lines(session):
         sys.exit("another session came back from a listing with escaped names:\n%s\n%s" % (session, back))
     count = (len(FILES), len(REFUSED))
-    print("from_folder, to_listing and from_listing: %d files there and back, in four ways, and %d refusals" % count)
+    print("from_folder, to_listing and from_listing: %d files there and back, in six ways, and %d refusals" % count)
 
 
 main()

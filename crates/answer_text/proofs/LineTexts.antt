@@ -9,10 +9,11 @@ use Rattle.key_map.specs.declared.update.Change.{Change}
 use Rattle.key_map.specs.declared.update.Change.TheVariants.{Put as PutVal, Remove}
 use Rattle.bucket_terms.specs.declared.record.Record.{Record}
 use Rattle.bucket_terms.specs.declared.list_query.ListQuery.{ListQuery}
+use Rattle.bucket_terms.specs.declared.v1_query.V1Query.{V1Query}
 use Rattle.bucket_terms.specs.declared.reply.Reply.{Reply}
-use Rattle.bucket_terms.specs.declared.reply.Reply.TheVariants.{Put, Exists, Deleted, Found, Missing, Listed, BadToken, NoSlot}
-use Rattle.answer_text.specs.Lines.{Member, always, only_if, whole, members_there, object_of, line_of, is_given, verb_text, record_at}
-use Rattle.answer_text.specs.Shown.{array_of, PageShown, page_shown, place_data, client_member, line_member, replaced_member, reply_members, journal_members, short_members, found_members, listed_members, last_data}
+use Rattle.bucket_terms.specs.declared.reply.Reply.TheVariants.{Put, Exists, Deleted, Found, Missing, Listed, ListedV1, BadToken, NoSlot}
+use Rattle.answer_text.specs.Lines.{Member, always, only_if, if_some, whole, members_there, object_of, line_of, is_given, verb_text, record_at}
+use Rattle.answer_text.specs.Shown.{array_of, PageShown, page_shown, V1Shown, v1_shown, v1_members, place_data, client_member, line_member, replaced_member, reply_members, journal_members, short_members, found_members, listed_members, last_data}
 use Rattle.answer_text.specs.Pieces as spec
 
 -- a member behind the first one, and what stands behind it
@@ -108,11 +109,11 @@ found_line at client line r =
     ∷ []
     ))
 
-entries_line : (page : PageShown) (rest : List ℕ)
-    → spec.entries_text page ++ rest ≡ member_then (always (codes "CommonPrefixes") (array_of page.prefixes)) (member_then (always (codes "Contents") (array_of page.contents)) rest)
+entries_line : (prefixes contents : List Data) (rest : List ℕ)
+    → spec.entries_text prefixes contents ++ rest ≡ member_then (always (codes "CommonPrefixes") (array_of prefixes)) (member_then (always (codes "Contents") (array_of contents)) rest)
 unfolding escape_byte spec.entries_text
-entries_line page rest =
-    ap (λ t. codes ",\"CommonPrefixes\":[" ++ t) (append_assoc (items_text false (items_of page.prefixes)) (codes ",\"Contents\":[" ++ items_text false (items_of page.contents)) rest)
+entries_line prefixes contents rest =
+    ap (λ t. codes ",\"CommonPrefixes\":[" ++ t) (append_assoc (items_text false (items_of prefixes)) (codes ",\"Contents\":[" ++ items_text false (items_of contents)) rest)
 
 asked_line : (query : ListQuery) (delimiter rest : List ℕ)
     → spec.asked_text query delimiter ++ rest
@@ -165,7 +166,7 @@ listed_line at client line query page =
     let bounds = spec.bounds_text query page.truncated page.next page.prefix page.start_after in
     start_line at client _
     ∙ ap (λ t. start_then at client t) (
-    entries_line page _
+    entries_line page.prefixes page.contents _
     ∙ ap (λ t. member_then (always (codes "CommonPrefixes") (array_of page.prefixes)) (member_then (always (codes "Contents") (array_of page.contents)) t)) (
     ap (λ t. spec.asked_text query page.delimiter ++ t) (ap (λ t. size ++ t) (bounds_line query page.truncated page.next page.prefix page.start_after) ∙ size_line line query page.truncated page.count _)
     ∙ asked_line query page.delimiter _
@@ -189,6 +190,78 @@ listed_line at client line query page =
     ∷ []
     ))
 
+-- ---- listings of version 1
+
+v1_asked_line : (query : V1Query) (delimiter rest : List ℕ)
+    → spec.v1_asked_text query delimiter ++ rest
+    ≡ member_then (only_if (is_given query.delimiter) (codes "Delimiter") (string delimiter))
+    (member_then (only_if query.url (codes "EncodingType") (string (codes "url"))) rest)
+unfolding escape_byte spec.v1_asked_text
+v1_asked_line query delimiter rest =
+    let cut = spec.given_text (is_given query.delimiter) (codes ",\"Delimiter\":") delimiter in
+    let url = spec.given_text query.url (codes ",\"EncodingType\":") (codes "url") in
+    append_assoc cut url rest
+    ∙ ap (λ t. cut ++ t) (given_line query.url (codes "EncodingType") (codes "url") rest)
+    ∙ given_line (is_given query.delimiter) (codes "Delimiter") delimiter _
+
+v1_size_line : (line : ℕ) (query : V1Query) (truncated : Bool) (marker rest : List ℕ)
+    → spec.v1_size_text line query truncated marker ++ rest
+    ≡ member_then (always (codes "IsTruncated") (boolean truncated))
+    (member_then (line_member line) (member_then (always (codes "Marker") (string marker)) (member_then (always (codes "MaxKeys") (whole query.max_keys)) rest)))
+unfolding escape_byte spec.v1_size_text
+v1_size_line line query truncated marker rest =
+    let last = codes ",\"MaxKeys\":" ++ decimal query.max_keys in
+    let marked = codes ",\"Marker\":" ++ (quoted marker ++ last) in
+    let lines = codes ",\"Line\":" ++ (decimal line ++ marked) in
+    ap (λ t. codes ",\"IsTruncated\":" ++ t) (
+    append_assoc (spec.truth_text truncated) lines rest
+    ∙ ap (λ t. t ++ (lines ++ rest)) (truth_line truncated)
+    ∙ ap (λ t. compact_text (boolean truncated) ++ (codes ",\"Line\":" ++ t)) (
+    append_assoc (decimal line) marked rest
+    ∙ ap (λ t. decimal line ++ (codes ",\"Marker\":" ++ t)) (append_assoc (quoted marker) last rest)
+    )
+    )
+
+next_line : (next : Option (List ℕ)) (rest : List ℕ) → spec.next_text next ++ rest ≡ member_then (if_some (codes "NextMarker") next) rest
+unfolding escape_byte
+next_line None rest = refl
+next_line (Some marker) rest = refl
+
+v1_bounds_line : (next : Option (List ℕ)) (prefix : List ℕ)
+    → spec.v1_bounds_text next prefix
+    ≡ member_then (if_some (codes "NextMarker") next)
+    (member_then (always (codes "Prefix") (string prefix)) (member_then (always (codes "Status") (whole 200)) (125 ∷ 10 ∷ [])))
+unfolding digits escape_byte spec.v1_bounds_text
+v1_bounds_line next prefix = next_line next (codes ",\"Prefix\":" ++ (quoted prefix ++ codes ",\"Status\":200}\n"))
+
+v1_line : (at : Option ℕ) (client line : ℕ) (query : V1Query) (page : V1Shown) → spec.v1_text at client line query page ≡ line_of (object_of (v1_members at client line query page))
+unfolding spec.v1_text
+v1_line at client line query page =
+    let size = spec.v1_size_text line query page.truncated page.marker in
+    start_line at client _
+    ∙ ap (λ t. start_then at client t) (
+    entries_line page.prefixes page.contents _
+    ∙ ap (λ t. member_then (always (codes "CommonPrefixes") (array_of page.prefixes)) (member_then (always (codes "Contents") (array_of page.contents)) t)) (
+    ap (λ t. spec.v1_asked_text query page.delimiter ++ t) (ap (λ t. size ++ t) (v1_bounds_line page.next page.prefix) ∙ v1_size_line line query page.truncated page.marker _)
+    ∙ v1_asked_line query page.delimiter _
+    )
+    )
+    ∙ sym (line_end (codes "At") (place_data at) (
+    client_member client
+    ∷ always (codes "CommonPrefixes") (array_of page.prefixes)
+    ∷ always (codes "Contents") (array_of page.contents)
+    ∷ only_if (is_given query.delimiter) (codes "Delimiter") (string page.delimiter)
+    ∷ only_if query.url (codes "EncodingType") (string (codes "url"))
+    ∷ always (codes "IsTruncated") (boolean page.truncated)
+    ∷ line_member line
+    ∷ always (codes "Marker") (string page.marker)
+    ∷ always (codes "MaxKeys") (whole query.max_keys)
+    ∷ if_some (codes "NextMarker") page.next
+    ∷ always (codes "Prefix") (string page.prefix)
+    ∷ always (codes "Status") (whole 200)
+    ∷ []
+    ))
+
 pub reply_line : (dir : List (List ℕ)) (records : List Record) (at : Option ℕ) (client line : ℕ) (reply : Reply)
     → spec.reply_text dir records at client line reply ≡ line_of (object_of (reply_members dir records at client line reply))
 reply_line dir records at client line (Put was) = short_line at client line (Some was) 200
@@ -197,5 +270,6 @@ reply_line dir records at client line Deleted = short_line at client line None 2
 reply_line dir records at client line (Found val) = found_line at client line (record_at records val)
 reply_line dir records at client line Missing = short_line at client line None 404
 reply_line dir records at client line (Listed query page) = listed_line at client line query (page_shown dir records query page)
+reply_line dir records at client line (ListedV1 query page) = v1_line at client line query (v1_shown dir records query page)
 reply_line dir records at client line BadToken = short_line at client line None 400
 reply_line dir records at client line NoSlot = short_line at client line None 503

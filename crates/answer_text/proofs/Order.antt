@@ -8,11 +8,12 @@ use Rattle.key_names.specs.Ranks.{is_before}
 use Rattle.key_names.proofs.Places.{before_downward}
 use Rattle.bucket_terms.specs.declared.record.Record.{Record}
 use Rattle.bucket_terms.specs.declared.list_query.ListQuery.{ListQuery}
+use Rattle.bucket_terms.specs.declared.v1_query.V1Query.{V1Query}
 use Rattle.bucket_terms.specs.declared.reply.Reply.{Reply}
-use Rattle.bucket_terms.specs.declared.reply.Reply.TheVariants.{Put, Exists, Deleted, Found, Missing, Listed, BadToken, NoSlot}
-use Rattle.answer_text.specs.Lines.{Member, only_if, is_given}
+use Rattle.bucket_terms.specs.declared.reply.Reply.TheVariants.{Put, Exists, Deleted, Found, Missing, Listed, ListedV1, BadToken, NoSlot}
+use Rattle.answer_text.specs.Lines.{Member, only_if, if_some, is_given}
 use Rattle.answer_text.specs.MemberOrder.{RiseAbove, StandInOrder}
-use Rattle.answer_text.specs.Shown.{PageShown, page_shown, short_members, listed_members, reply_members, content_members, journal_members}
+use Rattle.answer_text.specs.Shown.{PageShown, page_shown, V1Shown, v1_shown, short_members, listed_members, v1_members, reply_members, content_members, journal_members}
 
 less_from_before : (o : Ordering) → is_lt o ≡ true → o ≡ Less
 less_from_before Less h = refl
@@ -27,6 +28,10 @@ weaker low high (Some m ∷ ms) below rise = ((before_downward m.name).below low
 if_there : (there : Bool) (low name : List ℕ) (value : Data) (ms : List (Option Member)) → is_before low name ≡ true → RiseAbove name ms → RiseAbove low (only_if there name value ∷ ms)
 if_there true low name value ms below rise = (below, rise)
 if_there false low name value ms below rise = weaker low name ms below rise
+
+some_there : (text : Option (List ℕ)) (low name : List ℕ) (ms : List (Option Member)) → is_before low name ≡ true → RiseAbove name ms → RiseAbove low (if_some name text ∷ ms)
+some_there (Some text) low name ms below rise = (below, rise)
+some_there None low name ms below rise = weaker low name ms below rise
 
 short_rise : (at : Option ℕ) (client line : ℕ) (replaced : Option Bool) (status : ℕ) → StandInOrder (short_members at client line replaced status)
 short_rise at client line (Some was) status = (refl, (refl, (refl, (refl, (refl, tt)))))
@@ -64,6 +69,34 @@ listed_rise at client line query page = (
   ),
 )
 
+v1_rise : (at : Option ℕ) (client line : ℕ) (query : V1Query) (page : V1Shown) → StandInOrder (v1_members at client line query page)
+v1_rise at client line query page = (
+  refl,
+  (
+    refl,
+    (
+      refl,
+      (
+        refl,
+        if_there (is_given query.delimiter) (codes "Contents") (codes "Delimiter") _ _ refl
+            (if_there query.url (codes "Delimiter") (codes "EncodingType") _ _ refl (
+              refl,
+              (
+                refl,
+                (
+                  refl,
+                  (
+                    refl,
+                    some_there page.next (codes "MaxKeys") (codes "NextMarker") _ refl (refl, (refl, tt)),
+                  ),
+                ),
+              ),
+            )),
+      ),
+    ),
+  ),
+)
+
 pub reply_rise : (dir : List (List ℕ)) (records : List Record) (at : Option ℕ) (client line : ℕ) (reply : Reply) → StandInOrder (reply_members dir records at client line reply)
 reply_rise dir records at client line (Put was) = short_rise at client line (Some was) 200
 reply_rise dir records at client line Exists = short_rise at client line None 412
@@ -71,6 +104,7 @@ reply_rise dir records at client line Deleted = short_rise at client line None 2
 reply_rise dir records at client line (Found val) = (refl, (refl, (refl, (refl, (refl, (refl, (refl, tt)))))))
 reply_rise dir records at client line Missing = short_rise at client line None 404
 reply_rise dir records at client line (Listed query page) = listed_rise at client line query (page_shown dir records query page)
+reply_rise dir records at client line (ListedV1 query page) = v1_rise at client line query (v1_shown dir records query page)
 reply_rise dir records at client line BadToken = short_rise at client line None 400
 reply_rise dir records at client line NoSlot = short_rise at client line None 503
 

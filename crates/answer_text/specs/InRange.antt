@@ -6,7 +6,7 @@ use Rattle.bucket_terms.specs.declared.page.PageEntry.{PageEntry}
 use Rattle.bucket_terms.specs.declared.page.PageEntry.TheVariants.{Key, Group}
 use Rattle.bucket_terms.specs.declared.page.Page.{Page}
 use Rattle.bucket_terms.specs.declared.reply.Reply.{Reply}
-use Rattle.bucket_terms.specs.declared.reply.Reply.TheVariants.{Put, Exists, Deleted, Found, Missing, Listed, BadToken, NoSlot}
+use Rattle.bucket_terms.specs.declared.reply.Reply.TheVariants.{Put, Exists, Deleted, Found, Missing, Listed, ListedV1, BadToken, NoSlot}
 use Rattle.bucket_terms.specs.PageInRange.{IsInRange}
 
 -- a key's value is the place of a record
@@ -26,5 +26,6 @@ IsReplyOf dir records Deleted = Unit {0}
 IsReplyOf dir records (Found val) = val < length records
 IsReplyOf dir records Missing = Unit {0}
 IsReplyOf dir records (Listed query page) = IsPageOf dir records page
+IsReplyOf dir records (ListedV1 query page) = IsPageOf dir records page
 IsReplyOf dir records BadToken = Unit {0}
 IsReplyOf dir records NoSlot = Unit {0}

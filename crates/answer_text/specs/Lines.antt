@@ -1,6 +1,6 @@
 -- The text of a run: one JSON object a line, whose members stand in the byte order of their names.
 use Rattle.std.specs.Prelude.{ℕ, ◌+◌, ◌==◌, ◌||◌, not, Bool, true, false, List, [], ◌∷◌, ◌++◌, length, codes, if◌then◌else◌, Option, Some, None, slice_index_or}
-use Rattle.std.specs.Option.{option_map_or}
+use Rattle.std.specs.Option.{option_map, option_map_or}
 use Rattle.std.specs.List.{filter_map, flat_map}
 use Rattle.std.specs.Char.{is_ascii_alphanumeric}
 use Rattle.percent_encoding.specs.Percent.{percent_encode_byte}
@@ -15,9 +15,10 @@ use Rattle.bucket_terms.specs.declared.record.Record.{Record}
 use Rattle.bucket_terms.specs.declared.page.PageEntry.{PageEntry}
 use Rattle.bucket_terms.specs.declared.page.PageEntry.TheVariants.{Key, Group}
 use Rattle.bucket_terms.specs.declared.reply.Reply.{Reply}
-use Rattle.bucket_terms.specs.declared.reply.Reply.TheVariants.{Put, Exists, Deleted, Found, Missing, Listed, BadToken, NoSlot}
+use Rattle.bucket_terms.specs.declared.reply.Reply.TheVariants.{Put, Exists, Deleted, Found, Missing, Listed, ListedV1, BadToken, NoSlot}
 use Rattle.bucket_terms.specs.declared.reply.Placed.{Placed}
 use Rattle.bucket_terms.specs.Listing.{group_text, next_token, page_point}
+use Rattle.bucket_terms.specs.V1Listing.{next_marker}
 use Rattle.bucket_terms.specs.LegalRun.{Run}
 
 -- ---- escapes under `encoding-type=url` (Amazon S3 API reference, ListObjectsV2: `EncodingType`)
@@ -37,13 +38,17 @@ pub record Member : Type 0 where
   pub name : List ℕ
   pub value : Data
 
--- a member that is always there, and one that is there where the test holds
+-- a member that is always there, one that is there where the test holds, and a text where there is one
 abbrev pub always : List ℕ → Data → Option Member
 always name value = Some (record { name = name; value = value })
 
 abbrev pub only_if : Bool → List ℕ → Data → Option Member
 only_if true name value = always name value
 only_if false name value = None
+
+abbrev pub if_some : List ℕ → Option (List ℕ) → Option Member
+if_some name (Some text) = always name (string text)
+if_some name None = None
 
 -- the members that are there, in order
 abbrev pub members_there : List (Option Member) → Members
@@ -117,6 +122,19 @@ reply_end dir records line (Listed query page) =
     ∷ only_if page.truncated (codes "NextContinuationToken") (string (option_map_or (next_token query) (page_point dir page) []))
     ∷ always (codes "Prefix") (string (shown query.url query.prefix))
     ∷ only_if (is_given query.start_after) (codes "StartAfter") (string (shown query.url query.start_after))
+    ∷ always (codes "Status") (whole 200)
+    ∷ []
+reply_end dir records line (ListedV1 query page) =
+    always (codes "CommonPrefixes") (array (items_of (filter_map (prefix_of dir query.url) page.entries)))
+    ∷ always (codes "Contents") (array (items_of (filter_map (content_of dir records query.url) page.entries)))
+    ∷ only_if (is_given query.delimiter) (codes "Delimiter") (string (shown query.url query.delimiter))
+    ∷ only_if query.url (codes "EncodingType") (string (codes "url"))
+    ∷ always (codes "IsTruncated") (boolean page.truncated)
+    ∷ always (codes "Line") (whole line)
+    ∷ always (codes "Marker") (string (shown query.url query.marker))
+    ∷ always (codes "MaxKeys") (whole query.max_keys)
+    ∷ if_some (codes "NextMarker") (option_map (shown query.url) (next_marker dir query page))
+    ∷ always (codes "Prefix") (string (shown query.url query.prefix))
     ∷ always (codes "Status") (whole 200)
     ∷ []
 reply_end dir records line BadToken = short_end line None 400

@@ -9,13 +9,15 @@ use Rattle.key_map.specs.declared.update.Change.{Change}
 use Rattle.key_map.specs.declared.update.Change.TheVariants.{Put as PutVal, Remove}
 use Rattle.bucket_terms.specs.declared.record.Record.{Record}
 use Rattle.bucket_terms.specs.declared.list_query.ListQuery.{ListQuery}
+use Rattle.bucket_terms.specs.declared.v1_query.V1Query.{V1Query}
+use Rattle.serde_json.specs.Data.{Data}
 use Rattle.bucket_terms.specs.declared.page.PageEntry.{PageEntry}
 use Rattle.bucket_terms.specs.declared.page.PageEntry.TheVariants.{Key, Group}
 use Rattle.bucket_terms.specs.declared.reply.Reply.{Reply}
-use Rattle.bucket_terms.specs.declared.reply.Reply.TheVariants.{Put, Exists, Deleted, Found, Missing, Listed, BadToken, NoSlot}
+use Rattle.bucket_terms.specs.declared.reply.Reply.TheVariants.{Put, Exists, Deleted, Found, Missing, Listed, ListedV1, BadToken, NoSlot}
 use Rattle.bucket_terms.specs.Listing.{group_text}
 use Rattle.answer_text.specs.Lines.{shown, is_given, record_at}
-use Rattle.answer_text.specs.Shown.{PageShown, page_shown}
+use Rattle.answer_text.specs.Shown.{PageShown, page_shown, V1Shown, v1_shown}
 
 abbrev pub truth_text : Bool → List ℕ
 truth_text true = codes "true"
@@ -80,10 +82,10 @@ prefix_element later dir url (Group rank len) = comma_if later ++ prefix_text (s
 
 -- ---- listings
 
-unfoldable pub entries_text : PageShown → List ℕ
-entries_text page =
-    codes ",\"CommonPrefixes\":[" ++ (items_text false (items_of page.prefixes)
-    ++ (codes ",\"Contents\":[" ++ items_text false (items_of page.contents)))
+unfoldable pub entries_text : List Data → List Data → List ℕ
+entries_text prefixes contents =
+    codes ",\"CommonPrefixes\":[" ++ (items_text false (items_of prefixes)
+    ++ (codes ",\"Contents\":[" ++ items_text false (items_of contents)))
 
 unfoldable pub asked_text : ListQuery → List ℕ → List ℕ
 asked_text query delimiter =
@@ -105,9 +107,32 @@ bounds_text query truncated next prefix start_after =
 unfoldable pub listed_text : Option ℕ → ℕ → ℕ → ListQuery → PageShown → List ℕ
 listed_text at client line query page =
     start_text at client
-    ++ (entries_text page ++ (asked_text query page.delimiter
+    ++ (entries_text page.prefixes page.contents ++ (asked_text query page.delimiter
     ++ (size_text line query page.truncated page.count
     ++ bounds_text query page.truncated page.next page.prefix page.start_after)))
+
+unfoldable pub v1_asked_text : V1Query → List ℕ → List ℕ
+v1_asked_text query delimiter =
+    given_text (is_given query.delimiter) (codes ",\"Delimiter\":") delimiter
+    ++ given_text query.url (codes ",\"EncodingType\":") (codes "url")
+
+unfoldable pub v1_size_text : ℕ → V1Query → Bool → List ℕ → List ℕ
+v1_size_text line query truncated marker =
+    codes ",\"IsTruncated\":" ++ (truth_text truncated ++ (codes ",\"Line\":" ++ (decimal line
+    ++ (codes ",\"Marker\":" ++ (quoted marker ++ (codes ",\"MaxKeys\":" ++ decimal query.max_keys))))))
+
+abbrev pub next_text : Option (List ℕ) → List ℕ
+next_text (Some marker) = codes ",\"NextMarker\":" ++ quoted marker
+next_text None = []
+
+unfoldable pub v1_bounds_text : Option (List ℕ) → List ℕ → List ℕ
+v1_bounds_text next prefix = next_text next ++ (codes ",\"Prefix\":" ++ (quoted prefix ++ codes ",\"Status\":200}\n"))
+
+unfoldable pub v1_text : Option ℕ → ℕ → ℕ → V1Query → V1Shown → List ℕ
+v1_text at client line query page =
+    start_text at client
+    ++ (entries_text page.prefixes page.contents ++ (v1_asked_text query page.delimiter
+    ++ (v1_size_text line query page.truncated page.marker ++ v1_bounds_text page.next page.prefix)))
 
 abbrev pub reply_text : List (List ℕ) → List Record → Option ℕ → ℕ → ℕ → Reply → List ℕ
 reply_text dir records at client line (Put was) = short_text at client line (Some was) 200
@@ -116,6 +141,7 @@ reply_text dir records at client line Deleted = short_text at client line None 2
 reply_text dir records at client line (Found val) = found_text at client line (record_at records val)
 reply_text dir records at client line Missing = short_text at client line None 404
 reply_text dir records at client line (Listed query page) = listed_text at client line query (page_shown dir records query page)
+reply_text dir records at client line (ListedV1 query page) = v1_text at client line query (v1_shown dir records query page)
 reply_text dir records at client line BadToken = short_text at client line None 400
 reply_text dir records at client line NoSlot = short_text at client line None 503
 

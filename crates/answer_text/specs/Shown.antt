@@ -1,19 +1,21 @@
 -- Helper: the headline does not rest on this file.
 -- The lines of the answer as the code cuts them: what each shows, and lists of its members.
 use Rattle.std.specs.Prelude.{ℕ, ◌==◌, not, Bool, true, List, [], ◌∷◌, length, codes, if◌then◌else◌, Option, Some, None}
-use Rattle.std.specs.Option.{option_map_or}
+use Rattle.std.specs.Option.{option_map, option_map_or}
 use Rattle.std.specs.List.{filter_map, flat_map}
 use Rattle.percent_encoding.specs.Percent.{percent_encode_byte}
 use Rattle.serde_json.specs.Data.{Data, null, boolean, string, array}
 use Rattle.serde_json.specs.View.{items_of}
 use Rattle.bucket_terms.specs.declared.record.Record.{Record}
 use Rattle.bucket_terms.specs.declared.list_query.ListQuery.{ListQuery}
+use Rattle.bucket_terms.specs.declared.v1_query.V1Query.{V1Query}
 use Rattle.bucket_terms.specs.declared.token_point.TokenPoint.{TokenPoint}
 use Rattle.bucket_terms.specs.declared.page.Page.{Page}
 use Rattle.bucket_terms.specs.declared.reply.Reply.{Reply}
 use Rattle.bucket_terms.specs.declared.reply.Placed.{Placed}
 use Rattle.bucket_terms.specs.Listing.{next_token, page_point}
-use Rattle.answer_text.specs.Lines.{Member, always, only_if, whole, object_of, line_of, is_kept, shown, is_given, content_of, prefix_of, reply_end, reply_data}
+use Rattle.bucket_terms.specs.V1Listing.{next_marker}
+use Rattle.answer_text.specs.Lines.{Member, always, only_if, if_some, whole, object_of, line_of, is_kept, shown, is_given, content_of, prefix_of, reply_end, reply_data}
 
 -- ---- escapes
 
@@ -84,6 +86,27 @@ page_shown dir records query page = record {
   start_after = shown query.url query.start_after;
 }
 
+-- the same of a listing of version 1
+pub record V1Shown : Type 0 where
+  pub prefixes : List Data
+  pub contents : List Data
+  pub truncated : Bool
+  pub marker : List ℕ
+  pub next : Option (List ℕ)
+  pub prefix : List ℕ
+  pub delimiter : List ℕ
+
+abbrev pub v1_shown : List (List ℕ) → List Record → V1Query → Page → V1Shown
+v1_shown dir records query page = record {
+  prefixes = filter_map (prefix_of dir query.url) page.entries;
+  contents = filter_map (content_of dir records query.url) page.entries;
+  truncated = page.truncated;
+  marker = shown query.url query.marker;
+  next = option_map (shown query.url) (next_marker dir query page);
+  prefix = shown query.url query.prefix;
+  delimiter = shown query.url query.delimiter;
+}
+
 -- ---- reply lines
 
 -- whether a put replaced a record
@@ -123,6 +146,23 @@ listed_members at client line query page =
     ∷ only_if page.truncated (codes "NextContinuationToken") (string page.next)
     ∷ always (codes "Prefix") (string page.prefix)
     ∷ only_if (is_given query.start_after) (codes "StartAfter") (string page.start_after)
+    ∷ status_member 200
+    ∷ []
+
+abbrev pub v1_members : Option ℕ → ℕ → ℕ → V1Query → V1Shown → List (Option Member)
+v1_members at client line query page =
+    at_member at
+    ∷ client_member client
+    ∷ always (codes "CommonPrefixes") (array_of page.prefixes)
+    ∷ always (codes "Contents") (array_of page.contents)
+    ∷ only_if (is_given query.delimiter) (codes "Delimiter") (string page.delimiter)
+    ∷ only_if query.url (codes "EncodingType") (string (codes "url"))
+    ∷ always (codes "IsTruncated") (boolean page.truncated)
+    ∷ line_member line
+    ∷ always (codes "Marker") (string page.marker)
+    ∷ always (codes "MaxKeys") (whole query.max_keys)
+    ∷ if_some (codes "NextMarker") page.next
+    ∷ always (codes "Prefix") (string page.prefix)
     ∷ status_member 200
     ∷ []
 

@@ -8,6 +8,7 @@ mod entries;
 mod escapes;
 mod journal;
 mod listing;
+mod listing_v1;
 mod pieces;
 mod plain;
 mod replies;

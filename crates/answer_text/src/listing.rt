@@ -1,8 +1,9 @@
-// The line of a listing.
+// The line of a listing, and what it has in common with that of version 1.
 ghost use Rattle.std.specs.Prelude.{◌≡◌, ◌++◌, length, string_bytes, IfOk, OnOk};
 ghost use Rattle.bucket_terms.specs.Listing.{page_point};
 ghost use Rattle.bucket_terms.specs.PageInRange.{IsInRange};
-ghost use Rattle.answer_text.specs.Lines.{shown, is_given};
+ghost use Rattle.std.specs.List.{filter_map};
+ghost use Rattle.answer_text.specs.Lines.{shown, is_given, content_of, prefix_of};
 ghost use Rattle.answer_text.specs.Shown.{page_shown, point_token};
 ghost use Rattle.answer_text.specs.InRange.{IsPageOf};
 ghost use Rattle.answer_text.specs.Pieces as spec;
@@ -28,28 +29,29 @@ pub(crate) fn push_listing(
     ensures { OnOk result (string_bytes out.new ≡ string_bytes out.old ++ spec.listed_text placed.now.at placed.now.client placed.now.line query.now (page_shown dir.now records.now query.now page.now)) }
 {
     push_start(out, placed)?;
-    push_entries(out, dir, records, query, page)?;
+    push_entries(out, dir, records, query.url, page)?;
     push_asked(out, query)?;
     push_size(out, placed, query, page)?;
     push_bounds(out, dir, query, page)
 }
 
-// The members from `CommonPrefixes` to `Contents`.
-fn push_entries(
+/// The members from `CommonPrefixes` to `Contents`.
+pub(crate) fn push_entries(
     out: &mut String,
     dir: &Directory,
     records: &[Record],
-    query: &ListQuery,
+    url: bool,
     page: &Page,
 ) -> Result<(), NoMemory>
     requires { IsPageOf dir.now records.now page.now }
-    ensures { OnOk result (string_bytes out.new ≡ string_bytes out.old ++ spec.entries_text (page_shown dir.now records.now query.now page.now)) }
+    ensures { OnOk result (string_bytes out.new ≡ string_bytes out.old
+        ++ spec.entries_text (filter_map (prefix_of dir.now url) page.now.entries) (filter_map (content_of dir.now records.now url) page.now.entries)) }
 {
     let entries = page.entries.as_slice();
     push(out, ",\"CommonPrefixes\":[")?;
-    push_prefixes(out, dir, query.url, entries)?;
+    push_prefixes(out, dir, url, entries)?;
     push(out, ",\"Contents\":[")?;
-    push_contents(out, dir, records, query.url, entries)
+    push_contents(out, dir, records, url, entries)
 }
 
 // The members from `ContinuationToken` to `EncodingType`. A token is never escaped.
@@ -117,8 +119,8 @@ fn push_bounds(
     push(out, ",\"Status\":200}\n")
 }
 
-// Whether a parameter was given.
-fn is_given(text: &Text) -> bool
+/// Whether a parameter was given.
+pub(crate) fn is_given(text: &Text) -> bool
     ensures { result ≡ is_given text.now }
 {
     !text.as_str().is_empty()

@@ -8,6 +8,7 @@ ghost use Rattle.answer_text.specs.InRange.{IsReplyOf};
 ghost use Rattle.answer_text.specs.Pieces as spec;
 
 use crate::listing::push_listing;
+use crate::listing_v1::push_v1_listing;
 use crate::pieces::{push, push_number, push_place, push_text, push_truth};
 use bucket_terms::{Placed, Record, Reply};
 use key_names::{Directory, NoMemory, Text};
@@ -67,6 +68,9 @@ fn push_reply(
         Reply::Missing => push_short(out, placed, None, 404),
         Reply::Listed { query, page } => {
             push_listing(out, dir, records, placed, query.get(), page)
+        }
+        Reply::ListedV1 { query, page } => {
+            push_v1_listing(out, dir, records, placed, query.get(), page)
         }
         Reply::BadToken => push_short(out, placed, None, 400),
         Reply::NoSlot => push_short(out, placed, None, 503),

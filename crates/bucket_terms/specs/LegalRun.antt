@@ -9,15 +9,17 @@ use Rattle.key_map.specs.declared.update.Change.{Change}
 use Rattle.key_map.specs.declared.update.Change.TheVariants.{Put as PutVal, Remove}
 use Rattle.key_map.specs.KeyMap.{map_has, map_get, after}
 use Rattle.bucket_terms.specs.declared.list_query.ListQuery.{ListQuery}
+use Rattle.bucket_terms.specs.declared.v1_query.V1Query.{V1Query}
 use Rattle.bucket_terms.specs.declared.token_point.TokenPoint.{TokenPoint}
 use Rattle.bucket_terms.specs.declared.token.Bound.{Bound}
 use Rattle.bucket_terms.specs.declared.page.Page.{Page}
 use Rattle.bucket_terms.specs.declared.request.Request.{Request}
-use Rattle.bucket_terms.specs.declared.request.Request.TheVariants.{Put, PutNew, Delete, Head, List as ListRequest, Next}
+use Rattle.bucket_terms.specs.declared.request.Request.TheVariants.{Put, PutNew, Delete, Head, List as ListRequest, ListV1, Next}
 use Rattle.bucket_terms.specs.declared.reply.Reply.{Reply}
-use Rattle.bucket_terms.specs.declared.reply.Reply.TheVariants.{Put as PutReply, Exists, Deleted, Found, Missing, Listed, BadToken, NoSlot}
+use Rattle.bucket_terms.specs.declared.reply.Reply.TheVariants.{Put as PutReply, Exists, Deleted, Found, Missing, Listed, ListedV1, BadToken, NoSlot}
 use Rattle.bucket_terms.specs.declared.reply.Placed.{Placed}
 use Rattle.bucket_terms.specs.Listing.{IsTokenOf, next_token, bound_of, page_of, page_point}
+use Rattle.bucket_terms.specs.V1Listing.{v1_page}
 
 -- one request and the number of its line
 pub record RequestLine : Type 0 where
@@ -54,7 +56,8 @@ pub record Resumed : Type 0 where
   pub query : ListQuery
   pub point : TokenPoint
 
--- what NEXT goes on from: the page of the client's last LIST or NEXT, where there is one and it was truncated
+-- what NEXT goes on from: the page of the client's last LIST or NEXT, where there is one and it was truncated. LISTV1 lines
+-- between are passed over.
 abbrev pub next_of : List (List ℕ) → Option Reply → Option Resumed
 next_of dir (Some (Listed query page)) =
     option_map (λ point. record { query = record query { token = next_token query point }; point = point }) (page_point dir page)
@@ -65,7 +68,7 @@ is_listing (ListRequest query) = true
 is_listing Next = true
 is_listing _ = false
 
--- the reply of the last listing
+-- the reply of the last LIST or NEXT
 abbrev pub last_listing : List Answered → Option Reply
 last_listing earlier = option_map (λ (a : Answered). a.placed.reply) (last_or None (filter (λ (a : Answered). is_listing a.asked.request) earlier))
 
@@ -119,11 +122,15 @@ pub record Finds (s : Setting) (name : List ℕ) (at : ℕ) (found : Option ℕ)
 abbrev pub Lists : Setting → ℕ → ListQuery → Option TokenPoint → ListQuery → Page → Type 0
 Lists s at query point shown page = (shown ≡ query) × (page ≡ page_of s.dir query point (after s.updates at))
 
+-- the same of a listing of version 1
+abbrev pub ListsV1 : Setting → ℕ → V1Query → V1Query → Page → Type 0
+ListsV1 s at query shown page = (shown ≡ query) × (page ≡ v1_page s.dir query (after s.updates at))
+
 -- the client's earlier lines have made at least as many updates as it has node slots
 abbrev pub HasUsedItsSlots : Setting → ℕ → Type 0
 HasUsedItsSlots s line = s.slots ≤ count_by (λ (u : Update). (u.client == s.client) && nat_lt u.line line) s.updates
 
--- the reply is right at its place, where `last` is the reply of the client's last listing. A request is refused, and so
+-- the reply is right at its place, where `last` is the reply of the client's last LIST or NEXT. A request is refused, and so
 -- has no place, only for a bad token or for want of slots.
 abbrev pub IsRight : Setting → Option Reply → RequestLine → Option ℕ → Reply → Type 0
 IsRight s last asked at reply = IsRightFor asked.request at reply
@@ -138,6 +145,7 @@ IsRight s last asked at reply = IsRightFor asked.request at reply
     IsRightFor (Head name) (Some at) Missing = Finds s name at None
     IsRightFor (ListRequest query) (Some at) (Listed shown page) = (point : Option TokenPoint) × (IsPointOf query point × Lists s at query point shown page)
     IsRightFor (ListRequest query) None BadToken = (point : Option TokenPoint) → ¬ (IsPointOf query point)
+    IsRightFor (ListV1 query) (Some at) (ListedV1 shown page) = ListsV1 s at query shown page
     IsRightFor Next (Some at) (Listed shown page) = (next : Resumed) × ((next_of s.dir last ≡ Some next) × Lists s at next.query (Some next.point) shown page)
     IsRightFor Next None BadToken = next_of s.dir last ≡ None
     IsRightFor request at reply = ⊥

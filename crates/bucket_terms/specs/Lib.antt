@@ -1,4 +1,5 @@
 pub mod Listing
+pub mod V1Listing
 pub mod PageParts
 pub mod LegalRun
 pub mod RunParts

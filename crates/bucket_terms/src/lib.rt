@@ -4,6 +4,7 @@
 #![tactic(auto)]
 
 mod boxed_query;
+mod boxed_v1_query;
 mod key_pass;
 mod list_query;
 mod page;
@@ -14,8 +15,10 @@ mod request;
 mod summary;
 mod token;
 mod token_point;
+mod v1_query;
 
 pub use boxed_query::BoxedQuery;
+pub use boxed_v1_query::BoxedV1Query;
 pub use key_pass::KeyPass;
 pub use list_query::ListQuery;
 pub use page::{Page, PageEntry};
@@ -26,3 +29,4 @@ pub use request::Request;
 pub use summary::Summary;
 pub use token::{Bound, Token};
 pub use token_point::TokenPoint;
+pub use v1_query::V1Query;

@@ -1,4 +1,4 @@
-use crate::{BoxedQuery, Page};
+use crate::{BoxedQuery, BoxedV1Query, Page};
 
 /// The answer to a request.
 #[derive(Debug, Drop)]
@@ -15,6 +15,8 @@ pub enum Reply {
     Missing,
     /// 200. The query that was answered, with the token that it went on from, and its page.
     Listed { query: BoxedQuery, page: Page },
+    /// 200. The query of version 1 that was answered, and its page.
+    ListedV1 { query: BoxedV1Query, page: Page },
     /// 400. The continuation token is the text of no token, or of one with another prefix or delimiter; or
     /// there is no page to go on from.
     BadToken,

@@ -1,4 +1,4 @@
-use crate::BoxedQuery;
+use crate::{BoxedQuery, BoxedV1Query};
 use key_names::Text;
 
 /// What one line of a session asks.
@@ -12,6 +12,8 @@ pub enum Request {
     Delete { name: Text },
     Head { name: Text },
     List(BoxedQuery),
-    /// The client's last listing again, from where its page ended.
+    /// A listing of version 1 (Amazon S3 API reference, ListObjects).
+    ListV1(BoxedV1Query),
+    /// The client's last LIST or NEXT again, from where its page ended.
     Next,
 }

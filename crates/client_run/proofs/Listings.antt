@@ -1,11 +1,13 @@
--- The answers of LIST and NEXT.
+-- The answers of LIST, LISTV1 and NEXT.
 use Rattle.std.proofs.Common.{◌≡◌, ◌≢◌, ℕ, [], List, Option, Some, None, refl, sym, ap, ◌∙◌, subst}
 use Rattle.bucket_terms.specs.declared.list_query.ListQuery.{ListQuery}
+use Rattle.bucket_terms.specs.declared.v1_query.V1Query.{V1Query}
+use Rattle.bucket_terms.specs.V1Listing.{plain, marker_point}
 use Rattle.bucket_terms.specs.declared.token_point.TokenPoint.{TokenPoint}
 use Rattle.bucket_terms.specs.declared.request.Request.{Request}
-use Rattle.bucket_terms.specs.declared.request.Request.TheVariants.{List as ListRequest, Next}
+use Rattle.bucket_terms.specs.declared.request.Request.TheVariants.{List as ListRequest, ListV1, Next}
 use Rattle.bucket_terms.specs.declared.reply.Reply.{Reply}
-use Rattle.bucket_terms.specs.declared.reply.Reply.TheVariants.{Listed, BadToken}
+use Rattle.bucket_terms.specs.declared.reply.Reply.TheVariants.{Listed, ListedV1, BadToken}
 use Rattle.bucket_terms.specs.declared.reply.Placed.{Placed}
 use Rattle.bucket_terms.specs.declared.token.Token.{Token}
 use Rattle.bucket_terms.specs.Listing.{IsTokenOf, page_of}
@@ -14,7 +16,7 @@ use Rattle.bucket_terms.specs.PassView.{PassView, KnowsOwn}
 use Rattle.bucket_terms.specs.LegalRun.{Resumed, IsPointOf, IsBoundTo, IsRight, next_of}
 use Rattle.key_map.specs.History.{after}
 use Rattle.client_run.specs.ClientRun.{setting, answered, Answers}
-use Rattle.client_run.specs.Listing.{ListedAs, HasPageInRange}
+use Rattle.client_run.specs.Listing.{ListedAs, ListedV1As, HasPageInRange}
 use Rattle.client_run.specs.declared.pages.Start.{Start}
 use Rattle.client_run.specs.declared.pages.Start.TheVariants.{First, Behind, Bad}
 use Rattle.client_run.specs.Starts.{IsBadToken, IsStartOf, IsStartBehind}
@@ -42,6 +44,20 @@ pub next_answers : (dir : List (List ℕ)) (next : Resumed) (line : ℕ) (old ne
 next_answers dir next line old new last placed follows is =
     listed_answers dir next.query (Some next.point) line old new last Next placed is
     (λ slots. (next, (follows, (refl, is.listed.is_page))))
+
+pub v1_answers : (dir : List (List ℕ)) (asked shown : V1Query) (query : ListQuery) (point : Option TokenPoint) (line : ℕ) (old new : PassView) (last : Option Reply) (placed : Placed)
+    → shown ≡ asked → query ≡ plain asked → point ≡ marker_point asked → ListedV1As dir shown query point line old new placed
+    → Answers dir old new last (answered line (ListV1 asked) placed)
+v1_answers dir asked shown query point line old new last placed same is_plain is_marker is =
+    let page_is = is.listed.is_page
+    ∙ ap (λ (q : ListQuery). page_of dir q point (after new.seen is.at)) is_plain
+    ∙ ap (λ (o : Option TokenPoint). page_of dir (plain asked) o (after new.seen is.at)) is_marker in
+    subst (λ (p : Placed). Answers dir old new last (answered line (ListV1 asked) p)) (sym is.reply_is)
+    (step_looked dir old new last line is.at (ListV1 asked) (ListedV1 shown is.page) is.knew is.listed.looked is.closed (λ slots. (same, page_is)) (λ e. cc) refl is.listed.looks)
+
+pub v1_in_range : (dir : List (List ℕ)) (shown : V1Query) (query : ListQuery) (point : Option TokenPoint) (line : ℕ) (old new : PassView) (placed : Placed)
+    → ListedV1As dir shown query point line old new placed → HasPageInRange dir placed.reply
+v1_in_range dir shown query point line old new placed is = subst (λ (p : Placed). HasPageInRange dir p.reply) (sym is.reply_is) is.listed.in_range
 
 -- with a text of no token of this listing there is no point, and not none either
 pub no_point : (query : ListQuery) → IsBadToken query → (point : Option TokenPoint) → ¬ (IsPointOf query point)

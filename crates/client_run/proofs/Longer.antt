@@ -15,13 +15,15 @@ use Rattle.bucket_terms.specs.Listing.{page_of}
 use Rattle.key_map.specs.History.{after}
 use Rattle.key_map.proofs.HistoryLaws.{after-append}
 use Rattle.bucket_terms.specs.declared.list_query.ListQuery.{ListQuery}
+use Rattle.bucket_terms.specs.declared.v1_query.V1Query.{V1Query}
+use Rattle.bucket_terms.specs.V1Listing.{v1_page}
 use Rattle.bucket_terms.specs.declared.page.Page.{Page}
 use Rattle.bucket_terms.specs.declared.request.Request.{Request}
-use Rattle.bucket_terms.specs.declared.request.Request.TheVariants.{Put, PutNew, Delete, Head, List as ListRequest, Next}
+use Rattle.bucket_terms.specs.declared.request.Request.TheVariants.{Put, PutNew, Delete, Head, List as ListRequest, ListV1, Next}
 use Rattle.bucket_terms.specs.declared.reply.Reply.{Reply}
-use Rattle.bucket_terms.specs.declared.reply.Reply.TheVariants.{Put as PutReply, Exists, Deleted, Found, Missing, Listed, BadToken, NoSlot}
+use Rattle.bucket_terms.specs.declared.reply.Reply.TheVariants.{Put as PutReply, Exists, Deleted, Found, Missing, Listed, ListedV1, BadToken, NoSlot}
 use Rattle.bucket_terms.specs.declared.reply.Placed.{Placed}
-use Rattle.bucket_terms.specs.LegalRun.{Setting, RequestLine, Answered, IsOf, IsRight, IsAnswered, AreAnswered, KeepsOrder, UpdateStands, Finds, Lists, HasUsedItsSlots, update_at, last_listing}
+use Rattle.bucket_terms.specs.LegalRun.{Setting, RequestLine, Answered, IsOf, IsRight, IsAnswered, AreAnswered, KeepsOrder, UpdateStands, Finds, Lists, ListsV1, HasUsedItsSlots, update_at, last_listing}
 use Rattle.bucket_terms.specs.RunParts.{is_earlier_of}
 use Rattle.client_run.proofs.Places.{slice_get-append_front}
 
@@ -66,6 +68,9 @@ module _ (s : Setting) (more : List Update) where
   lists-longer : (n : ℕ) (asked : ListQuery) (point : Option TokenPoint) (shown : ListQuery) (page : Page) → n ≤ length s.updates → Lists s n asked point shown page → Lists (over s (s.updates ++ more)) n asked point shown page
   lists-longer n asked point shown page le lists = (lists.0, lists.1 ∙ ap (λ (m : List Pair). page_of s.dir asked point m) (after-longer s more n le))
 
+  v1-longer : (n : ℕ) (asked shown : V1Query) (page : Page) → n ≤ length s.updates → ListsV1 s n asked shown page → ListsV1 (over s (s.updates ++ more)) n asked shown page
+  v1-longer n asked shown page le lists = (lists.0, lists.1 ∙ ap (λ (m : List Pair). v1_page s.dir asked m) (after-longer s more n le))
+
   slots-longer : (line : ℕ) → HasUsedItsSlots s line → HasUsedItsSlots (over s (s.updates ++ more)) line
   slots-longer line used = omega (arith, used, sum_by-append (λ (u : Update). cond (is_earlier_of s line u) 1 0) s.updates more)
 
@@ -86,6 +91,7 @@ module _ (s : Setting) (more : List Update) where
   IsRight-longer last line (Head name) (Some n) Missing within others right = finds-longer name n None within right
   IsRight-longer last line (ListRequest query) (Some n) (Listed query' page) within others right = (right.0, (right.1.0, lists-longer n query right.0 query' page within right.1.1))
   IsRight-longer last line (ListRequest query) None BadToken within others right = right
+  IsRight-longer last line (ListV1 query) (Some n) (ListedV1 shown page) within others right = v1-longer n query shown page within right
   IsRight-longer last line Next (Some n) (Listed query page) within others right = (right.0, (right.1.0, lists-longer n right.0.query (Some right.0.point) query page within right.1.1))
   IsRight-longer last line Next None BadToken within others right = right
   IsRight-longer last line (Head name) None NoSlot within others right = absurd right

@@ -9,7 +9,7 @@ use Rattle.std.proofs.lemmas.List.Sums.{sum_by-cons, sum_by_push}
 use Rattle.std.proofs.lemmas.Option.{slice_get-get_or, get_or_from_slice_get, slice_get_within}
 use Rattle.key_map.specs.declared.update.Update.{Update}
 use Rattle.bucket_terms.specs.declared.reply.Reply.{Reply}
-use Rattle.bucket_terms.specs.declared.reply.Reply.TheVariants.{Put, Exists, Deleted, Found, Missing, Listed, BadToken, NoSlot}
+use Rattle.bucket_terms.specs.declared.reply.Reply.TheVariants.{Put, Exists, Deleted, Found, Missing, Listed, ListedV1, BadToken, NoSlot}
 use Rattle.bucket_terms.specs.declared.reply.Placed.{Placed}
 use Rattle.bucket_terms.specs.PassView.{PassView, Continues, RoseBy, IsShort}
 use Rattle.bucket_terms.specs.LegalRun.{Setting, RequestLine, Answered, IsOf, AreAnswered, KeepsOrder, IsMadeBy, answered_lines, is_update, update_at, last_listing}
@@ -122,6 +122,7 @@ module _ (s : Setting) (more : List Update) where
   looked-longer asked client line at (Found val) within = refl
   looked-longer asked client line at Missing within = refl
   looked-longer asked client line at (Listed query page) within = refl
+  looked-longer asked client line at (ListedV1 query page) within = refl
   looked-longer asked client line at BadToken within = refl
   looked-longer asked client line at NoSlot within = refl
 
@@ -151,6 +152,7 @@ looked_enough s asked client line at Deleted old new le looked = by_own (has_own
 looked_enough s asked client line at (Found val) old new le looked = omega (arith, looked)
 looked_enough s asked client line at Missing old new le looked = omega (arith, looked)
 looked_enough s asked client line at (Listed query page) old new le looked = omega (arith, looked)
+looked_enough s asked client line at (ListedV1 query page) old new le looked = omega (arith, looked)
 looked_enough s asked client line at BadToken old new le looked = omega (arith, le)
 looked_enough s asked client line at NoSlot old new le looked = omega (arith, le)
 

@@ -5,7 +5,7 @@ use Rattle.std.proofs.lemmas.Option.{slice_get_within, get_or_from_slice_get}
 use Rattle.std.proofs.lemmas.List.Elements.{All-map, All-weaker}
 use Rattle.key_names.specs.Names.{HoldsEachOnce}
 use Rattle.bucket_terms.specs.declared.request.Request.{Request}
-use Rattle.bucket_terms.specs.declared.request.Request.TheVariants.{Put, PutNew, Delete, Head, List as ListRequest, Next}
+use Rattle.bucket_terms.specs.declared.request.Request.TheVariants.{Put, PutNew, Delete, Head, List as ListRequest, ListV1, Next}
 use Rattle.request_lines.specs.declared.session.Asked.{Asked}
 use Rattle.request_lines.specs.declared.session.ClientPart.{ClientPart}
 use Rattle.request_lines.specs.Session.{request_line}
@@ -18,6 +18,7 @@ askable_by dir names (PutNew name val) line holds is = holds.all name is
 askable_by dir names (Delete name) line holds is = holds.all name is
 askable_by dir names (Head name) line holds is = holds.all name is
 askable_by dir names (ListRequest query) line holds is = tt
+askable_by dir names (ListV1 query) line holds is = tt
 askable_by dir names Next line holds is = tt
 
 pub askable : (dir names : List (List ℕ)) (count : ℕ) (asked : List Asked) → HoldsEachOnce names dir → All (IsServed names count) asked → All (IsAskable dir) (map request_line asked)

@@ -5,7 +5,7 @@ use Rattle.key_map.specs.declared.update.Update.{Update}
 use Rattle.bucket_terms.specs.declared.request.Request.{Request}
 use Rattle.bucket_terms.specs.declared.request.Request.TheVariants.{PutNew}
 use Rattle.bucket_terms.specs.declared.reply.Reply.{Reply}
-use Rattle.bucket_terms.specs.declared.reply.Reply.TheVariants.{Put, Exists, Deleted, Found, Missing, Listed, NoSlot}
+use Rattle.bucket_terms.specs.declared.reply.Reply.TheVariants.{Put, Exists, Deleted, Found, Missing, Listed, ListedV1, NoSlot}
 use Rattle.bucket_terms.specs.declared.reply.Placed.{Placed}
 use Rattle.bucket_terms.specs.PassView.{PassView, Continues, Extends, KnowsOwn, RoseBy, RoseByOne, IsShort}
 use Rattle.client_run.specs.Listing.{HasPageInRange}
@@ -43,6 +43,7 @@ is_looked_up s a = by_reply a.placed.reply
     by_reply (Found val) = true
     by_reply Missing = true
     by_reply (Listed query page) = true
+    by_reply (ListedV1 query page) = true
     by_reply Deleted = not (has_own s a.asked.line a.placed.at)
     by_reply reply = false
 
@@ -61,6 +62,7 @@ HasLooked s a old new = by_reply a.placed.reply
     by_reply (Found val) = RoseByOne old new
     by_reply Missing = RoseByOne old new
     by_reply (Listed query page) = RoseByOne old new
+    by_reply (ListedV1 query page) = RoseByOne old new
     by_reply Deleted = RoseBy (if has_own s a.asked.line a.placed.at then 0 else 1) old new
     by_reply reply = new ≡ old
 

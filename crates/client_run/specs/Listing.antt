@@ -3,10 +3,11 @@
 use Rattle.std.specs.Prelude.{◌≡◌, ℕ, ◌≤◌, List, Option, None, Some}
 use Rattle.key_map.specs.History.{after}
 use Rattle.bucket_terms.specs.declared.list_query.ListQuery.{ListQuery}
+use Rattle.bucket_terms.specs.declared.v1_query.V1Query.{V1Query}
 use Rattle.bucket_terms.specs.declared.token_point.TokenPoint.{TokenPoint}
 use Rattle.bucket_terms.specs.declared.page.Page.{Page}
 use Rattle.bucket_terms.specs.declared.reply.Reply.{Reply}
-use Rattle.bucket_terms.specs.declared.reply.Reply.TheVariants.{Listed}
+use Rattle.bucket_terms.specs.declared.reply.Reply.TheVariants.{Listed, ListedV1}
 use Rattle.bucket_terms.specs.declared.reply.Placed.{Placed}
 use Rattle.bucket_terms.specs.Listing.{page_of}
 use Rattle.bucket_terms.specs.PageInRange.{IsInRange}
@@ -33,6 +34,7 @@ pub record LookedOnly (old new : PassView) : Type 0 where
 -- a listed page is in range
 abbrev pub HasPageInRange : List (List ℕ) → Reply → Type 0
 HasPageInRange dir (Listed query page) = IsInRange dir page
+HasPageInRange dir (ListedV1 query page) = IsInRange dir page
 HasPageInRange dir reply = Unit {0}
 
 -- the reply is the page of this query and from this point
@@ -42,4 +44,13 @@ pub record ListedAs (dir : List (List ℕ)) (query : ListQuery) (point : Option 
   pub page : Page
   pub reply_is : placed ≡ record { client = old.number; line = line; at = Some at; reply = Listed query page }
   pub listed : ListedAt dir query point old new at page
+  pub closed : new.opened ≡ None
+
+-- the reply shows this query of version 1, and the page of the plain query and from this point
+pub record ListedV1As (dir : List (List ℕ)) (shown : V1Query) (plain : ListQuery) (point : Option TokenPoint) (line : ℕ) (old new : PassView) (placed : Placed) : Type 0 where
+  pub knew : KnowsOwn old
+  pub at : ℕ
+  pub page : Page
+  pub reply_is : placed ≡ record { client = old.number; line = line; at = Some at; reply = ListedV1 shown page }
+  pub listed : ListedAt dir plain point old new at page
   pub closed : new.opened ≡ None

@@ -8,6 +8,7 @@ mod listing;
 mod pages;
 mod run;
 mod updates;
+mod v1_pages;
 
 pub use gate::{Gate, OpenGate};
 pub use listing::list;

@@ -8,7 +8,7 @@ ghost use Rattle.client_run.specs.Listing.{HasPageInRange};
 ghost use Rattle.client_run.specs.ClientRun.{Answers, RanClient, IsLaterLine, Stopped};
 ghost use Rattle.request_lines.specs.SessionLaws.{IsAskable, Rise};
 
-use crate::{Gate, pages, updates};
+use crate::{Gate, pages, updates, v1_pages};
 use bucket_terms::{KeyPass, Placed, Reply, Request};
 use key_names::{Directory, NoMemory};
 use request_lines::{Asked, ClientPart};
@@ -82,11 +82,14 @@ fn answer<P: KeyPass, Rt: Wait>(
         Request::List(query) => {
             pages::list_request(rt, alloc, pass, dir, asked.line, query.get())
         }
+        Request::ListV1(query) => {
+            v1_pages::v1_request(rt, alloc, pass, dir, asked.line, query.get())
+        }
         Request::Next => pages::next_request(rt, alloc, pass, dir, asked.line, last),
     }
 }
 
-// The place of the last listing: this request's, or else the one so far.
+// The place of the last LIST or NEXT: this request's, or else the one so far.
 fn later_listing(last: Option<usize>, request: &Request, place: usize) -> Option<usize>
     ensures { result ≡ (if is_listing request.now then Some place else last) }
 {

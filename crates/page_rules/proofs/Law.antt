@@ -19,7 +19,7 @@ use Rattle.page_rules.proofs.Listing.{is_behind, in_group}
 use Rattle.page_rules.proofs.Places.{entry_at}
 
 -- the point behind some first entries is that of the last of them
-last_of_take : (dir : List (List ℕ)) (entries : List PageEntry) (k : ℕ) (e : PageEntry) → k < length entries → ((d : PageEntry) → get_or entries k d ≡ e)
+pub last_of_take : (dir : List (List ℕ)) (entries : List PageEntry) (k : ℕ) (e : PageEntry) → k < length entries → ((d : PageEntry) → get_or entries k d ≡ e)
     → last_point dir (take (suc k) entries) ≡ Some (entry_point dir e)
 last_of_take dir [] k e below is = absurd (omega arith)
 last_of_take dir (x ∷ entries) zero e below is = ap (λ y. Some (entry_point dir y)) (is e)

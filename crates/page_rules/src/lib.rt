@@ -13,3 +13,4 @@ mod rules;
 pub use cursor::PageCursor;
 pub use list_page::page_of_list;
 pub use look_ups::page_by_look_ups;
+pub use rules::group_len;

@@ -93,9 +93,9 @@ pub(crate) fn group_text(dir: &Directory, rank: u64, len: u64) -> &[u8]
     name.get(..len as usize).unwrap_or(name)
 }
 
-// The length of the common prefix into which the name is rolled up: it ends with the first delimiter at
-// or after the prefix's length.
-fn group_len(query: &ListQuery, name: &[u8]) -> Option<u64>
+/// The length of the common prefix into which the name is rolled up: it ends with the first delimiter at or after the
+/// prefix's length. None where the query has no delimiter, or the name has none there.
+pub fn group_len(query: &ListQuery, name: &[u8]) -> Option<u64>
     ensures { result ≡ group_len query.now name.now }
 {
     let delimiter = query.delimiter.bytes();

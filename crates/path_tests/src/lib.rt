@@ -7,6 +7,8 @@ mod clients;
 #[cfg(test)]
 mod lines;
 #[cfg(test)]
+mod markers;
+#[cfg(test)]
 mod names;
 #[cfg(test)]
 mod pages;

@@ -39,7 +39,7 @@ fn answers(
     };
     let (dir, records) = (directory(alloc)?, records(alloc)?);
     let shows_no_page = match &placed.reply {
-        Reply::Listed { .. } => false,
+        Reply::Listed { .. } | Reply::ListedV1 { .. } => false,
         Reply::Found { val } => *val < records.len() as u64,
         _ => true,
     };

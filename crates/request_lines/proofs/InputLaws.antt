@@ -125,6 +125,7 @@ clients_counted before (Ok (says.Put when name fields)) = refl
 clients_counted before (Ok (says.Delete name)) = refl
 clients_counted before (Ok (says.Head name)) = refl
 clients_counted before (Ok (says.List query)) = refl
+clients_counted before (Ok (says.ListV1 query)) = refl
 clients_counted before (Ok says.Next) = refl
 clients_counted before (Err cause) = refl
 

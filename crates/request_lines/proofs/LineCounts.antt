@@ -26,6 +26,7 @@ use Rattle.request_lines.proofs.CountedLines as l
 abbrev last_behind : ℕ → List Command → ℕ
 last_behind last [] = last
 last_behind last (says.List query ∷ commands) = last_behind query.max_keys commands
+last_behind last (says.ListV1 query ∷ commands) = last_behind last commands
 last_behind last (says.Client ∷ commands) = last_behind 0 commands
 last_behind last (says.Next ∷ commands) = last_behind last commands
 last_behind last (says.Put when name fields ∷ commands) = last_behind last commands
@@ -56,6 +57,7 @@ count_more test commands command =
 -- the entries of one line more
 abbrev asked_with : ℕ → Command → ℕ
 asked_with last (says.List query) = query.max_keys
+asked_with last (says.ListV1 query) = query.max_keys
 asked_with last says.Next = last
 asked_with last command = 0
 
@@ -71,6 +73,7 @@ entries_more last [] (says.Put when name fields) = refl
 entries_more last [] (says.Delete name) = refl
 entries_more last [] (says.Head name) = refl
 entries_more last [] (says.List query) = omega arith
+entries_more last [] (says.ListV1 query) = omega arith
 entries_more last [] says.Next = omega arith
 entries_more last (says.Client ∷ commands) command = entries_more 0 commands command
 entries_more last (says.Put when name fields ∷ commands) command = entries_more last commands command
@@ -80,6 +83,12 @@ entries_more last (says.List query ∷ commands) command =
     let more = entries_more query.max_keys commands command in
     added query.max_keys (entries_behind query.max_keys (commands ++ command ∷ [])) (entries_behind query.max_keys commands)
     (asked_with (last_behind query.max_keys commands) command) more
+  where
+    added : (n more few one : ℕ) → more ≡ few + one → n + more ≡ (n + few) + one
+    added n more few one is = omega (arith, is)
+entries_more last (says.ListV1 query ∷ commands) command =
+    let more = entries_more last commands command in
+    added query.max_keys (entries_behind last (commands ++ command ∷ [])) (entries_behind last commands) (asked_with (last_behind last commands) command) more
   where
     added : (n more few one : ℕ) → more ≡ few + one → n + more ≡ (n + few) + one
     added n more few one is = omega (arith, is)
@@ -96,12 +105,14 @@ last_more last [] (says.Put when name fields) = refl
 last_more last [] (says.Delete name) = refl
 last_more last [] (says.Head name) = refl
 last_more last [] (says.List query) = refl
+last_more last [] (says.ListV1 query) = refl
 last_more last [] says.Next = refl
 last_more last (says.Client ∷ commands) command = last_more 0 commands command
 last_more last (says.Put when name fields ∷ commands) command = last_more last commands command
 last_more last (says.Delete name ∷ commands) command = last_more last commands command
 last_more last (says.Head name ∷ commands) command = last_more last commands command
 last_more last (says.List query ∷ commands) command = last_more query.max_keys commands command
+last_more last (says.ListV1 query ∷ commands) command = last_more last commands command
 last_more last (says.Next ∷ commands) command = last_more last commands command
 
 counts_are : (a b : Counts) → a.clients ≡ b.clients → a.requests ≡ b.requests → a.puts ≡ b.puts → a.entries ≡ b.entries → a.last ≡ b.last → a ≡ b
@@ -146,6 +157,9 @@ counts_more commands command = by_command command
     by_command (says.List query) =
         counts_are _ _ (clients (says.List query) ∙ plus_none _) (requests (says.List query)) (puts (says.List query) ∙ plus_none _)
         (entries_more 0 commands (says.List query)) (last_more 0 commands (says.List query))
+    by_command (says.ListV1 query) =
+        counts_are _ _ (clients (says.ListV1 query) ∙ plus_none _) (requests (says.ListV1 query)) (puts (says.ListV1 query) ∙ plus_none _)
+        (entries_more 0 commands (says.ListV1 query)) (last_more 0 commands (says.ListV1 query))
     by_command says.Next =
         counts_are _ _ (clients says.Next ∙ plus_none _) (requests says.Next) (puts says.Next ∙ plus_none _)
         (entries_more 0 commands says.Next) (last_more 0 commands says.Next)
@@ -199,6 +213,7 @@ request_same before (Ok (says.Put when name fields)) = refl
 request_same before (Ok (says.Delete name)) = refl
 request_same before (Ok (says.Head name)) = refl
 request_same before (Ok (says.List query)) = refl
+request_same before (Ok (says.ListV1 query)) = refl
 request_same before (Ok says.Next) = refl
 request_same before (Err cause) = refl
 

@@ -1,20 +1,21 @@
 -- What a reader of a query keeps is what its parameters ask.
 use Rattle.std.proofs.Common.{◌≡◌, ℕ, Bool, true, false, List, [], ◌∷◌, ◌++◌, Option, Some, None, Result, Ok, Err, refl, ap, sym, ◌∙◌, arith}
 use Rattle.std.proofs.lemmas.Bool.Decides.{nat_tests}
-use Rattle.std.specs.Prelude.{◌==◌, ◌&&◌, ◌||◌, ◌<◌, ◌≤◌, nat_le, not, if◌then◌else◌}
+use Rattle.std.specs.Prelude.{◌==◌, ◌&&◌, ◌||◌, ◌<◌, ◌≤◌, nat_le, nat_lt, length, not, if◌then◌else◌}
 use Rattle.std.specs.List.{list_any, find}
-use Rattle.std.specs.Option.{is_none, option_or, option_map_or}
-use Rattle.bucket_terms.specs.declared.list_query.ListQuery.{ListQuery}
+use Rattle.std.specs.Option.{option_or, option_map_or}
 use Rattle.request_lines.specs.declared.cause.Cause.{Cause}
 use Rattle.request_lines.specs.declared.cause.Cause.TheVariants.{KeyTooLong, UnknownParameter, RepeatedParameter, BadListType, BadMaxKeys, BadEncoding, BadFetchOwner}
 use Rattle.request_lines.specs.declared.cause.Cause.TheVariants as causes
 use Rattle.request_lines.specs.declared.parameter.Name.{Name}
 use Rattle.request_lines.specs.declared.parameter.Name.TheVariants as names
+use Rattle.request_lines.specs.declared.parameter.Version.{Version}
+use Rattle.request_lines.specs.declared.values.Values.{Values}
 use Rattle.request_lines.specs.Asking.{Asking, asking_with, with_name, with_parameter, name_cause, parameter_cause, stands_in, is_long_for, value_cause}
-use Rattle.request_lines.proofs.AskedAll.{nothing_asked, query_by, given, with_all}
+use Rattle.request_lines.proofs.AskedAll.{nothing_asked, values_by, given, with_all}
 use Rattle.request_lines.specs.Causes.{place_of, earliest}
-use Rattle.request_lines.specs.NamedQueries.{Parameter, place_of_name, is_name, is_same_name, is_too_long, is_list_type, is_encoding, is_fetch_owner, repeats, have, parameters_read, pieces_of, query_or, query_of, query_asked, query_by_names, value_of, as_it_is, is_url}
-use Rattle.request_lines.specs.Queries.{is_max_keys, parameter_causes, plain_query, query_read, most_entries}
+use Rattle.request_lines.specs.NamedQueries.{Parameter, place_of_name, is_name, is_same_name, is_taken, is_compared, is_unknown, is_too_long, is_list_type, is_encoding, is_fetch_owner, repeats, have, parameters_read, pieces_of, values_or, values_of, values_said, query_by_names, value_of, as_it_is, is_url}
+use Rattle.request_lines.specs.Queries.{is_max_keys, parameter_causes, no_values, query_read, most_entries}
 use Rattle.request_lines.proofs.ByNames.{query_same}
 use Rattle.request_lines.specs.Texts.{◌>>=◌}
 
@@ -100,19 +101,19 @@ behind_with seen (Some name) other = by_test (stands_in seen name) refl
 
 -- ---- causes of parameters behind some names
 
-abbrev holds_behind : List Name → List Parameter → Cause → Bool
-holds_behind seen ps RepeatedParameter = list_any (λ (q : Parameter). behind seen q.name) ps || repeats ps
-holds_behind seen ps cause = have ps cause
+abbrev holds_behind : Version → List Name → List Parameter → Cause → Bool
+holds_behind version seen ps RepeatedParameter = list_any (λ (q : Parameter). behind seen q.name) ps || repeats ps
+holds_behind version seen ps cause = have version ps cause
 
-abbrev own : List Name → Parameter → Cause → Bool
-own seen p KeyTooLong = is_too_long p
-own seen p UnknownParameter = is_none p.name
-own seen p RepeatedParameter = behind seen p.name
-own seen p BadListType = is_name names.ListType p.name && not (is_list_type p.value)
-own seen p BadMaxKeys = is_name names.MaxKeys p.name && not (is_max_keys p.value)
-own seen p BadEncoding = is_name names.EncodingType p.name && not (is_encoding p.value)
-own seen p BadFetchOwner = is_name names.FetchOwner p.name && not (is_fetch_owner p.value)
-own seen p cause = false
+abbrev own : Version → List Name → Parameter → Cause → Bool
+own version seen p KeyTooLong = is_too_long version p
+own version seen p UnknownParameter = is_unknown version p.name
+own version seen p RepeatedParameter = behind seen p.name
+own version seen p BadListType = is_name names.ListType p.name && not (is_list_type p.value)
+own version seen p BadMaxKeys = is_name names.MaxKeys p.name && not (is_max_keys p.value)
+own version seen p BadEncoding = is_name names.EncodingType p.name && not (is_encoding p.value)
+own version seen p BadFetchOwner = is_name names.FetchOwner p.name && not (is_fetch_owner p.value)
+own version seen p cause = false
 
 repeats_behind : (o a s r t : Bool) → t ≡ (a || s) → ((o || a) || (s || r)) ≡ (o || (t || r))
 repeats_behind true a s r t is = refl
@@ -120,52 +121,52 @@ repeats_behind false true s r t is = ap (λ b. b || r) (sym is)
 repeats_behind false false s r t is = ap (λ b. b || r) (sym is)
 
 -- a parameter in front of others
-holds_more : (seen : List Name) (p : Parameter) (ps : List Parameter) (c : Cause) → holds_behind seen (p ∷ ps) c ≡ (own seen p c || holds_behind (with_name seen p.name) ps c)
-holds_more seen p ps RepeatedParameter =
+holds_more : (version : Version) (seen : List Name) (p : Parameter) (ps : List Parameter) (c : Cause) → holds_behind version seen (p ∷ ps) c ≡ (own version seen p c || holds_behind version (with_name seen p.name) ps c)
+holds_more version seen p ps RepeatedParameter =
     repeats_behind (behind seen p.name) (list_any (λ (q : Parameter). behind seen q.name) ps) (list_any (λ (q : Parameter). is_same_name p.name q.name) ps) (repeats ps)
     (list_any (λ (q : Parameter). behind (with_name seen p.name) q.name) ps)
     (any_same (λ (q : Parameter). behind (with_name seen p.name) q.name) (λ (q : Parameter). behind seen q.name || is_same_name p.name q.name) ps
     (λ q. behind_with seen p.name q.name)
     ∙ any_or (λ (q : Parameter). behind seen q.name) (λ (q : Parameter). is_same_name p.name q.name) ps)
-holds_more seen p ps causes.NotUtf8 = refl
-holds_more seen p ps causes.UnknownVerb = refl
-holds_more seen p ps causes.WrongFields = refl
-holds_more seen p ps causes.BadEscape = refl
-holds_more seen p ps causes.EmptyKey = refl
-holds_more seen p ps causes.KeyTooLong = refl
-holds_more seen p ps causes.BadNumber = refl
-holds_more seen p ps causes.NumberTooLarge = refl
-holds_more seen p ps causes.BadEtag = refl
-holds_more seen p ps causes.UnknownParameter = refl
-holds_more seen p ps causes.BadListType = refl
-holds_more seen p ps causes.BadMaxKeys = refl
-holds_more seen p ps causes.BadEncoding = refl
-holds_more seen p ps causes.BadFetchOwner = refl
-holds_more seen p ps causes.NoClient = refl
-holds_more seen p ps causes.TooManyClients = refl
-holds_more seen p ps causes.TooManyLines = refl
-holds_more seen p ps causes.TooManyEntries = refl
+holds_more version seen p ps causes.NotUtf8 = refl
+holds_more version seen p ps causes.UnknownVerb = refl
+holds_more version seen p ps causes.WrongFields = refl
+holds_more version seen p ps causes.BadEscape = refl
+holds_more version seen p ps causes.EmptyKey = refl
+holds_more version seen p ps causes.KeyTooLong = refl
+holds_more version seen p ps causes.BadNumber = refl
+holds_more version seen p ps causes.NumberTooLarge = refl
+holds_more version seen p ps causes.BadEtag = refl
+holds_more version seen p ps causes.UnknownParameter = refl
+holds_more version seen p ps causes.BadListType = refl
+holds_more version seen p ps causes.BadMaxKeys = refl
+holds_more version seen p ps causes.BadEncoding = refl
+holds_more version seen p ps causes.BadFetchOwner = refl
+holds_more version seen p ps causes.NoClient = refl
+holds_more version seen p ps causes.TooManyClients = refl
+holds_more version seen p ps causes.TooManyLines = refl
+holds_more version seen p ps causes.TooManyEntries = refl
 
-holds_none : (seen : List Name) (c : Cause) → holds_behind seen [] c ≡ false
-holds_none seen causes.NotUtf8 = refl
-holds_none seen causes.UnknownVerb = refl
-holds_none seen causes.WrongFields = refl
-holds_none seen causes.BadEscape = refl
-holds_none seen causes.EmptyKey = refl
-holds_none seen causes.KeyTooLong = refl
-holds_none seen causes.BadNumber = refl
-holds_none seen causes.NumberTooLarge = refl
-holds_none seen causes.BadEtag = refl
-holds_none seen causes.UnknownParameter = refl
-holds_none seen causes.RepeatedParameter = refl
-holds_none seen causes.BadListType = refl
-holds_none seen causes.BadMaxKeys = refl
-holds_none seen causes.BadEncoding = refl
-holds_none seen causes.BadFetchOwner = refl
-holds_none seen causes.NoClient = refl
-holds_none seen causes.TooManyClients = refl
-holds_none seen causes.TooManyLines = refl
-holds_none seen causes.TooManyEntries = refl
+holds_none : (version : Version) (seen : List Name) (c : Cause) → holds_behind version seen [] c ≡ false
+holds_none version seen causes.NotUtf8 = refl
+holds_none version seen causes.UnknownVerb = refl
+holds_none version seen causes.WrongFields = refl
+holds_none version seen causes.BadEscape = refl
+holds_none version seen causes.EmptyKey = refl
+holds_none version seen causes.KeyTooLong = refl
+holds_none version seen causes.BadNumber = refl
+holds_none version seen causes.NumberTooLarge = refl
+holds_none version seen causes.BadEtag = refl
+holds_none version seen causes.UnknownParameter = refl
+holds_none version seen causes.RepeatedParameter = refl
+holds_none version seen causes.BadListType = refl
+holds_none version seen causes.BadMaxKeys = refl
+holds_none version seen causes.BadEncoding = refl
+holds_none version seen causes.BadFetchOwner = refl
+holds_none version seen causes.NoClient = refl
+holds_none version seen causes.TooManyClients = refl
+holds_none version seen causes.TooManyLines = refl
+holds_none version seen causes.TooManyEntries = refl
 
 turned : (b : Bool) (cause : Cause) → (if b then None else Some cause) ≡ (if not b then Some cause else None)
 turned true cause = refl
@@ -175,34 +176,44 @@ abbrev behind_repeats : Bool → Option Cause → Option Cause
 behind_repeats b other = if b then Some RepeatedParameter else other
 
 -- the causes of one parameter, one after another
-abbrev chained_cause : List Name → Name → List ℕ → Option Cause
-chained_cause seen name value =
-    if is_long_for name value then Some KeyTooLong
+abbrev chained_cause : Version → List Name → Name → List ℕ → Option Cause
+chained_cause version seen name value =
+    if is_compared version name && nat_lt 1024 (length value) then Some KeyTooLong
+    else if not (is_taken version name) then Some UnknownParameter
     else behind_repeats (stands_in seen name) (value_cause (Some name) value)
 
-chained : (seen : List Name) (name : Name) (value : List ℕ) → parameter_cause seen (Some name) value ≡ chained_cause seen name value
-unfolding parameter_cause name_cause
-chained seen name value = by_tests (is_long_for name value) (stands_in seen name) (value_cause (Some name) value)
+chained : (version : Version) (seen : List Name) (name : Name) (value : List ℕ) → parameter_cause version seen (Some name) value ≡ chained_cause version seen name value
+unfolding parameter_cause name_cause is_long_for
+chained version seen name value = by_tests (is_compared version name && nat_lt 1024 (length value)) (not (is_taken version name)) (stands_in seen name) (value_cause (Some name) value)
   where
-    by_tests : (long repeated : Bool) (of_value : Option Cause)
-        → option_or (if long then Some KeyTooLong else if repeated then Some RepeatedParameter else None) of_value ≡ (if long then Some KeyTooLong else behind_repeats repeated of_value)
-    by_tests true repeated of_value = refl
-    by_tests false true of_value = refl
-    by_tests false false of_value = refl
+    by_tests : (long unknown repeated : Bool) (of_value : Option Cause)
+        → option_or (if long then Some KeyTooLong else if unknown then Some UnknownParameter else if repeated then Some RepeatedParameter else None) of_value
+        ≡ (if long then Some KeyTooLong else if unknown then Some UnknownParameter else behind_repeats repeated of_value)
+    by_tests true unknown repeated of_value = refl
+    by_tests false true repeated of_value = refl
+    by_tests false false true of_value = refl
+    by_tests false false false of_value = refl
+
+abbrev behind_name : Version → List Name → Name → List ℕ → Option Cause → Option Cause
+behind_name version seen name value other =
+    if is_compared version name && nat_lt 1024 (length value) then Some KeyTooLong
+    else if not (is_taken version name) then Some UnknownParameter
+    else behind_repeats (stands_in seen name) other
 
 -- the first cause of one parameter
-parameter_cause_is : (seen : List Name) (name : Option Name) (value : List ℕ)
-    → parameter_cause seen name value ≡ find (own seen (record { name = name; value = value })) parameter_causes
+parameter_cause_is : (version : Version) (seen : List Name) (name : Option Name) (value : List ℕ)
+    → parameter_cause version seen name value ≡ find (own version seen (record { name = name; value = value })) parameter_causes
 unfolding parameter_cause name_cause is_long_for value_cause
-parameter_cause_is seen None value = refl
-parameter_cause_is seen (Some names.Prefix) value = chained seen names.Prefix value
-parameter_cause_is seen (Some names.Delimiter) value = chained seen names.Delimiter value
-parameter_cause_is seen (Some names.StartAfter) value = chained seen names.StartAfter value
-parameter_cause_is seen (Some names.ContinuationToken) value = chained seen names.ContinuationToken value
-parameter_cause_is seen (Some names.ListType) value = chained seen names.ListType value ∙ ap (behind_repeats (stands_in seen names.ListType)) (turned (is_list_type value) BadListType)
-parameter_cause_is seen (Some names.MaxKeys) value = chained seen names.MaxKeys value ∙ ap (behind_repeats (stands_in seen names.MaxKeys)) (turned (is_max_keys value) BadMaxKeys)
-parameter_cause_is seen (Some names.EncodingType) value = chained seen names.EncodingType value ∙ ap (behind_repeats (stands_in seen names.EncodingType)) (turned (is_encoding value) BadEncoding)
-parameter_cause_is seen (Some names.FetchOwner) value = chained seen names.FetchOwner value ∙ ap (behind_repeats (stands_in seen names.FetchOwner)) (turned (is_fetch_owner value) BadFetchOwner)
+parameter_cause_is version seen None value = refl
+parameter_cause_is version seen (Some names.Prefix) value = chained version seen names.Prefix value
+parameter_cause_is version seen (Some names.Delimiter) value = chained version seen names.Delimiter value
+parameter_cause_is version seen (Some names.StartAfter) value = chained version seen names.StartAfter value
+parameter_cause_is version seen (Some names.ContinuationToken) value = chained version seen names.ContinuationToken value
+parameter_cause_is version seen (Some names.Marker) value = chained version seen names.Marker value
+parameter_cause_is version seen (Some names.ListType) value = chained version seen names.ListType value ∙ ap (behind_name version seen names.ListType value) (turned (is_list_type value) BadListType)
+parameter_cause_is version seen (Some names.MaxKeys) value = chained version seen names.MaxKeys value ∙ ap (behind_name version seen names.MaxKeys value) (turned (is_max_keys value) BadMaxKeys)
+parameter_cause_is version seen (Some names.EncodingType) value = chained version seen names.EncodingType value ∙ ap (behind_name version seen names.EncodingType value) (turned (is_encoding value) BadEncoding)
+parameter_cause_is version seen (Some names.FetchOwner) value = chained version seen names.FetchOwner value ∙ ap (behind_name version seen names.FetchOwner value) (turned (is_fetch_owner value) BadFetchOwner)
 
 -- ---- the first of some causes
 
@@ -263,69 +274,70 @@ in_order : Above 0 parameter_causes
 unfolding place_of
 in_order = (omega arith, (omega arith, (omega arith, (omega arith, (omega arith, (omega arith, (omega arith, tt)))))))
 
--- ---- the query
+-- ---- the values
 
-asked_step : (query : ListQuery) (name : Option Name) (value : List ℕ) (ps : List Parameter)
-    → with_all (with_parameter query name value) ps ≡ with_all query (record { name = name; value = value } ∷ ps)
+asked_step : (values : Values) (name : Option Name) (value : List ℕ) (ps : List Parameter)
+    → with_all (with_parameter values name value) ps ≡ with_all values (record { name = name; value = value } ∷ ps)
 unfolding with_parameter
-asked_step query None value ps = refl
-asked_step query (Some names.ListType) value ps = refl
-asked_step query (Some names.Prefix) value ps = refl
-asked_step query (Some names.Delimiter) value ps = refl
-asked_step query (Some names.MaxKeys) value ps = refl
-asked_step query (Some names.StartAfter) value ps = refl
-asked_step query (Some names.ContinuationToken) value ps = refl
-asked_step query (Some names.EncodingType) value ps = refl
-asked_step query (Some names.FetchOwner) value ps = refl
+asked_step values None value ps = refl
+asked_step values (Some names.ListType) value ps = refl
+asked_step values (Some names.Prefix) value ps = refl
+asked_step values (Some names.Delimiter) value ps = refl
+asked_step values (Some names.MaxKeys) value ps = refl
+asked_step values (Some names.StartAfter) value ps = refl
+asked_step values (Some names.ContinuationToken) value ps = refl
+asked_step values (Some names.EncodingType) value ps = refl
+asked_step values (Some names.FetchOwner) value ps = refl
+asked_step values (Some names.Marker) value ps = refl
 
 or_thrice : (a b c : Bool) → ((a || b) || c) ≡ (a || (b || c))
 or_thrice true b c = refl
 or_thrice false b c = refl
 
-kept_query : (a : Asking) (held : Cause → Bool) (ps : List Parameter) → a.cause ≡ find held parameter_causes
-    → query_by a ps ≡ query_or (find (λ c. held c || holds_behind a.names ps c) parameter_causes) (with_all a.query ps)
+kept_values : (a : Asking) (held : Cause → Bool) (ps : List Parameter) → a.cause ≡ find held parameter_causes
+    → values_by a ps ≡ values_or (find (λ c. held c || holds_behind a.version a.names ps c) parameter_causes) (with_all a.values ps)
 unfolding asking_with
-kept_query a held [] is =
-    ap (λ o. query_or o a.query)
-    (is ∙ first_same held (λ c. held c || holds_behind a.names [] c) parameter_causes
-    (λ c. sym (ap (λ b. held c || b) (holds_none a.names c) ∙ or_false (held c))))
-kept_query a held (p ∷ ps) is =
-    let more : Cause → Bool = λ c. held c || own a.names p c in
-    let cause : earliest a.cause (parameter_cause a.names p.name p.value) ≡ find more parameter_causes =
-    ap (λ o. earliest o (parameter_cause a.names p.name p.value)) is
-    ∙ ap (earliest (find held parameter_causes)) (parameter_cause_is a.names p.name p.value)
-    ∙ earliest_first 0 held (own a.names p) parameter_causes in_order in
-    kept_query (asking_with a p) more ps cause
-    ∙ ap (λ o. query_or o (with_all (with_parameter a.query p.name p.value) ps))
-    (first_same (λ c. more c || holds_behind (with_name a.names p.name) ps c) (λ c. held c || holds_behind a.names (p ∷ ps) c) parameter_causes
-    (λ c. or_thrice (held c) (own a.names p c) (holds_behind (with_name a.names p.name) ps c) ∙ ap (λ b. held c || b) (sym (holds_more a.names p ps c))))
-    ∙ ap (query_or (find (λ c. held c || holds_behind a.names (p ∷ ps) c) parameter_causes)) (asked_step a.query p.name p.value ps)
+kept_values a held [] is =
+    ap (λ o. values_or o a.values)
+    (is ∙ first_same held (λ c. held c || holds_behind a.version a.names [] c) parameter_causes
+    (λ c. sym (ap (λ b. held c || b) (holds_none a.version a.names c) ∙ or_false (held c))))
+kept_values a held (p ∷ ps) is =
+    let more : Cause → Bool = λ c. held c || own a.version a.names p c in
+    let cause : earliest a.cause (parameter_cause a.version a.names p.name p.value) ≡ find more parameter_causes =
+    ap (λ o. earliest o (parameter_cause a.version a.names p.name p.value)) is
+    ∙ ap (earliest (find held parameter_causes)) (parameter_cause_is a.version a.names p.name p.value)
+    ∙ earliest_first 0 held (own a.version a.names p) parameter_causes in_order in
+    kept_values (asking_with a p) more ps cause
+    ∙ ap (λ o. values_or o (with_all (with_parameter a.values p.name p.value) ps))
+    (first_same (λ c. more c || holds_behind a.version (with_name a.names p.name) ps c) (λ c. held c || holds_behind a.version a.names (p ∷ ps) c) parameter_causes
+    (λ c. or_thrice (held c) (own a.version a.names p c) (holds_behind a.version (with_name a.names p.name) ps c) ∙ ap (λ b. held c || b) (sym (holds_more a.version a.names p ps c))))
+    ∙ ap (values_or (find (λ c. held c || holds_behind a.version a.names (p ∷ ps) c) parameter_causes)) (asked_step a.values p.name p.value ps)
 
 -- behind no name
-have_is : (ps : List Parameter) (c : Cause) → holds_behind [] ps c ≡ have ps c
-have_is ps RepeatedParameter = ap (λ b. b || repeats ps) (any_same (λ (q : Parameter). behind [] q.name) (λ q. false) ps (λ q. no_name q.name) ∙ any_none ps)
+have_is : (version : Version) (ps : List Parameter) (c : Cause) → holds_behind version [] ps c ≡ have version ps c
+have_is version ps RepeatedParameter = ap (λ b. b || repeats ps) (any_same (λ (q : Parameter). behind [] q.name) (λ q. false) ps (λ q. no_name q.name) ∙ any_none ps)
   where
     no_name : (name : Option Name) → behind [] name ≡ false
     no_name None = refl
     no_name (Some name) = refl
-have_is ps causes.NotUtf8 = refl
-have_is ps causes.UnknownVerb = refl
-have_is ps causes.WrongFields = refl
-have_is ps causes.BadEscape = refl
-have_is ps causes.EmptyKey = refl
-have_is ps causes.KeyTooLong = refl
-have_is ps causes.BadNumber = refl
-have_is ps causes.NumberTooLarge = refl
-have_is ps causes.BadEtag = refl
-have_is ps causes.UnknownParameter = refl
-have_is ps causes.BadListType = refl
-have_is ps causes.BadMaxKeys = refl
-have_is ps causes.BadEncoding = refl
-have_is ps causes.BadFetchOwner = refl
-have_is ps causes.NoClient = refl
-have_is ps causes.TooManyClients = refl
-have_is ps causes.TooManyLines = refl
-have_is ps causes.TooManyEntries = refl
+have_is version ps causes.NotUtf8 = refl
+have_is version ps causes.UnknownVerb = refl
+have_is version ps causes.WrongFields = refl
+have_is version ps causes.BadEscape = refl
+have_is version ps causes.EmptyKey = refl
+have_is version ps causes.KeyTooLong = refl
+have_is version ps causes.BadNumber = refl
+have_is version ps causes.NumberTooLarge = refl
+have_is version ps causes.BadEtag = refl
+have_is version ps causes.UnknownParameter = refl
+have_is version ps causes.BadListType = refl
+have_is version ps causes.BadMaxKeys = refl
+have_is version ps causes.BadEncoding = refl
+have_is version ps causes.BadFetchOwner = refl
+have_is version ps causes.NoClient = refl
+have_is version ps causes.TooManyClients = refl
+have_is version ps causes.TooManyLines = refl
+have_is version ps causes.TooManyEntries = refl
 
 -- ---- where no name stands twice
 
@@ -360,22 +372,23 @@ first_given name says other (p ∷ ps) none =
     by_test here behind true is = here is
     by_test here behind false is = behind
 
-query_are : (a b : ListQuery) → a.prefix ≡ b.prefix → a.delimiter ≡ b.delimiter → a.start_after ≡ b.start_after → a.token ≡ b.token → a.max_keys ≡ b.max_keys → a.url ≡ b.url → a ≡ b
-query_are a b prefix delimiter start_after token max_keys url =
-    ap (λ x. record { prefix = x; delimiter = a.delimiter; start_after = a.start_after; token = a.token; max_keys = a.max_keys; url = a.url }) prefix
-    ∙ ap (λ x. record { prefix = b.prefix; delimiter = x; start_after = a.start_after; token = a.token; max_keys = a.max_keys; url = a.url }) delimiter
-    ∙ ap (λ x. record { prefix = b.prefix; delimiter = b.delimiter; start_after = x; token = a.token; max_keys = a.max_keys; url = a.url }) start_after
-    ∙ ap (λ x. record { prefix = b.prefix; delimiter = b.delimiter; start_after = b.start_after; token = x; max_keys = a.max_keys; url = a.url }) token
-    ∙ ap (λ x. record { prefix = b.prefix; delimiter = b.delimiter; start_after = b.start_after; token = b.token; max_keys = x; url = a.url }) max_keys
-    ∙ ap (λ x. record { prefix = b.prefix; delimiter = b.delimiter; start_after = b.start_after; token = b.token; max_keys = b.max_keys; url = x }) url
+values_are : (a b : Values) → a.prefix ≡ b.prefix → a.delimiter ≡ b.delimiter → a.start_after ≡ b.start_after → a.token ≡ b.token → a.marker ≡ b.marker → a.max_keys ≡ b.max_keys → a.url ≡ b.url → a ≡ b
+values_are a b prefix delimiter start_after token marker max_keys url =
+    ap (λ x. record { prefix = x; delimiter = a.delimiter; start_after = a.start_after; token = a.token; marker = a.marker; max_keys = a.max_keys; url = a.url }) prefix
+    ∙ ap (λ x. record { prefix = b.prefix; delimiter = x; start_after = a.start_after; token = a.token; marker = a.marker; max_keys = a.max_keys; url = a.url }) delimiter
+    ∙ ap (λ x. record { prefix = b.prefix; delimiter = b.delimiter; start_after = x; token = a.token; marker = a.marker; max_keys = a.max_keys; url = a.url }) start_after
+    ∙ ap (λ x. record { prefix = b.prefix; delimiter = b.delimiter; start_after = b.start_after; token = x; marker = a.marker; max_keys = a.max_keys; url = a.url }) token
+    ∙ ap (λ x. record { prefix = b.prefix; delimiter = b.delimiter; start_after = b.start_after; token = b.token; marker = x; max_keys = a.max_keys; url = a.url }) marker
+    ∙ ap (λ x. record { prefix = b.prefix; delimiter = b.delimiter; start_after = b.start_after; token = b.token; marker = b.marker; max_keys = x; url = a.url }) max_keys
+    ∙ ap (λ x. record { prefix = b.prefix; delimiter = b.delimiter; start_after = b.start_after; token = b.token; marker = b.marker; max_keys = b.max_keys; url = x }) url
 
-asked_is : (ps : List Parameter) → repeats ps ≡ false → with_all plain_query ps ≡ query_asked ps
+asked_is : (ps : List Parameter) → repeats ps ≡ false → with_all no_values ps ≡ values_said ps
 asked_is ps none =
-    query_are (with_all plain_query ps) (query_asked ps) (first_given names.Prefix as_it_is [] ps none) (first_given names.Delimiter as_it_is [] ps none) (first_given names.StartAfter as_it_is [] ps none)
-    (first_given names.ContinuationToken as_it_is [] ps none) (first_given names.MaxKeys most_entries 1000 ps none) (first_given names.EncodingType is_url false ps none)
+    values_are (with_all no_values ps) (values_said ps) (first_given names.Prefix as_it_is [] ps none) (first_given names.Delimiter as_it_is [] ps none) (first_given names.StartAfter as_it_is [] ps none)
+    (first_given names.ContinuationToken as_it_is [] ps none) (first_given names.Marker as_it_is [] ps none) (first_given names.MaxKeys most_entries 1000 ps none) (first_given names.EncodingType is_url false ps none)
 
-none_repeats : (ps : List Parameter) → find (have ps) parameter_causes ≡ None → repeats ps ≡ false
-none_repeats ps none = third (list_any is_too_long ps) (list_any (λ p. is_none p.name) ps) (repeats ps) _ none
+none_repeats : (version : Version) (ps : List Parameter) → find (have version ps) parameter_causes ≡ None → repeats ps ≡ false
+none_repeats version ps none = third (list_any (is_too_long version) ps) (list_any (λ p. is_unknown version p.name) ps) (repeats ps) _ none
   where
     third : (a b c : Bool) (rest : Option Cause) → (if a then Some KeyTooLong else if b then Some UnknownParameter else if c then Some RepeatedParameter else rest) ≡ None → c ≡ false
     third true b c rest none = cc
@@ -383,21 +396,21 @@ none_repeats ps none = third (list_any is_too_long ps) (list_any (λ p. is_none 
     third false false true rest none = cc
     third false false false rest none = refl
 
-or_same : (o : Option Cause) (a b : ListQuery) → (o ≡ None → a ≡ b) → query_or o a ≡ query_or o b
+or_same : (o : Option Cause) (a b : Values) → (o ≡ None → a ≡ b) → values_or o a ≡ values_or o b
 or_same None a b same = ap Ok (same refl)
 or_same (Some cause) a b same = refl
 
-query_by_is : (ps : List Parameter) → query_by nothing_asked ps ≡ query_of ps
-query_by_is ps =
-    kept_query nothing_asked (λ c. false) ps refl
-    ∙ ap (λ o. query_or o (with_all plain_query ps)) (first_same (holds_behind [] ps) (have ps) parameter_causes (have_is ps))
-    ∙ or_same (find (have ps) parameter_causes) (with_all plain_query ps) (query_asked ps) (λ none. asked_is ps (none_repeats ps none))
+values_by_is : (version : Version) (ps : List Parameter) → values_by (nothing_asked version) ps ≡ values_of version ps
+values_by_is version ps =
+    kept_values (nothing_asked version) (λ c. false) ps refl
+    ∙ ap (λ o. values_or o (with_all no_values ps)) (first_same (holds_behind version [] ps) (have version ps) parameter_causes (have_is version ps))
+    ∙ or_same (find (have version ps) parameter_causes) (with_all no_values ps) (values_said ps) (λ none. asked_is ps (none_repeats version ps none))
 
 -- reading a query gives what a reader keeps of its parameters
-pub query_read_by : (text : List ℕ) → query_read text ≡ (parameters_read (pieces_of text) >>= query_by nothing_asked)
+pub query_read_by : (version : Version) (text : List ℕ) → query_read version text ≡ (parameters_read (pieces_of text) >>= values_by (nothing_asked version))
 unfolding query_by_names
-query_read_by text = query_same text ∙ by_parameters (parameters_read (pieces_of text))
+query_read_by version text = query_same version text ∙ by_parameters (parameters_read (pieces_of text))
   where
-    by_parameters : (read : Result (List Parameter) Cause) → (read >>= query_of) ≡ (read >>= query_by nothing_asked)
-    by_parameters (Ok ps) = sym (query_by_is ps)
+    by_parameters : (read : Result (List Parameter) Cause) → (read >>= values_of version) ≡ (read >>= values_by (nothing_asked version))
+    by_parameters (Ok ps) = sym (values_by_is version ps)
     by_parameters (Err cause) = refl

@@ -300,6 +300,18 @@ sound_kept p number (says.List query) fine right positive small sound =
       placed = refl;
       query = fine;
     }) positive sound
+sound_kept p number (says.ListV1 query) fine right positive small sound =
+    sound_asked p number (counted p.counts (says.ListV1 query)) None None (asks.ListV1 query)
+    (record {
+      begun = begun_before (counted p.counts (says.ListV1 query)) (says.ListV1 query) refl right;
+      clients = refl;
+      requests = refl;
+      puts = omega arith;
+      named = refl;
+      fine = All-nil IsFine;
+      placed = refl;
+      query = fine;
+    }) positive sound
 sound_kept p number says.Next fine right positive small sound =
     sound_asked p number (counted p.counts says.Next) None None asks.Next
     (record {

@@ -1,27 +1,25 @@
 -- Helper: the headline does not rest on this file.
 -- How a reader of a query keeps the parameters so far.
-use Rattle.std.specs.Prelude.{ℕ, ◌==◌, nat_lt, Bool, false, List, [], ◌∷◌, ◌++◌, length, Option, Some, None, if◌then◌else◌}
+use Rattle.std.specs.Prelude.{ℕ, ◌==◌, ◌&&◌, not, nat_lt, Bool, false, List, [], ◌∷◌, ◌++◌, length, Option, Some, None, if◌then◌else◌}
 use Rattle.std.specs.List.{list_any}
 use Rattle.std.specs.Option.{option_or}
 use Rattle.key_names.specs.Names.{most_name_bytes}
-use Rattle.bucket_terms.specs.declared.list_query.ListQuery.{ListQuery}
 use Rattle.request_lines.specs.declared.cause.Cause.{Cause}
 use Rattle.request_lines.specs.declared.cause.Cause.TheVariants.{KeyTooLong, UnknownParameter, RepeatedParameter, BadListType, BadMaxKeys, BadEncoding, BadFetchOwner}
 use Rattle.request_lines.specs.declared.parameter.Name.{Name}
-use Rattle.request_lines.specs.declared.parameter.Name.TheVariants.{ListType, Prefix, Delimiter, MaxKeys, StartAfter, ContinuationToken, EncodingType, FetchOwner}
+use Rattle.request_lines.specs.declared.parameter.Name.TheVariants.{ListType, Prefix, Delimiter, MaxKeys, StartAfter, ContinuationToken, EncodingType, FetchOwner, Marker}
+use Rattle.request_lines.specs.declared.parameter.Version.{Version}
+use Rattle.request_lines.specs.declared.values.Values.{Values}
 use Rattle.request_lines.specs.Causes.{earliest}
-use Rattle.request_lines.specs.NamedQueries.{Parameter, place_of_name, is_list_type, is_encoding, is_fetch_owner, is_url}
+use Rattle.request_lines.specs.NamedQueries.{Parameter, place_of_name, is_taken, is_compared, is_list_type, is_encoding, is_fetch_owner, is_url}
 use Rattle.request_lines.specs.Queries.{is_max_keys, most_entries}
 
 -- whether the name is among these
 abbrev pub stands_in : List Name → Name → Bool
 stands_in names name = list_any (λ other. place_of_name other == place_of_name name) names
 
-unfoldable pub is_long_for : Name → List ℕ → Bool
-is_long_for Prefix value = nat_lt most_name_bytes (length value)
-is_long_for Delimiter value = nat_lt most_name_bytes (length value)
-is_long_for StartAfter value = nat_lt most_name_bytes (length value)
-is_long_for name value = false
+unfoldable pub is_long_for : Version → Name → List ℕ → Bool
+is_long_for version name value = is_compared version name && nat_lt most_name_bytes (length value)
 
 -- the cause of a value that its parameter does not take
 unfoldable pub value_cause : Option Name → List ℕ → Option Cause
@@ -32,42 +30,46 @@ value_cause (Some FetchOwner) value = if is_fetch_owner value then None else Som
 value_cause name value = None
 
 -- the first cause of a parameter behind these names that is none of its value alone
-unfoldable pub name_cause : List Name → Option Name → List ℕ → Option Cause
-name_cause names None value = Some UnknownParameter
-name_cause names (Some name) value =
-    if is_long_for name value then Some KeyTooLong
+unfoldable pub name_cause : Version → List Name → Option Name → List ℕ → Option Cause
+name_cause version names None value = Some UnknownParameter
+name_cause version names (Some name) value =
+    if is_long_for version name value then Some KeyTooLong
+    else if not (is_taken version name) then Some UnknownParameter
     else if stands_in names name then Some RepeatedParameter
     else None
 
 -- the first cause of a parameter behind these names: causes of values come last
-unfoldable pub parameter_cause : List Name → Option Name → List ℕ → Option Cause
-parameter_cause names name value = option_or (name_cause names name value) (value_cause name value)
+unfoldable pub parameter_cause : Version → List Name → Option Name → List ℕ → Option Cause
+parameter_cause version names name value = option_or (name_cause version names name value) (value_cause name value)
 
 -- the names, each once, with this one
 unfoldable pub with_name : List Name → Option Name → List Name
 with_name names None = names
 with_name names (Some name) = if stands_in names name then names else names ++ name ∷ []
 
--- a query with this parameter
-unfoldable pub with_parameter : ListQuery → Option Name → List ℕ → ListQuery
-with_parameter query (Some Prefix) value = record query { prefix = value }
-with_parameter query (Some Delimiter) value = record query { delimiter = value }
-with_parameter query (Some StartAfter) value = record query { start_after = value }
-with_parameter query (Some ContinuationToken) value = record query { token = value }
-with_parameter query (Some MaxKeys) value = record query { max_keys = most_entries value }
-with_parameter query (Some EncodingType) value = record query { url = is_url value }
-with_parameter query name value = query
+-- the values with this parameter
+unfoldable pub with_parameter : Values → Option Name → List ℕ → Values
+with_parameter values (Some Prefix) value = record values { prefix = value }
+with_parameter values (Some Delimiter) value = record values { delimiter = value }
+with_parameter values (Some StartAfter) value = record values { start_after = value }
+with_parameter values (Some ContinuationToken) value = record values { token = value }
+with_parameter values (Some Marker) value = record values { marker = value }
+with_parameter values (Some MaxKeys) value = record values { max_keys = most_entries value }
+with_parameter values (Some EncodingType) value = record values { url = is_url value }
+with_parameter values name value = values
 
--- what the parameters so far ask: the query, their names, and the earliest of their causes
+-- what the parameters so far ask of a listing of this version: their values, their names, and the earliest of their causes
 pub record Asking : Type 0 where
-  pub query : ListQuery
+  pub version : Version
+  pub values : Values
   pub names : List Name
   pub cause : Option Cause
 
 -- with one parameter more
 unfoldable pub asking_with : Asking → Parameter → Asking
 asking_with so_far p = record {
-  query = with_parameter so_far.query p.name p.value;
+  version = so_far.version;
+  values = with_parameter so_far.values p.name p.value;
   names = with_name so_far.names p.name;
-  cause = earliest so_far.cause (parameter_cause so_far.names p.name p.value);
+  cause = earliest so_far.cause (parameter_cause so_far.version so_far.names p.name p.value);
 }

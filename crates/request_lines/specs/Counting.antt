@@ -16,7 +16,7 @@ use Rattle.request_lines.specs.Queries.{most_keys}
 abbrev pub none_counted : Counts
 none_counted = record { clients = 0; requests = 0; puts = 0; entries = 0; last = 0 }
 
--- with one line more. A LIST line counts with its `max_keys`, the most entries that its page can have, and a
+-- with one line more. A LIST or LISTV1 line counts with its `max_keys`, the most entries that its page can have, and a
 -- NEXT line with that of its client's last LIST line, or 0 where there is none.
 abbrev pub counted : Counts → Command → Counts
 counted so_far says.Client = record so_far { clients = so_far.clients + 1; last = 0 }
@@ -24,6 +24,7 @@ counted so_far (says.Put when name fields) = record so_far { requests = so_far.r
 counted so_far (says.Delete name) = record so_far { requests = so_far.requests + 1 }
 counted so_far (says.Head name) = record so_far { requests = so_far.requests + 1 }
 counted so_far (says.List query) = record so_far { requests = so_far.requests + 1; entries = so_far.entries + query.max_keys; last = query.max_keys }
+counted so_far (says.ListV1 query) = record so_far { requests = so_far.requests + 1; entries = so_far.entries + query.max_keys }
 counted so_far says.Next = record so_far { requests = so_far.requests + 1; entries = so_far.entries + so_far.last }
 
 -- the counts of lines that keep the limits
@@ -58,5 +59,6 @@ request_by_counts before (Ok (says.Put when name fields)) = Some (put_request wh
 request_by_counts before (Ok (says.Delete name)) = Some (asks.Delete name)
 request_by_counts before (Ok (says.Head name)) = Some (asks.Head name)
 request_by_counts before (Ok (says.List query)) = Some (asks.List query)
+request_by_counts before (Ok (says.ListV1 query)) = Some (asks.ListV1 query)
 request_by_counts before (Ok says.Next) = Some asks.Next
 request_by_counts before reading = None

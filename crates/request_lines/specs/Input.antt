@@ -19,7 +19,10 @@ use Rattle.request_lines.specs.declared.verb.PutWhen.{PutWhen}
 use Rattle.request_lines.specs.declared.verb.PutWhen.TheVariants.{Always, IfAbsent}
 use Rattle.request_lines.specs.declared.verb.Verb.{Verb}
 use Rattle.request_lines.specs.declared.verb.Verb.TheVariants as verbs
-use Rattle.request_lines.specs.Queries.{plain_query, query_read}
+use Rattle.request_lines.specs.declared.parameter.Version.{Version}
+use Rattle.request_lines.specs.declared.parameter.Version.TheVariants.{V1, V2}
+use Rattle.request_lines.specs.declared.values.Values.{Values}
+use Rattle.request_lines.specs.Queries.{no_values, list_query, v1_query, query_read}
 use Rattle.request_lines.specs.Texts.{◌>>=◌, key_read, numbers_read, etag_read}
 
 -- the most bytes of an input: 64 MiB
@@ -36,7 +39,8 @@ verb_of text =
     else if bytes_eq text (codes "PUTNEW") then Some (verbs.Put IfAbsent)
     else if bytes_eq text (codes "DELETE") then Some verbs.Delete
     else if bytes_eq text (codes "HEAD") then Some verbs.Head
-    else if bytes_eq text (codes "LIST") then Some verbs.List
+    else if bytes_eq text (codes "LIST") then Some (verbs.List V2)
+    else if bytes_eq text (codes "LISTV1") then Some (verbs.List V1)
     else if bytes_eq text (codes "NEXT") then Some verbs.Next
     else None
 
@@ -48,14 +52,19 @@ put_read when key size etag modified = do
   tag ← etag_read etag
   Ok (says.Put when name (record { size = numbers.0; etag = tag; modified = numbers.1 }))
 
+-- the listing of a version that the values of its query ask
+abbrev pub listing_of : Version → Values → Command
+listing_of V1 values = says.ListV1 (v1_query values)
+listing_of V2 values = says.List (list_query values)
+
 -- a line of this verb, with these fields behind it
 unfoldable pub read_fields : Verb → List (List ℕ) → Result Command Cause
 read_fields verbs.Client [] = Ok says.Client
 read_fields (verbs.Put when) (key ∷ size ∷ etag ∷ modified ∷ []) = put_read when key size etag modified
 read_fields verbs.Delete (key ∷ []) = key_read key >>= (λ name. Ok (says.Delete name))
 read_fields verbs.Head (key ∷ []) = key_read key >>= (λ name. Ok (says.Head name))
-read_fields verbs.List [] = Ok (says.List plain_query)
-read_fields verbs.List (text ∷ []) = query_read text >>= (λ query. Ok (says.List query))
+read_fields (verbs.List version) [] = Ok (listing_of version no_values)
+read_fields (verbs.List version) (text ∷ []) = query_read version text >>= (λ values. Ok (listing_of version values))
 read_fields verbs.Next [] = Ok says.Next
 read_fields verb fields = Err WrongFields
 
@@ -79,11 +88,12 @@ abbrev pub is_put : Command → Bool
 is_put (says.Put when name fields) = true
 is_put command = false
 
--- the entries that the pages of these lines can have, together. A LIST line can have as many as its page, a
+-- the entries that the pages of these lines can have, together. A LIST or LISTV1 line can have as many as its page, a
 -- NEXT line as many as its client's last LIST line; `last` is that of the lines before these, or 0.
 abbrev pub entries_behind : (last : ℕ) → List Command → ℕ
 entries_behind last [] = 0
 entries_behind last (says.List query ∷ commands) = query.max_keys + entries_behind query.max_keys commands
+entries_behind last (says.ListV1 query ∷ commands) = query.max_keys + entries_behind last commands
 entries_behind last (says.Next ∷ commands) = last + entries_behind last commands
 entries_behind last (says.Client ∷ commands) = entries_behind 0 commands
 entries_behind last (command ∷ commands) = entries_behind last commands
@@ -155,6 +165,7 @@ request_by before (Ok (says.Put when name fields)) = Some (put_request when name
 request_by before (Ok (says.Delete name)) = Some (asks.Delete name)
 request_by before (Ok (says.Head name)) = Some (asks.Head name)
 request_by before (Ok (says.List query)) = Some (asks.List query)
+request_by before (Ok (says.ListV1 query)) = Some (asks.ListV1 query)
 request_by before (Ok says.Next) = Some asks.Next
 request_by before reading = None
 

@@ -13,8 +13,9 @@ use Rattle.request_lines.specs.declared.session.Asked.{Asked}
 use Rattle.request_lines.specs.declared.session.ClientPart.{ClientPart}
 use Rattle.request_lines.specs.declared.session_error.InputError.{InputError}
 use Rattle.request_lines.specs.Texts.{◌>>=◌}
+use Rattle.request_lines.specs.declared.parameter.Version.{Version}
 use Rattle.request_lines.specs.Queries.{query_read}
-use Rattle.request_lines.specs.Input.{Line, is_client, is_put, begins_client, name_by, record_by, part_of}
+use Rattle.request_lines.specs.Input.{Line, listing_of, is_client, is_put, begins_client, name_by, record_by, part_of}
 
 -- the texts of the lines: the input is cut at each line feed, and one carriage return at the end of a line is dropped
 abbrev pub texts_of : List ℕ → List (List ℕ)
@@ -24,9 +25,9 @@ texts_of bytes = map strip_carriage_return (slice_split (λ b. b == 10) bytes)
 abbrev pub fields_of : List ℕ → List (List ℕ)
 fields_of text = slice_split (λ b. b == 32) text
 
--- the LIST line with this query
-abbrev pub list_read : List ℕ → Result Command Cause
-list_read text = query_read text >>= (λ query. Ok (says.List query))
+-- the LIST or LISTV1 line with this query
+abbrev pub list_read : Version → List ℕ → Result Command Cause
+list_read version text = query_read version text >>= (λ values. Ok (listing_of version values))
 
 -- ---- limits
 
@@ -38,7 +39,7 @@ most_clients = 32
 abbrev pub most_requests : ℕ
 most_requests = 200000
 
--- the most entries that the LIST and NEXT lines of a session can be answered, together
+-- the most entries that the LIST, LISTV1 and NEXT lines of a session can be answered, together
 abbrev pub most_listed : ℕ
 most_listed = 4000000
 

@@ -1,16 +1,18 @@
 -- Helper: the headline does not rest on this file.
--- The query of a LIST line as the code reads it: each name of a parameter is one that there is.
-use Rattle.std.specs.Prelude.{ℕ, ◌==◌, ◌&&◌, ◌||◌, not, nat_lt, nat_le, min, Bool, false, List, [], ◌∷◌, length, Option, Some, None, Result, Ok, Err, codes, if◌then◌else◌}
+-- The query of a LIST or LISTV1 line as the code reads it: each name of a parameter is one that there is.
+use Rattle.std.specs.Prelude.{ℕ, ◌==◌, ◌&&◌, ◌||◌, not, nat_lt, nat_le, min, Bool, true, false, List, [], ◌∷◌, length, Option, Some, None, Result, Ok, Err, codes, if◌then◌else◌}
 use Rattle.std.specs.List.{slice_split, before_first, after_first, list_any, find}
 use Rattle.std.specs.Option.{is_none, option_map_or}
 use Rattle.std.specs.Str.{bytes_eq}
 use Rattle.std.specs.Str.Parse.{digits_value}
 use Rattle.key_names.specs.Names.{most_name_bytes}
-use Rattle.bucket_terms.specs.declared.list_query.ListQuery.{ListQuery}
 use Rattle.request_lines.specs.declared.cause.Cause.{Cause}
 use Rattle.request_lines.specs.declared.cause.Cause.TheVariants.{KeyTooLong, UnknownParameter, RepeatedParameter, BadListType, BadMaxKeys, BadEncoding, BadFetchOwner}
 use Rattle.request_lines.specs.declared.parameter.Name.{Name}
-use Rattle.request_lines.specs.declared.parameter.Name.TheVariants.{ListType, Prefix, Delimiter, MaxKeys, StartAfter, ContinuationToken, EncodingType, FetchOwner}
+use Rattle.request_lines.specs.declared.parameter.Name.TheVariants.{ListType, Prefix, Delimiter, MaxKeys, StartAfter, ContinuationToken, EncodingType, FetchOwner, Marker}
+use Rattle.request_lines.specs.declared.parameter.Version.{Version}
+use Rattle.request_lines.specs.declared.parameter.Version.TheVariants.{V1, V2}
+use Rattle.request_lines.specs.declared.values.Values.{Values}
 use Rattle.request_lines.specs.Texts.{◌>>=◌, unescaped}
 use Rattle.request_lines.specs.Queries.{most_keys, without_mark, is_max_keys, most_entries, parameter_causes}
 
@@ -25,6 +27,7 @@ name_written text =
     else if bytes_eq text (codes "continuation-token") then Some ContinuationToken
     else if bytes_eq text (codes "encoding-type") then Some EncodingType
     else if bytes_eq text (codes "fetch-owner") then Some FetchOwner
+    else if bytes_eq text (codes "marker") then Some Marker
     else None
 
 -- the pieces of a query: it is cut at each `&`
@@ -69,6 +72,7 @@ place_of_name StartAfter = 4
 place_of_name ContinuationToken = 5
 place_of_name EncodingType = 6
 place_of_name FetchOwner = 7
+place_of_name Marker = 8
 
 abbrev pub is_name : Name → Option Name → Bool
 is_name name None = false
@@ -78,9 +82,32 @@ abbrev pub is_same_name : Option Name → Option Name → Bool
 is_same_name None other = false
 is_same_name (Some name) other = is_name name other
 
--- a text of more than 1,024 bytes, where it is one of the three that are compared with names
-abbrev pub is_too_long : Parameter → Bool
-is_too_long p = (is_name Prefix p.name || is_name Delimiter p.name || is_name StartAfter p.name) && nat_lt most_name_bytes (length p.value)
+-- whether a query of this version takes the parameter, and whether its value is compared with names
+abbrev pub is_taken : Version → Name → Bool
+is_taken version Prefix = true
+is_taken version Delimiter = true
+is_taken version MaxKeys = true
+is_taken version EncodingType = true
+is_taken V1 Marker = true
+is_taken V2 Marker = false
+is_taken V1 name = false
+is_taken V2 name = true
+
+abbrev pub is_compared : Version → Name → Bool
+is_compared version Prefix = true
+is_compared version Delimiter = true
+is_compared version StartAfter = true
+is_compared V1 Marker = true
+is_compared version name = false
+
+-- there is no parameter of this name, or the query takes none
+abbrev pub is_unknown : Version → Option Name → Bool
+is_unknown version None = true
+is_unknown version (Some name) = not (is_taken version name)
+
+-- a text of more than 1,024 bytes, where it is one that is compared with names
+abbrev pub is_too_long : Version → Parameter → Bool
+is_too_long version p = option_map_or (is_compared version) p.name false && nat_lt most_name_bytes (length p.value)
 
 abbrev pub is_list_type : List ℕ → Bool
 is_list_type value = bytes_eq value (codes "2")
@@ -100,16 +127,16 @@ abbrev pub repeats : List Parameter → Bool
 repeats [] = false
 repeats (p ∷ ps) = list_any (λ q. is_same_name p.name q.name) ps || repeats ps
 
--- where parameters have a cause
-abbrev pub have : List Parameter → Cause → Bool
-have ps KeyTooLong = list_any is_too_long ps
-have ps UnknownParameter = list_any (λ p. is_none p.name) ps
-have ps RepeatedParameter = repeats ps
-have ps BadListType = has_other ListType is_list_type ps
-have ps BadMaxKeys = has_other MaxKeys is_max_keys ps
-have ps BadEncoding = has_other EncodingType is_encoding ps
-have ps BadFetchOwner = has_other FetchOwner is_fetch_owner ps
-have ps cause = false
+-- where the parameters of a query of this version have a cause
+abbrev pub have : Version → List Parameter → Cause → Bool
+have version ps KeyTooLong = list_any (is_too_long version) ps
+have version ps UnknownParameter = list_any (λ p. is_unknown version p.name) ps
+have version ps RepeatedParameter = repeats ps
+have version ps BadListType = has_other ListType is_list_type ps
+have version ps BadMaxKeys = has_other MaxKeys is_max_keys ps
+have version ps BadEncoding = has_other EncodingType is_encoding ps
+have version ps BadFetchOwner = has_other FetchOwner is_fetch_owner ps
+have version ps cause = false
 
 -- ---- meaning
 
@@ -124,26 +151,27 @@ is_url value = bytes_eq value (codes "url")
 abbrev pub as_it_is : List ℕ → List ℕ
 as_it_is value = value
 
--- what these parameters ask, of which no two have one name
-abbrev pub query_asked : List Parameter → ListQuery
-query_asked ps = record {
+-- what these parameters say, of which no two have one name
+abbrev pub values_said : List Parameter → Values
+values_said ps = record {
   prefix = option_map_or as_it_is (value_of Prefix ps) [];
   delimiter = option_map_or as_it_is (value_of Delimiter ps) [];
   start_after = option_map_or as_it_is (value_of StartAfter ps) [];
   token = option_map_or as_it_is (value_of ContinuationToken ps) [];
+  marker = option_map_or as_it_is (value_of Marker ps) [];
   max_keys = option_map_or most_entries (value_of MaxKeys ps) most_keys;
   url = option_map_or is_url (value_of EncodingType ps) false;
 }
 
-abbrev pub query_or : Option Cause → ListQuery → Result ListQuery Cause
-query_or None query = Ok query
-query_or (Some cause) query = Err cause
+abbrev pub values_or : Option Cause → Values → Result Values Cause
+values_or None values = Ok values
+values_or (Some cause) values = Err cause
 
--- the query of these parameters, or the first cause that they have
-abbrev pub query_of : List Parameter → Result ListQuery Cause
-query_of ps = query_or (find (have ps) parameter_causes) (query_asked ps)
+-- what these parameters say, or the first cause that they have
+abbrev pub values_of : Version → List Parameter → Result Values Cause
+values_of version ps = values_or (find (have version ps) parameter_causes) (values_said ps)
 
-unfoldable pub query_by_names : List ℕ → Result ListQuery Cause
-query_by_names query = do
+unfoldable pub query_by_names : Version → List ℕ → Result Values Cause
+query_by_names version query = do
   parameters ← parameters_read (pieces_of query)
-  query_of parameters
+  values_of version parameters

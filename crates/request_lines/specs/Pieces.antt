@@ -11,7 +11,7 @@ use Rattle.request_lines.specs.NamedQueries.{Parameter, parameter_read}
 
 -- what is kept of the parameters so far
 abbrev pub asking : code.Asking.Asking → Asking
-asking so_far = record { query = so_far.query; names = so_far.names.items; cause = so_far.cause }
+asking so_far = record { version = so_far.version; values = so_far.values; names = so_far.names.items; cause = so_far.cause }
 
 abbrev pub parameter : code.Parameter.Parameter → Parameter
 parameter p = record { name = p.name; value = p.value }

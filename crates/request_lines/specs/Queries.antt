@@ -1,4 +1,4 @@
--- The query of a LIST line (Amazon S3 API reference, ListObjectsV2: URI request parameters).
+-- The query of a LIST or LISTV1 line (Amazon S3 API reference, ListObjectsV2 and ListObjects: URI request parameters).
 use Rattle.std.specs.Prelude.{ℕ, ◌==◌, ◌&&◌, ◌||◌, not, nat_lt, nat_le, min, Bool, false, List, [], ◌∷◌, length, Result, Ok, Err, codes, if◌then◌else◌}
 use Rattle.std.specs.List.{slice_split, before_first, after_first, list_any, find}
 use Rattle.std.specs.Option.{option_map_or}
@@ -6,16 +6,17 @@ use Rattle.std.specs.Str.{bytes_eq}
 use Rattle.std.specs.Str.Parse.{digits_value}
 use Rattle.key_names.specs.Names.{most_name_bytes}
 use Rattle.bucket_terms.specs.declared.list_query.ListQuery.{ListQuery}
+use Rattle.bucket_terms.specs.declared.v1_query.V1Query.{V1Query}
 use Rattle.request_lines.specs.declared.cause.Cause.{Cause}
 use Rattle.request_lines.specs.declared.cause.Cause.TheVariants.{KeyTooLong, UnknownParameter, RepeatedParameter, BadListType, BadMaxKeys, BadEncoding, BadFetchOwner}
+use Rattle.request_lines.specs.declared.parameter.Version.{Version}
+use Rattle.request_lines.specs.declared.parameter.Version.TheVariants.{V1, V2}
+use Rattle.request_lines.specs.declared.values.Values.{Values}
 use Rattle.request_lines.specs.Texts.{◌>>=◌, unescaped, is_number}
 
--- the most entries of a page, and a listing of everything
+-- the most entries of a page
 abbrev pub most_keys : ℕ
 most_keys = 1000
-
-abbrev pub plain_query : ListQuery
-plain_query = record { prefix = []; delimiter = []; start_after = []; token = []; max_keys = most_keys; url = false }
 
 -- a parameter: its name as it stands, and its value, unescaped
 pub record Parameter : Type 0 where
@@ -38,12 +39,16 @@ parameters_read (piece ∷ pieces) =
 abbrev pub is_one_of : List ℕ → List (List ℕ) → Bool
 is_one_of text texts = list_any (bytes_eq text) texts
 
--- the names of the texts that are compared with names, and all names that there are
-abbrev pub compared : List (List ℕ)
-compared = codes "prefix" ∷ codes "delimiter" ∷ codes "start-after" ∷ []
+-- the names of the parameters that a query of a version takes: one of version 2 on a LIST line, one of version 1 on a
+-- LISTV1 line
+abbrev pub known : Version → List (List ℕ)
+known V1 = codes "prefix" ∷ codes "delimiter" ∷ codes "max-keys" ∷ codes "encoding-type" ∷ codes "marker" ∷ []
+known V2 = codes "prefix" ∷ codes "delimiter" ∷ codes "max-keys" ∷ codes "encoding-type" ∷ codes "start-after" ∷ codes "continuation-token" ∷ codes "list-type" ∷ codes "fetch-owner" ∷ []
 
-abbrev pub known : List (List ℕ)
-known = codes "list-type" ∷ codes "max-keys" ∷ codes "continuation-token" ∷ codes "encoding-type" ∷ codes "fetch-owner" ∷ compared
+-- the names of the texts that are compared with names
+abbrev pub compared : Version → List (List ℕ)
+compared V1 = codes "prefix" ∷ codes "delimiter" ∷ codes "start-after" ∷ codes "marker" ∷ []
+compared V2 = codes "prefix" ∷ codes "delimiter" ∷ codes "start-after" ∷ []
 
 -- one or more digits, with a number of at most 2,147,483,647, the greatest of 32 bits with a sign
 unfoldable pub is_max_keys : List ℕ → Bool
@@ -58,16 +63,16 @@ abbrev pub repeats : List Parameter → Bool
 repeats [] = false
 repeats (p ∷ ps) = list_any (λ (q : Parameter). bytes_eq q.name p.name) ps || repeats ps
 
--- where parameters have a cause
-abbrev pub have : List Parameter → Cause → Bool
-have ps KeyTooLong = list_any (λ (p : Parameter). is_one_of p.name compared && nat_lt most_name_bytes (length p.value)) ps
-have ps UnknownParameter = list_any (λ (p : Parameter). not (is_one_of p.name known)) ps
-have ps RepeatedParameter = repeats ps
-have ps BadListType = has_other (codes "list-type") (λ value. bytes_eq value (codes "2")) ps
-have ps BadMaxKeys = has_other (codes "max-keys") is_max_keys ps
-have ps BadEncoding = has_other (codes "encoding-type") (λ value. length value == 0 || bytes_eq value (codes "url")) ps
-have ps BadFetchOwner = has_other (codes "fetch-owner") (λ value. length value == 0 || bytes_eq value (codes "true") || bytes_eq value (codes "false")) ps
-have ps cause = false
+-- where the parameters of a query of this version have a cause
+abbrev pub have : Version → List Parameter → Cause → Bool
+have version ps KeyTooLong = list_any (λ (p : Parameter). is_one_of p.name (compared version) && nat_lt most_name_bytes (length p.value)) ps
+have version ps UnknownParameter = list_any (λ (p : Parameter). not (is_one_of p.name (known version))) ps
+have version ps RepeatedParameter = repeats ps
+have version ps BadListType = has_other (codes "list-type") (λ value. bytes_eq value (codes "2")) ps
+have version ps BadMaxKeys = has_other (codes "max-keys") is_max_keys ps
+have version ps BadEncoding = has_other (codes "encoding-type") (λ value. length value == 0 || bytes_eq value (codes "url")) ps
+have version ps BadFetchOwner = has_other (codes "fetch-owner") (λ value. length value == 0 || bytes_eq value (codes "true") || bytes_eq value (codes "false")) ps
+have version ps cause = false
 
 -- the causes of parameters, in the order in which they are tested
 abbrev pub parameter_causes : List Cause
@@ -83,23 +88,35 @@ value_of name ps = option_map_or (λ (p : Parameter). p.value) (find (λ (p : Pa
 abbrev pub most_entries : List ℕ → ℕ
 most_entries value = if is_max_keys value then min (digits_value 10 value) most_keys else most_keys
 
--- what these parameters ask, of which no two have one name
-abbrev pub query_asked : List Parameter → ListQuery
-query_asked ps = record {
+-- what these parameters say, of which no two have one name
+abbrev pub values_said : List Parameter → Values
+values_said ps = record {
   prefix = value_of (codes "prefix") ps;
   delimiter = value_of (codes "delimiter") ps;
   start_after = value_of (codes "start-after") ps;
   token = value_of (codes "continuation-token") ps;
+  marker = value_of (codes "marker") ps;
   max_keys = most_entries (value_of (codes "max-keys") ps);
   url = bytes_eq (value_of (codes "encoding-type") ps) (codes "url");
 }
 
--- a query, which may begin with one `?` and is cut at each `&`: what it asks, or the first cause that its parameters have
+-- where no parameter is given
+abbrev pub no_values : Values
+no_values = record { prefix = []; delimiter = []; start_after = []; token = []; marker = []; max_keys = most_keys; url = false }
+
+-- the listing of either version that the values ask
+abbrev pub list_query : Values → ListQuery
+list_query v = record { prefix = v.prefix; delimiter = v.delimiter; start_after = v.start_after; token = v.token; max_keys = v.max_keys; url = v.url }
+
+abbrev pub v1_query : Values → V1Query
+v1_query v = record { prefix = v.prefix; delimiter = v.delimiter; marker = v.marker; max_keys = v.max_keys; url = v.url }
+
+-- a query, which may begin with one `?` and is cut at each `&`: what it says, or the first cause that its parameters have
 unfoldable pub without_mark : List ℕ → List ℕ
 without_mark [] = []
 without_mark (b ∷ bytes) = if b == 63 then bytes else b ∷ bytes
 
-unfoldable pub query_read : List ℕ → Result ListQuery Cause
-query_read query = do
+unfoldable pub query_read : Version → List ℕ → Result Values Cause
+query_read version query = do
   ps ← parameters_read (slice_split (λ b. b == 38) (without_mark query))
-  option_map_or Err (find (have ps) parameter_causes) (Ok (query_asked ps))
+  option_map_or Err (find (have version ps) parameter_causes) (Ok (values_said ps))

@@ -1,6 +1,6 @@
 -- Helper: the headline does not rest on this file.
 -- What the generated session asks: the session of its text.
-use Rattle.std.specs.Prelude.{ℕ, zero, suc, ◌+◌, ◌*◌, ◌%◌, ◌==◌, List, [], ◌∷◌, ◌++◌, codes, if◌then◌else◌}
+use Rattle.std.specs.Prelude.{ℕ, false, zero, suc, ◌+◌, ◌*◌, ◌%◌, ◌==◌, List, [], ◌∷◌, ◌++◌, codes, if◌then◌else◌}
 use Rattle.std.specs.Fmt.{decimal}
 use Rattle.bucket_terms.specs.declared.list_query.ListQuery.{ListQuery}
 use Rattle.bucket_terms.specs.declared.record.Record.{Record}
@@ -9,7 +9,7 @@ use Rattle.bucket_terms.specs.declared.request.Request.TheVariants.{Put, Delete,
 use Rattle.request_lines.specs.declared.session.Asked.{Asked}
 use Rattle.request_lines.specs.declared.session.ClientPart.{ClientPart}
 use Rattle.request_lines.specs.declared.session.Session.{Session}
-use Rattle.request_lines.specs.Queries.{plain_query}
+use Rattle.request_lines.specs.Queries.{most_keys}
 use Rattle.request_lines.specs.Sample.{sample_name}
 
 -- the most requests of a client
@@ -19,6 +19,10 @@ most_sample_requests = 40000
 -- what the names of a client begin with, and no other's
 abbrev pub sample_prefix : ℕ → List ℕ
 sample_prefix client = codes "s" ++ decimal client ++ codes "/"
+
+-- a listing of everything
+abbrev pub plain_query : ListQuery
+plain_query = record { prefix = []; delimiter = []; start_after = []; token = []; max_keys = most_keys; url = false }
 
 -- a listing of a client's own names
 abbrev pub sample_query : ℕ → ListQuery

@@ -4,13 +4,13 @@ use Rattle.std.specs.Prelude.{◌≡◌, ℕ, ◌^◌, ◌<◌, ◌≤◌, List,
 use Rattle.std.specs.List.{flat_map, filter_map, range_with_len}
 use Rattle.bucket_terms.specs.LegalRun.{RequestLine}
 use Rattle.bucket_terms.specs.declared.request.Request.{Request}
-use Rattle.bucket_terms.specs.declared.request.Request.TheVariants.{Put, PutNew, Delete, Head, List as ListRequest}
+use Rattle.bucket_terms.specs.declared.request.Request.TheVariants.{Put, PutNew, Delete, Head, List as ListRequest, ListV1}
 use Rattle.key_names.specs.Names.{IsFine}
 use Rattle.request_lines.specs.declared.session.Asked.{Asked}
 use Rattle.request_lines.specs.declared.session.ClientPart.{ClientPart}
 use Rattle.request_lines.specs.declared.session.Session.{Session}
 use Rattle.request_lines.specs.InputParts.{most_clients, most_requests}
-use Rattle.request_lines.specs.Fine.{IsFineQuery}
+use Rattle.request_lines.specs.Fine.{IsFineQuery, IsFineV1Query}
 use Rattle.request_lines.specs.Session.{request_line, request_lines}
 
 -- what all clients ask, client by client
@@ -49,6 +49,7 @@ pub record HasRecords (session : Session) : Type 0 where
 -- a listing has a query that can be answered
 abbrev pub IsFineRequest : Request → Type 0
 IsFineRequest (ListRequest query) = IsFineQuery query
+IsFineRequest (ListV1 query) = IsFineV1Query query
 IsFineRequest request = Unit {0}
 
 -- the name that the request speaks of is among these

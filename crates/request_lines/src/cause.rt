@@ -18,8 +18,8 @@ pub enum Cause {
     BadEscape,
     /// The key is empty.
     EmptyKey,
-    /// The unescaped key, or the value of `prefix`, `delimiter` or `start-after`, has more than 1,024 bytes,
-    /// the most that Amazon S3 takes for an object key.
+    /// The unescaped key, or the value of `prefix`, `delimiter`, `start-after`, or of `marker` on a LISTV1 line, has more
+    /// than 1,024 bytes, the most that Amazon S3 takes for an object key.
     KeyTooLong,
     /// Size or modified is not one or more ASCII digits.
     BadNumber,
@@ -27,7 +27,7 @@ pub enum Cause {
     NumberTooLarge,
     /// The etag is not 1 to 64 ASCII letters, digits and `-`, perhaps between two double quotes.
     BadEtag,
-    /// A name is no parameter of ListObjectsV2 (Amazon S3 API reference).
+    /// A name is no parameter of ListObjectsV2, or on a LISTV1 line none of ListObjects (Amazon S3 API reference).
     UnknownParameter,
     /// A name stands twice.
     RepeatedParameter,
@@ -45,7 +45,7 @@ pub enum Cause {
     TooManyClients,
     /// This is the 200,001st line that is neither empty nor `CLIENT`.
     TooManyLines,
-    /// The pages of the LIST and NEXT lines so far can have more than 4,000,000 entries together.
+    /// The pages of the LIST, LISTV1 and NEXT lines so far can have more than 4,000,000 entries together.
     TooManyEntries,
 }
 

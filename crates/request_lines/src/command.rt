@@ -1,8 +1,7 @@
 // One line: what it says, or its own first cause.
 ghost use Rattle.std.specs.Prelude.{◌≡◌, [], ◌∷◌, Ok, IfOk, MatchOption};
-ghost use Rattle.request_lines.specs.declared.command.Command.TheVariants as says;
 ghost use Rattle.request_lines.specs.declared.verb.Verb.TheVariants as verbs;
-ghost use Rattle.request_lines.specs.Input.{read_fields, read_line, reading_of};
+ghost use Rattle.request_lines.specs.Input.{read_fields, read_line, reading_of, listing_of};
 ghost use Rattle.request_lines.specs.Fine.{IsFineCommand};
 ghost use Rattle.request_lines.specs.InputParts.{fields_of, list_read};
 ghost use Rattle.request_lines.specs.Left.{parts_left, IsNotOne};
@@ -12,10 +11,12 @@ use crate::Cause;
 use crate::line_error::LineError;
 use crate::parts::{first_part, next_part};
 use crate::put::{put_fields, put_of};
-use crate::query::{plain_query, query_of};
+use crate::query::query_of;
+use crate::parameter::Version;
 use crate::texts::key_of;
+use crate::values::Values;
 use crate::verb::{PutWhen, Verb};
-use bucket_terms::{BoxedQuery, ListQuery, Record};
+use bucket_terms::{BoxedQuery, BoxedV1Query, Record};
 use key_names::Text;
 use std::alloc::Global;
 use std::str;
@@ -37,7 +38,8 @@ pub(crate) enum Command {
         name: Text,
     },
     List(BoxedQuery),
-    /// The next page of the client's last listing.
+    ListV1(BoxedV1Query),
+    /// The next page of the client's last LIST or NEXT.
     Next,
 }
 
@@ -72,7 +74,7 @@ fn with_fields(alloc: Global, verb: Verb, left: Option<&str>) -> Result<Command,
         Verb::Put(when) => put(alloc, when, left),
         Verb::Delete => delete(alloc, left),
         Verb::Head => head(alloc, left),
-        Verb::List => list(alloc, left),
+        Verb::List(version) => list(alloc, version, left),
         Verb::Next => next(left),
     }
 }
@@ -143,28 +145,32 @@ fn only_field(left: Option<&str>) -> Option<&str>
 }
 
 #[tactic(auto, unfolding(crate::specs::Input::read_fields))]
-fn list(alloc: Global, left: Option<&str>) -> Result<Command, LineError>
-    ensures { Reads result (read_fields verbs.List (parts_left 32 left.entry)) }
+fn list(alloc: Global, version: Version, left: Option<&str>) -> Result<Command, LineError>
+    ensures { Reads result (read_fields (verbs.List version) (parts_left 32 left.entry)) }
 {
     let Some((text, left)) = next_part(left, ' ') else {
-        return boxed(alloc, plain_query(alloc));
+        return listing(alloc, version, Values::none(alloc));
     };
     match next_part(left, ' ') {
-        None => list_of(alloc, text),
+        None => list_of(alloc, version, text),
         Some(_) => Err(LineError::Faulty(Cause::WrongFields)),
     }
 }
 
-// The LIST line with this query.
-fn list_of(alloc: Global, text: &str) -> Result<Command, LineError>
-    ensures { Reads result (list_read text.now) }
+// The LIST or LISTV1 line with this query.
+fn list_of(alloc: Global, version: Version, text: &str) -> Result<Command, LineError>
+    ensures { Reads result (list_read version text.now) }
 {
-    let query = query_of(alloc, text)?;
-    boxed(alloc, query)
+    let values = query_of(alloc, version, text)?;
+    listing(alloc, version, values)
 }
 
-fn boxed(alloc: Global, query: ListQuery) -> Result<Command, LineError>
-    ensures { Reads result (Ok (says.List query)) }
+// The listing of these values.
+fn listing(alloc: Global, version: Version, values: Values) -> Result<Command, LineError>
+    ensures { Reads result (Ok (listing_of version values)) }
 {
-    Ok(Command::List(BoxedQuery::new(alloc, query)?))
+    match version {
+        Version::V1 => Ok(Command::ListV1(BoxedV1Query::new(alloc, values.v1_query())?)),
+        Version::V2 => Ok(Command::List(BoxedQuery::new(alloc, values.list_query())?)),
+    }
 }

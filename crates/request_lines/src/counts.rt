@@ -16,7 +16,7 @@ pub(crate) struct Counts {
     pub(crate) requests: u32,
     /// `PUT` and `PUTNEW` lines.
     pub(crate) puts: u32,
-    /// The most entries that the LIST and NEXT lines can be answered, together.
+    /// The most entries that the LIST, LISTV1 and NEXT lines can be answered, together.
     pub(crate) entries: u32,
     /// The most entries of a page of the client's last LIST, or 0 where there is none.
     pub(crate) last: u32,
@@ -84,6 +84,7 @@ impl Counts {
                 so_far.entries += most;
                 so_far.last = most;
             }
+            Command::ListV1(query) => so_far.entries += query.get().max_keys,
             Command::Next => so_far.entries += so_far.last,
         }
         so_far.requests += 1;

@@ -23,6 +23,7 @@ mod sample;
 mod session;
 mod session_error;
 mod texts;
+mod values;
 mod verb;
 
 pub use cause::Cause;

@@ -9,7 +9,7 @@ pub(crate) const MAX_CLIENTS: u32 = 32;
 /// The most request lines of a session, of all clients together.
 pub(crate) const MAX_REQUESTS: u32 = 200_000;
 
-/// The most entries that the LIST and NEXT lines of a session can be answered, together.
+/// The most entries that the LIST, LISTV1 and NEXT lines of a session can be answered, together.
 pub(crate) const MAX_LISTED: u32 = 4_000_000;
 
 /// The most entries of a page.

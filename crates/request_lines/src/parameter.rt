@@ -1,7 +1,14 @@
-// The parameters of a query (Amazon S3 API reference, ListObjectsV2: URI request parameters).
+// The parameters of a query (Amazon S3 API reference, ListObjectsV2 and ListObjects: URI request parameters).
 ghost use Rattle.std.specs.Prelude.{◌≡◌};
 ghost use Rattle.request_lines.specs.Asking as kept;
 ghost use Rattle.request_lines.specs.NamedQueries as spec;
+
+/// The version of a listing: a LISTV1 line asks one of version 1, a LIST line one of version 2.
+#[derive(Clone, Copy, Debug, PartialEq, Eq)]
+pub(crate) enum Version {
+    V1,
+    V2,
+}
 
 /// The name of a parameter.
 #[derive(Clone, Copy, Debug, PartialEq, Eq)]
@@ -14,6 +21,7 @@ pub(crate) enum Name {
     ContinuationToken,
     EncodingType,
     FetchOwner,
+    Marker,
 }
 
 impl Name {
@@ -30,7 +38,32 @@ impl Name {
             "continuation-token" => Some(Name::ContinuationToken),
             "encoding-type" => Some(Name::EncodingType),
             "fetch-owner" => Some(Name::FetchOwner),
+            "marker" => Some(Name::Marker),
             _ => None,
+        }
+    }
+
+    /// Whether a query of this version takes the parameter.
+    pub(crate) fn is_taken(self, version: Version) -> bool
+        ensures { result ≡ spec.is_taken version self }
+    {
+        match self {
+            Name::Prefix | Name::Delimiter | Name::MaxKeys | Name::EncodingType => true,
+            Name::StartAfter | Name::ContinuationToken | Name::ListType | Name::FetchOwner => {
+                matches!(version, Version::V2)
+            }
+            Name::Marker => matches!(version, Version::V1),
+        }
+    }
+
+    /// Whether its value is compared with names, so that it has at most 1,024 bytes.
+    pub(crate) fn is_compared(self, version: Version) -> bool
+        ensures { result ≡ spec.is_compared version self }
+    {
+        match self {
+            Name::Prefix | Name::Delimiter | Name::StartAfter => true,
+            Name::Marker => matches!(version, Version::V1),
+            _ => false,
         }
     }
 }

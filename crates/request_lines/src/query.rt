@@ -1,9 +1,7 @@
-// The query of a LIST line.
-ghost use Rattle.std.specs.Prelude.{◌≡◌, [], true, false, min, OnOk, IsOkUnless, MatchOption, Some, None, if◌then◌else◌};
-ghost use Rattle.std.specs.Str.Parse.{digits_value};
+// The query of a LIST or LISTV1 line.
+ghost use Rattle.std.specs.Prelude.{◌≡◌, OnOk, IsOkUnless};
 ghost use Rattle.request_lines.specs.declared.line_error.LineError.TheVariants.{NoMemory as OutOfMemory};
 ghost use Rattle.request_lines.specs.Asking as kept;
-ghost use Rattle.request_lines.specs.Queries.{most_keys};
 ghost use Rattle.request_lines.specs.NamedQueries as spec;
 ghost use Rattle.request_lines.specs.Queries as asks;
 ghost use Rattle.request_lines.specs.Pieces.{asking, parameter as as_parameter, TakesPiece};
@@ -11,19 +9,20 @@ ghost use Rattle.request_lines.specs.ReadAnswers.{Reads, ReadsAs};
 
 use crate::Cause;
 use crate::cause::earliest;
-use crate::limits::{MAX_KEYS, MAX_WRITTEN};
 use crate::line_error::LineError;
-use crate::parameter::{Name, stands_in};
+use crate::parameter::{Name, Version, stands_in};
 use crate::parts::first_part;
-use crate::texts::{is_number, number, unescaped};
-use bucket_terms::ListQuery;
+use crate::texts::unescaped;
+use crate::values::Values;
 use key_names::{MAX_NAME_BYTES, Text};
 use std::alloc::Global;
 
-/// What the parameters so far ask: the query, their names, each once, and the earliest of their causes.
+/// What the parameters so far ask of a listing of this version: their values, their names, each once, and the earliest of
+/// their causes.
 #[derive(Drop)]
 pub(crate) struct Asking {
-    pub(crate) query: ListQuery,
+    pub(crate) version: Version,
+    pub(crate) values: Values,
     pub(crate) names: Vec<Name>,
     pub(crate) cause: Option<Cause>,
 }
@@ -35,32 +34,13 @@ pub(crate) struct Parameter {
     pub(crate) value: Text,
 }
 
-/// A listing of everything.
-pub(crate) fn plain_query(alloc: Global) -> ListQuery
-    ensures { result ≡ asks.plain_query }
-{
-    ListQuery {
-        prefix: empty(alloc),
-        delimiter: empty(alloc),
-        start_after: empty(alloc),
-        token: empty(alloc),
-        max_keys: MAX_KEYS,
-        url: false,
-    }
-}
-
-fn empty(alloc: Global) -> Text
-    ensures { result ≡ [] }
-{
-    Text::from_string(String::new(alloc))
-}
-
-/// The query that this text writes.
-pub(crate) fn query_of(alloc: Global, text: &str) -> Result<ListQuery, LineError>
-    ensures { Reads result (asks.query_read text.now) }
+/// What the query of this text asks of a listing of this version.
+pub(crate) fn query_of(alloc: Global, version: Version, text: &str) -> Result<Values, LineError>
+    ensures { Reads result (asks.query_read version text.now) }
 {
     let mut so_far = Asking {
-        query: plain_query(alloc),
+        version,
+        values: Values::none(alloc),
         names: Vec::new(alloc),
         cause: None,
     };
@@ -93,9 +73,9 @@ impl Asking {
         ensures memory { IsOkUnless result OutOfMemory }
     {
         let Parameter { name, value } = parameter;
-        let of_name = name_cause(self.names.as_slice(), name, value.as_str());
+        let of_name = name_cause(self.version, self.names.as_slice(), name, value.as_str());
         self.keep_name(name)?;
-        let of_value = set(&mut self.query, name, value);
+        let of_value = self.values.set(name, value);
         self.cause = earliest(self.cause, of_name.or(of_value));
         Ok(())
     }
@@ -114,12 +94,12 @@ impl Asking {
         }
     }
 
-    // The query of all parameters.
-    fn finish(self) -> Result<ListQuery, LineError>
-        ensures { Reads result (spec.query_or self.cause self.query) }
+    // The values of all parameters.
+    fn finish(self) -> Result<Values, LineError>
+        ensures { Reads result (spec.values_or self.cause self.values) }
     {
         match self.cause {
-            None => Ok(self.query),
+            None => Ok(self.values),
             Some(cause) => Err(LineError::Faulty(cause)),
         }
     }
@@ -160,107 +140,26 @@ fn cut(piece: &str) -> (&str, &str)
 
 // The first cause of a parameter behind these names that is none of its value alone.
 #[tactic(auto, unfolding(crate::specs::Asking::name_cause))]
-fn name_cause(names: &[Name], name: Option<Name>, value: &str) -> Option<Cause>
-    ensures { result ≡ kept.name_cause names.now name value.now }
+fn name_cause(
+    version: Version,
+    names: &[Name],
+    name: Option<Name>,
+    value: &str,
+) -> Option<Cause>
+    ensures { result ≡ kept.name_cause version names.now name value.now }
 {
     match name {
         None => Some(Cause::UnknownParameter),
-        Some(name) if is_too_long(name, value) => Some(Cause::KeyTooLong),
+        Some(name) if is_too_long(version, name, value) => Some(Cause::KeyTooLong),
+        Some(name) if !name.is_taken(version) => Some(Cause::UnknownParameter),
         Some(name) if stands_in(names, name) => Some(Cause::RepeatedParameter),
         Some(_) => None,
     }
 }
 
 #[tactic(auto, unfolding(crate::specs::Asking::is_long_for))]
-fn is_too_long(name: Name, value: &str) -> bool
-    ensures { result ≡ kept.is_long_for name value.now }
+fn is_too_long(version: Version, name: Name, value: &str) -> bool
+    ensures { result ≡ kept.is_long_for version name value.now }
 {
-    match name {
-        Name::Prefix | Name::Delimiter | Name::StartAfter => value.len() > MAX_NAME_BYTES,
-        _ => false,
-    }
-}
-
-// The most entries of a page, at most 1,000. None where the text is no such number.
-#[tactic(auto, unfolding(crate::specs::Queries::is_max_keys, crate::specs::Texts::is_small))]
-fn max_keys(value: &str) -> Option<u32>
-    ensures { MatchOption result (asks.is_max_keys value.now ≡ false)
-        (λ n. (asks.is_max_keys value.now ≡ true) × (n ≡ min (digits_value 10 value.now) most_keys)) }
-{
-    if !is_number(value) {
-        return None;
-    }
-    match number(value) {
-        Some(n) if n <= MAX_WRITTEN => Some(n.min(u64::from(MAX_KEYS)) as u32),
-        _ => None,
-    }
-}
-
-// The query with this parameter. Answers the cause of a value that the parameter does not take.
-#[tactic(auto, unfolding(crate::specs::Asking::with_parameter, crate::specs::Asking::value_cause))]
-fn set(query: &mut ListQuery, name: Option<Name>, value: Text) -> Option<Cause>
-    ensures query { query.new ≡ kept.with_parameter query.old name value }
-    ensures cause { result ≡ kept.value_cause name value }
-{
-    match name {
-        Some(Name::Prefix) => query.prefix = value,
-        Some(Name::Delimiter) => query.delimiter = value,
-        Some(Name::StartAfter) => query.start_after = value,
-        Some(Name::ContinuationToken) => query.token = value,
-        Some(Name::MaxKeys) => return set_max_keys(query, value.as_str()),
-        Some(Name::EncodingType) => return set_encoding(query, value.as_str()),
-        Some(Name::ListType) => return list_type_cause(value.as_str()),
-        Some(Name::FetchOwner) => return fetch_owner_cause(value.as_str()),
-        None => {}
-    }
-    None
-}
-
-// Values for `max-keys`: the number, or 1,000 where that is less.
-fn set_max_keys(query: &mut ListQuery, value: &str) -> Option<Cause>
-    ensures query { query.new ≡ record query.old { max_keys = asks.most_entries value.now } }
-    ensures cause { result ≡ (if asks.is_max_keys value.now then None else Some Cause.BadMaxKeys) }
-{
-    match max_keys(value) {
-        Some(most) => {
-            query.max_keys = most;
-            None
-        }
-        None => {
-            query.max_keys = MAX_KEYS;
-            Some(Cause::BadMaxKeys)
-        }
-    }
-}
-
-// Values for `encoding-type`: none, or `url`.
-fn set_encoding(query: &mut ListQuery, value: &str) -> Option<Cause>
-    ensures query { query.new ≡ record query.old { url = spec.is_url value.now } }
-    ensures cause { result ≡ (if spec.is_encoding value.now then None else Some Cause.BadEncoding) }
-{
-    query.url = value == "url";
-    if query.url || value.is_empty() {
-        None
-    } else {
-        Some(Cause::BadEncoding)
-    }
-}
-
-fn list_type_cause(value: &str) -> Option<Cause>
-    ensures { result ≡ (if spec.is_list_type value.now then None else Some Cause.BadListType) }
-{
-    match value {
-        "2" => None,
-        _ => Some(Cause::BadListType),
-    }
-}
-
-fn fetch_owner_cause(value: &str) -> Option<Cause>
-    ensures { result ≡ (if spec.is_fetch_owner value.now then None else Some Cause.BadFetchOwner) }
-{
-    if value.is_empty() || value == "true" || value == "false" {
-        None
-    } else {
-        Some(Cause::BadFetchOwner)
-    }
+    name.is_compared(version) && value.len() > MAX_NAME_BYTES
 }

@@ -120,6 +120,10 @@ impl Reader {
                 self.counts = counts;
                 self.ask(number, Request::List(query), 0)
             }
+            Command::ListV1(query) => {
+                self.counts = counts;
+                self.ask(number, Request::ListV1(query), 0)
+            }
             Command::Next => {
                 self.counts = counts;
                 self.ask(number, Request::Next, 0)

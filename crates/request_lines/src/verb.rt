@@ -1,6 +1,8 @@
 ghost use Rattle.std.specs.Prelude.{◌≡◌};
 ghost use Rattle.request_lines.specs.Input.{verb_of};
 
+use crate::parameter::Version;
+
 /// When a put is made: whether or not its key is there, or only where it is not.
 #[derive(Clone, Copy, Debug, PartialEq, Eq)]
 pub(crate) enum PutWhen {
@@ -15,7 +17,7 @@ pub(crate) enum Verb {
     Put(PutWhen),
     Delete,
     Head,
-    List,
+    List(Version),
     Next,
 }
 
@@ -30,7 +32,8 @@ impl Verb {
             "PUTNEW" => Some(Verb::Put(PutWhen::IfAbsent)),
             "DELETE" => Some(Verb::Delete),
             "HEAD" => Some(Verb::Head),
-            "LIST" => Some(Verb::List),
+            "LIST" => Some(Verb::List(Version::V2)),
+            "LISTV1" => Some(Verb::List(Version::V1)),
             "NEXT" => Some(Verb::Next),
             _ => None,
         }

@@ -13,16 +13,18 @@ use Rattle.key_map.specs.declared.update.Change.{Change}
 use Rattle.key_map.specs.declared.update.Change.TheVariants.{Put as PutVal, Remove}
 use Rattle.key_map.specs.KeyMap.{map_has, map_get, updated, after}
 use Rattle.bucket_terms.specs.declared.list_query.ListQuery.{ListQuery}
+use Rattle.bucket_terms.specs.declared.v1_query.V1Query.{V1Query}
+use Rattle.bucket_terms.specs.V1Listing.{v1_page}
 use Rattle.bucket_terms.specs.declared.token_point.TokenPoint.{TokenPoint}
 use Rattle.bucket_terms.specs.declared.token.Token.{Token}
 use Rattle.bucket_terms.specs.declared.page.Page.{Page}
 use Rattle.bucket_terms.specs.declared.request.Request.{Request}
-use Rattle.bucket_terms.specs.declared.request.Request.TheVariants.{Put, PutNew, Delete, Head, List as ListRequest, Next}
+use Rattle.bucket_terms.specs.declared.request.Request.TheVariants.{Put, PutNew, Delete, Head, List as ListRequest, ListV1, Next}
 use Rattle.bucket_terms.specs.declared.reply.Reply.{Reply}
-use Rattle.bucket_terms.specs.declared.reply.Reply.TheVariants.{Put as PutReply, Exists, Deleted, Found, Missing, Listed, BadToken, NoSlot}
+use Rattle.bucket_terms.specs.declared.reply.Reply.TheVariants.{Put as PutReply, Exists, Deleted, Found, Missing, Listed, ListedV1, BadToken, NoSlot}
 use Rattle.bucket_terms.specs.declared.reply.Placed.{Placed}
 use Rattle.bucket_terms.specs.Listing.{page_of}
-use Rattle.bucket_terms.specs.LegalRun.{RequestLine, Setting, Answered, Run, IsLegal, IsRight, IsOf, IsChangeOf, IsMadeBy, IsPointOf, HasUsedItsSlots, UpdateStands, Finds, Lists, Resumed, AreAnswered, next_of, update_at, last_listing, answered_lines, lines_of, replies_of}
+use Rattle.bucket_terms.specs.LegalRun.{RequestLine, Setting, Answered, Run, IsLegal, IsRight, IsOf, IsChangeOf, IsMadeBy, IsPointOf, HasUsedItsSlots, UpdateStands, Finds, Lists, ListsV1, Resumed, AreAnswered, next_of, update_at, last_listing, answered_lines, lines_of, replies_of}
 use Rattle.bucket_terms.specs.RunParts.{IsPlacedBelow, is_earlier_of, head_by, setting_of, updates_in}
 use Rattle.bucket_terms.proofs.Finds.{map_has-none, map_has-some}
 use Rattle.bucket_terms.proofs.LastListing.{last_listing-push}
@@ -176,6 +178,11 @@ module _ (s : Setting) (rising : Rises s.dir) (mine : (i : ℕ) (u : Update) →
         ap (λ (asked : ListQuery). Listed asked page) lists.0
         ∙ ap (Listed query) (lists.1 ∙ ap (page_of s.dir query point) look_map)
 
+    look_v1 : (query shown : V1Query) (page : Page) → ListsV1 s q query shown page → ListedV1 shown page ≡ ListedV1 query (v1_page s.dir query (map_of (take p s.updates)))
+    look_v1 query shown page lists =
+        ap (λ (asked : V1Query). ListedV1 asked page) lists.0
+        ∙ ap (ListedV1 query) (lists.1 ∙ ap (v1_page s.dir query) look_map)
+
   -- ---- each request
 
   module _ (few : length s.updates < s.slots) where
@@ -273,6 +280,15 @@ module _ (s : Setting) (rising : Rises s.dir) (mine : (i : ℕ) (u : Update) →
           behind = stay_same p q stays;
         }
     comes last line (ListRequest query) None BadToken a p low right same steps = record { start = None; resolved = right; at_is = refl; reply_is = refl; behind = refl }
+    comes last line (ListV1 query) (Some q) (ListedV1 shown page) a p low right same steps =
+        let stays = only_stays line p q a (no_change (ListV1 query) p q a (ap (λ (l : RequestLine). l.request) same) (λ u h. h)) (steps q refl) in
+        record {
+          start = None;
+          resolved = refl;
+          at_is = look_place line p q a low (steps q refl) stays;
+          reply_is = look_v1 line p q a low (steps q refl) stays query shown page right;
+          behind = stay_same p q stays;
+        }
     comes last line Next (Some q) (Listed shown page) a p low right same steps =
         let us = take p s.updates in
         let stays = only_stays line p q a (no_change Next p q a (ap (λ (l : RequestLine). l.request) same) (λ u h. h)) (steps q refl) in
@@ -367,6 +383,7 @@ same_start (Put name val) x y h k = h ∙ sym k
 same_start (PutNew name val) x y h k = h ∙ sym k
 same_start (Delete name) x y h k = h ∙ sym k
 same_start (Head name) x y h k = h ∙ sym k
+same_start (ListV1 query) x y h k = h ∙ sym k
 same_start Next x y h k = h ∙ sym k
 
 pub one_alone : (dir : List (List ℕ)) (client : ℕ) (us : List Update) (last : Option Reply) (lines : List RequestLine) (rs rs' : List Placed) (end end' : List Update)

@@ -16,15 +16,17 @@ use Rattle.key_map.specs.declared.update.Change.{Change}
 use Rattle.key_map.specs.declared.update.Change.TheVariants.{Put as PutVal, Remove}
 use Rattle.key_map.specs.KeyMap.{map_has, map_get, updated, after}
 use Rattle.bucket_terms.specs.declared.list_query.ListQuery.{ListQuery}
+use Rattle.bucket_terms.specs.declared.v1_query.V1Query.{V1Query}
+use Rattle.bucket_terms.specs.V1Listing.{v1_page}
 use Rattle.bucket_terms.specs.declared.token_point.TokenPoint.{TokenPoint}
 use Rattle.bucket_terms.specs.declared.page.Page.{Page}
 use Rattle.bucket_terms.specs.declared.request.Request.{Request}
-use Rattle.bucket_terms.specs.declared.request.Request.TheVariants.{Put, PutNew, Delete, Head, List as ListRequest, Next}
+use Rattle.bucket_terms.specs.declared.request.Request.TheVariants.{Put, PutNew, Delete, Head, List as ListRequest, ListV1, Next}
 use Rattle.bucket_terms.specs.declared.reply.Reply.{Reply}
-use Rattle.bucket_terms.specs.declared.reply.Reply.TheVariants.{Put as PutReply, Exists, Deleted, Found, Missing, Listed, BadToken, NoSlot}
+use Rattle.bucket_terms.specs.declared.reply.Reply.TheVariants.{Put as PutReply, Exists, Deleted, Found, Missing, Listed, ListedV1, BadToken, NoSlot}
 use Rattle.bucket_terms.specs.declared.reply.Placed.{Placed}
 use Rattle.bucket_terms.specs.Listing.{page_of}
-use Rattle.bucket_terms.specs.LegalRun.{RequestLine, Setting, Answered, Run, IsLegal, IsRight, IsOf, IsChangeOf, IsMadeBy, HasUsedItsSlots, UpdateStands, Finds, Lists, KeepsOrder, IsAnswered, AreAnswered, is_listing, update_at, last_listing, answered_lines, lines_of, replies_of}
+use Rattle.bucket_terms.specs.LegalRun.{RequestLine, Setting, Answered, Run, IsLegal, IsRight, IsOf, IsChangeOf, IsMadeBy, HasUsedItsSlots, UpdateStands, Finds, Lists, ListsV1, KeepsOrder, IsAnswered, AreAnswered, is_listing, update_at, last_listing, answered_lines, lines_of, replies_of}
 use Rattle.bucket_terms.specs.RunParts.{is_earlier_of}
 use Rattle.run_laws.specs.Renamed.{renamed_update, renamed_reply, AreRenamed, IsRenamed, RenamedLaw}
 
@@ -85,6 +87,9 @@ module _ (new : ℕ → ℕ) (back : (c : ℕ) → new (new c) ≡ c) where
     lists_same : (n : ℕ) (asked : ListQuery) (point : Option TokenPoint) (shown : ListQuery) (page : Page) → Lists s n asked point shown page → Lists (over s) n asked point shown page
     lists_same n asked point shown page lists = (lists.0, lists.1 ∙ ap (λ (m : List Pair). page_of s.dir asked point m) (sym (after_same s.updates n)))
 
+    v1_same : (n : ℕ) (asked shown : V1Query) (page : Page) → ListsV1 s n asked shown page → ListsV1 (over s) n asked shown page
+    v1_same n asked shown page lists = (lists.0, lists.1 ∙ ap (λ (m : List Pair). v1_page s.dir asked m) (sym (after_same s.updates n)))
+
     slots_same : (line : ℕ) → HasUsedItsSlots s line → HasUsedItsSlots (over s) line
     slots_same line used = subst (λ (n : ℕ). s.slots ≤ n) (sym (count_same s line s.updates)) used
 
@@ -102,6 +107,7 @@ module _ (new : ℕ → ℕ) (back : (c : ℕ) → new (new c) ≡ c) where
     right_same last line (Head name) (Some n) Missing right = finds_same name n None right
     right_same last line (ListRequest query) (Some n) (Listed shown page) right = (right.0, (right.1.0, lists_same n query right.0 shown page right.1.1))
     right_same last line (ListRequest query) None BadToken right = right
+    right_same last line (ListV1 query) (Some n) (ListedV1 shown page) right = v1_same n query shown page right
     right_same last line Next (Some n) (Listed shown page) right = (right.0, (right.1.0, lists_same n right.0.query (Some right.0.point) shown page right.1.1))
     right_same last line Next None BadToken right = right
     right_same last line (Head name) None NoSlot right = absurd right
@@ -174,6 +180,7 @@ module _ (new : ℕ → ℕ) (back : (c : ℕ) → new (new c) ≡ c) where
   change_same dir u (Delete name) is = is
   change_same dir u (Head name) is = absurd is
   change_same dir u (ListRequest query) is = absurd is
+  change_same dir u (ListV1 query) is = absurd is
   change_same dir u Next is = absurd is
 
   lines_same : (lines : List RequestLine) (replies : List Placed) → answered_lines lines (map (renamed_reply new) replies) ≡ map again (answered_lines lines replies)

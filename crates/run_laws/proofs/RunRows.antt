@@ -15,9 +15,9 @@ use Rattle.bucket_terms.specs.LegalRun.{RequestLine, Answered, IsOf, IsAnswered,
 use Rattle.bucket_terms.specs.Listing.{entries_of, group_len, page_of}
 use Rattle.bucket_terms.specs.declared.reply.Placed.{Placed}
 use Rattle.bucket_terms.specs.declared.reply.Reply.TheVariants.{Put as PutReply, Exists, Found, Missing, Deleted}
-use Rattle.bucket_terms.specs.declared.request.Request.TheVariants.{Put, PutNew, Head, Delete}
-use Rattle.request_lines.specs.Queries.{plain_query}
-use Rattle.run_laws.specs.RunRows.{two_names, line, update, reply_at, no_slot, run, list_all, page, Legal, writer, reader, clients, put_a, looked, two_puts, second_refused, first_refused, put_new_a, put_new_twice, only_replies, RunRowsLaw, beside, answered_beside, three_changes, after_three}
+use Rattle.bucket_terms.specs.declared.request.Request.TheVariants.{Put, PutNew, Head, Delete, Next}
+use Rattle.request_lines.specs.SampleSession.{plain_query}
+use Rattle.run_laws.specs.RunRows.{two_names, line, update, reply_at, no_slot, run, list_all, page, list_v1, v1_reply, Legal, writer, reader, clients, put_a, looked, two_puts, second_refused, first_refused, put_new_a, put_new_twice, only_replies, RunRowsLaw, beside, answered_beside, three_changes, after_three}
 use Rattle.sample_laws.proofs.Places.{any_all}
 use Rattle.sample_laws.proofs.Ranks.{no_token}
 
@@ -157,6 +157,13 @@ one_entry updates is = ap (λ (us : List Update). length (page_of two_names plai
 
 stale_page_beside : ¬ (Legal 9 (beside list_all) (answered_beside [] (reply_at 1 4 1 (page []))))
 stale_page_beside legal = let right = (legal.answered 1 (omega arith)).0.right in not_empty right.0 right.1.0 right.1.1.1
+
+stale_v1_page : ¬ (Legal 9 (beside list_v1) (answered_beside [] (reply_at 1 4 1 (v1_reply []))))
+stale_v1_page legal = let right = (legal.answered 1 (omega arith)).0.right in not_empty None refl right.1
+
+next_behind_v1 : ¬ (Legal 9 (writer ∷ (line 4 list_v1 ∷ line 5 Next ∷ []) ∷ [])
+    (run (put_a ∷ []) ((reply_at 0 2 1 (PutReply false) ∷ []) ∷ (reply_at 1 4 1 (v1_reply (Key 0 7 ∷ [])) ∷ reply_at 1 5 1 (page (Key 0 7 ∷ [])) ∷ []) ∷ [])))
+next_behind_v1 legal = let right = (legal.answered 1 (omega arith)).1.0.right in cc right.1.0
 
 page_of_two_moments : ¬ (Legal 9 (three_changes list_all) (after_three (reply_at 1 6 3 (page (Key 0 7 ∷ Key 1 8 ∷ [])))))
 page_of_two_moments legal =
@@ -376,5 +383,9 @@ run_rows = record {
   found_what_was_removed = found_what_was_removed;
   in_the_name_of_another = in_the_name_of_another;
   place_falls_behind_a_page = place_falls_behind_a_page;
+  stale_v1_page = stale_v1_page;
+  v1_page_for_a_list = λ legal. absurd (legal.answered 1 (omega arith)).0.right;
+  page_for_a_v1_list = λ legal. absurd (legal.answered 1 (omega arith)).0.right;
+  next_behind_a_v1_page = next_behind_v1;
   no_update_before = no_update;
 }

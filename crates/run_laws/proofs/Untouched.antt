@@ -13,16 +13,18 @@ use Rattle.key_map.specs.declared.update.Change.{Change}
 use Rattle.key_map.specs.declared.update.Change.TheVariants.{Put as PutVal, Remove}
 use Rattle.key_map.specs.KeyMap.{map_has, map_get, after}
 use Rattle.bucket_terms.specs.declared.list_query.ListQuery.{ListQuery}
+use Rattle.bucket_terms.specs.declared.v1_query.V1Query.{V1Query}
+use Rattle.bucket_terms.specs.V1Listing.{plain, marker_point, v1_page}
 use Rattle.bucket_terms.specs.declared.token_point.TokenPoint.{TokenPoint}
 use Rattle.bucket_terms.specs.declared.page.Page.{Page}
 use Rattle.bucket_terms.specs.declared.request.Request.{Request}
-use Rattle.bucket_terms.specs.declared.request.Request.TheVariants.{Put, PutNew, Delete, Head, List as ListRequest, Next}
+use Rattle.bucket_terms.specs.declared.request.Request.TheVariants.{Put, PutNew, Delete, Head, List as ListRequest, ListV1, Next}
 use Rattle.bucket_terms.specs.declared.reply.Reply.{Reply}
-use Rattle.bucket_terms.specs.declared.reply.Reply.TheVariants.{Put as PutReply, Exists, Deleted, Found, Missing, Listed, BadToken, NoSlot}
+use Rattle.bucket_terms.specs.declared.reply.Reply.TheVariants.{Put as PutReply, Exists, Deleted, Found, Missing, Listed, ListedV1, BadToken, NoSlot}
 use Rattle.bucket_terms.specs.declared.reply.Placed.{Placed}
 use Rattle.bucket_terms.specs.Listing.{is_under, is_admitted, entry_of, is_same_group, next_token, entries_of, page_of, page_point}
 use Rattle.bucket_terms.specs.PageParts.{cut_at}
-use Rattle.bucket_terms.specs.LegalRun.{RequestLine, Setting, Answered, Run, IsLegal, IsRight, IsOf, IsChangeOf, IsMadeBy, HasUsedItsSlots, UpdateStands, Finds, Lists, Resumed, AreAnswered, next_of, update_at, last_listing, answered_lines, lines_of, replies_of}
+use Rattle.bucket_terms.specs.LegalRun.{RequestLine, Setting, Answered, Run, IsLegal, IsRight, IsOf, IsChangeOf, IsMadeBy, HasUsedItsSlots, UpdateStands, Finds, Lists, ListsV1, Resumed, AreAnswered, next_of, update_at, last_listing, answered_lines, lines_of, replies_of}
 use Rattle.bucket_terms.specs.RunParts.{IsPlacedBelow, head_by, setting_of, updates_in}
 use Rattle.bucket_terms.proofs.Finds.{map_has-none, map_has-some}
 use Rattle.bucket_terms.proofs.LastListing.{last_listing-push}
@@ -87,6 +89,7 @@ kept_change dir own u (PutNew name val) rising keeps change = subst (λ (key : �
 kept_change dir own u (Delete name) rising keeps change = subst (λ (key : ℕ). own key ≡ true) (rank_of-is dir name u.key rising change.0) keeps
 kept_change dir own u (Head name) rising keeps change = absurd change
 kept_change dir own u (ListRequest query) rising keeps change = absurd change
+kept_change dir own u (ListV1 query) rising keeps change = absurd change
 kept_change dir own u Next rising keeps change = absurd change
 
 other_change : (dir : List (List ℕ)) (own : ℕ → Bool) (u : Update) (request : Request) → Rises dir → LeavesAlone dir own request → IsChangeOf dir u request → own u.key ≡ false
@@ -95,6 +98,7 @@ other_change dir own u (PutNew name val) rising left change = subst (λ (key : �
 other_change dir own u (Delete name) rising left change = subst (λ (key : ℕ). own key ≡ false) (rank_of-is dir name u.key rising change.0) left
 other_change dir own u (Head name) rising left change = absurd change
 other_change dir own u (ListRequest query) rising left change = absurd change
+other_change dir own u (ListV1 query) rising left change = absurd change
 other_change dir own u Next rising left change = absurd change
 
 -- what holds of each line holds of the one that made the update
@@ -217,6 +221,12 @@ module _ (s : Setting) (own : ℕ → Bool) (rising : Rises s.dir) (split : (t :
         ap (λ (asked : ListQuery). Listed asked page) lists.0
         ∙ ap (Listed query) (lists.1 ∙ page-part s.dir own query point (after s.updates q) keeps ∙ ap (page_of s.dir query point) look_map)
 
+    look_v1 : (query shown : V1Query) (page : Page) → KeepsTo s.dir own (ListV1 query)
+        → ListsV1 s q query shown page → ListedV1 shown page ≡ ListedV1 query (v1_page s.dir query (map_of (own_upto s p)))
+    look_v1 query shown page keeps lists =
+        ap (λ (asked : V1Query). ListedV1 asked page) lists.0
+        ∙ ap (ListedV1 query) (lists.1 ∙ page-part s.dir own (plain query) (marker_point query) (after s.updates q) keeps ∙ ap (v1_page s.dir query) look_map)
+
   shown_keeps : (query shown : ListQuery) → shown ≡ query → KeepsTo s.dir own (ListRequest query) → KeepsTo s.dir own (ListRequest shown)
   shown_keeps query shown same keeps = subst (λ (asked : ListQuery). KeepsTo s.dir own (ListRequest asked)) (sym same) keeps
 
@@ -307,6 +317,9 @@ module _ (s : Setting) (own : ℕ → Bool) (rising : Rises s.dir) (split : (t :
           kept = shown_keeps query shown right.1.1.0 keeps;
         }
     comes last line (ListRequest query) None BadToken a p kept keeps right same known = record { start = None; resolved = right; reply_is = refl; behind = refl; kept = tt }
+    comes last line (ListV1 query) (Some q) (ListedV1 shown page) a p kept keeps right same known =
+        let stays = only_stays line p q a (no_change (ListV1 query) p q a (ap (λ (l : RequestLine). l.request) same) (λ u h. h)) (known q refl) in
+        record { start = None; resolved = refl; reply_is = look_v1 p q stays query shown page keeps right; behind = stays.same; kept = kept }
     comes last line Next (Some q) (Listed shown page) a p kept keeps right same known =
         let us = own_upto s p in
         let stays = only_stays line p q a (no_change Next p q a (ap (λ (l : RequestLine). l.request) same) (λ u h. h)) (known q refl) in

@@ -8,11 +8,12 @@ use Rattle.key_map.specs.KeyMap.{map_has}
 use Rattle.bucket_terms.specs.declared.list_query.ListQuery.{ListQuery}
 use Rattle.bucket_terms.specs.declared.token_point.TokenPoint.{TokenPoint}
 use Rattle.bucket_terms.specs.declared.request.Request.{Request}
-use Rattle.bucket_terms.specs.declared.request.Request.TheVariants.{Put, PutNew, Delete, Head, List as ListRequest, Next}
+use Rattle.bucket_terms.specs.declared.request.Request.TheVariants.{Put, PutNew, Delete, Head, List as ListRequest, ListV1, Next}
 use Rattle.bucket_terms.specs.declared.reply.Reply.{Reply}
-use Rattle.bucket_terms.specs.declared.reply.Reply.TheVariants.{Put as PutReply, Exists, Deleted, Listed, BadToken}
+use Rattle.bucket_terms.specs.declared.reply.Reply.TheVariants.{Put as PutReply, Exists, Deleted, Listed, ListedV1, BadToken}
 use Rattle.bucket_terms.specs.declared.reply.Placed.{Placed}
 use Rattle.bucket_terms.specs.Listing.{page_of}
+use Rattle.bucket_terms.specs.V1Listing.{v1_page}
 use Rattle.bucket_terms.specs.LegalRun.{RequestLine, Resumed, IsPointOf, next_of, is_listing}
 use Rattle.bucket_terms.specs.RunParts.{head_answer}
 use Rattle.sample_laws.specs.Alone.{rank_of}
@@ -61,6 +62,7 @@ outcome_on dir client us last line (Delete name) start =
     if map_has (rank_of dir name) (map_of us) then makes client line us (rank_of dir name) Remove Deleted else looks us Deleted
 outcome_on dir client us last line (Head name) start = looks us (head_answer (rank_of dir name) (map_of us))
 outcome_on dir client us last line (ListRequest query) start = list_on dir us query start
+outcome_on dir client us last line (ListV1 query) start = looks us (ListedV1 query (v1_page dir query (map_of us)))
 outcome_on dir client us last line Next start = next_on dir us (next_of dir last)
 
 abbrev pub placed_as : ℕ → ℕ → Outcome → Placed

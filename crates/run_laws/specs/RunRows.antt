@@ -4,15 +4,16 @@ use Rattle.key_map.specs.declared.update.Update.{Update}
 use Rattle.key_map.specs.declared.update.Change.{Change}
 use Rattle.key_map.specs.declared.update.Change.TheVariants.{Put as PutVal, Remove}
 use Rattle.bucket_terms.specs.declared.list_query.ListQuery.{ListQuery}
+use Rattle.bucket_terms.specs.declared.v1_query.V1Query.{V1Query}
 use Rattle.bucket_terms.specs.declared.page.PageEntry.{PageEntry}
 use Rattle.bucket_terms.specs.declared.page.PageEntry.TheVariants.{Key}
 use Rattle.bucket_terms.specs.declared.request.Request.{Request}
-use Rattle.bucket_terms.specs.declared.request.Request.TheVariants.{Put, PutNew, Delete, Head, List as ListRequest}
+use Rattle.bucket_terms.specs.declared.request.Request.TheVariants.{Put, PutNew, Delete, Head, List as ListRequest, ListV1, Next}
 use Rattle.bucket_terms.specs.declared.reply.Reply.{Reply}
-use Rattle.bucket_terms.specs.declared.reply.Reply.TheVariants.{Put as PutReply, Exists, Deleted, Found, Missing, Listed, NoSlot}
+use Rattle.bucket_terms.specs.declared.reply.Reply.TheVariants.{Put as PutReply, Exists, Deleted, Found, Missing, Listed, ListedV1, NoSlot}
 use Rattle.bucket_terms.specs.declared.reply.Placed.{Placed}
 use Rattle.bucket_terms.specs.LegalRun.{RequestLine, Run, IsLegal, slots_of}
-use Rattle.request_lines.specs.Queries.{plain_query}
+use Rattle.request_lines.specs.SampleSession.{plain_query}
 
 -- the directory of the names `a` and `b`
 abbrev pub two_names : List (List ℕ)
@@ -39,6 +40,16 @@ list_all = ListRequest plain_query
 
 abbrev pub page : List PageEntry → Reply
 page entries = Listed plain_query (record { entries = entries; truncated = false })
+
+-- the same listing of version 1
+abbrev pub v1_query : V1Query
+v1_query = record { prefix = []; delimiter = []; marker = []; max_keys = 1000; url = false }
+
+abbrev pub list_v1 : Request
+list_v1 = ListV1 v1_query
+
+abbrev pub v1_reply : List PageEntry → Reply
+v1_reply entries = ListedV1 v1_query (record { entries = entries; truncated = false })
 
 -- each client has so many node slots
 abbrev pub Legal : ℕ → List (List RequestLine) → Run → Type 0
@@ -138,6 +149,12 @@ pub record RunRowsLaw : Type 0 where
   pub in_the_name_of_another : ¬ (Legal 9 (beside (Delete (codes "a"))) (answered_beside (update 0 4 0 Remove ∷ []) (reply_at 1 4 2 Deleted)))
   pub place_falls_behind_a_page : ¬ (Legal 9 (writer ∷ (line 4 list_all ∷ line 5 (Head (codes "a")) ∷ []) ∷ [])
       (run (put_a ∷ []) ((reply_at 0 2 1 (PutReply false) ∷ []) ∷ (reply_at 1 4 1 (page (Key 0 7 ∷ [])) ∷ reply_at 1 5 0 Missing ∷ []) ∷ [])))
+  -- a page of version 1 is of one moment; it answers no LIST, nor does a page of version 2 a LISTV1, and NEXT passes over it
+  pub stale_v1_page : ¬ (Legal 9 (beside list_v1) (answered_beside [] (reply_at 1 4 1 (v1_reply []))))
+  pub v1_page_for_a_list : ¬ (Legal 9 (beside list_all) (answered_beside [] (reply_at 1 4 1 (v1_reply (Key 0 7 ∷ [])))))
+  pub page_for_a_v1_list : ¬ (Legal 9 (beside list_v1) (answered_beside [] (reply_at 1 4 1 (page (Key 0 7 ∷ [])))))
+  pub next_behind_a_v1_page : ¬ (Legal 9 (writer ∷ (line 4 list_v1 ∷ line 5 Next ∷ []) ∷ [])
+      (run (put_a ∷ []) ((reply_at 0 2 1 (PutReply false) ∷ []) ∷ (reply_at 1 4 1 (v1_reply (Key 0 7 ∷ [])) ∷ reply_at 1 5 1 (page (Key 0 7 ∷ [])) ∷ []) ∷ [])))
   -- the removal of an absent key uses no slot
   pub no_update_before : ¬ (Legal 1 ((line 2 (Delete (codes "a")) ∷ line 3 (Put (codes "a") 7) ∷ []) ∷ [])
       (run [] ((reply_at 0 2 0 Deleted ∷ no_slot 0 3 ∷ []) ∷ [])))

@@ -3,9 +3,10 @@ use Rattle.std.specs.Prelude.{◌≡◌, ◌≢◌, ℕ, ◌<◌, Bool, true, fa
 use Rattle.key_names.specs.Names.{Rises}
 use Rattle.key_map.specs.declared.pair.Pair.{Pair}
 use Rattle.bucket_terms.specs.declared.request.Request.{Request}
-use Rattle.bucket_terms.specs.declared.request.Request.TheVariants.{Put, PutNew, Delete, Head, List as ListRequest, Next}
+use Rattle.bucket_terms.specs.declared.request.Request.TheVariants.{Put, PutNew, Delete, Head, List as ListRequest, ListV1, Next}
 use Rattle.bucket_terms.specs.declared.reply.Placed.{Placed}
 use Rattle.bucket_terms.specs.Listing.{is_under}
+use Rattle.bucket_terms.specs.V1Listing.{plain}
 use Rattle.bucket_terms.specs.LegalRun.{RequestLine, Run, IsLegal, lines_of, replies_of}
 use Rattle.bucket_terms.specs.RunParts.{updates_in}
 use Rattle.sample_laws.specs.Alone.{rank_of}
@@ -19,6 +20,7 @@ KeepsTo dir own (PutNew name val) = IsTrue (own (rank_of dir name))
 KeepsTo dir own (Delete name) = IsTrue (own (rank_of dir name))
 KeepsTo dir own (Head name) = IsTrue (own (rank_of dir name))
 KeepsTo dir own (ListRequest query) = (p : Pair) → IsTrue (is_under dir query p) → IsTrue (own p.key)
+KeepsTo dir own (ListV1 query) = (p : Pair) → IsTrue (is_under dir (plain query) p) → IsTrue (own p.key)
 KeepsTo dir own Next = Unit {0}
 
 -- the request changes no such key

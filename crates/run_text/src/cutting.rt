@@ -90,7 +90,7 @@ fn first_piece(replies: &[Placed], name_bytes: usize) -> (usize, usize)
 // The bytes of a reply's line.
 fn line_bytes(placed: &Placed, name_bytes: usize) -> usize {
     match &placed.reply {
-        Reply::Listed { page, .. } => page
+        Reply::Listed { page, .. } | Reply::ListedV1 { page, .. } => page
             .entries
             .len()
             .saturating_mul(ENTRY_BYTES.saturating_add(name_bytes))

@@ -9,9 +9,9 @@ use Rattle.key_map.specs.declared.pair.Pair.{Pair}
 use Rattle.key_map.specs.declared.update.Update.{Update}
 use Rattle.key_map.specs.History.{after}
 use Rattle.bucket_terms.specs.declared.request.Request.{Request}
-use Rattle.bucket_terms.specs.declared.request.Request.TheVariants.{Put, PutNew, Delete, Head, List as ListRequest, Next}
+use Rattle.bucket_terms.specs.declared.request.Request.TheVariants.{Put, PutNew, Delete, Head, List as ListRequest, ListV1, Next}
 use Rattle.bucket_terms.specs.declared.reply.Reply.{Reply}
-use Rattle.bucket_terms.specs.declared.reply.Reply.TheVariants.{Put as PutReply, Exists, Deleted, Found, Missing, Listed, BadToken, NoSlot}
+use Rattle.bucket_terms.specs.declared.reply.Reply.TheVariants.{Put as PutReply, Exists, Deleted, Found, Missing, Listed, ListedV1, BadToken, NoSlot}
 use Rattle.bucket_terms.specs.declared.reply.Placed.{Placed}
 use Rattle.bucket_terms.specs.LegalRun.{RequestLine, Setting, Answered, IsOf, update_at, HasUsedItsSlots, IsRight, AreAnswered, answered_lines, last_listing}
 use Rattle.bucket_terms.specs.RunParts.{IsPlacedBelow, is_earlier_of}
@@ -21,7 +21,7 @@ use Rattle.sample_laws.specs.Finds.{FindsAlone}
 use Rattle.sample_laws.proofs.Parts.{made_by}
 use Rattle.sample_laws.proofs.Places.{own_upto, AreMadeBy, IsFront, front_placed, order_at, own_above, own_behind, none_left}
 use Rattle.sample_laws.proofs.Steps.{Stays, Adds, step, made_next}
-use Rattle.sample_laws.proofs.Follows.{own_map, Follows, follows_put, follows_new, follows_kept, follows_removal, follows_none, follows_head, follows_list}
+use Rattle.sample_laws.proofs.Follows.{own_map, Follows, follows_put, follows_new, follows_kept, follows_removal, follows_none, follows_head, follows_list, follows_v1}
 
 -- what a client has from a map on, in the updates and the replies of the run
 pub record GoesOnAlone (s : Setting) (prefix : List ℕ) (p : ℕ) (m : List Pair) (lines : List RequestLine) (replies : List Placed) : Type 0 where
@@ -75,6 +75,8 @@ module _ (s : Setting) (prefix : List ℕ) (rising : Rises s.dir) (split : (t : 
   right_follows last line (ListRequest asked) (Some q) (Listed query page) a p right own same at =
       (q, (refl, follows_list s prefix rising split p q asked query page a (ap (λ (l : RequestLine). l.request) same) own right (at q refl).1))
   right_follows last line (ListRequest asked) None BadToken a p right own same at = absurd (right None own.1)
+  right_follows last line (ListV1 asked) (Some q) (ListedV1 query page) a p right own same at =
+      (q, (refl, follows_v1 s prefix rising split p q asked query page a (ap (λ (l : RequestLine). l.request) same) own right (at q refl).1))
   right_follows last line Next o reply a p right own same at = absurd own
   right_follows last line (Head name) None NoSlot a p right own same at = absurd right
   right_follows last line request o reply a p right own same at = absurd right

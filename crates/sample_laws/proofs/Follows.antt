@@ -15,17 +15,19 @@ use Rattle.key_map.specs.History.{updated, after}
 use Rattle.key_map.proofs.MapLaws.{map_remove-absent}
 use Rattle.bucket_terms.proofs.Finds.{map_has-none, map_has-some}
 use Rattle.bucket_terms.specs.declared.list_query.ListQuery.{ListQuery}
+use Rattle.bucket_terms.specs.declared.v1_query.V1Query.{V1Query}
+use Rattle.bucket_terms.specs.V1Listing.{plain, marker_point, v1_page}
 use Rattle.bucket_terms.specs.declared.token_point.TokenPoint.{TokenPoint}
 use Rattle.bucket_terms.specs.declared.page.Page.{Page}
 use Rattle.bucket_terms.specs.declared.request.Request.{Request}
-use Rattle.bucket_terms.specs.declared.request.Request.TheVariants.{Put, PutNew, Delete, Head, List as ListRequest}
+use Rattle.bucket_terms.specs.declared.request.Request.TheVariants.{Put, PutNew, Delete, Head, List as ListRequest, ListV1}
 use Rattle.bucket_terms.specs.declared.reply.Reply.{Reply}
-use Rattle.bucket_terms.specs.declared.reply.Reply.TheVariants.{Put as PutReply, Exists, Deleted, Listed}
+use Rattle.bucket_terms.specs.declared.reply.Reply.TheVariants.{Put as PutReply, Exists, Deleted, Listed, ListedV1}
 use Rattle.bucket_terms.specs.Listing.{is_under, is_admitted, entry_of, is_same_group, entries_of, page_of}
 use Rattle.bucket_terms.specs.PageParts.{listing, cut_at}
 use Rattle.std.specs.List.{dedup}
 use Rattle.bucket_terms.specs.RunParts.{head_answer, head_by}
-use Rattle.bucket_terms.specs.LegalRun.{Setting, Answered, IsOf, IsPointOf, update_at, UpdateStands, Finds, Lists, IsChangeOf}
+use Rattle.bucket_terms.specs.LegalRun.{Setting, Answered, IsOf, IsPointOf, update_at, UpdateStands, Finds, Lists, ListsV1, IsChangeOf}
 use Rattle.sample_laws.specs.Alone.{rank_of, map_behind, updates_on, reply_on}
 use Rattle.sample_laws.specs.Own.{is_own, own_pairs, IsNamed}
 use Rattle.sample_laws.proofs.Parts.{made_by, map_has-part, map_get-part, filter-within}
@@ -36,11 +38,11 @@ use Rattle.sample_laws.proofs.Ranks.{rank_of-is, own_rank, no_token}
 -- ---- a page under the prefix
 
 -- the page has the own pairs alone
-pub page-own : (dir : List (List ℕ)) (query : ListQuery) (m : List Pair)
-    → page_of dir query None m ≡ page_of dir query None (own_pairs dir query.prefix m)
+pub page-own : (dir : List (List ℕ)) (query : ListQuery) (point : Option TokenPoint) (m : List Pair)
+    → page_of dir query point m ≡ page_of dir query point (own_pairs dir query.prefix m)
 unfolding entries_of listing
-page-own dir query m =
-    let admits = λ (p : Pair). is_admitted query None (name_at dir p.key) in
+page-own dir query point m =
+    let admits = λ (p : Pair). is_admitted query point (name_at dir p.key) in
     ap (λ (ps : List Pair). cut_at query.max_keys (dedup (is_same_group dir) (map (entry_of dir query) ps)))
     (sym (filter-within (is_under dir query) admits m))
 
@@ -209,7 +211,7 @@ module _ (s : Setting) (prefix : List ℕ) (rising : Rises s.dir) (split : (t : 
   follows_list p q asked query page a same own answers (inr adds) = absurd (no_change (ListRequest asked) p q a same (λ u h. h) adds)
   follows_list p q asked query page a same own answers (inl stays) =
       let from_start : page ≡ page_of s.dir asked None (after s.updates q) = by_point answers.0 answers.1.0 answers.1.1.1 in
-      let own_page = page-own s.dir asked (after s.updates q)
+      let own_page = page-own s.dir asked None (after s.updates q)
       ∙ ap (λ (text : List ℕ). page_of s.dir asked None (own_pairs s.dir text (after s.updates q))) own.0
       ∙ ap (page_of s.dir asked None) (split q ∙ ap made_by stays.same) in
       record {
@@ -222,3 +224,18 @@ module _ (s : Setting) (prefix : List ℕ) (rising : Rises s.dir) (split : (t : 
       by_point : (point : Option TokenPoint) → IsPointOf asked point → page ≡ page_of s.dir asked point (after s.updates q) → page ≡ page_of s.dir asked None (after s.updates q)
       by_point None from same = same
       by_point (Some point) from same = absurd (no_token (record { point = point; bound = from.0 }) asked.token own.1 from.1.1)
+
+  pub follows_v1 : (p q : ℕ) (asked query : V1Query) (page : Page) (a : Answered) → a.asked.request ≡ ListV1 asked → asked.prefix ≡ prefix
+      → ListsV1 s q asked query page → Stays s p q ⊎ Adds s p q a → Follows s p q (ListV1 asked) (ListedV1 query page)
+  follows_v1 p q asked query page a same own answers (inr adds) = absurd (no_change (ListV1 asked) p q a same (λ u h. h) adds)
+  follows_v1 p q asked query page a same own answers (inl stays) =
+      let point = marker_point asked in
+      let own_page = page-own s.dir (plain asked) point (after s.updates q)
+      ∙ ap (λ (text : List ℕ). page_of s.dir (plain asked) point (own_pairs s.dir text (after s.updates q))) own
+      ∙ ap (page_of s.dir (plain asked) point) (split q ∙ ap made_by stays.same) in
+      record {
+        same_reply = ap (λ (asked' : V1Query). ListedV1 asked' page) answers.0 ∙ ap (ListedV1 asked) (answers.1 ∙ own_page);
+        pairs = ap made_by stays.same;
+        count = stays_count p q stays;
+        named = tt;
+      }

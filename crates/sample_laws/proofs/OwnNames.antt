@@ -7,7 +7,7 @@ use Rattle.std.proofs.lemmas.List.Elements.{All-nil, All-head, All-tail, All-con
 use Rattle.key_map.specs.declared.update.Update.{Update}
 use Rattle.key_map.specs.History.{after}
 use Rattle.bucket_terms.specs.declared.request.Request.{Request}
-use Rattle.bucket_terms.specs.declared.request.Request.TheVariants.{Put, PutNew, Delete, Head, List as ListRequest, Next}
+use Rattle.bucket_terms.specs.declared.request.Request.TheVariants.{Put, PutNew, Delete, Head, List as ListRequest, ListV1, Next}
 use Rattle.bucket_terms.specs.declared.reply.Placed.{Placed}
 use Rattle.bucket_terms.specs.LegalRun.{RequestLine, Setting, Answered, Run, IsLegal, IsMadeBy, IsChangeOf, answered_lines, lines_of, replies_of}
 use Rattle.bucket_terms.specs.RunParts.{setting_of}
@@ -40,6 +40,7 @@ own_change dir prefix u (PutNew name val) own change = own_rank dir prefix name 
 own_change dir prefix u (Delete name) own change = own_rank dir prefix name u.key own change.0
 own_change dir prefix u (Head name) own change = absurd change
 own_change dir prefix u (ListRequest query) own change = absurd change
+own_change dir prefix u (ListV1 query) own change = absurd change
 own_change dir prefix u Next own change = absurd change
 
 pub all_from_get : (P : Update → Type 0) (us : List Update) → ((i : ℕ) (u : Update) → slice_get us i ≡ Some u → P u) → All P us

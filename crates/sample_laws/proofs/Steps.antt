@@ -8,7 +8,7 @@ use Rattle.std.proofs.lemmas.List.Sums.{sum_by-cons}
 use Rattle.std.proofs.lemmas.Option.{same_Some}
 use Rattle.key_map.specs.declared.update.Update.{Update}
 use Rattle.bucket_terms.specs.declared.request.Request.{Request}
-use Rattle.bucket_terms.specs.declared.request.Request.TheVariants.{Put, PutNew, Delete, Head, List as ListRequest, Next}
+use Rattle.bucket_terms.specs.declared.request.Request.TheVariants.{Put, PutNew, Delete, Head, List as ListRequest, ListV1, Next}
 use Rattle.bucket_terms.specs.declared.reply.Placed.{Placed}
 use Rattle.bucket_terms.specs.LegalRun.{RequestLine, Setting, Answered, update_at, AreAnswered, answered_lines, IsMadeBy, IsChangeOf, is_update}
 use Rattle.bucket_terms.specs.RunParts.{updates_in}
@@ -101,6 +101,7 @@ change_counts dir u (PutNew name val) h = refl
 change_counts dir u (Delete name) h = refl
 change_counts dir u (Head name) h = absurd h
 change_counts dir u (ListRequest query) h = absurd h
+change_counts dir u (ListV1 query) h = absurd h
 change_counts dir u Next h = absurd h
 
 one_more : (b : Bool) (n : ℕ) → b ≡ true → n + 1 ≤ n + cond b 1 0

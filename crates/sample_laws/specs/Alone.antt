@@ -7,10 +7,11 @@ use Rattle.std.specs.Cmp.Lexicographic.{pointwise}
 use Rattle.key_map.specs.declared.pair.Pair.{Pair}
 use Rattle.key_map.specs.Map.{map_has, map_put, map_remove}
 use Rattle.bucket_terms.specs.declared.request.Request.{Request}
-use Rattle.bucket_terms.specs.declared.request.Request.TheVariants.{Put, PutNew, Delete, Head, List as ListRequest, Next}
+use Rattle.bucket_terms.specs.declared.request.Request.TheVariants.{Put, PutNew, Delete, Head, List as ListRequest, ListV1, Next}
 use Rattle.bucket_terms.specs.declared.reply.Reply.{Reply}
-use Rattle.bucket_terms.specs.declared.reply.Reply.TheVariants.{Put as PutReply, Exists, Deleted, Listed, BadToken}
+use Rattle.bucket_terms.specs.declared.reply.Reply.TheVariants.{Put as PutReply, Exists, Deleted, Listed, ListedV1, BadToken}
 use Rattle.bucket_terms.specs.Listing.{page_of}
+use Rattle.bucket_terms.specs.V1Listing.{v1_page}
 use Rattle.bucket_terms.specs.RunParts.{head_answer}
 use Rattle.bucket_terms.specs.LegalRun.{RequestLine}
 
@@ -41,6 +42,7 @@ reply_on dir m (PutNew name val) = cond (map_has (rank_of dir name) m) Exists (P
 reply_on dir m (Delete name) = Deleted
 reply_on dir m (Head name) = head_answer (rank_of dir name) m
 reply_on dir m (ListRequest query) = Listed query (page_of dir query None m)
+reply_on dir m (ListV1 query) = ListedV1 query (v1_page dir query m)
 reply_on dir m Next = BadToken
 
 -- ---- requests one after the other, from a map on

@@ -6,7 +6,7 @@ use Rattle.key_names.specs.Names.{Rises, IsRank, name_at, begins_with}
 use Rattle.key_map.specs.declared.pair.Pair.{Pair}
 use Rattle.key_map.specs.declared.update.Update.{Update}
 use Rattle.bucket_terms.specs.declared.request.Request.{Request}
-use Rattle.bucket_terms.specs.declared.request.Request.TheVariants.{Put, PutNew, Delete, Head, List as ListRequest, Next}
+use Rattle.bucket_terms.specs.declared.request.Request.TheVariants.{Put, PutNew, Delete, Head, List as ListRequest, ListV1, Next}
 use Rattle.bucket_terms.specs.LegalRun.{RequestLine, lines_of}
 use Rattle.sample_laws.specs.Alone.{rank_of}
 
@@ -29,6 +29,7 @@ IsOwnRequest prefix (PutNew name val) = IsTrue (begins_with name prefix)
 IsOwnRequest prefix (Delete name) = IsTrue (begins_with name prefix)
 IsOwnRequest prefix (Head name) = IsTrue (begins_with name prefix)
 IsOwnRequest prefix (ListRequest query) = (query.prefix ≡ prefix) × (query.token ≡ [])
+IsOwnRequest prefix (ListV1 query) = query.prefix ≡ prefix
 IsOwnRequest prefix Next = ⊥
 
 abbrev pub AreOwnRequests : List ℕ → List RequestLine → Type 0

@@ -3,7 +3,7 @@
 use Rattle.std.specs.Prelude.{ℕ, List, [], length, sum_by}
 use Rattle.key_map.specs.History.{after}
 use Rattle.bucket_terms.specs.declared.reply.Reply.{Reply}
-use Rattle.bucket_terms.specs.declared.reply.Reply.TheVariants.{Listed}
+use Rattle.bucket_terms.specs.declared.reply.Reply.TheVariants.{Listed, ListedV1}
 use Rattle.bucket_terms.specs.declared.reply.Placed.{Placed}
 use Rattle.bucket_terms.specs.declared.summary.Summary.{Summary}
 use Rattle.bucket_terms.specs.LegalRun.{RequestLine, Run}
@@ -12,6 +12,7 @@ use Rattle.sample_laws.specs.Alone.{map_alone, updates_alone, replies_alone}
 -- how many entries the page of a listing has
 abbrev pub listed_in : Reply → ℕ
 listed_in (Listed query page) = length page.entries
+listed_in (ListedV1 query page) = length page.entries
 listed_in reply = 0
 
 -- how many entries the pages of a client's replies have together

@@ -12,12 +12,14 @@ use Rattle.key_map.specs.Map.{pair, map_put, map_remove, map_get}
 use Rattle.key_map.specs.History.{changed, updated, after}
 use Rattle.bucket_terms.specs.declared.record.Record.{Record}
 use Rattle.bucket_terms.specs.declared.list_query.ListQuery.{ListQuery}
+use Rattle.bucket_terms.specs.declared.v1_query.V1Query.{V1Query}
+use Rattle.bucket_terms.specs.V1Listing.{plain, marker_point, v1_page}
 use Rattle.bucket_terms.specs.declared.token_point.TokenPoint.{TokenPoint}
 use Rattle.bucket_terms.specs.declared.page.Page.{Page}
 use Rattle.bucket_terms.specs.declared.request.Request.{Request}
-use Rattle.bucket_terms.specs.declared.request.Request.TheVariants.{Put, PutNew, Delete, Head, List as ListRequest, Next}
+use Rattle.bucket_terms.specs.declared.request.Request.TheVariants.{Put, PutNew, Delete, Head, List as ListRequest, ListV1, Next}
 use Rattle.bucket_terms.specs.declared.reply.Reply.{Reply}
-use Rattle.bucket_terms.specs.declared.reply.Reply.TheVariants.{Put as PutReply, Exists, Deleted, Found, Missing, Listed, BadToken, NoSlot}
+use Rattle.bucket_terms.specs.declared.reply.Reply.TheVariants.{Put as PutReply, Exists, Deleted, Found, Missing, Listed, ListedV1, BadToken, NoSlot}
 use Rattle.bucket_terms.specs.declared.reply.Placed.{Placed}
 use Rattle.bucket_terms.specs.Listing.{is_under, is_admitted, group_len, entry_by, entry_of, is_same_group, entries_of, page_of}
 use Rattle.bucket_terms.specs.PageParts.{listing}
@@ -120,6 +122,9 @@ module _ (dir : List (List ℕ)) (records : List Record) where
     reply_recorded last line Next (Some n) (Listed query' page') right page =
         page_recorded right.0.query (Some right.0.point) (after s.updates n) page' (below_after (length records) s.updates n puts)
         (right.1.1.1 ∙ ap (λ (d : List (List ℕ)). page_of d right.0.query (Some right.0.point) (after s.updates n)) same) page
+    reply_recorded last line (ListV1 query) (Some n) (ListedV1 query' page') right page =
+        page_recorded (plain query) (marker_point query) (after s.updates n) page' (below_after (length records) s.updates n puts)
+        (right.1 ∙ ap (λ (d : List (List ℕ)). v1_page d query (after s.updates n)) same) page
     reply_recorded last line (Put name v) None (Found val) right page = absurd right
     reply_recorded last line (Put name v) (Some n) (Found val) right page = absurd right
     reply_recorded last line (PutNew name v) None (Found val) right page = absurd right
@@ -141,6 +146,23 @@ module _ (dir : List (List ℕ)) (records : List Record) where
     reply_recorded last line (Head name) (Some n) (Listed query' page') right page = absurd right
     reply_recorded last line (ListRequest query) None (Listed query' page') right page = absurd right
     reply_recorded last line Next None (Listed query' page') right page = absurd right
+    reply_recorded last line (ListV1 query) None (Found val) right page = absurd right
+    reply_recorded last line (ListV1 query) None (Listed query' page') right page = absurd right
+    reply_recorded last line (ListV1 query) (Some n) (Found val) right page = absurd right
+    reply_recorded last line (ListV1 query) (Some n) (Listed query' page') right page = absurd right
+    reply_recorded last line (Put name v) None (ListedV1 query' page') right page = absurd right
+    reply_recorded last line (Put name v) (Some n) (ListedV1 query' page') right page = absurd right
+    reply_recorded last line (PutNew name v) None (ListedV1 query' page') right page = absurd right
+    reply_recorded last line (PutNew name v) (Some n) (ListedV1 query' page') right page = absurd right
+    reply_recorded last line (Delete name) None (ListedV1 query' page') right page = absurd right
+    reply_recorded last line (Delete name) (Some n) (ListedV1 query' page') right page = absurd right
+    reply_recorded last line (Head name) None (ListedV1 query' page') right page = absurd right
+    reply_recorded last line (Head name) (Some n) (ListedV1 query' page') right page = absurd right
+    reply_recorded last line (ListRequest query) None (ListedV1 query' page') right page = absurd right
+    reply_recorded last line (ListRequest query) (Some n) (ListedV1 query' page') right page = absurd right
+    reply_recorded last line Next None (ListedV1 query' page') right page = absurd right
+    reply_recorded last line Next (Some n) (ListedV1 query' page') right page = absurd right
+    reply_recorded last line (ListV1 query) None (ListedV1 query' page') right page = absurd right
 
     pub replies_recorded : (earlier : List Answered) (lines : List RequestLine) (replies : List Placed) → AreAnswered s earlier lines replies
         → All (λ (p : Placed). HasPageInRange dir p.reply) replies → All (λ (p : Placed). IsReplyOf dir records p.reply) replies

@@ -12,7 +12,7 @@ pub returns : goal.returns
 unfolding spec.entries_text
 returns c =
     let dir = c.args.dir.now in
-    let url = c.args.query.now.url in
+    let url = c.args.url in
     let entries = c.args.page.now.entries in
     let prefixes : string_bytes c.push_prefixes.new.out ≡ string_bytes c.push.new.out ++ (items_text false (items_of (filter_map (prefix_of dir url) entries))) =
     rw c.as_slice-entries.ensures at c.in_ok-push_prefixes.ensures in

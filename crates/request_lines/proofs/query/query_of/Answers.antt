@@ -7,7 +7,7 @@ use Rattle.request_lines.proofs.PieceLaws.{piece_taken, piece_fails, pieces_end,
 use Rattle.request_lines.proofs.query.query_of.Goals as goal
 
 pub loop-left-init : goal.loop-left-init
-loop-left-init c = rw (c.plain_query.ensures, c.new.ensures.items) (pieces_start c.args.text.now c.without_mark.result.now c.without_mark.ensures)
+loop-left-init c = rw (c.none.ensures, c.new.ensures.items) (pieces_start c.args.version c.args.text.now c.without_mark.result.now c.without_mark.ensures)
 
 pub loop-left-preserved : goal.loop-left-preserved
 loop-left-preserved c =

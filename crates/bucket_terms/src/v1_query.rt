@@ -1,0 +1,35 @@
+ghost use Rattle.std.specs.Prelude.{◌≡◌, IfOk};
+
+use key_names::{NoMemory, Text};
+use std::alloc::Global;
+
+/// The parameters of a listing of version 1 (Amazon S3 API reference, ListObjects). An empty text is a parameter that was
+/// not given.
+#[derive(Debug, Drop)]
+pub struct V1Query {
+    /// Only keys that begin with it are listed. At most 1,024 bytes.
+    pub prefix: Text,
+    /// Keys in which it occurs after the prefix are rolled up into common prefixes. At most 1,024 bytes.
+    pub delimiter: Text,
+    /// Behind which key, or behind which common prefix, the listing begins. At most 1,024 bytes.
+    pub marker: Text,
+    /// How many entries a page has at most: 0 to 1,000.
+    pub max_keys: u32,
+    /// Whether the texts of the answer are percent-encoded (`encoding-type=url`).
+    pub url: bool,
+}
+
+impl V1Query {
+    /// An equal query with texts of its own.
+    pub fn copy(&self, alloc: Global) -> Result<V1Query, NoMemory>
+        ensures { IfOk result (λ copied. copied ≡ self.now) }
+    {
+        Ok(V1Query {
+            prefix: self.prefix.copy(alloc)?,
+            delimiter: self.delimiter.copy(alloc)?,
+            marker: self.marker.copy(alloc)?,
+            max_keys: self.max_keys,
+            url: self.url,
+        })
+    }
+}
