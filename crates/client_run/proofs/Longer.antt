@@ -95,6 +95,7 @@ module _ (s : Setting) (more : List Update) where
   IsRight-longer last line Next (Some n) (Listed query page) within others right = (right.0, (right.1.0, lists-longer n right.0.query (Some right.0.point) query page within right.1.1))
   IsRight-longer last line Next None BadToken within others right = right
   IsRight-longer last line (Head name) None NoSlot within others right = absurd right
+  IsRight-longer last line (ListV1 query) None NoSlot within others right = absurd right
   IsRight-longer last line request at reply within others right = absurd right
 
   order-longer : (earlier : List Answered) (line n : ℕ) → KeepsOrder s earlier line n → KeepsOrder (over s (s.updates ++ more)) earlier line n

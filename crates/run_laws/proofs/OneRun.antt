@@ -311,6 +311,7 @@ module _ (s : Setting) (rising : Rises s.dir) (mine : (i : ℕ) (u : Update) →
           behind = ap (λ (o : Option Resumed). (next_on s.dir us o).updates) (sym right);
         }
     comes last line (Head name) None NoSlot a p low right same steps = absurd right
+    comes last line (ListV1 query) None NoSlot a p low right same steps = absurd right
     comes last line request o reply a p low right same steps = absurd right
 
     -- ---- the requests in order

@@ -111,6 +111,7 @@ module _ (new : ℕ → ℕ) (back : (c : ℕ) → new (new c) ≡ c) where
     right_same last line Next (Some n) (Listed shown page) right = (right.0, (right.1.0, lists_same n right.0.query (Some right.0.point) shown page right.1.1))
     right_same last line Next None BadToken right = right
     right_same last line (Head name) None NoSlot right = absurd right
+    right_same last line (ListV1 query) None NoSlot right = absurd right
     right_same last line request at reply right = absurd right
 
     above_same : (earlier : List Answered) (line at : ℕ) (o : Option Update)

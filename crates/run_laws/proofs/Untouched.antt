@@ -307,6 +307,7 @@ module _ (s : Setting) (own : ℕ → Bool) (rising : Rises s.dir) (split : (t :
         let stays = only_stays line p q a (no_change (Head name) p q a (ap (λ (l : RequestLine). l.request) same) (λ u h. h)) (known q refl) in
         record { start = None; resolved = refl; reply_is = sym (ap head_by (look_finds p q stays name None keeps right)); behind = stays.same; kept = kept }
     comes last line (Head name) None NoSlot a p kept keeps right same known = absurd right
+    comes last line (ListV1 query) None NoSlot a p kept keeps right same known = absurd right
     comes last line (ListRequest query) (Some q) (Listed shown page) a p kept keeps right same known =
         let stays = only_stays line p q a (no_change (ListRequest query) p q a (ap (λ (l : RequestLine). l.request) same) (λ u h. h)) (known q refl) in
         record {

@@ -79,6 +79,7 @@ module _ (s : Setting) (prefix : List ℕ) (rising : Rises s.dir) (split : (t : 
       (q, (refl, follows_v1 s prefix rising split p q asked query page a (ap (λ (l : RequestLine). l.request) same) own right (at q refl).1))
   right_follows last line Next o reply a p right own same at = absurd own
   right_follows last line (Head name) None NoSlot a p right own same at = absurd right
+  right_follows last line (ListV1 query) None NoSlot a p right own same at = absurd right
   right_follows last line request o reply a p right own same at = absurd right
 
   -- the answers that are left, from the front `p` on

@@ -1,5 +1,5 @@
 -- An update that was made on the table, and a key that was not found, to the caller of the index.
-use Rattle.std.proofs.Common.{◌≡◌, ℕ, ◌+◌, ◌-◌, ◌^◌, ◌≤◌, List, [], ◌∷◌, ◌++◌, Bool, true, false, arith, ap, sym, ◌∙◌, Result, Ok, Err, Some, None, IfOk, MatchBool}
+use Rattle.std.proofs.Common.{◌≡◌, ℕ, ◌+◌, ◌-◌, ◌^◌, ◌≤◌, [], ◌∷◌, ◌++◌, Bool, true, false, arith, ap, sym, ◌∙◌, Result, Ok, Err, None, IfOk, MatchBool}
 use Rattle.std.specs.Prelude.{min}
 use Rattle.std.proofs.lemmas.Bool.Decides.{nat_tests}
 use Rattle.std.proofs.lemmas.List.{append_assoc}
