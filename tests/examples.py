@@ -4,7 +4,7 @@
     tests/examples.py PROGRAM
     tests/examples.py --write     writes the answers of examples/ anew: by the model, and never by the program
 
-- Each session examples/NAME.txt is answered by examples/NAME.out, which is also what the model of
+- Each session examples/NAME.txt is answered, with the slots that SLOTS names for it, by examples/NAME.out, which is also what the model of
   session_model.py answers. The pair that the program's crate is checked with is the first session of rows.txt.
   A session of several clients has no answers beside it, since they depend on the schedule: what the program
   writes is to be a legal run.
@@ -20,7 +20,7 @@ import sys
 from pathlib import Path
 
 from broken_streams import whole_session
-from legal_runs import fault_of
+from legal_runs import fault_of, words_of
 from random_sessions import make_ready
 from session_model import Refused, answers
 
@@ -32,6 +32,10 @@ LONG = {
     "TooManyLines": b"CLIENT\n" + b"HEAD a\n" * 200001,
     "TooManyEntries": b"CLIENT\n" + b"LIST\n" * 4001,
 }
+
+
+# The examples whose clients have a named number of node slots; the others are run by the one word `run`.
+SLOTS = {"few_slots": 2}
 
 
 class Tally:
@@ -56,29 +60,29 @@ def first_other(text, other):
     return next((line for at, line in enumerate(lines) if others[at : at + 1] != [line]), "(the start of it)")
 
 
-def run(program, raw):
-    ran = subprocess.run([program, "run"], input=raw, capture_output=True)
+def run(program, raw, slots=None):
+    ran = subprocess.run([program, *words_of(slots)], input=raw, capture_output=True)
     return ran.stdout.decode(), ran.stderr.decode(), ran.returncode
 
 
-def model(raw):
+def model(raw, slots=None):
     """What the program is to write, to say and to end with."""
     try:
-        return answers(raw), "", 0
+        return answers(raw, slots), "", 0
     except Refused as refusal:
         return "", "bucketidx: %s\n" % refusal, 3
 
 
 def check_sessions(program, tally):
     for path in sorted(EXAMPLES.glob("*.txt")):
-        raw = path.read_bytes()
+        raw, slots = path.read_bytes(), SLOTS.get(path.stem)
         if model(raw)[0] is None:
             got = run(program, raw)
             tally.compare(path.name, (fault_of(raw, got[0]) or "", *got[1:]), ("", "", 0))
             continue
         beside = path.with_suffix(".out").read_text()
-        tally.compare("%s and the model" % path.name, model(raw), (beside, "", 0))
-        tally.compare(path.name, run(program, raw), (beside, "", 0))
+        tally.compare("%s and the model" % path.name, model(raw, slots), (beside, "", 0))
+        tally.compare(path.name, run(program, raw, slots), (beside, "", 0))
     crate = TOP / "crates" / "bucketidx"
     raw, text = whole_session()
     tally.compare("crates/bucketidx/stdin", (crate / "stdin").read_text(), raw.decode())
@@ -119,7 +123,7 @@ def check_pages(program, tally):
 
 def write():
     for path in sorted(EXAMPLES.glob("*.txt")):
-        text = answers(path.read_bytes())
+        text = answers(path.read_bytes(), SLOTS.get(path.stem))
         if text is not None:
             path.with_suffix(".out").write_text(text)
 

@@ -4,7 +4,8 @@
     tests/failed_allocations.py PROGRAM [SESSION ..]
 
 Without names it takes each text of examples/ that has its answers beside it, tests/three_clients.txt, whose text does
-not depend on the schedule, and a session whose text is put together in several pieces, on threads. Wanted of each
+not depend on the schedule, a session whose text is put together in several pieces, on threads, and the sessions of
+tests/rows.py whose clients have a named number of node slots. Wanted of each
 failure: status 7, a start of the whole text, down to nothing, and one line on standard error; or the whole text and
 status 0, where a thread could not be started, and its client was run or its piece made without one. A session of several
 clients needs answers that do not depend on the schedule. PROGRAM is the built program itself,
@@ -17,9 +18,16 @@ import sys
 import tempfile
 from pathlib import Path
 
+from legal_runs import words_of
+from rows import rows
 from several_pieces import long_lines
 
 HERE = Path(__file__).resolve().parent.parent
+THREE = HERE / "tests" / "three_clients.txt"
+# The session of tests/rows.txt whose pages follow each other.
+PAGES = "a_common_prefix_fills_the_page_and_next_goes_on"
+# The examples whose clients have a named number of node slots.
+SLOTS = {"few_slots": 2}
 LIBRARY = r"""
 #define _GNU_SOURCE
 #include <dlfcn.h>
@@ -86,9 +94,9 @@ class Tried:
         subprocess.run(["cc", "-O1", "-fPIC", "-shared", "-o", library, source, "-ldl"], check=True)
         self.environment = dict(os.environ, LD_PRELOAD=str(library), ALLOCATIONS_FILE=str(self.counted))
 
-    def run(self, session, failing=0):
+    def run(self, session, failing=0, words=("run",)):
         environment = dict(self.environment, FAILED_ALLOCATION=str(failing))
-        return subprocess.run([self.program, "run"], input=session, capture_output=True, env=environment)
+        return subprocess.run([self.program, *words], input=session, capture_output=True, env=environment)
 
     def allocations(self):
         """How many allocations the last run asked for."""
@@ -100,16 +108,16 @@ def refused_rightly(ran, whole):
     return ran.returncode == 7 and whole.startswith(ran.stdout) and lines == ["bucketidx: no memory"]
 
 
-def failures_of(tried, session, text=None):
+def failures_of(tried, session, text=None, words=("run",)):
     """How many allocations were refused in turn, at how many of them something was written, and at how many all of it."""
-    ran = tried.run(session)
+    ran = tried.run(session, words=words)
     if ran.returncode != 0:
         sys.exit("status %d without a failing allocation" % ran.returncode)
     if text not in (None, ran.stdout):
         sys.exit("without a failing allocation the text is another one")
     whole, count, begun, borne = ran.stdout, tried.allocations(), 0, 0
     for number in range(1, count + 1):
-        ran = tried.run(session, number)
+        ran = tried.run(session, number, words)
         if ran.returncode == 0 and ran.stdout == whole and not ran.stderr:
             borne += 1
             continue
@@ -126,14 +134,17 @@ def main():
         sys.exit(__doc__)
     # The answers of several clients depend on the schedule: such a session has none beside it.
     found = (path for path in (HERE / "examples").glob("*.txt") if path.with_suffix(".out").exists())
-    names = sys.argv[2:] or sorted(map(str, found)) + [str(HERE / "tests" / "three_clients.txt")]
+    names = sys.argv[2:] or sorted(map(str, found)) + [str(THREE)]
     with tempfile.TemporaryDirectory() as folder:
         tried = Tried(sys.argv[1], Path(folder))
-        tries = [(name, Path(name).read_bytes(), None) for name in names]
+        tries = [(name, Path(name).read_bytes(), None, words_of(SLOTS.get(Path(name).stem))) for name in names]
         if not sys.argv[2:]:
-            tries.append(("a text of several pieces", *long_lines()))
-        for name, session, text in tries:
-            count, begun, borne = failures_of(tried, session, text)
+            tries.append(("a text of several pieces", *long_lines(), words_of(None)))
+            tries += [(row.name, row.raw, None, row.words) for row in rows() if len(row.words) > 1 and not row.refusal]
+            tries += [(row.name, row.raw, None, row.words) for row in rows() if row.name == PAGES]
+            tries.append(("three clients, of two slots each", THREE.read_bytes(), None, words_of(2)))
+        for name, session, text, words in tries:
+            count, begun, borne = failures_of(tried, session, text, words)
             if count == 0:
                 sys.exit("%s: no allocation was seen" % name)
             print("%s: %d allocations failed in turn, %d of them behind the first line, %d borne" % (name, count, begun, borne))

@@ -2,8 +2,9 @@
 """Checks that what the program writes for several clients is a legal run of its session.
 
     tests/legal_runs.py PROGRAM [--sessions N] [--most-clients N] [--requests N] [--seed N] [--seconds S]
-                        [--names N] [--least-interleaved N] [--rounds N] [--contenders N] [--whole]
-    tests/legal_runs.py --session FILE --text FILE
+                        [--names N] [--least-interleaved N] [--rounds N] [--contenders N] [--whole] [--slots N]
+                        [--least-clients N]
+    tests/legal_runs.py --session FILE --text FILE [--slots N]
 
 Which of several legal texts is written depends on the schedule, so nothing is compared here: `fault_of` takes a
 session and a text, and says what is wrong with it, from the definition of a legal run in docs/DEFINITIONS.md alone.
@@ -12,7 +13,8 @@ the first run that takes too many seconds. It counts the texts that no run of th
 ends with status 1 too where there are fewer of them than asked for. With --rounds each session is the same: two
 clients that put the same seven names, list them and remove them, each so many times. With --contenders so many clients put
 one name once, each where it is not there: exactly one of them is answered 200, and all others 412. With --whole each session
-has as many clients, requests of each client and names as it may have at most.
+has as many clients, requests of each client and names as it may have at most. With --slots each client has so many node
+slots, by the program's option, and may be refused for want of them.
 """
 import argparse
 import bisect
@@ -293,7 +295,7 @@ def random_session(rng, options):
     the smaller the more requests it has."""
     count = options.names if options.whole else min(rng.choice([1, 2, 3, 10, 200]), options.names)
     names = ["".join(rng.choice("abc/é") for _ in range(rng.randint(1, 6))) for _ in range(count)]
-    clients = options.most_clients if options.whole else rng.randint(2, options.most_clients)
+    clients = options.most_clients if options.whole else rng.randint(options.least_clients, options.most_clients)
     most = min(options.requests, MOST_REQUESTS // clients)
     counts = [most if options.whole else rng.randint(0, most) for _ in range(clients)]
     most_keys = min(1000, MOST_LISTED // max(1, sum(counts)))
@@ -355,10 +357,20 @@ def random_line(rng, names, most_keys):
     return "LIST " + "&".join(query) if query else "LIST"
 
 
-def text_of(program, raw, seconds):
+def words_of(slots):
+    """The words of a run whose clients have so many node slots, where a number is named; in both of their forms."""
+    return ["run"] if slots is None else ["run", "--slots", str(slots)] if slots % 2 else ["run", "--slots=%d" % slots]
+
+
+def rule_of(slots):
+    """How many node slots the client of these lines has."""
+    return default_slots if slots is None else lambda lines: slots
+
+
+def text_of(program, raw, seconds, slots=None):
     """What the program writes for the session."""
     try:
-        ran = subprocess.run([program, "run"], input=raw, capture_output=True, timeout=seconds)
+        ran = subprocess.run([program, *words_of(slots)], input=raw, capture_output=True, timeout=seconds)
     except subprocess.TimeoutExpired:
         raise Fault("the run had not ended after %d seconds" % seconds) from None
     want((ran.returncode, ran.stderr) == (0, b""), "it ends with status", ran.returncode, ran.stderr.decode())
@@ -380,20 +392,23 @@ def check_contention(run):
 
 
 def run_sessions(options):
-    rng, requests, interleaved = random.Random(options.seed), 0, 0
+    rng, requests, interleaved, refused = random.Random(options.seed), 0, 0, 0
     for _ in range(options.sessions):
         raw, text = session_of(rng, options), ""
         try:
-            text = text_of(options.program, raw, options.seconds)
-            run = legal_run_of(raw, text)
+            text = text_of(options.program, raw, options.seconds, options.slots)
+            run = legal_run_of(raw, text, rule_of(options.slots))
             if options.contenders:
                 check_contention(run)
         except Fault as fault:
             sys.exit("%s\n%s\n%s" % (raw.decode(), text, fault))
         requests += len(run.by_line)
         interleaved += not run.is_one_after_another()
+        refused += sum(reply["Status"] == 503 for replies in run.replies for reply in replies)
     told = "%d sessions, %d requests: each text is of a legal run, and %d are of no run of the clients one after another"
     print(told % (options.sessions, requests, interleaved), file=sys.stderr)
+    if options.slots is not None:
+        print("%d requests were refused for want of slots" % refused, file=sys.stderr)
     if interleaved < options.least_interleaved:
         sys.exit("fewer than the %d asked for" % options.least_interleaved)
 
@@ -402,6 +417,7 @@ def main():
     parser = argparse.ArgumentParser(description=__doc__.split("\n")[0])
     parser.add_argument("program", nargs="?")
     parser.add_argument("--sessions", type=int, default=200)
+    parser.add_argument("--least-clients", type=int, default=2)
     parser.add_argument("--most-clients", type=int, default=32)
     parser.add_argument("--requests", type=int, default=40)
     parser.add_argument("--names", type=int, default=200)
@@ -411,11 +427,12 @@ def main():
     parser.add_argument("--rounds", type=int, default=0)
     parser.add_argument("--contenders", type=int, default=0)
     parser.add_argument("--whole", action="store_true")
+    parser.add_argument("--slots", type=int)
     parser.add_argument("--session")
     parser.add_argument("--text")
     options = parser.parse_args()
     if options.session:
-        fault = fault_of(Path(options.session).read_bytes(), Path(options.text).read_bytes().decode())
+        fault = fault_of(Path(options.session).read_bytes(), Path(options.text).read_bytes().decode(), rule_of(options.slots))
         print(fault or "legal")
         sys.exit(1 if fault else 0)
     make_ready(options.program)

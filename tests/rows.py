@@ -6,6 +6,7 @@
 - rows.txt: sessions of one client, and lines of their text at their places, counted from 1.
 - TEXTS: the same, of inputs that the file cannot show: ends of lines, no request, long ones.
 - LIMITS: what fits a limit exactly.
+- SLOTS: sessions whose clients have a named number of node slots, in both forms of the words.
 - TOKENS: the value of a continuation token, and whether it is read. BOUND: those that name their listing.
 - RIGHT: lines behind `CLIENT` that are not refused.
 - FAULTY: a line between good ones, and its cause.
@@ -156,6 +157,65 @@ LIMITS = [
         },
     ),
     ("32 clients", "CLIENT\n" * 32, NO_UPDATES),
+]
+
+# A put of a new key takes a node slot, and one of a present key gives back as many as it takes. Where none is left, each
+# PUT, PUTNEW and DELETE is refused, also one that would change nothing.
+PUT_AND_REFUSED = {
+    1: '{"At":1,"Client":0,"Line":2,"Replaced":false,"Status":200}',
+    2: '{"At":null,"Client":0,"Line":3,"Status":503}',
+}
+SLOTS = [
+    (
+        "one slot, for one key",
+        1,
+        "CLIENT\nPUT a 1 e1 1\nPUT b 2 e2 2\nDELETE a\nHEAD a\n",
+        PUT_AND_REFUSED
+        | {
+            3: '{"At":null,"Client":0,"Line":4,"Status":503}',
+            4: '{"At":1,"Client":0,"ETag":"e1","LastModified":1,"Line":5,"Size":1,"Status":200}',
+            5: '{"At":1,"Client":0,"Key":"a","Line":2,"Verb":"PUT"}',
+            6: '{"Updates":1}',
+        },
+    ),
+    (
+        "two slots, for three puts of one key",
+        2,
+        "CLIENT\nPUT a 1 e1 1\nPUT a 2 e2 2\nPUT a 3 e3 3\nHEAD a\n",
+        {
+            1: '{"At":1,"Client":0,"Line":2,"Replaced":false,"Status":200}',
+            2: '{"At":2,"Client":0,"Line":3,"Replaced":true,"Status":200}',
+            3: '{"At":3,"Client":0,"Line":4,"Replaced":true,"Status":200}',
+            4: '{"At":3,"Client":0,"ETag":"e3","LastModified":3,"Line":5,"Size":3,"Status":200}',
+            5: '{"At":1,"Client":0,"Key":"a","Line":2,"Verb":"PUT"}',
+            6: '{"At":2,"Client":0,"Key":"a","Line":3,"Verb":"PUT"}',
+            7: '{"At":3,"Client":0,"Key":"a","Line":4,"Verb":"PUT"}',
+            8: '{"Updates":3}',
+        },
+    ),
+    (
+        "one slot, and a key that is there",
+        1,
+        "CLIENT\nPUTNEW a 1 e1 1\nPUTNEW a 2 e2 2\nHEAD a\n",
+        PUT_AND_REFUSED
+        | {
+            3: '{"At":1,"Client":0,"ETag":"e1","LastModified":1,"Line":4,"Size":1,"Status":200}',
+            4: '{"At":1,"Client":0,"Key":"a","Line":2,"Verb":"PUT"}',
+            5: '{"Updates":1}',
+        },
+    ),
+    (
+        "the most slots that can be named",
+        8192,
+        "CLIENT\nPUT a 1 e1 1\nDELETE b\nDELETE a\n",
+        {
+            2: '{"At":1,"Client":0,"Line":3,"Status":204}',
+            3: '{"At":2,"Client":0,"Line":4,"Status":204}',
+            6: '{"Updates":2}',
+        },
+    ),
+    ("a session without a client", 1, "", NO_UPDATES),
+    ("the most slots, for as many clients as there may be", 8192, "CLIENT\n" * 32, NO_UPDATES),
 ]
 
 # A token without a bound is `K` and a key or `P` and a common prefix, in URL-safe base64 without padding. These are of
@@ -443,6 +503,7 @@ class Row(NamedTuple):
     raw: bytes
     lines: dict = {}
     refusal: tuple | None = None
+    words: tuple = ("run",)
 
 
 def sessions(text):
@@ -466,6 +527,10 @@ def rows():
     yield Row(first.name + ", with CR LF", first.raw.replace(b"\n", b"\r\n"), first.lines)
     for name, session, lines in TEXTS + LIMITS:
         yield Row(name, session.encode(), lines)
+    for name, slots, session, lines in SLOTS:
+        for words in (("run", "--slots", str(slots)), ("run", "--slots=%d" % slots)):
+            yield Row("%s, %s" % (" ".join(words), name), session.encode(), lines, words=words)
+    yield Row("a faulty line, with slots", b"CLIENT\nGET a\n", refusal=(2, "UnknownVerb"), words=("run", "--slots=1"))
     for token, is_read in TOKENS:
         wanted = page_behind(token) if is_read else NO_TOKEN
         yield Row("token " + token, b"CLIENT\nLIST continuation-token=%s\n" % token.encode(), {1: wanted})
@@ -516,7 +581,7 @@ def main():
     make_ready(sys.argv[1])
     passed = failed = 0
     for row in (row for part in (rows(), starts()) for row in part):
-        ran = subprocess.run([sys.argv[1], "run"], input=row.raw, capture_output=True)
+        ran = subprocess.run([sys.argv[1], *row.words], input=row.raw, capture_output=True)
         wrong = list(faults(row, ran.returncode, ran.stdout.decode(), ran.stderr.decode()))
         passed, failed = passed + (not wrong), failed + bool(wrong)
         for fault in wrong:

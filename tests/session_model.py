@@ -2,7 +2,8 @@
 
 `answers(raw)` is what the program is to write for an input: its text, or the faulty line and its cause. It
 shares no code with the program. What a bucket answers is the model in random_sessions.py. The text of several
-clients depends on the schedule; legal_runs.py checks it.
+clients depends on the schedule; legal_runs.py checks it. `answers(raw, slots)` is the same for a client that has so many
+node slots, in a session in which its entry slots suffice.
 """
 import re
 
@@ -131,10 +132,34 @@ class Limits:
         refuse_if(self.entries > 4000000, "TooManyEntries")
 
 
-def answers(raw):
+class FewSlots(Model):
+    """A bucket whose one client has so many node slots. A put of a new key takes one, a removal gives one back, and a put of
+    a present key gives back what it takes. Without a slot each request that may make an update is refused."""
+
+    def __init__(self, slots):
+        super().__init__()
+        self.slots = slots
+
+    def is_refused(self, line):
+        if self.slots > len(self.records):
+            return False
+        self.answers.append(dict(At=None, Client=0, Line=line, Status=503))
+        return True
+
+    def put(self, line, *record):
+        self.is_refused(line) or super().put(line, *record)
+
+    def putnew(self, line, *record):
+        self.is_refused(line) or super().putnew(line, *record)
+
+    def delete(self, line, name):
+        self.is_refused(line) or super().delete(line, name)
+
+
+def answers(raw, slots=None):
     """The text that the program writes for this input, or None where several clients may write several texts.
     `Refused` names the first faulty line and its cause."""
-    model, limits = Model(), Limits()
+    model, limits = FewSlots(slots) if slots else Model(), Limits()
     for number, line in lines_of(raw):
         try:
             verb, rest = command_of(line)

@@ -11,7 +11,8 @@ use Rattle.bucket_terms.specs.RunParts.{updates_in}
 use Rattle.request_lines.specs.declared.session.ClientPart.{ClientPart}
 use Rattle.request_lines.specs.Session.{request_line, request_lines}
 use Rattle.request_lines.specs.SessionLaws.{all_requests}
-use Rattle.client_threads.specs.Sizes.{AreFew, IsNamable, size_of, sizes_of}
+use Rattle.client_threads.specs.ClientSlots.{IsNamable}
+use Rattle.client_threads.specs.Sizes.{AreFew, size_of, sizes_of}
 
 -- a client has at most as many PUT and DELETE lines as requests
 updates_few : (part : ClientPart) → updates_in (request_lines part) ≤ length part.requests

@@ -1,6 +1,6 @@
 -- Helper: the headline does not rest on this file.
 -- The index of a session: which sessions it is opened for, and the sizes of its passes.
-use Rattle.std.specs.Prelude.{ℕ, ◌+◌, ◌*◌, ◌<◌, ◌≤◌, List, length, map, All, Option, IfSome}
+use Rattle.std.specs.Prelude.{ℕ, ◌+◌, ◌*◌, ◌<◌, ◌≤◌, List, length, map, All, Option}
 use Rattle.std.specs.Option.{unwrap_or}
 use Rattle.key_map.specs.declared.pass.PassSize.{PassSize}
 use Rattle.bucket_terms.specs.RunParts.{updates_in}
@@ -9,14 +9,6 @@ use Rattle.request_lines.specs.declared.session.Session.{Session}
 use Rattle.request_lines.specs.InputParts.{most_clients, most_requests}
 use Rattle.request_lines.specs.Session.{request_lines}
 use Rattle.request_lines.specs.SessionLaws.{IsAskable, HasRecordBelow, Rise, all_requests}
-
--- the most node slots that a client can be given by name
-abbrev pub most_slots : ℕ
-most_slots = 8192
-
--- where a number of node slots is named, each client can be given as many
-abbrev pub IsNamable : Option ℕ → Type 0
-IsNamable named = IfSome named (λ n. (0 < n) × (n ≤ most_slots))
 
 -- the size of the pass of a client that may make so many updates: the node slots that are named, or one more than the
 -- updates; four entry slots for each; and a call for each update

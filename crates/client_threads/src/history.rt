@@ -2,7 +2,8 @@
 ghost use Rattle.std.specs.Prelude.{◌≡◌, IfOk, OnOk};
 ghost use Rattle.outside_io.specs.Streams.{one_more};
 ghost use Rattle.client_threads.specs.Clients.{RanSession};
-ghost use Rattle.client_threads.specs.Sizes.{CanServe, IsNamable};
+ghost use Rattle.client_threads.specs.ClientSlots.{IsNamable};
+ghost use Rattle.client_threads.specs.Sizes.{CanServe};
 
 use crate::opening::open_index;
 use crate::runner::Runner;

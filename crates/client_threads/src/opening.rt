@@ -3,6 +3,7 @@ ghost use Rattle.std.specs.Prelude.{◌≡◌, ◌≤◌, All, IfOk, length};
 ghost use Rattle.index_words.specs.Sizes.{FitTable};
 ghost use Rattle.request_lines.specs.InputParts.{most_requests};
 ghost use Rattle.shared_index.specs.Keys.{AreAllKeys, AreFresh};
+ghost use Rattle.client_threads.specs.ClientSlots.{IsNamable};
 ghost use Rattle.client_threads.specs.Sizes as spec;
 
 use key_map::PassSize;
@@ -20,7 +21,7 @@ pub fn open_index(
     clients: &[ClientPart],
 ) -> Result<(SharedIndex, Vec<PassKey>), NoMemory>
     requires few { spec.AreFew clients.now }
-    requires slots { spec.IsNamable slots }
+    requires slots { IsNamable slots }
     ensures all { IfOk result (λ opened. AreAllKeys opened.0 opened.1.items) }
     ensures fresh { IfOk result (λ opened. AreFresh 0 (spec.sizes_of slots clients.now) opened.1.items) }
 {
@@ -39,7 +40,7 @@ fn sizes_of(
     clients: &[ClientPart],
 ) -> Result<Vec<PassSize>, NoMemory>
     requires few { All (λ part. length part.requests ≤ most_requests) clients.now }
-    requires slots { spec.IsNamable slots }
+    requires slots { IsNamable slots }
     ensures { IfOk result (λ sizes. sizes.items ≡ spec.sizes_of slots clients.now) }
 {
     let mut sizes = Vec::new(alloc);
@@ -52,7 +53,7 @@ fn sizes_of(
 // The size of a client's pass.
 fn size_of(slots: Option<u32>, part: &ClientPart) -> PassSize
     requires few { length part.now.requests ≤ most_requests }
-    requires slots { spec.IsNamable slots }
+    requires slots { IsNamable slots }
     ensures { result ≡ spec.size_of slots part.now }
 {
     let writes = part.writes();

@@ -25,12 +25,7 @@ pub(crate) fn is_spelled(alloc: Global, words: &[Text], form: Form) -> Result<bo
 }
 
 // Whether the words are the verb, alone or with this number of slots.
-fn is_verb(
-    alloc: Global,
-    words: &[Text],
-    verb: &[u8],
-    slots: Option<u32>,
-) -> Result<bool, NoMemory>
+fn is_verb(alloc: Global, words: &[Text], verb: &[u8], slots: Option<u32>) -> Result<bool, NoMemory>
     ensures { IfOk result (λ spelled. IsTrue spelled ↔ IsVerb verb.now words.now slots) }
 {
     match slots {

@@ -10,7 +10,7 @@ use Rattle.command_words.specs.declared.form.Form.{Form}
 use Rattle.command_words.specs.declared.form.Form.TheVariants.{Run, Sample}
 use Rattle.command_words.specs.Program.{IsForm}
 use Rattle.command_words.specs.Words.{HasSlots, IsRun, IsSample, HasForm}
-use Rattle.client_threads.specs.Sizes.{IsNamable}
+use Rattle.client_threads.specs.ClientSlots.{IsNamable}
 use Rattle.bucket_terms.specs.LegalRun.{Run as LegalRun}
 use Rattle.serve_session.specs.Served.{HoldsOfInput}
 

@@ -4,7 +4,8 @@ ghost use Rattle.outside_io.specs.Streams.{one_more};
 ghost use Rattle.request_lines.specs.SessionLaws.{HasNames, HasRequests, HasLines, IsSmall};
 ghost use Rattle.serve_session.specs.Served.{HoldsOfSession, HoldsOfRun};
 ghost use Rattle.serve_session.specs.Taken.{TookBy, TookStart};
-ghost use Rattle.client_threads.specs.Sizes.{CanServe, IsNamable};
+ghost use Rattle.client_threads.specs.ClientSlots.{IsNamable};
+ghost use Rattle.client_threads.specs.Sizes.{CanServe};
 
 use crate::writing::{write_last, write_run};
 use client_run::Gate;

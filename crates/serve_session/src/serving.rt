@@ -8,7 +8,7 @@ ghost use Rattle.request_lines.specs.Input.{most_input_bytes};
 ghost use Rattle.sample_laws.specs.Sample.{sample_summary};
 ghost use Rattle.serve_session.specs.Served.{Wrote, WroteBy, HoldsOfSample, RefusedInput, IsRunOf};
 ghost use Rattle.serve_session.specs.Summaries.{summary_text};
-ghost use Rattle.client_threads.specs.Sizes.{IsNamable};
+ghost use Rattle.client_threads.specs.ClientSlots.{IsNamable};
 
 use crate::Status;
 use crate::running::run_session;
