@@ -14,3 +14,4 @@ pub mod Turns
 pub mod Belows
 pub mod Reaching
 pub mod Resting
+pub mod Settling

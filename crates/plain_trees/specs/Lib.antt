@@ -9,3 +9,4 @@ pub mod Turns
 pub mod Raises
 pub mod Reaching
 pub mod Resting
+pub mod Settling

@@ -3,6 +3,7 @@ ghost use Rattle.plain_trees.specs.NullLinks.{NullLinkLaw};
 ghost use Rattle.plain_trees.specs.Raises.{AheadLaw, InsertLaw, ReplaceLaw, RemoveLaw};
 ghost use Rattle.plain_trees.specs.Reaching.{ReachLaw, ReachedInLaw};
 ghost use Rattle.plain_trees.specs.Resting.{RestLaw};
+ghost use Rattle.plain_trees.specs.Settling.{SetLaw};
 ghost use Rattle.plain_trees.specs.Stores.{StoreLaw};
 ghost use Rattle.plain_trees.specs.Turns.{TurnLaw, BelowLaw};
 ghost use Rattle.plain_trees.specs.Walks.{BeginLaw, WalkLaw};
@@ -16,7 +17,8 @@ ghost use Rattle.plain_trees.specs.Walks.{BeginLaw, WalkLaw};
 /// Raises leave the plain tree as it is, and match it still: `insert`, `replace` and `remove`, in each of its cases.
 /// `ahead`: before a removal with two children raises, each search below the removed node comes to the successor.
 ///
-/// Stores of one plain link: `store`, what a search claims stays, in each of the six forms; `below`, what is below a turn
+/// Stores of one plain link: `set`, where the link is set to the child that the tree at the stamp has there, the plain tree
+/// matches that tree still, and this was a store of one of the forms; `store`, what a search claims stays, in each of them; `below`, what is below a turn
 /// stays there; `reach` and `reached`, which nodes plain links reach then. `rest`: once all links are set, the plain tree is
 /// the tree at the stamp.
 pub fn plain_links_lead_to_the_gap()
@@ -28,6 +30,7 @@ pub fn plain_links_lead_to_the_gap()
     ensures replace { ReplaceLaw }
     ensures remove { RemoveLaw }
     ensures ahead { AheadLaw }
+    ensures set { SetLaw }
     ensures store { StoreLaw }
     ensures below { BelowLaw }
     ensures reach { ReachLaw }

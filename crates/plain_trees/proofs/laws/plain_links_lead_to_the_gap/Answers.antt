@@ -1,3 +1,4 @@
+use Rattle.plain_trees.proofs.Settling.{set_law}
 use Rattle.plain_trees.proofs.Reaching.{reach_law, reached_in}
 use Rattle.plain_trees.proofs.Resting.{rest_law}
 use Rattle.plain_trees.proofs.Walks.{begin_law, walk_law}
@@ -15,6 +16,7 @@ returns c = record {
   begin = begin_law;
   walk = walk_law;
   gap = null_link;
+  set = set_law;
   store = store;
   turn = turn_law;
   below = below_law;

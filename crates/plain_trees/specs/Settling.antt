@@ -1,0 +1,58 @@
+-- What a store of a plain link does: the link that an update has still to set is set to the child that the tree at the stamp
+-- has there. The plain tree after it is spelled, matches the tree at the stamp without that link, and came by a store of one
+-- of the forms.
+use Rattle.std.specs.Prelude.{◌≡◌, ℕ, ◌<◌}
+use Rattle.index_words.specs.declared.side.Side.{Side}
+use Rattle.index_words.specs.declared.side.Side.TheVariants.{Right}
+use Rattle.core_trees.specs.NamedTree.{NamedTree}
+use Rattle.core_trees.specs.Slots.{occurs, NamesOnce}
+use Rattle.core_trees.specs.SpelledTree.{Graph, IsSpelled}
+use Rattle.core_trees.specs.LinkSteps.{IsLink, IsLinkIn}
+use Rattle.plain_trees.specs.Matching.{Undone, IsUnset, IsOut, IsBypassed, IsHeir, IsOrderly, Matches}
+use Rattle.plain_trees.specs.Stores.{IsStore}
+
+-- The plain links before and after the store at the link of `node` on `side`, and the links of the tree at the stamp.
+pub record Sets (g g' now_links : Graph) (node : ℕ) (side : Side) (was child : ℕ) : Type 0 where
+  pub keys : (m : ℕ) → g'.key m ≡ g.key m
+  pub vals : (m : ℕ) → g'.val m ≡ g.val m
+  pub now_keys : (m : ℕ) → g.key m ≡ now_links.key m
+  pub now_vals : (m : ℕ) → g.val m ≡ now_links.val m
+  pub before : g.child side node ≡ was
+  pub after : g'.child side node ≡ child
+  pub asked : now_links.child side node ≡ child
+  pub others : (m : ℕ) (top : Side) → ¬ IsLink node side m top → g'.child top m ≡ g.child top m
+
+-- The link is one of the plain tree, and its node was not taken out. It is still to be set, from `was`, by one update alone,
+-- and after the store all but it are. A node of the tree at the stamp that is not in the plain tree yet has its children
+-- there already, and none of its links is to be set. In the place of a bypassed node no new node comes to hang. A successor
+-- is unlinked only after its copy was linked.
+pub record MaySet (g now_links : Graph) (u u' : Undone) (plain now : NamedTree) (node : ℕ) (side : Side) (was child : ℕ) : Type 0 where
+  pub link : IsLinkIn 0 Right plain node side
+  pub there : ¬ IsOut u node
+  pub only : (was' child' : ℕ) → IsUnset u node side was' child' → was' ≡ was
+  pub rest : (parent : ℕ) (top : Side) (was' child' : ℕ) → ¬ IsLink node side parent top → IsUnset u parent top was' child' → IsUnset u' parent top was' child'
+  pub outs : (m : ℕ) → IsOut u m → IsOut u' m
+  pub passes : (m : ℕ) → IsBypassed u m → IsBypassed u' m
+  pub heirs : (removed successor : ℕ) → IsHeir u removed successor → IsHeir u' removed successor
+  pub new : (m : ℕ) → 0 < occurs m now → occurs m plain ≡ 0 → (top : Side) → g.child top m ≡ now_links.child top m
+  pub calm : (m : ℕ) → 0 < occurs m now → occurs m plain ≡ 0 → (top : Side) (was' child' : ℕ) → ¬ IsUnset u m top was' child'
+  pub stays : (m : ℕ) → 0 < occurs m now → ¬ IsOut u m
+  pub passed : IsBypassed u was → occurs child plain ≡ 0 → child ≡ 0
+  pub copied : (removed successor parent : ℕ) (top : Side) (child' : ℕ) → IsHeir u removed successor → IsUnset u parent top removed child' → ¬ (successor ≡ was)
+
+-- the plain tree after the store
+pub record IsSet (g' : Graph) (u u' : Undone) (plain now plain' : NamedTree) (was : ℕ) : Type 0 where
+  pub spelled : IsSpelled g' (g'.child Right 0) plain'
+  pub matches : Matches u' 0 Right plain' now
+  pub successor : ℕ
+  pub from : ℕ
+  pub until : ℕ
+  pub store : IsStore (λ m. ¬ IsOut u m) (IsBypassed u) was successor from until plain plain'
+
+abbrev pub SetLaw : Type 0
+SetLaw =
+    (g g' now_links : Graph) (u u' : Undone) (plain now : NamedTree) (node was child : ℕ) (side : Side)
+    → IsOrderly u → IsSpelled g (g.child Right 0) plain → NamesOnce 0 plain
+    → IsSpelled now_links (now_links.child Right 0) now → NamesOnce 0 now → Matches u 0 Right plain now
+    → IsLinkIn 0 Right now node side → Sets g g' now_links node side was child → MaySet g now_links u u' plain now node side was child → ¬ (was ≡ child)
+    → (plain' : NamedTree) × IsSet g' u u' plain now plain' was
