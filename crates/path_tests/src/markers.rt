@@ -8,12 +8,7 @@ use std::alloc::Global;
 use std::process::Abort;
 use std::test::Fail;
 
-fn query(
-    alloc: Global,
-    prefix: &str,
-    delimiter: &str,
-    marker: &str,
-) -> Result<V1Query, NoMemory> {
+fn query(alloc: Global, prefix: &str, delimiter: &str, marker: &str) -> Result<V1Query, NoMemory> {
     Ok(V1Query {
         prefix: Text::of(alloc, prefix)?,
         delimiter: Text::of(alloc, delimiter)?,
@@ -64,7 +59,10 @@ fn a_marker_is_a_common_prefix_or_a_key(rt: HostRuntime) -> Result<(), Fail> {
         ("é", "€", "éx€", true),
     ];
     for (prefix, delimiter, marker, wanted) in rows {
-        assert_eq!(rt; is_group(&rt, rt.alloc(), prefix, delimiter, marker)?, wanted);
+        assert_eq!(rt;
+            is_group(&rt, rt.alloc(), prefix, delimiter, marker)?,
+            wanted
+        );
     }
     Ok(())
 }
@@ -82,7 +80,10 @@ fn the_plain_query_has_no_token(rt: HostRuntime) -> Result<(), Fail> {
     let plain = plain_query(rt.alloc(), &query)?;
     assert_eq!(rt; plain.prefix.as_str(), "a/");
     assert_eq!(rt; plain.delimiter.as_str(), "/");
-    assert_eq!(rt; (plain.start_after.as_str(), plain.token.as_str()), ("", ""));
+    assert_eq!(rt;
+        (plain.start_after.as_str(), plain.token.as_str()),
+        ("", "")
+    );
     assert_eq!(rt; (plain.max_keys, plain.url), (7, true));
     Ok(())
 }
@@ -90,7 +91,9 @@ fn the_plain_query_has_no_token(rt: HostRuntime) -> Result<(), Fail> {
 const PAIRS: [Pair; 2] = [Pair { key: 0, val: 0 }, Pair { key: 1, val: 1 }];
 
 #[test]
-fn the_next_marker_is_the_last_entry_where_there_is_a_delimiter(rt: HostRuntime) -> Result<(), Fail> {
+fn the_next_marker_is_the_last_entry_where_there_is_a_delimiter(
+    rt: HostRuntime,
+) -> Result<(), Fail> {
     let alloc = rt.alloc();
     let mut names = Vec::new(alloc);
     names.push(Text::of(alloc, "a/1")?)?;

@@ -9,10 +9,10 @@ ghost use Rattle.request_lines.specs.ReadAnswers.{Reads};
 
 use crate::Cause;
 use crate::line_error::LineError;
+use crate::parameter::Version;
 use crate::parts::{first_part, next_part};
 use crate::put::{put_fields, put_of};
 use crate::query::query_of;
-use crate::parameter::Version;
 use crate::texts::key_of;
 use crate::values::Values;
 use crate::verb::{PutWhen, Verb};

@@ -1,0 +1,21 @@
+-- Numbers in a text.
+pub mod Runs
+-- Where a quoted text ends.
+pub mod Quotes
+-- What a line tells of its reply or update.
+pub mod Spelled
+-- A reply line is that of one reply.
+pub mod OneReply
+-- A journal line is that of one update.
+pub mod OneUpdate
+-- Right lines go on in one way.
+pub mod GoesOn
+-- One first wrong line.
+pub mod OneWrong
+-- No line feed inside a line.
+pub mod Feeds
+-- The lines of the text of a run.
+pub mod Lined
+-- From a legal run to right lines, and back.
+pub mod FromLegal
+pub mod ToLegal
