@@ -21,6 +21,7 @@ from random_sessions import make_ready
 
 try:
     import boto3
+    from botocore.handlers import set_list_objects_encoding_type_url
     from moto import mock_aws
 except ImportError:
     sys.exit("against_moto.py: moto and boto3 are not installed, so nothing was compared")
@@ -64,14 +65,17 @@ def pages_of_moto(s3, bucket, query):
 
 
 def v1_pages_of_moto(s3, bucket, query):
-    """The pages of the same listing by version 1, each from the next marker, or without one from the last key."""
+    """The pages of the same listing by version 1, each from the last entry of the page before: a key or a common prefix.
+    The next markers of moto are numbers of its own, and not that entry, so they are not used and not compared."""
     asked = dict(Bucket=bucket, MaxKeys=int(query["max-keys"]), Prefix=query.get("prefix", ""), Delimiter=query.get("delimiter", ""))
     while True:
         page = s3.list_objects(**asked)
         yield asked.get("Marker", ""), v1_shown(page)
         if not page["IsTruncated"]:
             return
-        asked["Marker"] = page.get("NextMarker") or page["Contents"][-1]["Key"]
+        told = v1_shown(page)
+        last = [key for key, _, _ in told["Contents"][-1:]] + told["CommonPrefixes"][-1:]
+        asked["Marker"] = max(last, key=str.encode)
 
 
 def v1_shown(page):
@@ -80,7 +84,6 @@ def v1_shown(page):
         "Contents": [(item["Key"], item["ETag"].strip('"'), item["Size"]) for item in page.get("Contents", [])],
         "CommonPrefixes": [item["Prefix"] for item in page.get("CommonPrefixes", [])],
         **{name: page[name] for name in ("IsTruncated", "MaxKeys")},
-        "NextMarker": page.get("NextMarker", ""),
     }
 
 
@@ -120,6 +123,9 @@ def session_of(s3, bucket):
 def compare(program, buckets, seed):
     rng, pages, left_out = random.Random(seed), 0, 0
     s3 = boto3.client("s3", region_name="us-east-1", aws_access_key_id="none", aws_secret_access_key="none")
+    # boto3 asks a listing of version 1 for escaped texts by itself, and takes a plus sign for an escaped space; moto escapes
+    # no common prefix there
+    s3.meta.events.unregister("before-parameter-build.s3.ListObjects", set_list_objects_encoding_type_url)
     for bucket in ("bucket-%d" % at for at in range(buckets)):
         keys = sorted({word(rng, 1, 5) for _ in range(rng.randint(1, 15))})
         s3.create_bucket(Bucket=bucket)
@@ -135,6 +141,9 @@ def compare(program, buckets, seed):
             if got != wanted:
                 sys.exit("keys %r\nquery %r\nprogram %r\nmoto    %r" % (keys, query, got, wanted))
             pages += len(wanted)
+            if "delimiter" in query:
+                # moto does not count common prefixes with the keys of a page of version 1
+                query = dict(query, **{"max-keys": "1000"})
             asked = list(v1_pages_of_moto(s3, bucket, query))
             wanted = [page for _, page in asked]
             got = v1_pages_of_program(program, session, query, [marker for marker, _ in asked])
