@@ -8,6 +8,7 @@ use Rattle.index_words.specs.declared.view.slots.Slots.{Slots}
 use Rattle.key_map.specs.declared.update.Update.{Update}
 use Rattle.key_map.specs.declared.update.Change.{Change}
 use Rattle.key_map.specs.declared.pass.Done.{Done}
+use Rattle.core_events.specs.Announcing.{ann_loaded}
 use Rattle.core_events.specs.LoadMoves.{risen}
 use Rattle.plan_laws.specs.Answers.{owned_nodes, owned_entries}
 use Rattle.table_steps.specs.Passes.{Pass, Extends}
@@ -135,3 +136,8 @@ opened_stays p w n opened =
 -- so does a search
 pub search_stays : (p : Pass) (b w : View) (n : ℕ) → HasOpened p 0 n b → HasRead b w → StaysOn p.view w
 search_stays p b w n opened read = stays_more p.view b w (opened_stays p b n opened) (read_stays b w read)
+
+-- and a look at what another pass has announced
+pub announced_stays : (v w : View) (other word : ℕ) → w ≡ ann_loaded v other word → StaysOn v w
+announced_stays v w other word is =
+    same_stays v w (ap (λ (u : View). u.history) is) (ap (λ (u : View). u.free) is) (ap (λ (u : View). u.batch) is) (ap (λ (u : View). u.retired) is)

@@ -9,29 +9,14 @@ ghost use Rattle.table_steps.specs.Stamps.{IsFoundSince};
 ghost use Rattle.tree_update.specs.Calls.{StaysOn, GoesOn, MakesPut, LooksFor, AnswersPutNew, AnswersRemoval, IsPlaceOfPut, IsPlaceOfNew, IsPlaceOfRemoval, IsRefusal, IsOutOfSlots};
 ghost use Rattle.tree_update.specs.Trying.{OffersSlots};
 
-use crate::settle::try_settle;
 use crate::trying::{Missed, try_update};
+use crate::waits::{pause, wait_for_cuts, wait_for_slots};
 use core_updates::PlanSlots;
 use index_words::{Change, Pair};
 use key_map::{Done, New, PassError};
 use snapshot_read::{begin, end, next_from};
-use std::hint::spin_loop;
 use std::sync::Wait;
-use std::thread::yield_now;
 use table_steps::TablePass;
-use update_try::plan_slots;
-
-/// How many pauses of the processor stand before the yield.
-const PAUSES: u32 = 32;
-
-/// What a wait does between two tries: a short spin, since another pass may be done soon where it runs on a processor of
-/// its own, and then a yield, which lets other threads run.
-fn pause() {
-    for _ in 0..PAUSES {
-        spin_loop();
-    }
-    yield_now();
-}
 
 /// Whether the pair is the key's.
 fn is_of_key(pair: Option<Pair>, key: u64) -> bool
@@ -57,25 +42,6 @@ fn refusal(pass: &TablePass<'_>) -> Option<PassError>
         return Some(PassError::NoSlot);
     }
     None
-}
-
-/// Waits until the pass has the free slots that an update may take. It owns them, so they become free once the passes
-/// that were in a section have left it.
-fn wait_for_slots<R: Wait>(pass: &mut TablePass<'_>, rt: &R) -> PlanSlots
-    requires rest { AtRest pass.old.view }
-    ensures slots { OffersSlots pass.new.view result }
-    ensures same { IsSamePass pass.old pass.new }
-    ensures rest { AtRest pass.new.view }
-    ensures stays { StaysOn pass.old.view pass.new.view }
-{
-    'tries: for _ in rt.forever() {
-        if let Some(slots) = plan_slots(pass) {
-            return slots;
-        }
-        try_settle(pass);
-        pause();
-    }
-    unreachable!()
 }
 
 /// Looks for a key in a snapshot of its own: the snapshot's place, and whether the key was there.
@@ -169,6 +135,7 @@ fn make_put<R: Wait>(pass: &mut TablePass<'_>, rt: &R, line: u32, key: u64, val:
     ensures made { MakesPut pass.old.view pass.new.view pass.old.number line key val result }
     ensures place { IsPlaceOfPut pass.old line key val result pass.new.view }
 {
+    wait_for_cuts(pass);
     'tries: for _ in rt.forever() {
         let slots = wait_for_slots(pass, rt);
         if let Ok(done) = try_update(pass, line, key, Change::Put(val), false, &slots) {
@@ -189,6 +156,7 @@ fn make_new<R: Wait>(pass: &mut TablePass<'_>, rt: &R, line: u32, key: u64, val:
     ensures answered { AnswersPutNew pass.old.view pass.new.view pass.old.number line key val result }
     ensures place { IsPlaceOfNew pass.old line key val result pass.new.view }
 {
+    wait_for_cuts(pass);
     'tries: for _ in rt.forever() {
         let slots = wait_for_slots(pass, rt);
         if let Some(answer) = try_new(pass, rt, line, key, val, &slots) {
@@ -208,6 +176,7 @@ fn make_removal<R: Wait>(pass: &mut TablePass<'_>, rt: &R, line: u32, key: u64) 
     ensures answered { AnswersRemoval pass.old.view pass.new.view pass.old.number line key result }
     ensures place { IsPlaceOfRemoval pass.old line key result pass.new.view }
 {
+    wait_for_cuts(pass);
     'tries: for _ in rt.forever() {
         let slots = wait_for_slots(pass, rt);
         if let Some(done) = try_removal(pass, rt, line, key, &slots) {

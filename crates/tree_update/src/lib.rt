@@ -5,6 +5,7 @@
 mod calls;
 mod settle;
 mod trying;
+mod waits;
 
 pub use calls::{put, put_new, remove};
 pub use settle::{Settling, try_settle};

@@ -1,6 +1,6 @@
 use Rattle.tree_update.proofs.CallSteps.{stays_nothing, stays_more, settle_stays}
 use Rattle.bundle_reads.proofs.ReadMoves.{same_pass, same_more}
-use Rattle.tree_update.proofs.calls.wait_for_slots.Goals as goal
+use Rattle.tree_update.proofs.waits.wait_for_slots.Goals as goal
 
 pub tries-init : goal.tries-init
 tries-init g c = (c.requires.rest, stays_nothing c.args.pass.now.view, same_pass c.args.pass.now)

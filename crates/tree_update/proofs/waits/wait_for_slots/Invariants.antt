@@ -1,6 +1,6 @@
 use Rattle.table_steps.specs.Passes.{AtRest, IsSamePass}
 use Rattle.tree_update.specs.Calls.{StaysOn}
-use Rattle.tree_update.proofs.calls.wait_for_slots.Given as goal
+use Rattle.tree_update.proofs.waits.wait_for_slots.Given as goal
 
 abbrev pub invariant-tries : goal.invariant-tries
 invariant-tries g l = AtRest l.pass.view × StaysOn l.fn.pass.view l.pass.view × IsSamePass l.fn.pass l.pass
