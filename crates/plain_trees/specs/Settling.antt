@@ -3,7 +3,7 @@
 -- of the forms.
 use Rattle.std.specs.Prelude.{◌≡◌, ℕ, ◌<◌}
 use Rattle.index_words.specs.declared.side.Side.{Side}
-use Rattle.index_words.specs.declared.side.Side.TheVariants.{Right}
+use Rattle.index_words.specs.declared.side.Side.TheVariants.{Left, Right}
 use Rattle.core_trees.specs.NamedTree.{NamedTree}
 use Rattle.core_trees.specs.Slots.{occurs, NamesOnce}
 use Rattle.core_trees.specs.SpelledTree.{Graph, IsSpelled}
@@ -22,20 +22,39 @@ pub record Sets (g g' now_links : Graph) (node : ℕ) (side : Side) (was child :
   pub asked : now_links.child side node ≡ child
   pub others : (m : ℕ) (top : Side) → ¬ IsLink node side m top → g'.child top m ≡ g.child top m
 
+-- the node is not in the plain tree yet
+abbrev pub IsNew : ℕ → NamedTree → Type 0
+IsNew node plain = (0 < node) × (occurs node plain ≡ 0)
+
+-- The link of a copy that counts as one to be set while the copy is not linked: its right one, which passes over the successor
+-- from the start, since the successor was the right child of the removed node. The two have one key, above the removed
+-- node's. The successor has no left child, and what hangs behind it is in the plain tree.
+pub record PassesOver (g : Graph) (plain : NamedTree) (removed copy successor : ℕ) (side : Side) (was child : ℕ) : Type 0 where
+  pub place : side ≡ Right
+  pub some : 0 < successor
+  pub only : was ≡ successor
+  pub key : g.key successor ≡ g.key copy
+  pub rises : g.key removed < g.key copy
+  pub bare : g.child Left successor ≡ 0
+  pub behind : 0 < child → 0 < occurs child plain
+
 -- The link is one of the plain tree, and its node was not taken out. It is still to be set, from `was`, by one update alone,
--- and after the store all but it are. A node of the tree at the stamp that is not in the plain tree yet has its children
--- there already, and none of its links is to be set. In the place of a bypassed node no new node comes to hang. A successor
--- is unlinked only after its copy was linked.
+-- and after the store all but it are, and but those of the child where it is new. A node of the tree at the stamp that is not
+-- in the plain tree yet has its children there already. A new child has no links to be set, but where it is a copy of a
+-- successor that goes at the same time. In the place of a bypassed node no new node comes to hang. A successor is unlinked
+-- only after its copy was linked.
 pub record MaySet (g now_links : Graph) (u u' : Undone) (plain now : NamedTree) (node : ℕ) (side : Side) (was child : ℕ) : Type 0 where
   pub link : IsLinkIn 0 Right plain node side
   pub there : ¬ IsOut u node
   pub only : (was' child' : ℕ) → IsUnset u node side was' child' → was' ≡ was
-  pub rest : (parent : ℕ) (top : Side) (was' child' : ℕ) → ¬ IsLink node side parent top → IsUnset u parent top was' child' → IsUnset u' parent top was' child'
+  pub rest : (parent : ℕ) (top : Side) (was' child' : ℕ) → ¬ IsLink node side parent top → ¬ ((parent ≡ child) × IsNew child plain)
+      → IsUnset u parent top was' child' → IsUnset u' parent top was' child'
   pub outs : (m : ℕ) → IsOut u m → IsOut u' m
   pub passes : (m : ℕ) → IsBypassed u m → IsBypassed u' m
   pub heirs : (removed successor : ℕ) → IsHeir u removed successor → IsHeir u' removed successor
   pub new : (m : ℕ) → 0 < occurs m now → occurs m plain ≡ 0 → (top : Side) → g.child top m ≡ now_links.child top m
-  pub calm : (m : ℕ) → 0 < occurs m now → occurs m plain ≡ 0 → (top : Side) (was' child' : ℕ) → ¬ IsUnset u m top was' child'
+  pub near : ℕ
+  pub calm : IsNew child plain → (top : Side) (was' child' : ℕ) → IsUnset u child top was' child' → PassesOver g plain was child near top was' child'
   pub stays : (m : ℕ) → 0 < occurs m now → ¬ IsOut u m
   pub passed : IsBypassed u was → occurs child plain ≡ 0 → child ≡ 0
   pub copied : (removed successor parent : ℕ) (top : Side) (child' : ℕ) → IsHeir u removed successor → IsUnset u parent top removed child' → ¬ (successor ≡ was)
