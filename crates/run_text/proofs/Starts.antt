@@ -1,5 +1,5 @@
 -- Bytes that are taken piece by piece, whole or from their start.
-use Rattle.std.proofs.Common.{◌≡◌, ℕ, ◌+◌, ◌≤◌, length, take, drop, List, [], ◌++◌, Option, Some, None, Result, Ok, Err, OnErr, refl, sym, ap, ◌∙◌, subst, arith, append_assoc, append-nil, length-append}
+use Rattle.std.proofs.Common.{◌≡◌, ℕ, ◌+◌, length, take, drop, List, [], ◌++◌, Option, Some, None, Result, Ok, Err, OnErr, refl, sym, ap, ◌∙◌, subst, arith, append-nil, length-append}
 use Rattle.std.proofs.Math.Seq.{take-add}
 use Rattle.std.proofs.lemmas.List.{take_all, take-append-le, take-append-drop}
 use Rattle.std.proofs.lemmas.Grind.{flat_map-append}
@@ -83,6 +83,12 @@ module _ (bytes line : List ℕ) (done n : ℕ) (is : line ≡ take n (drop done
       (start_of_more before now (take (done + n) bytes) (drop (done + n) bytes)
       (subst (TakesStart before now) both_lines (start_behind before between now (take done bytes) line first second)))
 
+-- a start of what is left behind the first lines
+pub rest_started : (bytes rest : List ℕ) (done : ℕ) → rest ≡ drop done bytes → (before between now : Option (List ℕ)) → IsTaken before between (take done bytes)
+    → TakesStart between now rest → TakesStart before now bytes
+rest_started bytes rest done is before between now first second =
+    subst (TakesStart before now) (ap (λ (l : List ℕ). take done bytes ++ l) is ∙ take-append-drop done bytes) (start_behind before between now (take done bytes) rest first second)
+
 -- ---- a front of what is left
 
 -- the first elements of what is behind others
@@ -94,3 +100,7 @@ front_of xs left front done n is_left is_front long =
 pub on_err : {T E P : Type 0} (r : Result T E) → P → OnErr r P
 on_err (Ok x) holds = tt
 on_err (Err e) holds = holds
+
+pub with_err : {T E P Q : Type 0} (r : Result T E) → (P → Q) → OnErr r P → OnErr r Q
+with_err (Ok x) goes holds = tt
+with_err (Err e) goes holds = goes holds

@@ -1,6 +1,6 @@
 -- Helper: the headline does not rest on this file.
 -- The pieces that a run's text is put together from, and their texts.
-use Rattle.std.specs.Prelude.{◌≡◌, ℕ, ◌+◌, ◌<◌, ◌^◌, List, ◌++◌, length, All, Result, IfOk, slice_index_or}
+use Rattle.std.specs.Prelude.{◌≡◌, ℕ, ◌+◌, ◌<◌, ◌^◌, List, ◌++◌, length, All}
 use Rattle.std.specs.List.{flat_map}
 use Rattle.key_map.specs.declared.update.Update.{Update}
 use Rattle.bucket_terms.specs.declared.record.Record.{Record}
@@ -45,17 +45,3 @@ pub record AddsJournal (old : List Piece) (updates : List Update) (new : List Pi
   pub text : (dir : List (List ℕ)) (records : List Record) → pieces_text dir records new ≡ pieces_text dir records old ++ journal_lines dir 1 updates
   pub in_range : (dir : List (List ℕ)) (records : List Record) → All (IsPieceOf dir records) old
       → All (λ (u : Update). u.key < length dir) updates → All (IsPieceOf dir records) new
-
--- there is a piece at this place, and each has lines
-pub record CanMake (dir : List (List ℕ)) (records : List Record) (pieces : List Piece) (place : ℕ) : Type 0 where
-  pub there : place < length pieces
-  pub fine : All (IsPieceOf dir records) pieces
-
--- this is the text of the piece at this place
-abbrev pub IsTextAt : List (List ℕ) → List Record → List Piece → ℕ → List ℕ → Type 0
-IsTextAt dir records pieces place text = (d : Piece) → text ≡ part_text dir records (slice_index_or pieces place d).part
-
--- for each piece there is a text, where memory sufficed for it
-pub record AreTexts {E : Type 0} (dir : List (List ℕ)) (records : List Record) (pieces : List Piece) (texts : List (Result (List ℕ) E)) : Type 0 where
-  pub one_each : length texts ≡ length pieces
-  pub each : (place : ℕ) (d : Result (List ℕ) E) → place < length pieces → IfOk (slice_index_or texts place d) (IsTextAt dir records pieces place)

@@ -6,8 +6,8 @@
 mod cutting;
 mod lines;
 mod pieces;
+mod sheets;
 mod stop;
-mod texts;
 mod writing;
 
 pub use pieces::Pieces;

@@ -1,24 +1,22 @@
-use Rattle.std.proofs.Common.{◌≡◌, ℕ, List, Result, Ok, Err, get_or, length, ap, sym, ◌∙◌, subst, arith}
+use Rattle.std.proofs.Common.{ap, ◌∙◌, subst, Result, Err}
 use Rattle.std.specs.Prelude.{IsErrOf}
-use Rattle.run_text.specs.declared.pieces.Piece.{Piece}
-use Rattle.run_text.specs.Pieces.{part_text}
-use Rattle.run_text.proofs.Starts.{first_started}
-use Rattle.run_text.proofs.Made.{text_taken, text_started}
+use Rattle.std.proofs.lemmas.Result.{err_from_is_err_and}
+use Rattle.run_text.specs.declared.stop.Stop.{Stop}
+use Rattle.run_text.proofs.Made.{sheet_taken, sheet_started}
 use Rattle.run_text.proofs.writing.write_batch.Goals as goal
 
-pub returns-in_err-write_lines-in-Ok-clause-start : goal.returns-in_err-write_lines-in-Ok-clause-start
-returns-in_err-write_lines-in-Ok-clause-start g c = λ stop is.
-    text_started c.args.dir.now c.args.records.now c.args.batch.now c.deref-made-items.result.now (rw c.deref-made-items.ensures.value c.in_ok-texts.ensures)
-    c.loop-made.made-index c.made-item.result c.bytes.result.now c.loop-made-test.true c.made-item.is (c.in-Ok.is ∙ ap Ok (sym c.bytes.ensures.value)) _ _ _ c.loop-made.invariant.taken c.in_err-write_lines-in-Ok.ensures.start
+pub returns-in_err-write-clause-start : goal.returns-in_err-write-clause-start
+returns-in_err-write-clause-start g c = λ stop is.
+    let error = err_from_is_err_and c.from_residual.result c.from_residual.ensures.1 in
+    sheet_started c.args.dir.now c.args.records.now c.args.batch.now c.fill_all.new.sheets c.fill_all.ensures
+    c.loop-sheet.sheet-index c.sheet-item.result c.loop-sheet-test.true c.sheet-item.is _ _ _ c.loop-sheet.invariant.taken
+    (c.in_err-write.ensures.start stop (subst (λ (r : Result (Unit {0}) Stop). IsErrOf r stop) (error.1 ∙ ap Err error.2) is))
 
-pub returns-in-Err-clause-start : goal.returns-in-Err-clause-start
-returns-in-Err-clause-start g c = λ stop is.
-    first_started (λ (p : Piece). part_text c.args.dir.now c.args.records.now p.part) c.args.batch.now c.loop-made.made-index _ _ c.loop-made.invariant.taken
-
-pub loop-made-preserved : goal.loop-made-preserved
-loop-made-preserved g c = record {
+pub loop-sheet-preserved : goal.loop-sheet-preserved
+loop-sheet-preserved g c = record {
   taken =
-      text_taken c.args.dir.now c.args.records.now c.args.batch.now c.deref-made-items.result.now (rw c.deref-made-items.ensures.value c.in_ok-texts.ensures)
-      c.loop-made.made-index c.made-item.result c.bytes.result.now c.loop-made-test.true c.made-item.is (c.in-Ok.is ∙ ap Ok (sym c.bytes.ensures.value)) _ _ _ c.loop-made.invariant.taken c.in_ok-write_lines-in-Ok.ensures.all;
-  quiet = c.in_ok-write_lines-in-Ok.ensures.quiet ∙ c.loop-made.invariant.quiet;
+      sheet_taken c.args.dir.now c.args.records.now c.args.batch.now c.fill_all.new.sheets c.fill_all.ensures
+      c.loop-sheet.sheet-index c.sheet-item.result c.loop-sheet-test.true c.sheet-item.is _ _ _ c.loop-sheet.invariant.taken
+      c.in_ok-write.ensures.filled c.in_ok-write.ensures.taken;
+  quiet = c.in_ok-write.ensures.quiet (λ is. cc) ∙ c.loop-sheet.invariant.quiet;
 }

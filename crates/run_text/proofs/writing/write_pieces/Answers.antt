@@ -1,15 +1,14 @@
-use Rattle.std.proofs.Common.{◌≡◌, ℕ, List, length, take, drop, ap, sym, ◌∙◌, subst, arith, Result, Err}
+use Rattle.std.proofs.Common.{length, ap, ◌∙◌, subst, arith, Result, Err}
 use Rattle.std.specs.Prelude.{IsErrOf}
 use Rattle.std.proofs.lemmas.Result.{err_from_is_err_and}
 use Rattle.run_text.specs.declared.stop.Stop.{Stop}
-use Rattle.run_text.specs.Pieces.{pieces_text}
 use Rattle.run_text.proofs.Starts.{front_of}
 use Rattle.run_text.proofs.Made.{batch_taken, batch_started}
 use Rattle.run_text.proofs.writing.write_pieces.Goals as goal
 
 pub returns-in_err-write_batch-clause-start : goal.returns-in_err-write_batch-clause-start
 returns-in_err-write_batch-clause-start g c = λ stop is.
-    let error = err_from_is_err_and c.from_residual.result c.from_residual.ensures.1 in
+    let error = err_from_is_err_and c.from_residual-in_err-write_batch.result c.from_residual-in_err-write_batch.ensures.1 in
     let batch = c.split_at-in-loop-done in
     batch_started c.args.dir.now c.args.records.now c.args.pieces.now batch.result.0.now c.loop-done.done (length batch.result.0.now)
     (front_of c.args.pieces.now c.split_at.result.1.now batch.result.0.now c.loop-done.done _ c.split_at.ensures.back batch.ensures.front batch.ensures.front_len)
@@ -20,7 +19,8 @@ pub loop-done-preserved : goal.loop-done-preserved
 loop-done-preserved g c =
     let batch = c.split_at-in-loop-done in
     record {
-      within = omega (arith, c.loop-done.invariant.within, c.split_at.ensures.back_len, batch.ensures.front_len, c.batch_len.ensures.most);
+      sheets = omega (arith, c.loop-done.invariant.sheets, c.in_ok-write_batch.ensures.as_many);
+      within = omega (arith, c.loop-done.invariant.within, c.split_at.ensures.back_len, batch.ensures.front_len);
       taken = batch_taken c.args.dir.now c.args.records.now c.args.pieces.now batch.result.0.now c.loop-done.done (length batch.result.0.now)
           (front_of c.args.pieces.now c.split_at.result.1.now batch.result.0.now c.loop-done.done _ c.split_at.ensures.back batch.ensures.front batch.ensures.front_len)
           _ _ _ c.loop-done.invariant.taken c.in_ok-write_batch.ensures.taken;

@@ -1,10 +1,11 @@
-use Rattle.std.proofs.Common.{◌-◌, ◌≤◌, ◌≡◌, length, take}
+use Rattle.std.proofs.Common.{◌-◌, ◌<◌, ◌≤◌, ◌≡◌, length, take}
 use Rattle.outside_io.specs.Streams.{IsTaken}
 use Rattle.run_text.specs.Pieces.{pieces_text}
 use Rattle.run_text.proofs.writing.write_pieces.Given as goal
 
 abbrev pub invariant-loop-done : goal.invariant-loop-done
 invariant-loop-done g l = record {
+  sheets : 0 < length l.sheets.items;
   within : l.done ≤ length l.pieces;
   taken : IsTaken (g.K.Sink.taken l.fn.sink) (g.K.Sink.taken l.sink) (pieces_text l.dir l.records (take l.done l.pieces));
   quiet : g.K.Sink.faults l.sink ≡ g.K.Sink.faults l.fn.sink;

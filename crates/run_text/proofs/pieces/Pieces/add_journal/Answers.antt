@@ -1,5 +1,4 @@
-use Rattle.std.proofs.Common.{◌≡◌, ◌≤◌, ◌<◌, ◌^◌, ℕ, List, length, take, drop, ap, ◌∙◌, refl, subst, sym, arith, rules}
-use Rattle.key_map.specs.declared.update.Update.{Update}
+use Rattle.std.proofs.Common.{ℕ, length, take, drop, ap, ◌∙◌, refl, sym, arith, rules}
 use Rattle.run_text.proofs.Cuts.{one_journal_cut}
 use Rattle.run_text.proofs.pieces.Pieces.add_journal.Goals as goal
 

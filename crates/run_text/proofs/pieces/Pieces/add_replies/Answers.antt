@@ -1,4 +1,4 @@
-use Rattle.std.proofs.Common.{refl, subst, sym}
+use Rattle.std.proofs.Common.{refl}
 use Rattle.run_text.proofs.Cuts.{one_cut}
 use Rattle.run_text.proofs.pieces.Pieces.add_replies.Goals as goal
 

@@ -1,8 +1,7 @@
 use Rattle.std.proofs.Common.{refl, arith}
-use Rattle.key_map.specs.declared.update.Update.{Update}
 use Rattle.key_map.specs.declared.update.Change.TheVariants.{Put}
 use Rattle.run_text.proofs.Made.{update_pushed}
-use Rattle.run_text.proofs.texts.push_updates.Goals as goal
+use Rattle.run_text.proofs.sheets.Sheet.push_updates.Goals as goal
 
 pub loop-update-preserved : goal.loop-update-preserved
 loop-update-preserved c = record {

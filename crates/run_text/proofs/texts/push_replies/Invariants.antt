@@ -1,6 +1,0 @@
-use Rattle.std.proofs.Common.{◌≡◌, ◌++◌, take, string_bytes}
-use Rattle.answer_text.specs.Shown.{reply_lines}
-use Rattle.run_text.proofs.texts.push_replies.Given as goal
-
-abbrev pub invariant-loop-placed : goal.invariant-loop-placed
-invariant-loop-placed l = string_bytes l.out ≡ string_bytes l.fn.out ++ reply_lines l.dir l.records (take l.placed-index l.replies)

@@ -1,0 +1,117 @@
+// The sheets on which the texts of pieces are put together: each serves for one piece after another.
+ghost use Rattle.std.specs.Prelude.{◌≡◌, ◌+◌, ◌<◌, ◌^◌, ◌++◌, ◌⊎◌, length, All, OnOk, IsErrOf, Ok, string_bytes};
+ghost use Rattle.key_map.specs.declared.update.Update.{Update};
+ghost use Rattle.bucket_terms.specs.declared.reply.Placed.{Placed};
+ghost use Rattle.answer_text.specs.Lines.{journal_lines};
+ghost use Rattle.answer_text.specs.Shown.{reply_lines};
+ghost use Rattle.answer_text.specs.InRange.{IsReplyOf};
+ghost use Rattle.outside_io.specs.Streams.{one_more, IsTaken, TakesStart};
+ghost use Rattle.run_text.specs.declared.stop.Stop.{Stop as Ended};
+ghost use Rattle.run_text.specs.Pieces.{IsPieceOf, IsPartOf, part_text};
+ghost use Rattle.run_text.specs.Sheets.{IsFilled};
+
+use crate::lines::write_lines;
+use crate::pieces::{Part, Piece};
+use crate::stop::Stop;
+use answer_text::{push_journal_line, push_reply_line};
+use bucket_terms::{Placed, Record};
+use key_map::Update;
+use key_names::{Directory, NoMemory};
+use outside_io::Sink;
+use std::alloc::Global;
+
+/// The text of a piece, in buffers that serve for the next one too.
+#[derive(Drop)]
+pub(crate) struct Sheet {
+    text: String,
+    // Where each of its lines ends.
+    ends: Vec<usize>,
+    // Whether memory sufficed for the text.
+    filled: Result<(), NoMemory>,
+}
+
+impl Sheet {
+    pub(crate) fn new(alloc: Global) -> Sheet {
+        Sheet {
+            text: String::new(alloc),
+            ends: Vec::new(alloc),
+            filled: Ok(()),
+        }
+    }
+
+    // Puts the text of the piece in the place of what the sheet had.
+    pub(crate) fn fill(&mut self, dir: &Directory, records: &[Record], piece: &Piece<'_>)
+        requires { IsPieceOf dir.now records.now piece.now }
+        ensures { IsFilled dir.now records.now piece.now self.new }
+    {
+        self.text.clear();
+        self.ends.clear();
+        self.filled = self.push_piece(dir, records, piece);
+    }
+
+    fn push_piece(
+        &mut self,
+        dir: &Directory,
+        records: &[Record],
+        piece: &Piece<'_>,
+    ) -> Result<(), NoMemory>
+        requires { IsPieceOf dir.now records.now piece.now }
+        ensures { OnOk result (string_bytes self.new.text ≡ string_bytes self.old.text ++ part_text dir.now records.now piece.now.part) }
+    {
+        self.text.reserve(piece.bytes)?;
+        match &piece.part {
+            Part::Replies(replies) => self.push_replies(dir, records, replies),
+            Part::Updates { before, updates } => self.push_updates(dir, *before, updates),
+        }
+    }
+
+    fn push_replies(
+        &mut self,
+        dir: &Directory,
+        records: &[Record],
+        replies: &[Placed],
+    ) -> Result<(), NoMemory>
+        requires { All (λ (p : Placed). IsReplyOf dir.now records.now p.reply) replies.now }
+        ensures { OnOk result (string_bytes self.new.text ≡ string_bytes self.old.text ++ reply_lines dir.now records.now replies.now) }
+    {
+        for placed in replies {
+            push_reply_line(&mut self.text, dir, records, placed)?;
+            self.ends.push(self.text.len())?;
+        }
+        Ok(())
+    }
+
+    // Updates with so many before them. Places are counted from 1.
+    fn push_updates(
+        &mut self,
+        dir: &Directory,
+        before: u64,
+        updates: &[Update],
+    ) -> Result<(), NoMemory>
+        requires keys { All (λ (u : Update). u.key < length dir.now) updates.now }
+        requires places { before + length updates.now < 2 ^ 64 }
+        ensures { OnOk result (string_bytes self.new.text ≡ string_bytes self.old.text ++ journal_lines dir.now (before + 1) updates.now) }
+    {
+        let mut place = before;
+        for update in updates {
+            place += 1;
+            push_journal_line(&mut self.text, dir, place, update)?;
+            self.ends.push(self.text.len())?;
+        }
+        Ok(())
+    }
+
+    /// Writes the text that is on the sheet, one write a line.
+    pub(crate) fn write<K: Sink>(&self, sink: &mut K) -> Result<(), Stop>
+        ensures taken { OnOk result (IsTaken (K.taken sink.old) (K.taken sink.new) (string_bytes self.now.text)) }
+        ensures filled { OnOk result (self.now.filled ≡ Ok tt) }
+        ensures start { (stop : Ended) → IsErrOf result stop → (K.taken sink.new ≡ K.taken sink.old) ⊎ ((self.now.filled ≡ Ok tt) × TakesStart (K.taken sink.old) (K.taken sink.new) (string_bytes self.now.text)) }
+        ensures fault { IsErrOf result Stop.Fault → K.faults sink.new ≡ one_more (K.faults sink.old) }
+        ensures quiet { ¬ (IsErrOf result Stop.Fault) → K.faults sink.new ≡ K.faults sink.old }
+    {
+        match self.filled {
+            Ok(()) => Ok(write_lines(sink, self.text.as_bytes(), self.ends.as_slice())?),
+            Err(_) => Err(Stop::NoMemory),
+        }
+    }
+}
