@@ -1,5 +1,5 @@
 -- What an input, its session and its directory determine.
-use Rattle.std.proofs.Common.{◌≡◌, ℕ, zero, suc, ◌<◌, ◌⊎◌, List, [], ◌∷◌, ◌++◌, length, refl, sym, ap, ◌∙◌, subst, arith, inl, inr, Option, Some, None}
+use Rattle.std.proofs.Common.{◌≡◌, ℕ, zero, suc, ◌<◌, ◌⊎◌, List, [], ◌∷◌, length, refl, sym, ap, ◌∙◌, subst, arith, inl, inr}
 use Rattle.std.specs.List.{Contains, slice_index_or, AllByRecursion}
 use Rattle.std.specs.List.Sorted.{IsStrictlySortedBy}
 use Rattle.std.specs.declared.cmp.Ordering.TheVariants.{Less, Equal}
@@ -7,7 +7,7 @@ use Rattle.std.specs.Cmp.Lexicographic.{nat_list_cmp_total}
 use Rattle.std.proofs.lemmas.Cmp.{tied_itself}
 use Rattle.std.proofs.lemmas.List.{append_cancel_left, append_cancel_right}
 use Rattle.std.proofs.lemmas.List.Elements.{All-from_recursion, All-contains}
-use Rattle.key_names.specs.Names.{Rises, byte_order, HoldsEachOnce}
+use Rattle.key_names.specs.Names.{Rises, byte_order}
 use Rattle.bucket_terms.specs.declared.record.Record.{Record}
 use Rattle.request_lines.specs.declared.session.ClientPart.{ClientPart}
 use Rattle.run_laws.specs.Determined.{OneInputLaw, OneReadingLaw, OneTextLaw, TellsOnLaw, OneSessionLaw, NoSessionLaw, OneDirectoryLaw}

@@ -1,13 +1,11 @@
 -- A client alone has one legal run.
-use Rattle.std.proofs.Common.{◌≡◌, ℕ, zero, suc, ◌+◌, ◌-◌, ◌<◌, ◌≤◌, ◌⊎◌, Bool, true, false, cond, if◌then◌else◌, List, [], ◌∷◌, ◌++◌, length, take, fold, eqb, get_or, refl, sym, ap, ◌∙◌, subst, arith, inl, inr, Option, Some, None, All, Any}
+use Rattle.std.proofs.Common.{◌≡◌, ℕ, zero, suc, ◌+◌, ◌-◌, ◌<◌, ◌≤◌, ◌⊎◌, Bool, true, false, cond, if◌then◌else◌, List, [], ◌∷◌, ◌++◌, length, take, fold, get_or, refl, sym, ap, ◌∙◌, subst, arith, inl, inr, Option, Some, None, All, Any}
 use Rattle.std.specs.List.{slice_get, count_by}
-use Rattle.std.specs.Option.{MatchOption}
 use Rattle.std.proofs.lemmas.Bool.{eq-eqb}
 use Rattle.std.proofs.lemmas.List.{take_all, length-take-le}
 use Rattle.std.proofs.lemmas.List.Sums.{sum_by-cons}
 use Rattle.std.proofs.lemmas.Option.{same_Some, slice_get_within, get_or_from_slice_get}
 use Rattle.key_names.specs.Names.{Rises}
-use Rattle.key_map.specs.declared.pair.Pair.{Pair}
 use Rattle.key_map.specs.declared.update.Update.{Update}
 use Rattle.key_map.specs.declared.update.Change.{Change}
 use Rattle.key_map.specs.declared.update.Change.TheVariants.{Put as PutVal, Remove}
@@ -24,8 +22,8 @@ use Rattle.bucket_terms.specs.declared.reply.Reply.{Reply}
 use Rattle.bucket_terms.specs.declared.reply.Reply.TheVariants.{Put as PutReply, Exists, Deleted, Found, Missing, Listed, ListedV1, BadToken, NoSlot}
 use Rattle.bucket_terms.specs.declared.reply.Placed.{Placed}
 use Rattle.bucket_terms.specs.Listing.{page_of}
-use Rattle.bucket_terms.specs.LegalRun.{RequestLine, Setting, Answered, Run, IsLegal, IsRight, IsOf, IsChangeOf, IsMadeBy, IsPointOf, HasUsedItsSlots, UpdateStands, Finds, Lists, ListsV1, Resumed, AreAnswered, next_of, update_at, last_listing, answered_lines, lines_of, replies_of}
-use Rattle.bucket_terms.specs.RunParts.{IsPlacedBelow, is_earlier_of, head_by, setting_of, updates_in}
+use Rattle.bucket_terms.specs.LegalRun.{RequestLine, Setting, Answered, IsRight, IsOf, IsChangeOf, IsMadeBy, IsPointOf, HasUsedItsSlots, UpdateStands, Finds, Lists, ListsV1, Resumed, AreAnswered, next_of, update_at, last_listing, answered_lines, lines_of, replies_of}
+use Rattle.bucket_terms.specs.RunParts.{IsPlacedBelow, is_earlier_of, head_by, setting_of}
 use Rattle.bucket_terms.proofs.Finds.{map_has-none, map_has-some}
 use Rattle.bucket_terms.proofs.LastListing.{last_listing-push}
 use Rattle.page_token.proofs.OneTokenLaws.{one_token}

@@ -1,17 +1,15 @@
 -- Common prefixes, `start-after` and truncated pages.
-use Rattle.std.proofs.Common.{◌≡◌, ℕ, zero, suc, ◌+◌, ◌<◌, ◌≤◌, ◌&&◌, Bool, true, false, nat_lt, if◌then◌else◌, List, [], ◌∷◌, ◌++◌, length, drop, take, map, refl, sym, ap, ◌∙◌, subst, arith, inl, inr, Option, Some, None}
+use Rattle.std.proofs.Common.{◌≡◌, ℕ, zero, suc, ◌+◌, ◌<◌, Bool, true, false, if◌then◌else◌, List, [], ◌∷◌, ◌++◌, length, drop, map, refl, sym, ap, ◌∙◌, arith, Some, None}
 use Rattle.std.specs.Prelude.{◌==◌, filter}
 use Rattle.std.specs.List.{dedup}
-use Rattle.std.proofs.lemmas.Bool.{cases_Bool, and_parts, ltb-true}
+use Rattle.std.proofs.lemmas.Bool.{and_parts, ltb-true}
 use Rattle.std.proofs.lemmas.Bool.Decides.{nat_tests}
 use Rattle.std.proofs.lemmas.List.{length-take-le, append-nil}
 use Rattle.key_names.specs.Names.{name_at, begins_with}
 use Rattle.key_map.specs.declared.pair.Pair.{Pair}
-use Rattle.bucket_terms.specs.declared.list_query.ListQuery.{ListQuery}
 use Rattle.bucket_terms.specs.declared.page.PageEntry.{PageEntry}
-use Rattle.bucket_terms.specs.declared.token_point.TokenPoint.{TokenPoint}
 use Rattle.bucket_terms.specs.declared.token_point.TokenPoint.TheVariants.{Key as AtKey, Group as AtGroup}
-use Rattle.bucket_terms.specs.Listing.{is_above, is_under, entry_of, is_same_group, first_end, group_len, entries_of, page_of, page_point}
+use Rattle.bucket_terms.specs.Listing.{is_above, is_under, entry_of, is_same_group, first_end, group_len, entries_of, page_of}
 use Rattle.page_rules.proofs.Law.{page_left}
 use Rattle.run_laws.specs.PageLaws.{EndsWithFirst, GroupLaw, NoGroupLaw, StartAfterLaw, NoStartAfterLaw, TruncatedLaw}
 

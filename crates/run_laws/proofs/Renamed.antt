@@ -1,7 +1,7 @@
 -- A legal run does not depend on the numbers of the clients.
-use Rattle.std.proofs.Common.{◌≡◌, ℕ, zero, suc, ◌+◌, ◌-◌, ◌<◌, ◌≤◌, Bool, true, false, cond, ◌&&◌, nat_lt, List, [], ◌∷◌, ◌++◌, length, take, fold, map, eqb, get_or, refl, sym, ap, ◌∙◌, subst, arith, inl, inr, Option, Some, None, All, Any}
+use Rattle.std.proofs.Common.{◌≡◌, ℕ, zero, suc, ◌+◌, ◌-◌, ◌<◌, ◌≤◌, Bool, true, false, cond, ◌&&◌, nat_lt, List, [], ◌∷◌, ◌++◌, length, take, fold, map, get_or, refl, sym, ap, ◌∙◌, subst, arith, inl, inr, Option, Some, None, All, Any}
 use Rattle.std.specs.Prelude.{◌==◌, filter}
-use Rattle.std.specs.List.{slice_get, count_by, sum_by, last_or}
+use Rattle.std.specs.List.{slice_get, count_by, last_or}
 use Rattle.std.specs.Option.{option_map, IfSome}
 use Rattle.std.specs.Cmp.{both_ways}
 use Rattle.std.proofs.lemmas.Bool.{eqb-true, eq-eqb}
@@ -26,9 +26,9 @@ use Rattle.bucket_terms.specs.declared.reply.Reply.{Reply}
 use Rattle.bucket_terms.specs.declared.reply.Reply.TheVariants.{Put as PutReply, Exists, Deleted, Found, Missing, Listed, ListedV1, BadToken, NoSlot}
 use Rattle.bucket_terms.specs.declared.reply.Placed.{Placed}
 use Rattle.bucket_terms.specs.Listing.{page_of}
-use Rattle.bucket_terms.specs.LegalRun.{RequestLine, Setting, Answered, Run, IsLegal, IsRight, IsOf, IsChangeOf, IsMadeBy, HasUsedItsSlots, UpdateStands, Finds, Lists, ListsV1, KeepsOrder, IsAnswered, AreAnswered, is_listing, update_at, last_listing, answered_lines, lines_of, replies_of}
+use Rattle.bucket_terms.specs.LegalRun.{RequestLine, Setting, Answered, IsRight, IsOf, IsChangeOf, IsMadeBy, HasUsedItsSlots, UpdateStands, Finds, Lists, ListsV1, KeepsOrder, AreAnswered, is_listing, update_at, last_listing, answered_lines, lines_of, replies_of}
 use Rattle.bucket_terms.specs.RunParts.{is_earlier_of}
-use Rattle.run_laws.specs.Renamed.{renamed_update, renamed_reply, AreRenamed, IsRenamed, RenamedLaw}
+use Rattle.run_laws.specs.Renamed.{renamed_update, renamed_reply, RenamedLaw}
 
 module _ (new : ℕ → ℕ) (back : (c : ℕ) → new (new c) ≡ c) where
   abbrev ren : Update → Update

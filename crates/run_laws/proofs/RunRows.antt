@@ -1,5 +1,5 @@
 -- Small sessions: the runs that are legal, and those beside them that are not.
-use Rattle.std.proofs.Common.{◌≡◌, ℕ, zero, suc, ◌+◌, ◌<◌, ◌≤◌, Bool, true, false, List, [], ◌∷◌, ◌++◌, length, codes, get_or, refl, sym, ap, ◌∙◌, subst, arith, inl, inr, Option, Some, None, All, Any}
+use Rattle.std.proofs.Common.{◌≡◌, ℕ, zero, suc, ◌+◌, ◌<◌, ◌≤◌, true, false, List, [], ◌∷◌, length, codes, get_or, refl, sym, ap, ◌∙◌, subst, arith, inl, inr, Option, Some, None, All, Any}
 use Rattle.std.specs.List.{slice_get}
 use Rattle.std.specs.Option.{IfSome}
 use Rattle.std.proofs.lemmas.Option.{same_Some}
@@ -7,7 +7,7 @@ use Rattle.std.proofs.lemmas.List.Elements.{All-nil, All-cons}
 use Rattle.key_map.specs.KeyMap.{map_has, map_get, after}
 use Rattle.key_map.specs.declared.update.Update.{Update}
 use Rattle.key_map.specs.declared.update.Change.TheVariants.{Put as PutVal, Remove}
-use Rattle.key_names.specs.Names.{IsRank, name_at}
+use Rattle.key_names.specs.Names.{IsRank}
 use Rattle.bucket_terms.specs.declared.page.Page.{Page}
 use Rattle.bucket_terms.specs.declared.page.PageEntry.TheVariants.{Key}
 use Rattle.bucket_terms.specs.declared.token_point.TokenPoint.{TokenPoint}
@@ -185,6 +185,12 @@ stale_put legal =
     let us : List Update = put_a ∷ update 1 4 0 (PutVal 8) ∷ [] in
     cc (stands.before, ap (λ (k : ℕ). map_has k (after us 1)) (only_first stands.key stands.rank), there_at_one (update 1 4 0 (PutVal 8) ∷ []))
 
+stale_new : ¬ (Legal 9 (beside (PutNew (codes "a") 8)) (answered_beside (update 1 4 0 (PutVal 8) ∷ []) (reply_at 1 4 2 (PutReply false))))
+stale_new legal =
+    let stands = (legal.answered 1 (omega arith)).0.right in
+    let us : List Update = put_a ∷ update 1 4 0 (PutVal 8) ∷ [] in
+    cc (stands.before, ap (λ (k : ℕ). map_has k (after us 1)) (only_first stands.key stands.rank), there_at_one (update 1 4 0 (PutVal 8) ∷ []))
+
 stale_removal : ¬ (Legal 9 (beside (Delete (codes "a"))) (answered_beside [] (reply_at 1 4 1 Deleted)))
 stale_removal legal = by_case (legal.answered 1 (omega arith)).0.right
   where
@@ -199,6 +205,11 @@ gone_at_two = refl
 found_what_was_removed : ¬ (Legal 9 (three_changes (Head (codes "a"))) (after_three (reply_at 1 6 2 (Found 7))))
 found_what_was_removed legal =
     let found = (legal.answered 1 (omega arith)).0.right in
+    cc (found.value, ap (λ (k : ℕ). map_get k (after changes 2)) (only_first found.key found.rank), gone_at_two)
+
+kept_what_was_removed : ¬ (Legal 9 (three_changes (PutNew (codes "a") 9)) (after_three (reply_at 1 6 2 Exists)))
+kept_what_was_removed legal =
+    let found = (legal.answered 1 (omega arith)).0.right.0.1 in
     cc (found.value, ap (λ (k : ℕ). map_get k (after changes 2)) (only_first found.key found.rank), gone_at_two)
 
 in_the_name_of_another : ¬ (Legal 9 (beside (Delete (codes "a"))) (answered_beside (update 0 4 0 Remove ∷ []) (reply_at 1 4 2 Deleted)))
@@ -379,8 +390,10 @@ run_rows = record {
   stale_page_beside = stale_page_beside;
   page_of_two_moments = page_of_two_moments;
   stale_put = stale_put;
+  stale_new = stale_new;
   stale_removal = stale_removal;
   found_what_was_removed = found_what_was_removed;
+  kept_what_was_removed = kept_what_was_removed;
   in_the_name_of_another = in_the_name_of_another;
   place_falls_behind_a_page = place_falls_behind_a_page;
   stale_v1_page = stale_v1_page;

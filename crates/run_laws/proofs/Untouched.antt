@@ -1,9 +1,9 @@
 -- A client that keeps to names which no other client changes is answered as if it were alone.
-use Rattle.std.proofs.Common.{◌≡◌, ℕ, zero, suc, ◌+◌, ◌-◌, ◌<◌, ◌≤◌, ◌⊎◌, Bool, true, false, cond, if◌then◌else◌, List, [], ◌∷◌, ◌++◌, length, map, take, filter, eqb, refl, sym, ap, ◌∙◌, subst, arith, inl, inr, Option, Some, None, All, Any}
+use Rattle.std.proofs.Common.{◌≡◌, ℕ, zero, suc, ◌+◌, ◌-◌, ◌<◌, ◌⊎◌, Bool, true, false, if◌then◌else◌, List, [], ◌∷◌, ◌++◌, length, map, take, filter, eqb, refl, sym, ap, ◌∙◌, subst, arith, inl, inr, Option, Some, None, All, Any}
 use Rattle.std.specs.Bool.{IsTrue}
 use Rattle.std.specs.List.{slice_get, dedup}
 use Rattle.std.specs.Option.{option_map}
-use Rattle.std.proofs.lemmas.Bool.{cases_Bool, eqb-true, eq-eqb, false_from_ne_true, false≢true}
+use Rattle.std.proofs.lemmas.Bool.{eqb-true, eq-eqb, false≢true}
 use Rattle.std.proofs.lemmas.List.Elements.{All-head, All-tail, All-take}
 use Rattle.std.proofs.lemmas.Option.{same_Some, slice_get_within, get_or_from_slice_get}
 use Rattle.key_names.specs.Names.{Rises, IsRank, name_at}
@@ -25,7 +25,7 @@ use Rattle.bucket_terms.specs.declared.reply.Placed.{Placed}
 use Rattle.bucket_terms.specs.Listing.{is_under, is_admitted, entry_of, is_same_group, next_token, entries_of, page_of, page_point}
 use Rattle.bucket_terms.specs.PageParts.{cut_at}
 use Rattle.bucket_terms.specs.LegalRun.{RequestLine, Setting, Answered, Run, IsLegal, IsRight, IsOf, IsChangeOf, IsMadeBy, HasUsedItsSlots, UpdateStands, Finds, Lists, ListsV1, Resumed, AreAnswered, next_of, update_at, last_listing, answered_lines, lines_of, replies_of}
-use Rattle.bucket_terms.specs.RunParts.{IsPlacedBelow, head_by, setting_of, updates_in}
+use Rattle.bucket_terms.specs.RunParts.{IsPlacedBelow, head_by, setting_of}
 use Rattle.bucket_terms.proofs.Finds.{map_has-none, map_has-some}
 use Rattle.bucket_terms.proofs.LastListing.{last_listing-push}
 use Rattle.sample_laws.specs.Alone.{rank_of}
@@ -38,7 +38,7 @@ use Rattle.sample_laws.proofs.Steps.{Stays, Adds, step, made_next, updates_count
 use Rattle.sample_laws.proofs.OwnNames.{whole, asked_all, all_from_get}
 use Rattle.sample_laws.proofs.Alone.{used-le}
 use Rattle.run_laws.specs.Alone.{IsResolved, Outcome, makes, looks, next_on, outcome_on, placed_as, later_listing, AreAlone}
-use Rattle.run_laws.specs.Untouched.{KeepsTo, LeavesAlone, IsUntouched, IsAsIfAlone, UntouchedLaw}
+use Rattle.run_laws.specs.Untouched.{KeepsTo, LeavesAlone, IsUntouched, UntouchedLaw}
 use Rattle.run_laws.proofs.OneRun.{front_behind}
 
 -- ---- a page rests on the pairs under its prefix

@@ -1,7 +1,6 @@
 -- A session of one client has one legal run.
 use Rattle.std.specs.Prelude.{◌≡◌, ℕ, ◌<◌, List, [], ◌∷◌, None}
 use Rattle.key_names.specs.Names.{Rises}
-use Rattle.bucket_terms.specs.declared.reply.Placed.{Placed}
 use Rattle.bucket_terms.specs.LegalRun.{RequestLine, Run, IsLegal, replies_of}
 use Rattle.bucket_terms.specs.RunParts.{updates_in}
 use Rattle.run_laws.specs.Alone.{AreAlone}

@@ -1,9 +1,8 @@
 -- Small sessions of one, two and three clients: runs that are legal, and runs beside them that are not.
-use Rattle.std.specs.Prelude.{◌≡◌, ℕ, List, [], ◌∷◌, ◌++◌, codes, Bool, true, false, Option, Some, None}
+use Rattle.std.specs.Prelude.{◌≡◌, ℕ, List, [], ◌∷◌, codes, true, false, Some, None}
 use Rattle.key_map.specs.declared.update.Update.{Update}
 use Rattle.key_map.specs.declared.update.Change.{Change}
 use Rattle.key_map.specs.declared.update.Change.TheVariants.{Put as PutVal, Remove}
-use Rattle.bucket_terms.specs.declared.list_query.ListQuery.{ListQuery}
 use Rattle.bucket_terms.specs.declared.v1_query.V1Query.{V1Query}
 use Rattle.bucket_terms.specs.declared.page.PageEntry.{PageEntry}
 use Rattle.bucket_terms.specs.declared.page.PageEntry.TheVariants.{Key}
@@ -143,6 +142,9 @@ pub record RunRowsLaw : Type 0 where
   pub stale_page_beside : ¬ (Legal 9 (beside list_all) (answered_beside [] (reply_at 1 4 1 (page []))))
   pub page_of_two_moments : ¬ (Legal 9 (three_changes list_all) (after_three (reply_at 1 6 3 (page (Key 0 7 ∷ Key 1 8 ∷ [])))))
   pub stale_put : ¬ (Legal 9 (beside (Put (codes "a") 8)) (answered_beside (update 1 4 0 (PutVal 8) ∷ []) (reply_at 1 4 2 (PutReply false))))
+  -- a put of a new key that does not see the key which another client put, or sees one that was taken out again
+  pub stale_new : ¬ (Legal 9 (beside (PutNew (codes "a") 8)) (answered_beside (update 1 4 0 (PutVal 8) ∷ []) (reply_at 1 4 2 (PutReply false))))
+  pub kept_what_was_removed : ¬ (Legal 9 (three_changes (PutNew (codes "a") 9)) (after_three (reply_at 1 6 2 Exists)))
   pub stale_removal : ¬ (Legal 9 (beside (Delete (codes "a"))) (answered_beside [] (reply_at 1 4 1 Deleted)))
   pub found_what_was_removed : ¬ (Legal 9 (three_changes (Head (codes "a"))) (after_three (reply_at 1 6 2 (Found 7))))
   -- a removal that stands in the name of another client

@@ -1,5 +1,5 @@
 -- A client that keeps to names which no other client changes.
-use Rattle.std.specs.Prelude.{◌≡◌, ◌≢◌, ℕ, ◌<◌, Bool, true, false, IsTrue, List, [], length, map, All, None}
+use Rattle.std.specs.Prelude.{◌≡◌, ◌≢◌, ℕ, ◌<◌, Bool, false, IsTrue, List, [], length, map, All, None}
 use Rattle.key_names.specs.Names.{Rises}
 use Rattle.key_map.specs.declared.pair.Pair.{Pair}
 use Rattle.bucket_terms.specs.declared.request.Request.{Request}
