@@ -7,7 +7,7 @@ use Rattle.index_words.specs.declared.view.reading.Reading.{Reading}
 use Rattle.index_words.specs.declared.view.reading.Place.TheVariants.{Nowhere}
 use Rattle.key_map.specs.declared.update.Update.{Update}
 use Rattle.index_words.specs.Views.{empty_view, no_reading}
-use Rattle.core_grace.specs.Batches.{batch_taken, settled, both}
+use Rattle.core_grace.specs.Batches.{batch_taken, settled, both, apart_from}
 
 -- it stands nowhere, remembers no link, and knows of no word that it has filled
 abbrev pub nowhere : Reading → Reading
@@ -55,7 +55,8 @@ history_with own number other = record own {
   ended_places = own.ended_places ++ (other.ended_places ++ own_ended number other.mine);
 }
 
--- a slot may come back with the other view whose words were filled there, so that the view knows of no filled word
+-- a slot may come back with the other view whose words were filled there, so that the view knows of no filled word, and
+-- counts none of the other view's free slots as one that was never used
 abbrev pub joined_with : View → View → View
 joined_with v other = record v {
   to_give = v.to_give ++ other.to_give;
@@ -63,4 +64,5 @@ joined_with v other = record v {
   history = history_with v.history other.number other.history;
   free = both v.free other.free;
   retired = both v.retired (both other.retired other.batch);
+  unused = apart_from other.free v.unused;
 }

@@ -1,4 +1,4 @@
--- The table at the start: all words are 0, each pass has its slots free and its calls left, and behind the
+-- The table at the start: all words are 0, each pass has its slots free and unused and its calls left, and behind the
 -- passes stands the emptied first view.
 use Rattle.std.specs.Prelude.{◌≡◌, ℕ, zero, suc, ◌+◌, ◌-◌, ◌≤◌, List, [], ◌∷◌, ◌++◌, Some, false, replicate, take, drop, length}
 use Rattle.index_words.specs.declared.layout.Layout.{Layout}
@@ -20,6 +20,7 @@ pass_view z number node entry size = record (empty_view z) {
   number = Some number;
   history = record (empty_view z).history { left = size.calls };
   free = record { nodes = from_up node size.nodes; entries = from_up entry size.entries };
+  unused = record { nodes = from_up node size.nodes; entries = from_up entry size.entries };
 }
 
 -- the passes from a number on, each with the next slots
@@ -37,6 +38,7 @@ first_view z = record (empty_view z) {
   to_give = from_up 0 z.passes;
   history = record (empty_view z).history { left = z.calls };
   free = record { nodes = from_up 1 z.nodes; entries = from_up 1 z.entries };
+  unused = record { nodes = from_up 1 z.nodes; entries = from_up 1 z.entries };
 }
 
 abbrev pub first_table : Layout → Table
@@ -48,6 +50,7 @@ made_left v size = record v {
   to_give = drop 1 v.to_give;
   history = record v.history { left = v.history.left - size.calls };
   free = record { nodes = drop size.nodes v.free.nodes; entries = drop size.entries v.free.entries };
+  unused = record { nodes = drop size.nodes v.unused.nodes; entries = drop size.entries v.unused.entries };
 }
 
 abbrev pub made_right : View → ℕ → PassSize → View
@@ -55,6 +58,7 @@ made_right v number size = record (empty_view v.layout) {
   number = Some number;
   history = record (empty_view v.layout).history { left = size.calls };
   free = record { nodes = take size.nodes v.free.nodes; entries = take size.entries v.free.entries };
+  unused = record { nodes = take size.nodes v.unused.nodes; entries = take size.entries v.unused.entries };
 }
 
 -- the first view, as long as it has the numbers, slots and calls of passes of these sizes to give
@@ -63,6 +67,7 @@ giving z number node entry sizes = record (empty_view z) {
   to_give = from_up number (length sizes);
   history = record (empty_view z).history { left = all_calls sizes };
   free = record { nodes = from_up node (all_nodes sizes); entries = from_up entry (all_entries sizes) };
+  unused = record { nodes = from_up node (all_nodes sizes); entries = from_up entry (all_entries sizes) };
 }
 
 -- the view has this number to give next, and so many calls left

@@ -19,8 +19,8 @@ pub enum Kind {
     LookSec,
     /// Stores to a word of an own free slot, but not to its lock.
     Fill,
-    /// Loads the stamp: the number at which the seat reads from then on, where it has announced. Its value is 1 where it
-    /// fixes a place, else 0.
+    /// Loads the stamp: the number at which the seat reads from then on, where it has announced. Its value is 1 where
+    /// it fixes a place, else 0.
     LoadStamp,
     /// Loads the head of a reachable node's bundle, and stands at the entry found.
     LoadHead,
@@ -51,8 +51,8 @@ pub enum Kind {
     Announce,
     /// Loads the announcement of another pass, so that nothing is cut that this pass may read.
     LookAnn,
-    /// Stores 0 as the next of the entry that the least number selects at a locked node: the bundle ends with it, and the
-    /// entries behind are retired.
+    /// Stores 0 as the next of the entry that the least number selects at a locked node: the bundle ends with it, and
+    /// the entries behind are retired.
     Cut,
 }
 

@@ -1,6 +1,6 @@
 -- How retired slots become free: they are taken as a batch, and the batch becomes free once every other
 -- pass has been outside a section since.
-use Rattle.std.specs.Prelude.{ℕ, List, [], ◌∷◌, ◌++◌, zero, suc, length, cond, ◌==◌, ◌&&◌, ◌||◌, Bool, true, false, Option, Some, None, find, filter}
+use Rattle.std.specs.Prelude.{ℕ, List, [], ◌∷◌, ◌++◌, zero, suc, length, cond, ◌==◌, ◌&&◌, ◌||◌, not, Bool, true, false, Option, Some, None, find, filter}
 use Rattle.std.specs.Option.{option_map}
 use Rattle.index_words.specs.declared.view.View.{View}
 use Rattle.index_words.specs.declared.view.slots.Slots.{Slots}
@@ -52,9 +52,13 @@ abbrev pub all_passed : ℕ → Option ℕ → List ℕ → Bool
 all_passed zero number passed = true
 all_passed (suc n) number passed = (is_number n number || has n passed) && all_passed n number passed
 
--- the slots of the batch are free
+-- the slots of a list that are not among these
+abbrev pub apart_from : Slots → Slots → Slots
+apart_from out s = record { nodes = filter (λ k. not (has k out.nodes)) s.nodes; entries = filter (λ e. not (has e out.entries)) s.entries }
+
+-- the slots of the batch are free; they were used
 abbrev pub batch_freed : View → View
-batch_freed v = record v { free = both v.free v.batch; batch = no_slots; grace = no_looks }
+batch_freed v = record v { free = both v.free v.batch; batch = no_slots; grace = no_looks; unused = apart_from v.batch v.unused }
 
 -- where every other pass is passed the batch becomes free
 abbrev pub settled : ℕ → View → View

@@ -1,10 +1,10 @@
-ghost use Rattle.std.specs.Prelude.{◌≡◌, ℕ, OnOk, OnErr, IfOk, Option};
+ghost use Rattle.std.specs.Prelude.{◌≡◌, ℕ, OnOk, OnErr, IfOk, Option, not, filter};
 ghost use Rattle.key_map.specs.Lists.{has};
-ghost use Rattle.core_grace.specs.Batches.{batch_taken, first_found, lets_pass, looked_at, is_number, all_passed, settled};
+ghost use Rattle.core_grace.specs.Batches.{batch_taken, first_found, lets_pass, looked_at, is_number, all_passed, apart_from, settled};
 ghost use Rattle.core_grace.specs.Progress.{SettlesRight};
 
 use crate::section::passed;
-use index_words::{Looks, NoMemory, SectionFound, Slots, View};
+use index_words::{Items, Looks, NoMemory, SectionFound, Slots, View};
 use std::alloc::Global;
 
 fn is_in(passes: &[u32], pass: u32) -> bool
@@ -76,6 +76,28 @@ pub fn look_at(looks: &mut Looks, pass: u32, word: u64) -> Result<(), NoMemory>
     looks.found.push(SectionFound { pass, word })
 }
 
+fn keep_without(slots: &mut Vec<u32>, out: &[u32])
+    ensures { slots.new.items ≡ filter (λ k. not (has k out.now)) slots.old.items }
+{
+    slots.retain(|own| !is_in(out, *own));
+}
+
+fn drop_from(alloc: Global, slots: &mut Items<u32>, out: &[u32])
+    ensures { slots.new ≡ filter (λ k. not (has k out.now)) slots.old }
+{
+    let mut kept = std::mem::replace(slots, Items::new(alloc)).into_vec();
+    keep_without(&mut kept, out);
+    *slots = Items::from_vec(kept);
+}
+
+/// Takes these slots out of the list.
+pub fn drop_slots(alloc: Global, slots: &mut Slots, out: &Slots)
+    ensures { slots.new ≡ apart_from out.now slots.old }
+{
+    drop_from(alloc, &mut slots.nodes, out.nodes.as_slice());
+    drop_from(alloc, &mut slots.entries, out.entries.as_slice());
+}
+
 fn take_or_free(alloc: Global, view: &mut View, looks: Looks, passes: u32) -> Result<(), NoMemory>
     ensures ok { OnOk result (view.new ≡ settled passes (record (batch_taken view.old) { grace = looks })) }
     ensures err { OnErr result (view.new ≡ view.old) }
@@ -84,9 +106,11 @@ fn take_or_free(alloc: Global, view: &mut View, looks: Looks, passes: u32) -> Re
     if has_all_others(passes, view.number, looks.passed.as_slice()) {
         if taking {
             view.free.append(&view.retired)?;
+            drop_slots(alloc, &mut view.unused, &view.retired);
             view.retired = Slots::none(alloc);
         } else {
             view.free.append(&view.batch)?;
+            drop_slots(alloc, &mut view.unused, &view.batch);
         }
         view.batch = Slots::none(alloc);
         view.grace = Looks::none(alloc);

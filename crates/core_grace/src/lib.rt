@@ -5,5 +5,5 @@
 mod batch;
 mod section;
 
-pub use batch::{current_looks, has_all_others, is_own, look_at, settle};
+pub use batch::{current_looks, drop_slots, has_all_others, is_own, look_at, settle};
 pub use section::{left_word, passed};

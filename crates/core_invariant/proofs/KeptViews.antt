@@ -17,7 +17,7 @@ use Rattle.core_events.specs.declared.event.Kind.{Kind}
 use Rattle.core_events.specs.declared.event.Kind.TheVariants.{MakeSeat, SplitSeat, JoinSeat, Enter, Leave, LookSec, Fill, LoadStamp, LoadHead, LoadTs, LoadPtr, LoadNext, Prepare, Raise, Finalise, TryLock, Unlock, LoadMark, Mark as MarkNode, LoadKeyOrVal, Announce, LookAnn, Cut}
 use Rattle.core_events.specs.Moves.{in_section, entered}
 use Rattle.core_grace.specs.Sections.{is_even}
-use Rattle.core_events.specs.FillMoves.{filled_with, with_filled}
+use Rattle.core_events.specs.FillMoves.{filled_with, with_filled, known_before, used_view, filled_view}
 use Rattle.core_events.specs.LoadMoves.{next_at}
 use Rattle.core_events.specs.LockMoves.{locked_view, met_lock}
 use Rattle.core_events.specs.Steps.{view_after, look_from, head_at, head_from, ts_from, ptr_from, next_from, prepared_at, prepared_from, raised_from, finalised_from, tried_from, unlocked_from, mark_from, marked_from, pair_from, ann_from, cut_from}
@@ -169,8 +169,8 @@ pair_part v (Section k) x = refl
 pair_part v (Announced k) x = refl
 pair_part v (Entry p e) x = refl
 
-filled_part : (v : View) (w : Word) (value : ℕ) → part_of (cond (is_even v.section_word) v (with_filled v (filled_with v.reading.filled w value))) ≡ part_of v
-filled_part v w value = either_part (is_even v.section_word) (part_of v) v (with_filled v (filled_with v.reading.filled w value)) refl refl
+filled_part : (v : View) (w : Word) (value : ℕ) → part_of (filled_view v w value) ≡ part_of v
+filled_part v w value = either_part (is_even v.section_word) (part_of v) (used_view v w) (with_filled (used_view v w) (filled_with (known_before v w) w value)) refl refl
 
 ann_part : (v : View) (w : Word) (x : ℕ) → part_of (ann_from v w x) ≡ part_of v
 ann_part v (Announced k) x = refl

@@ -18,10 +18,10 @@ use Rattle.key_map.specs.Lists.{count, Every, IsItem}
 use Rattle.index_words.proofs.Seats.{sum_kept, at_item, all_moved}
 use Rattle.key_map.proofs.Counting.{count-append}
 use Rattle.core_grace.specs.Sections.{is_even}
-use Rattle.core_grace.specs.Batches.{is_empty, batch_taken, batch_freed, settled, looked_at, all_passed, is_number, both}
+use Rattle.core_grace.specs.Batches.{is_empty, batch_taken, batch_freed, settled, looked_at, all_passed, is_number, both, apart_from}
 use Rattle.core_grace.specs.Holds.{HoldsNode, HoldsEntry}
 use Rattle.core_grace.specs.Slots.{HoldsNone, GraceRight, SlotRule}
-use Rattle.core_grace.proofs.RuleMoves.{HoldsFrom, KeepsSection, no_batch, quiet, take_batch, free_batch, all_passed_none, look_row}
+use Rattle.core_grace.proofs.RuleMoves.{HoldsFrom, KeepsSection, no_batch, quiet, take_batch, free_batch, all_passed_none, look_row, same_looks}
 use Rattle.core_invariant.specs.Meanings.{Meaning, linked_by}
 use Rattle.core_invariant.specs.Numbers.{number_count}
 use Rattle.core_invariant.specs.Histories.{HistoryRight, place_count, calls_left}
@@ -46,8 +46,8 @@ pub item_from_get : {X : Type 0} (xs : List X) (i : ℕ) (x : X) → slice_get x
 item_from_get xs i x found = record { within = slice_get_within xs i x found; is = λ d. get_or_from_slice_get xs i x d found }
 
 -- a view with other slots
-abbrev pub with_slots : View → Slots → Slots → Slots → Looks → View
-with_slots v f r b l = record v { free = f; retired = r; batch = b; grace = l }
+abbrev pub with_slots : View → Slots → Slots → Slots → Looks → Slots → View
+with_slots v f r b l n = record v { free = f; retired = r; batch = b; grace = l; unused = n }
 
 -- the history is kept where one view keeps its part of it
 pub history_kept : (z : Layout) (s : ℕ) (g : Meaning) (vs : List View) (i : ℕ) (v w : View) → IsItem vs i v → w.number ≡ v.number → w.history ≡ v.history
@@ -73,9 +73,9 @@ module _ (z : Layout) (m : Memory) (vs : List View) (g : Meaning) where
   read_past rule n (inl is) = omega (arith, is)
   read_past rule n (inr by) = subst (λ (o : Option ℕ). IfSome o (λ t. t ≤ m Stamp)) by.reads (seat_at by.seat by.view by.at rule).version.past
 
-  slots_section : (v : View) (f r b : Slots) (l : Looks) → SectionRight (λ n. m (Section n)) (λ n. m (Announced n)) v
-      → SectionRight (λ n. m (Section n)) (λ n. m (Announced n)) (with_slots v f r b l)
-  slots_section v f r b l right = record {
+  slots_section : (v : View) (f r b : Slots) (l : Looks) (n : Slots) → SectionRight (λ n. m (Section n)) (λ n. m (Announced n)) v
+      → SectionRight (λ n. m (Section n)) (λ n. m (Announced n)) (with_slots v f r b l n)
+  slots_section v f r b l n right = record {
     section = right.section;
     announced = right.announced;
     outside = right.outside;
@@ -83,11 +83,11 @@ module _ (z : Layout) (m : Memory) (vs : List View) (g : Meaning) where
     done = right.done;
   }
 
-  slots_seat : (v : View) (f r b : Slots) (l : Looks) → MarksRight (λ k. m (Node Mark k)) (with_slots v f r b l) → Every (FilledRight m f v.update) v.reading.filled
-      → Seat v → Seat (with_slots v f r b l)
-  slots_seat v f r b l marks filled seat = record {
+  slots_seat : (v : View) (f r b : Slots) (l : Looks) (n : Slots) → MarksRight (λ k. m (Node Mark k)) (with_slots v f r b l n) → Every (FilledRight m f v.update) v.reading.filled
+      → Seat v → Seat (with_slots v f r b l n)
+  slots_seat v f r b l n marks filled seat = record {
     layout = seat.layout;
-    section = slots_section v f r b l seat.section;
+    section = slots_section v f r b l n seat.section;
     seen = seat.seen;
     update = seat.update;
     version = seat.version;
@@ -103,12 +103,12 @@ module _ (z : Layout) (m : Memory) (vs : List View) (g : Meaning) where
   }
 
   -- where a view moves only its slots, and frees no less, the rules on slots and on marks are all that is left
-  pub moved_slots : (i : ℕ) (v : View) (f r b : Slots) (l : Looks) → IsItem vs i v → Rule z m vs g
-      → ((k : ℕ) → count k v.free.nodes ≤ count k f.nodes) → MarksRight (λ k. m (Node Mark k)) (with_slots v f r b l)
-      → Every (FilledRight m f v.update) v.reading.filled → SlotRule z (linked_by g) HoldsNode (HoldsEntry g.bundles) (set vs i (with_slots v f r b l))
-      → Rule z m (set vs i (with_slots v f r b l)) g
-  moved_slots i v f r b l at rule more marks filled slots =
-      let w : View = with_slots v f r b l in
+  pub moved_slots : (i : ℕ) (v : View) (f r b : Slots) (l : Looks) (n : Slots) → IsItem vs i v → Rule z m vs g
+      → ((k : ℕ) → count k v.free.nodes ≤ count k f.nodes) → MarksRight (λ k. m (Node Mark k)) (with_slots v f r b l n)
+      → Every (FilledRight m f v.update) v.reading.filled → SlotRule z (linked_by g) HoldsNode (HoldsEntry g.bundles) (set vs i (with_slots v f r b l n))
+      → Rule z m (set vs i (with_slots v f r b l n)) g
+  moved_slots i v f r b l n at rule more marks filled slots =
+      let w : View = with_slots v f r b l n in
       record {
         numbers = λ n. sum_kept (number_count n) vs i v w at refl ∙ rule.numbers n;
         history = history_kept z _ g vs i v w at refl refl rule.history;
@@ -120,14 +120,14 @@ module _ (z : Layout) (m : Memory) (vs : List View) (g : Meaning) where
             (λ e. pending_moved vs i k e v w at refl (λ works. works)) (rule.bundles k (live_moved z vs i k v w at (more k) live) side);
         pairs = pairs_same vs i v w at refl rule.pairs;
         single = λ e. omega (arith, sum_kept (pending_count e) vs i v w at refl, rule.single e);
-        seats = all_moved Seat Seat vs i v w at rule.seats (slots_seat v f r b l marks filled (seat_at i v at rule)) (λ u beside of. of);
+        seats = all_moved Seat Seat vs i v w at rule.seats (slots_seat v f r b l n marks filled (seat_at i v at rule)) (λ u beside of. of);
       }
 
-  holds_slots : (v : View) (f r b : Slots) (l : Looks) → HoldsFrom z (linked_by g) HoldsNode (HoldsEntry g.bundles) v (with_slots v f r b l)
-  holds_slots v f r b l = record { nodes = λ k holds. inl holds; entries = λ e holds. inl holds }
+  holds_slots : (v : View) (f r b : Slots) (l : Looks) (n : Slots) → HoldsFrom z (linked_by g) HoldsNode (HoldsEntry g.bundles) v (with_slots v f r b l n)
+  holds_slots v f r b l n = record { nodes = λ k holds. inl holds; entries = λ e holds. inl holds }
 
-  keeps_slots : (v : View) (f r b : Slots) (l : Looks) → KeepsSection z (linked_by g) HoldsNode (HoldsEntry g.bundles) v (with_slots v f r b l)
-  keeps_slots v f r b l = record { number = refl; section = inl refl }
+  keeps_slots : (v : View) (f r b : Slots) (l : Looks) (n : Slots) → KeepsSection z (linked_by g) HoldsNode (HoldsEntry g.bundles) v (with_slots v f r b l n)
+  keeps_slots v f r b l n = record { number = refl; section = inl refl }
 
   length_none : (k : ℕ) (xs : List ℕ) → eqb (length xs) 0 ≡ true → count k xs ≡ 0
   length_none k [] e = refl
@@ -157,11 +157,11 @@ module _ (z : Layout) (m : Memory) (vs : List View) (g : Meaning) where
   taken_by : (i : ℕ) (v : View) (b : Bool) → is_empty v.batch ≡ b → IsItem vs i v → Rule z m vs g → IsIdle v
       → Rule z m (set vs i (cond b (record v { retired = no_slots; batch = v.retired; grace = no_looks }) v)) g
   taken_by i v true empty at rule idle =
-      moved_slots i v v.free no_slots v.retired no_looks at rule (λ k. omega arith)
+      moved_slots i v v.free no_slots v.retired no_looks v.unused at rule (λ k. omega arith)
       (record { retired = λ k some. absurd (omega (arith, some)); batch = λ k some. idle_marked v k (seat_at i v at rule) idle some; taken = λ k some. absurd (idle_taken v k idle some) })
       (idle_filled v.free v idle)
-      (take_batch z (linked_by g) HoldsNode (HoldsEntry g.bundles) vs i v (with_slots v v.free no_slots v.retired no_looks) at rule.slots (batch_none v.batch empty) refl refl refl refl
-      (holds_slots v v.free no_slots v.retired no_looks) (keeps_slots v v.free no_slots v.retired no_looks))
+      (take_batch z (linked_by g) HoldsNode (HoldsEntry g.bundles) vs i v (with_slots v v.free no_slots v.retired no_looks v.unused) at rule.slots (batch_none v.batch empty) refl refl refl refl
+      (holds_slots v v.free no_slots v.retired no_looks v.unused) (keeps_slots v v.free no_slots v.retired no_looks v.unused))
   taken_by i v false empty at rule idle = subst (λ ws. Rule z m ws g) (sym (set_same vs i v at)) rule
 
   -- taking the retired slots as the batch keeps the rule
@@ -184,11 +184,11 @@ module _ (z : Layout) (m : Memory) (vs : List View) (g : Meaning) where
       → Rule z m (set vs i (cond b (batch_freed v) v)) g
   settled_by i v true done at rule idle =
       let f : Slots = both v.free v.batch in
-      moved_slots i v f v.retired no_slots no_looks at rule (λ k. omega (arith, count-append k v.free.nodes v.batch.nodes))
+      moved_slots i v f v.retired no_slots no_looks (apart_from v.batch v.unused) at rule (λ k. omega (arith, count-append k v.free.nodes v.batch.nodes))
       (record { retired = λ k some. inl (idle_marked v k (seat_at i v at rule) idle some); batch = λ k some. absurd (omega (arith, some)); taken = (seat_at i v at rule).marks.taken })
       (idle_filled f v idle)
-      (free_batch z (linked_by g) HoldsNode (HoldsEntry g.bundles) vs i v (with_slots v f v.retired no_slots no_looks) at rule.slots (none_holds i v at rule idle done) refl refl refl refl (λ k h. h) (λ e h. h)
-      (keeps_slots v f v.retired no_slots no_looks))
+      (free_batch z (linked_by g) HoldsNode (HoldsEntry g.bundles) vs i v (with_slots v f v.retired no_slots no_looks (apart_from v.batch v.unused)) at rule.slots (none_holds i v at rule idle done) refl refl refl refl (λ k h. h) (λ e h. h)
+      (keeps_slots v f v.retired no_slots no_looks (apart_from v.batch v.unused)))
   settled_by i v false done at rule idle = subst (λ ws. Rule z m ws g) (sym (set_same vs i v at)) rule
 
   -- setting a batch free that may be set free keeps the rule
@@ -204,15 +204,26 @@ module _ (z : Layout) (m : Memory) (vs : List View) (g : Meaning) where
       → Rule z m (set vs i (record v { grace = looked_at v.grace pass (m (Section pass)) })) g
   look_right i v pass at rule other =
       let l : Looks = looked_at v.grace pass (m (Section pass)) in
-      let w : View = with_slots v v.free v.retired v.batch l in
+      let w : View = with_slots v v.free v.retired v.batch l v.unused in
       let s : ℕ → ℕ = λ n. m (Section n) in
       let a : ℕ → ℕ = λ n. m (Announced n) in
       let marks = (seat_at i v at rule).marks in
-      moved_slots i v v.free v.retired v.batch l at rule (λ k. omega arith) (record { retired = marks.retired; batch = marks.batch; taken = marks.taken })
+      moved_slots i v v.free v.retired v.batch l v.unused at rule (λ k. omega arith) (record { retired = marks.retired; batch = marks.batch; taken = marks.taken })
       (seat_at i v at rule).filled
-      (quiet z (linked_by g) HoldsNode (HoldsEntry g.bundles) vs i v w at rule.slots refl refl refl (holds_slots v v.free v.retired v.batch l) (keeps_slots v v.free v.retired v.batch l)
+      (quiet z (linked_by g) HoldsNode (HoldsEntry g.bundles) vs i v w at rule.slots refl refl refl (holds_slots v v.free v.retired v.batch l v.unused) (keeps_slots v v.free v.retired v.batch l v.unused)
       (λ known. look_row z (linked_by g) HoldsNode (HoldsEntry g.bundles) v w pass (m (Section pass)) (λ is. absurd (not_both pass v.number is other)) (λ is even. absurd (not_both pass v.number is other)) known)
       (λ u beside known.
       let right : SectionRight s a u = (seat_at beside.place u beside.at rule).section in
       look_row z (linked_by g) HoldsNode (HoldsEntry g.bundles) v u pass (m (Section pass)) (λ is. sym (section_of s a u pass right is))
       (λ is even. idle_none g.bundles v.batch u (outside_idle s a u right (ap is_even (sym (section_of s a u pass right is)) ∙ even))) known))
+
+  -- that other slots are known as never used keeps the rule
+  pub used_right : (i : ℕ) (v : View) (n : Slots) → IsItem vs i v → Rule z m vs g → Rule z m (set vs i (record v { unused = n })) g
+  used_right i v n at rule =
+      let w : View = with_slots v v.free v.retired v.batch v.grace n in
+      let marks = (seat_at i v at rule).marks in
+      moved_slots i v v.free v.retired v.batch v.grace n at rule (λ k. omega arith) (record { retired = marks.retired; batch = marks.batch; taken = marks.taken })
+      (seat_at i v at rule).filled
+      (quiet z (linked_by g) HoldsNode (HoldsEntry g.bundles) vs i v w at rule.slots refl refl refl (holds_slots v v.free v.retired v.batch v.grace n) (keeps_slots v v.free v.retired v.batch v.grace n)
+      (λ known. same_looks z (linked_by g) HoldsNode (HoldsEntry g.bundles) v w w refl refl known)
+      (λ u beside known. same_looks z (linked_by g) HoldsNode (HoldsEntry g.bundles) v w u refl refl known))

@@ -6,6 +6,7 @@ pub mod OwnPlaces
 pub mod SectionRule
 pub mod SpentViews
 pub mod WaitingSlots
+pub mod UnusedSlots
 pub mod Locks
 pub mod BundleRule
 pub mod Readers

@@ -20,6 +20,7 @@ use Rattle.core_invariant.specs.PruneRule.{PairsRight}
 use Rattle.core_invariant.specs.SeatRule.{SeatRight}
 use Rattle.core_invariant.specs.SpentViews.{IsSpent}
 use Rattle.core_invariant.specs.WaitingSlots.{WaitsRight}
+use Rattle.core_invariant.specs.UnusedSlots.{UnusedRight}
 use Rattle.core_events.specs.Versions.{IsVersion, slots_of}
 use Rattle.core_events.specs.Tables.{Table}
 
@@ -36,7 +37,7 @@ pub record Rule (z : Layout) (m : Memory) (vs : List View) (g : Meaning) : Type 
   pub seats : All (SeatRight z m g) vs
 
 -- a table that meets the rule, where nothing is left of a view that was joined into another one, no word of a number
--- that is still to be given is used, each view knows where its own updates stand, and its slots wait as they should
+-- that is still to be given is used, each view knows where its own updates stand, its slots wait as they should, and those that it never used hold 0
 pub record InRule (z : Layout) (words : List ℕ) (vs : List View) : Type 0 where
   pub size : length words ≡ word_count z
   pub meaning : Meaning
@@ -45,6 +46,7 @@ pub record InRule (z : Layout) (words : List ℕ) (vs : List View) : Type 0 wher
   pub spare : All (IsSpare (memory z words)) vs
   pub places : All KnowsPlaces vs
   pub waits : All WaitsRight vs
+  pub unused : All (UnusedRight (memory z words)) vs
 
 abbrev pub IsRight : Table → Type 0
 IsRight t = InRule t.layout t.words t.views

@@ -1,5 +1,5 @@
-//! The rule that every event keeps, in its parts, what the words mean, and the lemmas that all kinds of events share. It
-//! has no code: its call does nothing, and its clauses are what is proved.
+//! The rule that every event keeps, in its parts, what the words mean, and the lemmas that all kinds of events share.
+//! It has no code: its call does nothing, and its clauses are what is proved.
 #![tactic(auto)]
 
 mod laws;

@@ -29,6 +29,7 @@ use Rattle.core_invariant.proofs.Pairs.{announced_idle, by_none}
 use Rattle.core_invariant.specs.Numbers.{number_count, NumbersRight, IsSpare}
 use Rattle.core_invariant.specs.OwnPlaces.{KnowsPlaces}
 use Rattle.core_invariant.specs.WaitingSlots.{WaitsRight}
+use Rattle.core_invariant.specs.UnusedSlots.{UnusedRight}
 use Rattle.core_invariant.specs.SectionRule.{IsIdle, SectionRight, IsOwnWord}
 use Rattle.core_links.specs.Bundle.{no_number}
 use Rattle.core_trees.specs.NamedTree.{Null}
@@ -235,6 +236,7 @@ module _ (z : Layout) (vs : List View) (starts : StartsWith z vs) where
     spare = All-weaker (IsFresh z) (IsSpare (memory z ws)) (λ v fresh. zero_spare v.to_give) vs starts.fresh;
     places = All-weaker (IsFresh z) KnowsPlaces (λ v fresh. fresh.places) vs starts.fresh;
     waits = All-weaker (IsFresh z) WaitsRight (λ v fresh. none_waiting v fresh.retired fresh.batch) vs starts.fresh;
+    unused = All-weaker (IsFresh z) (UnusedRight (memory z ws)) (λ v fresh w is yet. zero_memory z (word_count z) w) vs starts.fresh;
   }
 
 -- the table with the first view alone

@@ -21,6 +21,7 @@ use Rattle.core_invariant.specs.Meanings.{Meaning, linked_by}
 use Rattle.core_invariant.specs.Numbers.{number_count, IsSpare}
 use Rattle.core_invariant.specs.OwnPlaces.{KnowsPlaces}
 use Rattle.core_invariant.specs.WaitingSlots.{WaitsRight}
+use Rattle.core_invariant.specs.UnusedSlots.{UnusedRight}
 use Rattle.core_invariant.specs.Histories.{KnowsAll, place_count, calls_left}
 use Rattle.core_invariant.specs.Locks.{lock_count}
 use Rattle.core_invariant.specs.BundleRule.{IsLive, IsBundle, IsPendingAt, pending_count}
@@ -122,4 +123,5 @@ module _ (v : View) (vs : List View) where
     spare = all_turned (IsSpare (memory z words)) right.spare;
     places = all_turned KnowsPlaces right.places;
     waits = all_turned WaitsRight right.waits;
+    unused = all_turned (UnusedRight (memory z words)) right.unused;
   }

@@ -2,6 +2,8 @@
 pub mod OwnPlaces
 -- Each view's slots wait as they should, after every event.
 pub mod WaitingSlots
+-- The slots that a view never used hold 0, after every event: none but a fill stores to a word of a free slot.
+pub mod UnusedSlots
 -- The section words and the announcements of passes: an enter, a leave and an announcement alone store to one, and to their own.
 pub mod SectionWords
 -- No event makes what a seat has seen shorter.

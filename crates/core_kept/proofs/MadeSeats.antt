@@ -44,6 +44,7 @@ with_free z give left nodes entries = record (empty_view z) {
   to_give = give;
   history = record (empty_view z).history { left = left };
   free = record { nodes = nodes; entries = entries };
+  unused = record { nodes = nodes; entries = entries };
 }
 
 with_same : (z : Layout) (g h : List ℕ) (a b : ℕ) (ns ms es fs : List ℕ) → g ≡ h → a ≡ b → ns ≡ ms → es ≡ fs → with_free z g a ns es ≡ with_free z h b ms fs
@@ -55,6 +56,7 @@ pass_with z number left nodes entries = record (empty_view z) {
   number = Some number;
   history = record (empty_view z).history { left = left };
   free = record { nodes = nodes; entries = entries };
+  unused = record { nodes = nodes; entries = entries };
 }
 
 module _ (z : Layout) (k a b : ℕ) (size : PassSize) (sizes : List PassSize) where

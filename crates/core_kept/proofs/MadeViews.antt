@@ -18,6 +18,7 @@ use Rattle.core_invariant.specs.Numbers.{number_count, IsSpare}
 use Rattle.core_invariant.specs.Histories.{place_count, calls_left}
 use Rattle.core_invariant.specs.OwnPlaces.{KnowsPlaces}
 use Rattle.core_invariant.specs.WaitingSlots.{WaitsRight}
+use Rattle.core_invariant.specs.UnusedSlots.{UnusedRight}
 use Rattle.core_invariant.specs.SectionRule.{IsIdle}
 use Rattle.core_invariant.specs.Locks.{lock_count}
 use Rattle.core_invariant.specs.BundleRule.{IsPendingAt, pending_count}
@@ -31,6 +32,7 @@ use Rattle.core_invariant.proofs.OneView.{seat_at}
 use Rattle.core_invariant.proofs.Filled.{every_filled}
 use Rattle.core_invariant.proofs.SpentViews.{live_spent}
 use Rattle.core_kept.proofs.TwoViews.{WorksIf, count-take-drop, knows_push, idle_bare}
+use Rattle.core_kept.proofs.UnusedSlots.{LessOf, subset_less, less_right}
 
 either_none : (b : Bool) → 0 + cond b 0 0 ≡ 0
 either_none true = refl
@@ -129,6 +131,17 @@ module _ (z : Layout) (m : Memory) (vs : List View) (g : Meaning) where
         seats = All-push (SeatRight z m g) (set vs i w) y (all_moved (SeatRight z m g) (SeatRight z m g) vs i v w at rule.seats seats.0 (λ u beside of. of)) seats.1;
       }
 
+-- both views have slots of the one that was there
+left_less : (v : View) (size : PassSize) → LessOf v.free v.unused (made_left v size).free (made_left v size).unused
+left_less v size =
+    subset_less v.free v.unused (made_left v size).free (made_left v size).unused (λ k some. omega (arith, some, count-take-drop k size.nodes v.free.nodes)) (λ e some. omega (arith, some, count-take-drop e size.entries v.free.entries))
+    (λ k some. omega (arith, some, count-take-drop k size.nodes v.unused.nodes)) (λ e some. omega (arith, some, count-take-drop e size.entries v.unused.entries))
+
+right_less : (v : View) (n : ℕ) (size : PassSize) → LessOf v.free v.unused (made_right v n size).free (made_right v n size).unused
+right_less v n size =
+    subset_less v.free v.unused (made_right v n size).free (made_right v n size).unused (λ k some. omega (arith, some, count-take-drop k size.nodes v.free.nodes)) (λ e some. omega (arith, some, count-take-drop e size.entries v.free.entries))
+    (λ k some. omega (arith, some, count-take-drop k size.nodes v.unused.nodes)) (λ e some. omega (arith, some, count-take-drop e size.entries v.unused.entries))
+
 module _ (z : Layout) (words : List ℕ) where
   abbrev m : Memory
   m = memory z words
@@ -147,6 +160,7 @@ module _ (z : Layout) (words : List ℕ) where
       let kept : AreSpare (drop 1 v.to_give) = subst (λ (xs : List ℕ). AreSpare (drop 1 xs)) (sym may.next) spare.1 in
       let knows : KnowsPlaces v = at_item KnowsPlaces vs i v at right.places in
       let waits : WaitsRight v = at_item WaitsRight vs i v at right.waits in
+      let unused : UnusedRight m v = at_item (UnusedRight m) vs i v at right.unused in
       record {
         size = right.size;
         meaning = right.meaning;
@@ -158,4 +172,5 @@ module _ (z : Layout) (words : List ℕ) where
             (record { own = refl; given = tt; section = tt; opened = tt });
         waits = All-push WaitsRight (set vs i w) y (All-set WaitsRight vs i w (record { apart = waits.apart; owned = waits.owned }) right.waits)
             (record { apart = λ k some holds. omega (arith, some); owned = λ nameless. (refl, refl) });
+        unused = All-push (UnusedRight m) (set vs i w) y (All-set (UnusedRight m) vs i w (less_right m v w (left_less v size) unused) right.unused) (less_right m v y (right_less v n size) unused);
       }

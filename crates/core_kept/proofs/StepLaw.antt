@@ -20,6 +20,7 @@ use Rattle.core_invariant.specs.SpentViews.{IsSpent}
 use Rattle.core_invariant.specs.Numbers.{IsSpare}
 use Rattle.core_invariant.specs.OwnPlaces.{KnowsPlaces}
 use Rattle.core_invariant.specs.WaitingSlots.{WaitsRight}
+use Rattle.core_invariant.specs.UnusedSlots.{UnusedRight}
 use Rattle.core_invariant.proofs.OneView.{item_from_get}
 use Rattle.core_events.proofs.Tests.{never, not_true}
 use Rattle.core_invariant.proofs.LinkLaw.{selections_kept}
@@ -27,6 +28,7 @@ use Rattle.core_invariant.proofs.SpentViews.{spent_after}
 use Rattle.core_kept.proofs.SectionWords.{spare_after}
 use Rattle.core_kept.proofs.OwnPlaces.{places_after}
 use Rattle.core_kept.proofs.WaitingSlots.{waits_after}
+use Rattle.core_kept.proofs.UnusedSlots.{unused_after}
 use Rattle.core_invariant.specs.KeptRule.{After}
 use Rattle.core_kept.proofs.StepLoads.{stamp_law, head_law, number_law, child_law, next_law}
 use Rattle.core_kept.proofs.StepUpdates.{prepare_law, raise_law, finalise_law}
@@ -72,10 +74,10 @@ pub record AfterTable (t u : Table) : Type 0 where
   pub right : IsRight u
   pub same : KeepsSelections t u
 
-after_of : (z : Layout) (words : List ℕ) (vs : List View) (right : InRule z words vs) (words' : List ℕ) (ws : List View) → After z words vs right words' ws → All IsSpent ws → All (IsSpare (memory z words')) ws → All KnowsPlaces ws → All WaitsRight ws
+after_of : (z : Layout) (words : List ℕ) (vs : List View) (right : InRule z words vs) (words' : List ℕ) (ws : List View) → After z words vs right words' ws → All IsSpent ws → All (IsSpare (memory z words')) ws → All KnowsPlaces ws → All WaitsRight ws → All (UnusedRight (memory z words')) ws
     → AfterTable (record { layout = z; words = words; views = vs }) (record { layout = z; words = words'; views = ws })
-after_of z words vs right words' ws gives spent spare places waits = record {
-  right = record { size = gives.size; meaning = gives.kept.meaning; rule = gives.kept.rule; spent = spent; spare = spare; places = places; waits = waits };
+after_of z words vs right words' ws gives spent spare places waits unused = record {
+  right = record { size = gives.size; meaning = gives.kept.meaning; rule = gives.kept.rule; spent = spent; spare = spare; places = places; waits = waits; unused = unused };
   same = selections_kept z (memory z words) (memory z words') vs ws right.meaning gives.kept.meaning right.rule gives.kept.rule gives.kept.same;
 }
 
@@ -95,6 +97,7 @@ after_right t e (Some v) (Some w) is found right met =
     (spare_after t.layout t.words t.views right e.seat v at e.word w found e.value e.update e.kind one.1)
     (places_after t.layout t.words t.views right e.seat v at w e.value e.kind e.update two.0 one.1)
     (waits_after t.layout t.words t.views right e.seat v at e.word w found e.value e.kind e.update two.0 one.1)
+    (unused_after t.layout t.words t.views right e.seat v at e.word w found e.value e.kind e.update one.1)
 
 -- the law on an allowed event: the rule holds after it, and what was selected is selected
 pub stepped_right : (t : Table) (e : Event) → IsRight t → allowed t e ≡ true → AfterTable t (after t e)

@@ -11,6 +11,7 @@ use Rattle.index_words.specs.declared.word.Word.TheVariants.{Stamp, Section, Ann
 use Rattle.index_words.specs.Words.{Memory, memory, written, word_at}
 use Rattle.key_map.specs.Lists.{count, has, IsItem}
 use Rattle.key_map.proofs.Counting.{has-count}
+use Rattle.index_words.proofs.Seats.{at_item}
 use Rattle.index_words.specs.Views.{spent_view}
 use Rattle.core_grace.specs.Sections.{is_even, left_word}
 use Rattle.core_grace.specs.Batches.{is_number, is_empty, looked}
@@ -23,6 +24,7 @@ use Rattle.core_invariant.specs.Rule.{Rule, InRule}
 use Rattle.core_invariant.specs.LinkLaw.{Kept}
 use Rattle.core_events.specs.Steps.{views_after, join_found}
 use Rattle.core_invariant.specs.SectionRule.{IsIdle}
+use Rattle.core_invariant.specs.UnusedSlots.{UnusedRight}
 use Rattle.core_invariant.proofs.OneView.{item_from_get, seat_at}
 use Rattle.core_events.proofs.Tests.{never, not_equal, either_true, not_true, none_of}
 use Rattle.core_invariant.proofs.Needed.{own_section, own_announced, outside_idle}
@@ -31,7 +33,7 @@ use Rattle.core_kept.proofs.Announces.{announce_kept}
 use Rattle.core_kept.proofs.EachKind.{enter_kept, leave_kept, look_kept}
 use Rattle.core_invariant.proofs.Idle.{nameless_idle}
 use Rattle.core_kept.proofs.Fills.{node_stored, entry_stored}
-use Rattle.core_kept.proofs.FillViews.{fill_kept}
+use Rattle.core_kept.proofs.FillViews.{fill_kept, node_zeros, entry_zeros}
 use Rattle.core_kept.proofs.TwoViews.{split_kept, join_kept}
 use Rattle.core_invariant.specs.KeptRule.{After, KeepsRuleAt}
 use Rattle.core_invariant.proofs.StepGives.{kept_same, store_right, load_right}
@@ -113,13 +115,15 @@ module _ (z : Layout) (words : List ℕ) (vs : List View) (right : InRule z word
       store_right z words vs n value (Node f k) right (set vs i (filled_view v (Node f k) value)) is
       (one_kept (written m (Node f k) value) (set vs i (filled_view v (Node f k) value))
       (fill_kept z m right.meaning i (Node f k) value vs right.rule v at
-      (λ us u rule here same fresh. node_stored z m us right.meaning rule i k u f value here (subst (λ (s : Slots). 0 < count k s.nodes) (sym same) free) (not_true (is_lock f) parts.0) fresh)))
+      (λ us u rule here same fresh. node_stored z m us right.meaning rule i k u f value here (subst (λ (s : Slots). 0 < count k s.nodes) (sym same) free) (not_true (is_lock f) parts.0) fresh)
+      (node_zeros m v k f (at_item (UnusedRight m) vs i v at right.unused) free)))
   fill_found (Entry p e) is met =
       let free = has-count e v.free.entries met in
       store_right z words vs n value (Entry p e) right (set vs i (filled_view v (Entry p e) value)) is
       (one_kept (written m (Entry p e) value) (set vs i (filled_view v (Entry p e) value))
       (fill_kept z m right.meaning i (Entry p e) value vs right.rule v at
-      (λ us u rule here same fresh. entry_stored z m us right.meaning rule i e u here (subst (λ (s : Slots). 0 < count e s.entries) (sym same) free) p value fresh)))
+      (λ us u rule here same fresh. entry_stored z m us right.meaning rule i e u here (subst (λ (s : Slots). 0 < count e s.entries) (sym same) free) p value fresh)
+      (entry_zeros m v e p (at_item (UnusedRight m) vs i v at right.unused) free)))
   fill_found Stamp is met = absurd (never met)
   fill_found (Section k) is met = absurd (never met)
   fill_found (Announced k) is met = absurd (never met)

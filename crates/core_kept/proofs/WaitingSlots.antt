@@ -31,7 +31,7 @@ use Rattle.core_events.specs.declared.event.Kind.TheVariants.{MakeSeat, SplitSea
 use Rattle.core_events.specs.declared.tree_move.TreeMove.{TreeMove}
 use Rattle.core_events.specs.Announcing.{announced_view, has_announced}
 use Rattle.core_events.specs.CutNeeds.{may_cut, may_cut_by}
-use Rattle.core_events.specs.FillMoves.{filled_view, filled_with, with_filled}
+use Rattle.core_events.specs.FillMoves.{filled_view, filled_with, with_filled, known_before, used_view}
 use Rattle.core_events.specs.LoadMoves.{head_loaded, ts_loaded, ptr_loaded, next_at, node_known, found_at, longest, stamp_history, stamp_reading, stamp_loaded}
 use Rattle.core_events.specs.LockMoves.{locked_view, met_lock, unlocked_view, other_nodes, just_locked, with_mark, mark_known, pair_known, pair_loaded, mark_loaded, update_until}
 use Rattle.core_events.specs.LockNeeds.{may_try_lock, may_lock, names_pass}
@@ -149,9 +149,9 @@ module _ (z : Layout) (words : List ℕ) (vs : List View) (right : InRule z word
   leave_waits : WaitsRight (left v value)
   leave_waits = less (left v value) refl refl refl refl (λ k holds. omega (arith, holds, count-append k (tree_slots v.reading.tree) (work_nodes v)))
 
-  fill_waits : (b : Bool) (u : Word) → WaitsRight (cond b v (with_filled v (filled_with v.reading.filled u value)))
-  fill_waits true u = own_right
-  fill_waits false u = same (with_filled v (filled_with v.reading.filled u value)) refl refl refl refl refl
+  fill_waits : (b : Bool) (u : Word) → WaitsRight (cond b (used_view v u) (with_filled (used_view v u) (filled_with (known_before v u) u value)))
+  fill_waits true u = same (used_view v u) refl refl refl refl refl
+  fill_waits false u = same (with_filled (used_view v u) (filled_with (known_before v u) u value)) refl refl refl refl refl
 
   -- a load of the stamp
   reads_with : (h : SeenHistory) (r : Reading) → h.ended ≡ v.history.ended → ((k : ℕ) → 0 < count k v.batch.nodes → count k (tree_slots r.tree) ≡ 0) → WaitsRight (record v { history = h; reading = r })

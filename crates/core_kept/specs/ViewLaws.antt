@@ -15,6 +15,7 @@ use Rattle.core_invariant.specs.OwnPlaces.{KnowsPlaces}
 use Rattle.core_invariant.specs.Rule.{InRule, IsRight}
 use Rattle.core_invariant.specs.SpentViews.{IsSpent}
 use Rattle.core_invariant.specs.WaitingSlots.{WaitsRight}
+use Rattle.core_invariant.specs.UnusedSlots.{UnusedRight}
 use Rattle.core_kept.specs.KeepsSeen.{KeepsSeen}
 use Rattle.core_kept.specs.SectionMoves.{MovesSections}
 
@@ -44,6 +45,13 @@ WaitsLaw =
     (z : Layout) (words : List ℕ) (vs : List View) → InRule z words vs → (i : ℕ) (v : View) → IsItem vs i v → (n : ℕ) (w : Word) → word_at z n ≡ Some w
     → (value : ℕ) (kind : Kind) (o : Option Update) → carries kind v o ≡ true → needs kind z (memory z words) vs i v w value o ≡ true
     → All WaitsRight (views_after kind z (memory z words) vs i v w value o)
+
+-- each word of a free slot that a view never used is 0, but for a lock
+abbrev pub UnusedLaw : Type 0
+UnusedLaw =
+    (z : Layout) (words : List ℕ) (vs : List View) → InRule z words vs → (i : ℕ) (v : View) → IsItem vs i v → (n : ℕ) (w : Word) → word_at z n ≡ Some w
+    → (value : ℕ) (kind : Kind) (o : Option Update) → needs kind z (memory z words) vs i v w value o ≡ true
+    → All (UnusedRight (memory z (words_after kind words n value))) (views_after kind z (memory z words) vs i v w value o)
 
 -- what seats have seen goes on from what they had seen
 abbrev pub SeenLaw : Type 0

@@ -1,14 +1,15 @@
-// Why each event keeps the rule, by the kinds of events, and what each event keeps of a view. The calls do nothing: their clauses are
-// what is proved.
+// Why each event keeps the rule, by the kinds of events, and what each event keeps of a view. The calls do nothing:
+// their clauses are what is proved.
 ghost use Rattle.core_events.specs.declared.event.Kind.TheVariants.{SplitSeat, JoinSeat, Enter, Leave, LookSec, Fill, LoadStamp, LoadHead, LoadTs, LoadPtr, LoadNext, TryLock, Unlock, LoadMark, Mark, LoadKeyOrVal, Prepare, Raise, Finalise, Announce, LookAnn, Cut};
 ghost use Rattle.core_invariant.specs.KeptRule.{KeepsRuleAt};
 ghost use Rattle.core_kept.specs.KeepsRule.{KeepsLaw};
 ghost use Rattle.core_kept.specs.SeatLaws.{FirstLaw, MakeLaw, MadeLaw, WholeLaw};
-ghost use Rattle.core_kept.specs.ViewLaws.{SpentLaw, SpareLaw, PlacesLaw, WaitsLaw, SeenLaw, SectionsLaw};
+ghost use Rattle.core_kept.specs.ViewLaws.{SpentLaw, SpareLaw, PlacesLaw, WaitsLaw, UnusedLaw, SeenLaw, SectionsLaw};
 
 /// What every allowed event keeps of each view. Nothing is left of a view that was joined into another one. The section
 /// word and the announcement of a number that is still to be given are 0. Each view knows the places of its own
 /// updates. It works at no node of its own batch, and its slots wait only where it has a pass number or was given one.
+/// The words of its free slots that it never used are 0, but for the locks.
 /// No event makes what a seat has seen shorter. An enter takes the own section word from even to odd, a leave
 /// from odd to even, and no event changes another pass's; nor is an announcement changed by another event than one that
 /// announces, or by another pass.
@@ -17,6 +18,7 @@ pub fn views_keep_the_rule()
     ensures spare { SpareLaw }
     ensures places { PlacesLaw }
     ensures waits { WaitsLaw }
+    ensures unused { UnusedLaw }
     ensures seen { SeenLaw }
     ensures sections { SectionsLaw }
 {}
@@ -71,8 +73,8 @@ pub fn updates_keep_the_rule()
     ensures finalise { KeepsRuleAt Finalise }
 {}
 
-/// An allowed look at an announcement, or cut, keeps the rule, and what the stamp and each section number select. What is
-/// cut off is selected by none of them.
+/// An allowed look at an announcement, or cut, keeps the rule, and what the stamp and each section number select. What
+/// is cut off is selected by none of them.
 pub fn cuts_keep_the_rule()
     ensures look_ann { KeepsRuleAt LookAnn }
     ensures cut { KeepsRuleAt Cut }

@@ -13,7 +13,7 @@ use Rattle.index_words.specs.Views.{no_slots, no_looks}
 use Rattle.index_words.specs.Words.{Memory}
 use Rattle.core_grace.specs.Batches.{batch_taken, batch_freed, settled, looked, looked_at, all_passed, is_empty}
 use Rattle.core_grace.specs.Sections.{is_even}
-use Rattle.core_events.specs.FillMoves.{filled_view, filled_with, with_filled}
+use Rattle.core_events.specs.FillMoves.{filled_view, filled_with, with_filled, known_before, used_view}
 use Rattle.core_events.specs.LoadMoves.{next_at}
 use Rattle.core_events.specs.Moves.{in_section}
 use Rattle.core_events.specs.Steps.{look_from, ptr_from, next_from, prepared_at, prepared_from, raised_from, finalised_from, unlocked_from, marked_from, pair_from, ann_from, cut_from}
@@ -96,7 +96,8 @@ prepared_tally v (Announced k) e = same_tally v
 prepared_tally v (Entry p k) e = same_tally v
 
 pub filled_tally : (v : View) (w : Word) (x : ℕ) → Tally v (filled_view v w x)
-filled_tally v w x = either_tally (is_even v.section_word) v v (with_filled v (filled_with v.reading.filled w x)) (same_tally v) (record { counts = refl; looks = refl })
+filled_tally v w x =
+    either_tally (is_even v.section_word) v (used_view v w) (with_filled (used_view v w) (filled_with (known_before v w) w x)) (record { counts = refl; looks = refl }) (record { counts = refl; looks = refl })
 
 pub ann_tally : (v : View) (w : Word) (x : ℕ) → Tally v (ann_from v w x)
 ann_tally v (Announced k) x = record { counts = refl; looks = refl }

@@ -1,7 +1,7 @@
 //! The laws that callers cite, of each table that meets the rule: who writes what, what a view shows that its seat may
 //! do, what a load finds, where the counts of a view rise, what numbers select, the trees in the words, and remembered
-//! links. The running table cites them, and needs no code of the machine. The calls do nothing: their clauses are what is
-//! proved.
+//! links. The running table cites them, and needs no code of the machine. The calls do nothing: their clauses are what
+//! is proved.
 #![tactic(auto)]
 
 mod view_laws;

@@ -45,9 +45,9 @@ pub fn needs_of_views()
     ensures join { JoinLaw }
 {}
 
-/// What a cut takes is read by nobody. The section number of a seat selects no entry behind the one at which an allowed cut
-/// is, in any bundle of the root or of a node that is not free; nor does a number from the stamp on, as each section number
-/// is that a seat gets later.
+/// What a cut takes is read by nobody. The section number of a seat selects no entry behind the one at which an allowed
+/// cut is, in any bundle of the root or of a node that is not free; nor does a number from the stamp on, as each
+/// section number is that a seat gets later.
 pub fn cuts_take_nothing_read()
     ensures unread { UnreadLaw }
 {}
@@ -56,9 +56,9 @@ pub fn cuts_take_nothing_read()
 /// holds; `waits` where a load of an entry's stamp finds 0 and the seat has not the entry pending; `moves` where a load
 /// of a head finds another entry than the one that the seat remembers, and the seat did not store it, or where a load
 /// of a mark finds 1 on a node in reach that is not among the seat's retired ones; `looks` where a load of the stamp
-/// fixes a place. At every other event the count stays. A seat with nothing pending, whose own updates are ones that its
-/// section number has, did not store the other head. What an update took out is among the seat's retired nodes, and no
-/// node of the tree at the stamp is.
+/// fixes a place. At every other event the count stays. A seat with nothing pending, whose own updates are ones that
+/// its section number has, did not store the other head. What an update took out is among the seat's retired nodes, and
+/// no node of the tree at the stamp is.
 pub fn where_counts_rise()
     ensures counts { CountsLaw }
     ensures other_head { OtherHeadLaw }

@@ -25,8 +25,8 @@ pub fn select(bundle: &[Entry], t: u64) -> Option<usize>
     first_at_most(bundle, t)
 }
 
-/// How many entries of a bundle are kept, from the front, where nobody reads at a number below `least`: up to and with the
-/// one that `select` gives for it, or all. What stands behind them may be cut off.
+/// How many entries of a bundle are kept, from the front, where nobody reads at a number below `least`: up to and with
+/// the one that `select` gives for it, or all. What stands behind them may be cut off.
 pub fn keep(bundle: &[Entry], least: u64) -> usize
     requires written { All (λ (e : BundleEntry). 0 < e.stamp) bundle.now }
     ensures kept { IsKept least bundle.now result }

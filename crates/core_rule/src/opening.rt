@@ -48,6 +48,8 @@ fn pass_seat(
     let mut view = View::empty(alloc, *layout);
     view.number = Some(first.number);
     view.history.left = size.calls;
+    view.unused.nodes = nodes.copy(alloc)?;
+    view.unused.entries = entries.copy(alloc)?;
     view.free.nodes = nodes;
     view.free.entries = entries;
     Ok(view)

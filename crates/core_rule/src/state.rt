@@ -94,10 +94,10 @@ impl State {
     /// head as it was, the link is so in the tree at the stamp. What a seat has filled in its section is what
     /// the word holds, as long as the slot is its own free one, or its own pending entry before the raise.
     ///
-    /// No event makes what a seat has seen shorter; a load of the stamp makes it the whole history, a split copies
-    /// it, and a join is told what the other seat had seen. An enter takes the own section word from even to odd, a
-    /// leave from odd to even, and no event changes another pass's, nor what another pass has announced. Each view knows
-    /// the places of its own updates.
+    /// No event makes what a seat has seen shorter; a load of the stamp makes it the whole history, a split copies it,
+    /// and a join is told what the other seat had seen. An enter takes the own section word from even to odd, a leave
+    /// from odd to even, and no event changes another pass's, nor what another pass has announced. Each view knows the
+    /// places of its own updates.
     pub fn step(&mut self, alloc: Global, event: &Event) -> Result<(), StepError>
         ensures ok { OnOk result ((allowed self.old event.now ≡ true) × (self.new ≡ after self.old event.now)) }
         ensures refused { (result ≡ Err StepError.NotAllowed) ↔ (allowed self.old event.now ≡ false) }

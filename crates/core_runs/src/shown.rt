@@ -4,7 +4,7 @@ use std::alloc::{AllocError, Global};
 use std::fmt::Debug;
 
 /// The names of all parts.
-const PARTS: [&str; 37] = [
+const PARTS: [&str; 39] = [
     "number",
     "joined",
     "to_give",
@@ -42,6 +42,8 @@ const PARTS: [&str; 37] = [
     "batch_entries",
     "found_sections",
     "passed",
+    "unused_nodes",
+    "unused_entries",
 ];
 
 /// The part with this name. None where no part has it.
@@ -120,6 +122,8 @@ fn list_named<'v>(view: &'v View, name: &str) -> Option<&'v [u32]> {
         "batch_nodes" => view.batch.nodes.as_slice(),
         "batch_entries" => view.batch.entries.as_slice(),
         "passed" => view.grace.passed.as_slice(),
+        "unused_nodes" => view.unused.nodes.as_slice(),
+        "unused_entries" => view.unused.entries.as_slice(),
         _ => return None,
     })
 }

@@ -51,9 +51,9 @@ pub fn ready_plans_may_raise()
 /// A plan can be carried out. One that is made along the nodes that a seat has read is one in the seat's own tree. A
 /// plan has locked what it looks at, where it puts entries in front, and what it takes out; the nodes that it locks are
 /// in reach of the seat that reads its tree; and each of its events before and behind the raise is allowed in every
-/// table that meets the rule and has this view at the seat. Where a try fails, it has met that for which a count rises, and
-/// the count has risen that the answer needs: a lock that is held, a number that is missing, a mark, or another head than
-/// the remembered one.
+/// table that meets the rule and has this view at the seat. Where a try fails, it has met that for which a count rises,
+/// and the count has risen that the answer needs: a lock that is held, a number that is missing, a mark, or another
+/// head than the remembered one.
 pub fn plans_are_carried_out()
     ensures view { ViewPlanLaw }
     ensures locks { LocksLaw }

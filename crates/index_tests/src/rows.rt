@@ -117,8 +117,8 @@ fn answered<R: Wait>(pass: &mut IndexPass<'_>, rt: &R, rows: &[Row]) -> usize
     rows.len()
 }
 
-/// A key with two children goes out, whose successor is deep and has a right child; and a try is refused while the slots
-/// that the pass has taken out are not free again.
+/// A key with two children goes out, whose successor is deep and has a right child; and a try is refused while the
+/// slots that the pass has taken out are not free again.
 #[test]
 fn a_pass_removes_a_key_with_two_children(rt: HostRuntime) -> Result<(), Fail> {
     let Some((index, first, second)) = opened(rt.alloc(), &[size(8, 32, 16), size(2, 8, 8)]) else {

@@ -62,6 +62,7 @@ empty_view z = record {
   retired = no_slots;
   batch = no_slots;
   grace = no_looks;
+  unused = no_slots;
 }
 
 abbrev pub no_layout : Layout

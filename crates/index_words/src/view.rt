@@ -48,6 +48,9 @@ pub struct View {
     pub batch: Slots,
     /// What its looks at other sections have shown since the batch was taken.
     pub grace: Looks,
+    /// The slots that it has had since the table was opened, without those of which it has filled a word and those that
+    /// came back to it. As long as one of them is free, its words are 0, but for the lock.
+    pub unused: Slots,
 }
 
 impl View {
@@ -74,6 +77,7 @@ impl View {
             retired: Slots::none(alloc),
             batch: Slots::none(alloc),
             grace: Looks::none(alloc),
+            unused: Slots::none(alloc),
         }
     }
 

@@ -1,5 +1,5 @@
-// Times of listings of a snapshot, over a table whose keys were put in random order. Three words: the kind of the run, how
-// many keys, and how many listings of all of them:
+// Times of listings of a snapshot, over a table whose keys were put in random order. Three words: the kind of the run,
+// how many keys, and how many listings of all of them:
 //
 //     way KEYS LISTINGS       each search goes on from the way to the last pair
 //     root KEYS LISTINGS      each search begins at the root

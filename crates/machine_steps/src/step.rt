@@ -18,8 +18,8 @@ use machine_views::cuts::cut;
 use machine_views::locks::try_lock;
 use std::alloc::Global;
 
-/// Puts the value of a step that stores, at a try of a lock only where the word is 0, and adds one at a raise. The other
-/// steps store nothing.
+/// Puts the value of a step that stores, at a try of a lock only where the word is 0, and adds one at a raise. The
+/// other steps store nothing.
 pub fn store(words: &mut Vec<u64>, at: u64, step: Step)
     requires there { at < vec_len words.old }
     requires small { (parts_of step).kind ≡ Raise → slice_index words.old.items at + 1 < 2 ^ 64 }

@@ -13,6 +13,7 @@ with_gain v gain = record v {
   history = record v.history { seen = gain.seen; told = gain.told; ended = gain.ended; ended_places = gain.ended_places };
   free = gain.free;
   retired = gain.retired;
+  unused = gain.unused;
 }
 
 -- the lists that a raise makes longer

@@ -1,10 +1,10 @@
 // The view of a seat after each kind of event.
 ghost use Rattle.std.specs.Prelude.{◌≡◌, ◌≤◌, ◌++◌, OnOk, OnErr, IfOk, length, take, Some};
-ghost use Rattle.core_grace.specs.Batches.{both, looked};
+ghost use Rattle.core_grace.specs.Batches.{apart_from, both, looked};
 ghost use Rattle.machine_views.specs.Gains.{with_gain};
 ghost use Rattle.core_events.specs.Moves.{nowhere, entered, left, split_left, split_right, longer, own_number, own_ended, joined_with};
 
-use core_grace::{current_looks, look_at, settle};
+use core_grace::{current_looks, drop_slots, look_at, settle};
 use index_words::{EndedPlace, Items, NoMemory, Place, Reading, SeenHistory, Slots, Update, View};
 use std::alloc::{AllocError, Global};
 
@@ -149,6 +149,7 @@ pub struct Gained {
     to_give: Items<u32>,
     free: Slots,
     retired: Slots,
+    unused: Slots,
 }
 
 fn all_ended(
@@ -184,6 +185,17 @@ fn all_retired(alloc: Global, own: &Slots, other: &View) -> Result<Slots, NoMemo
     Slots::concat(alloc, own, &more)
 }
 
+/// The slots of a list that are not among these.
+fn slots_apart(alloc: Global, slots: &Slots, out: &Slots) -> Result<Slots, NoMemory>
+    ensures { IfOk result (λ kept. kept ≡ apart_from out.now slots.now) }
+{
+    let nodes = slots.nodes.copy(alloc)?;
+    let entries = slots.entries.copy(alloc)?;
+    let mut kept = Slots { nodes, entries };
+    drop_slots(alloc, &mut kept, out);
+    Ok(kept)
+}
+
 /// What a view gains from another one that is joined into it.
 pub fn gain(alloc: Global, view: &View, other: &View) -> Result<Gained, NoMemory>
     ensures { IfOk result (λ gains. with_gain view.now gains ≡ joined_with view.now other.now) }
@@ -205,6 +217,7 @@ pub fn gain(alloc: Global, view: &View, other: &View) -> Result<Gained, NoMemory
     let to_give = Items::concat(alloc, view.to_give.as_slice(), other.to_give.as_slice())?;
     let free = Slots::concat(alloc, &view.free, &other.free)?;
     let retired = all_retired(alloc, &view.retired, other)?;
+    let unused = slots_apart(alloc, &view.unused, &other.free)?;
     Ok(Gained {
         seen,
         told,
@@ -213,6 +226,7 @@ pub fn gain(alloc: Global, view: &View, other: &View) -> Result<Gained, NoMemory
         to_give,
         free,
         retired,
+        unused,
     })
 }
 
@@ -228,6 +242,7 @@ pub fn take_gain(view: &mut View, gains: Gained)
         to_give,
         free,
         retired,
+        unused,
     } = gains;
     let history = &mut view.history;
     history.seen = seen;
@@ -239,4 +254,5 @@ pub fn take_gain(view: &mut View, gains: Gained)
     known.clear();
     view.free = free;
     view.retired = retired;
+    view.unused = unused;
 }

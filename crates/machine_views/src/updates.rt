@@ -18,7 +18,7 @@ fn keep_others(numbers: &mut Vec<u32>, number: u32)
 }
 
 /// The list without a number.
-fn drop_number(alloc: Global, list: &mut Items<u32>, number: u32)
+pub(crate) fn drop_number(alloc: Global, list: &mut Items<u32>, number: u32)
     ensures { list.new ≡ without number list.old }
 {
     let mut numbers = std::mem::replace(list, Items::new(alloc)).into_vec();

@@ -1,5 +1,6 @@
-//! The plain links of the shared tree, pure: how the tree that they spell stands to the tree at the stamp, what searches on
-//! them claim, and what a store of a plain link leaves of it. The calls do nothing: their clauses are what is proved.
+//! The plain links of the shared tree, pure: how the tree that they spell stands to the tree at the stamp, what
+//! searches on them claim, and what a store of a plain link leaves of it. The calls do nothing: their clauses are what
+//! is proved.
 #![tactic(auto)]
 
 mod laws;

@@ -6,12 +6,13 @@ use Rattle.std.proofs.lemmas.Bool.{false≢true}
 use Rattle.std.proofs.lemmas.Bool.Decides.{eqb_tells}
 use Rattle.std.proofs.lemmas.Option.{slice_get_within}
 use Rattle.index_words.specs.declared.view.View.{View}
+use Rattle.index_words.specs.declared.view.slots.Slots.{Slots}
 use Rattle.index_words.specs.declared.view.reading.Filled.{Filled}
 use Rattle.index_words.specs.declared.view.update.HeldNode.{HeldNode}
 use Rattle.index_words.specs.declared.word.Word.{Word}
 use Rattle.index_words.specs.Words.{same_word}
 use Rattle.core_grace.specs.Sections.{is_even}
-use Rattle.core_events.specs.FillMoves.{filled_other, filled_with, with_filled}
+use Rattle.core_events.specs.FillMoves.{filled_other, filled_with, with_filled, known_before, zeros_of, used_slots, used_view}
 use Rattle.core_events.specs.UpdateNeeds.{side_of}
 use Rattle.core_updates.specs.declared.plan.Plan.{Plan}
 use Rattle.core_updates.specs.declared.plan.Look.{Look}
@@ -54,20 +55,27 @@ id-keeps (ValLook node val) = λ h here is. is
 pub same-held : (v w : View) → w.held.nodes ≡ v.held.nodes → MapsHeld (λ (h : HeldNode). h) v w
 same-held v w same = record { maps = same ∙ map-id v.held.nodes; node = λ h. refl }
 
-module _ (v : View) (fs : List Filled) where
-  pub filled-keeps-pass : KeepsPass v (with_filled v fs)
+module _ (v : View) (s : Slots) (fs : List Filled) where
+  -- other slots are unused, and other words are filled
+  abbrev filled-to : View
+  filled-to = with_filled (record v { unused = s }) fs
+
+  pub filled-keeps-pass : KeepsPass v filled-to
   filled-keeps-pass = record { layout = refl; joined = refl; number = refl; word = refl; announced = refl; history = refl; section = refl; opened = refl; least = refl; tree = refl; nodes = refl; retired = refl; batch = refl; raised = refl; taken = refl }
 
-  filled-looked : (n : ℕ) (plan : Plan) (entries : List ℕ) (done : ℕ) → HasLooked v n plan entries done → HasLooked (with_filled v fs) n plan entries done
+  filled-looked : (n : ℕ) (plan : Plan) (entries : List ℕ) (done : ℕ) → HasLooked v n plan entries done → HasLooked filled-to n plan entries done
   filled-looked n plan entries done h =
-      let w = with_filled v fs in
+      let w = filled-to in
       let held = same-held v w refl in
       looked-kept (λ (x : HeldNode). x) v w n plan entries done h
       (trying-kept (λ (x : HeldNode). x) v w n plan entries (locks_of plan) filled-keeps-pass refl (same-links v w refl) held h.trying)
       held (λ place look below is. id-keeps look)
 
 -- inside a section the value is kept
-pub filled-is : (v : View) (w : Word) (x : ℕ) (b : Bool) → b ≡ false → cond b v (with_filled v (filled_with v.reading.filled w x)) ≡ with_filled v (filled_with v.reading.filled w x)
+abbrev pub fill-inside : View → Word → ℕ → View
+fill-inside v w x = with_filled (used_view v w) (filled_with (known_before v w) w x)
+
+pub filled-is : (v : View) (w : Word) (x : ℕ) (b : Bool) → b ≡ false → cond b (used_view v w) (fill-inside v w x) ≡ fill-inside v w x
 filled-is v w x true e = cc
 filled-is v w x false e = refl
 
@@ -75,18 +83,19 @@ not-of : (b : Bool) → b ≡ false → not b ≡ true
 not-of true e = cc
 not-of false e = refl
 
-other-filled : (v : View) (f g : Filled) → WordApart f g → HoldsFill v f → HoldsFill (with_filled v (filled_with v.reading.filled g.word g.value)) f
+other-filled : (v : View) (f g : Filled) → WordApart f g → HoldsFill v f → HoldsFill (fill-inside v g.word g.value) f
 other-filled v f g apart h =
-    let kept = item-filter (λ (x : Filled). not (same_word x.word g.word)) v.reading.filled h.place (record { word = f.word; value = f.value }) h.is (not-of (same_word f.word g.word) apart) in
+    let known = item-longer v.reading.filled (zeros_of v.unused g.word) h.place (record { word = f.word; value = f.value }) h.is in
+    let kept = item-filter (λ (x : Filled). not (same_word x.word g.word)) (known_before v g.word) h.place (record { word = f.word; value = f.value }) known (not-of (same_word f.word g.word) apart) in
     record {
       place = kept.0;
-      is = item-longer (filled_other g.word v.reading.filled) (record { word = g.word; value = g.value } ∷ []) kept.0 (record { word = f.word; value = f.value }) kept.1;
+      is = item-longer (filled_other g.word (known_before v g.word)) (record { word = g.word; value = g.value } ∷ []) kept.0 (record { word = f.word; value = f.value }) kept.1;
     }
 
-this-filled : (v : View) (g : Filled) → HoldsFill (with_filled v (filled_with v.reading.filled g.word g.value)) g
+this-filled : (v : View) (g : Filled) → HoldsFill (fill-inside v g.word g.value) g
 this-filled v g = record {
-  place = length (filled_other g.word v.reading.filled);
-  is = last-item (filled_other g.word v.reading.filled) (record { word = g.word; value = g.value });
+  place = length (filled_other g.word (known_before v g.word));
+  is = last-item (filled_other g.word (known_before v g.word)) (record { word = g.word; value = g.value });
 }
 
 pub told : (a b : ℕ) → ((a == b) ≡ true → a ≡ b) × ((a == b) ≡ false → ¬ (a ≡ b))
@@ -97,11 +106,11 @@ told a b = (
 
 pub fill_step : FillStepLaw
 fill_step z v seat n plan slots entries done f h apart is =
-    let w = with_filled v (filled_with v.reading.filled f.word f.value) in
+    let w = fill-inside v f.word f.value in
     record {
       may = got-every (MayFillAll z v seat) (fills_of plan slots entries) done f (fills-may z v seat plan slots entries h.free) is;
       filled = subst (λ (u : View). IsFilling u n plan slots entries (done + 1)) (sym (filled-is v f.word f.value (is_even v.section_word) h.looked.trying.making.reads.inside)) (record {
-        looked = filled-looked v (filled_with v.reading.filled f.word f.value) n plan entries (length (looks_of plan)) h.looked;
+        looked = filled-looked v (used_slots f.word v.unused) (filled_with (known_before v f.word) f.word f.value) n plan entries (length (looks_of plan)) h.looked;
         free = record { node = h.free.node; at = h.free.at; left = h.free.left; right = h.free.right; next = h.free.next };
         filled = λ place g below other. by place g (place == done) (told place done) below other;
       });
@@ -114,10 +123,10 @@ fill_step z v seat n plan slots entries done f h apart is =
     same a b e = cc
 
     by : (place : ℕ) (g : Filled) (at : Bool) → ((at ≡ true → place ≡ done) × (at ≡ false → ¬ (place ≡ done))) → place < done + 1
-        → slice_get (fills_of plan slots entries) place ≡ Some g → HoldsFill (with_filled v (filled_with v.reading.filled f.word f.value)) g
+        → slice_get (fills_of plan slots entries) place ≡ Some g → HoldsFill (fill-inside v f.word f.value) g
     by place g true tells below other =
         let one : f ≡ g = same f g (sym is ∙ ap (slice_get (fills_of plan slots entries)) (sym (tells.0 refl)) ∙ other) in
-        subst (HoldsFill (with_filled v (filled_with v.reading.filled f.word f.value))) one (this-filled v f)
+        subst (HoldsFill (fill-inside v f.word f.value)) one (this-filled v f)
     by place g false tells below other =
         let before : place < done = less place done below (tells.1 refl) in
         other-filled v g f (fills-apart plan slots entries place done g f apart before other is) (h.filled place g before other)

@@ -5,13 +5,13 @@ use Rattle.index_words.specs.declared.view.View.{View}
 use Rattle.index_words.specs.declared.view.history.Counts.{Counts}
 use Rattle.index_words.specs.declared.word.Field.TheVariants.{Key, Val}
 use Rattle.core_grace.specs.Sections.{is_even}
-use Rattle.core_events.specs.FillMoves.{filled_with, with_filled}
+use Rattle.core_events.specs.FillMoves.{filled_with, known_before, used_slots}
 use Rattle.core_events.specs.LoadMoves.{raised_if, head_loaded, ts_loaded, meets_pending, has_moved, stored_by}
 use Rattle.core_events.specs.LockMoves.{locked_view, met_lock, mark_loaded, pair_loaded, names_other, finds_mark}
 use Rattle.plan_laws.specs.Frames.{KeepsTry, CountsGrow, StepsKeepLaw, KeepsPassLaw, KeepsTryLaw, KeepsOwnedLaw}
 use Rattle.plan_laws.proofs.Tries.{locked-keeps, met-keeps}
 use Rattle.plan_laws.proofs.Looks.{mark-keeps-pass, head-keeps-pass, number-keeps-pass, key-keeps-pass, val-keeps-pass}
-use Rattle.plan_laws.proofs.Fills.{filled-keeps-pass, filled-is}
+use Rattle.plan_laws.proofs.Fills.{fill-inside, filled-keeps-pass, filled-is}
 
 risen-le : (b : Bool) (n : ℕ) → n ≤ raised_if b n
 risen-le true n = by (n == 18446744073709551615)
@@ -63,7 +63,7 @@ steps_keep v = record {
   key = λ node x. record { pass = key-keeps-pass v node x; free = refl; grown = same-counts v (pair_loaded v Key node x) refl };
   val = λ node x. record { pass = val-keeps-pass v node x; free = refl; grown = same-counts v (pair_loaded v Val node x) refl };
   filled = λ w x inside. subst (KeepsTry v) (sym (filled-is v w x (is_even v.section_word) inside))
-      (record { pass = filled-keeps-pass v (filled_with v.reading.filled w x); free = refl; grown = same-counts v (with_filled v (filled_with v.reading.filled w x)) refl });
+      (record { pass = filled-keeps-pass v (used_slots w v.unused) (filled_with (known_before v w) w x); free = refl; grown = same-counts v (fill-inside v w x) refl });
   prepared = λ node entry side. record {
     layout = refl;
     joined = refl;

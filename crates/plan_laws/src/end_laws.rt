@@ -25,8 +25,8 @@ pub fn bundles_are_pruned()
     ensures owned { OwnedIsPrunedLaw }
 {}
 
-/// A try may give up before it fills its slots. It gives its locks back, as an update does at its end, leaves its section,
-/// and takes its announcement back.
+/// A try may give up before it fills its slots. It gives its locks back, as an update does at its end, leaves its
+/// section, and takes its announcement back.
 pub fn locks_are_given_back()
     ensures give_up { GiveUpLaw }
     ensures give_all_up { GiveAllUpLaw }
@@ -48,8 +48,8 @@ pub fn steps_keep_the_rest()
 {}
 
 /// What the answer of an update needs. The raise is at the place behind the stamp, which is the length of the history
-/// that the pass has seen then; the key was in the map before or not, as the plan has it; and of the slots that the pass
-/// owns there is at most one node fewer, and at most four entries with those that were put in front.
+/// that the pass has seen then; the key was in the map before or not, as the plan has it; and of the slots that the
+/// pass owns there is at most one node fewer, and at most four entries with those that were put in front.
 pub fn updates_are_answered()
     ensures answer { AnswerLaw }
     ensures prepared { PreparedOwnsLaw }

@@ -5,8 +5,8 @@ ghost use Rattle.plan_laws.specs.Remembering.{ChildRememberedLaw, NoHeadRemember
 ghost use Rattle.plan_laws.specs.Searches.{PlanPlacesLaw, SeenTreeLaw, PairsFoundLaw, NoneRetiredLaw, SearchedLaw, SlotsSomeLaw};
 ghost use Rattle.plan_laws.specs.Walks.{WalkStartLaw, WalkReachLaw, WalkChildLaw, WalkNodeLaw, WalkLeftLaw, WalkRightLaw, WalkMissingLaw, WalkFoundLaw, MissingAbsentLaw, FoundPresentLaw, SuccessorStartLaw, SuccessorStepLaw, SuccessorEndLaw};
 
-/// The search for a plan by loads: a walk down the tree that a seat reads, from link to link. It ends at a null link, in
-/// whose gap the key is, or at the key's node; and from there another one ends at the successor.
+/// The search for a plan by loads: a walk down the tree that a seat reads, from link to link. It ends at a null link,
+/// in whose gap the key is, or at the key's node; and from there another one ends at the successor.
 pub fn searches_walk_down()
     ensures start { WalkStartLaw }
     ensures reach { WalkReachLaw }

@@ -4,8 +4,8 @@ ghost use Rattle.plan_laws.specs.Fills.{LookEndLaw, FillStartLaw, FillStepLaw, F
 ghost use Rattle.plan_laws.specs.Fronts.{PrepareStartLaw, PrepareStepLaw, PrepareEndLaw};
 ghost use Rattle.plan_laws.specs.Looks.{MarkLookLaw, HeadLookLaw, NumberLookLaw, MayNumberLaw, KeyLookLaw, ValLookLaw, LookStartLaw};
 
-/// A try locks the nodes of its plan, one after another. Where a step of a try fails, the count has risen that the answer
-/// needs; on a table of one pass none fails.
+/// A try locks the nodes of its plan, one after another. Where a step of a try fails, the count has risen that the
+/// answer needs; on a table of one pass none fails.
 pub fn tries_lock()
     ensures step { LockStepLaw }
     ensures end { LockEndLaw }

@@ -34,9 +34,9 @@ pub enum OpenError {
 }
 
 impl SharedIndex {
-    /// Opens an index for passes of these sizes, with an empty history. The keys are all keys of the index, each once, in
-    /// the order of the sizes: key `i` has the number `i`, and the slots and calls of size `i`, all of them free. All
-    /// memory that later calls use is taken here, but for that of `finish`.
+    /// Opens an index for passes of these sizes, with an empty history. The keys are all keys of the index, each once,
+    /// in the order of the sizes: key `i` has the number `i`, and the slots and calls of size `i`, all of them free.
+    /// All memory that later calls use is taken here, but for that of `finish`.
     ///
     /// ```
     /// let size = PassSize { nodes: 8, entries: 32, calls: 8 };

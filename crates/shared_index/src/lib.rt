@@ -1,6 +1,6 @@
 //! The shared index: one map, which passes read and change at once, each for one caller. A pass keeps the clauses of
-//! `KeyPass` whatever the others do. The layer above opens an index, attaches a pass for each key, and closes the index to
-//! its whole history.
+//! `KeyPass` whatever the others do. The layer above opens an index, attaches a pass for each key, and closes the index
+//! to its whole history.
 #![tactic(auto)]
 
 mod facts;

@@ -21,8 +21,8 @@ use std::marker::Model;
 use table_steps::{Note, PassKey, TablePass};
 use tree_update::{Settling, Try};
 
-/// One caller's way to the index. Between two calls it holds no lock, and it is inside a read-side section exactly while
-/// a snapshot is open. Contracts see the pass of the table; what it is to its caller is its `PassView` (`shown`).
+/// One caller's way to the index. Between two calls it holds no lock, and it is inside a read-side section exactly
+/// while a snapshot is open. Contracts see the pass of the table; what it is to its caller is its `PassView` (`shown`).
 #[derive(Drop)]
 pub struct IndexPass<'t> {
     pub(crate) pass: TablePass<'t>,
@@ -78,9 +78,9 @@ impl<'t> IndexPass<'t> {
         self.way.forget();
     }
 
-    /// Tries to free the slots that updates of this pass took out. Where none of them waits yet, all of them begin to wait.
-    /// `Settled`: all that waited are free. `Held`: another pass was found in the same section at two looks since they
-    /// began to wait. It takes no memory and never waits.
+    /// Tries to free the slots that updates of this pass took out. Where none of them waits yet, all of them begin to
+    /// wait. `Settled`: all that waited are free. `Held`: another pass was found in the same section at two looks since
+    /// they began to wait. It takes no memory and never waits.
     pub fn try_settle(&mut self) -> Settling
         requires closed { (shown self.old).opened ≡ None }
         ensures tried { HasTried self.old result self.new.view }
@@ -90,13 +90,12 @@ impl<'t> IndexPass<'t> {
         tree_update::try_settle(&mut self.pass)
     }
 
-    /// Tries once to put the key with this value, for the request line `line`. It takes no memory and never waits: where it
-    /// meets what another pass is doing, it gives all back and tells what it has met, and the count of this has risen.
-    /// A pass that is alone in its index meets nothing: its try is made, or refused by an error.
+    /// Tries once to put the key with this value, for the request line `line`. It takes no memory and never waits:
+    /// where it meets what another pass is doing, it gives all back and tells what it has met, and the count of this
+    /// has risen. A pass that is alone in its index meets nothing: its try is made, or refused by an error.
     ///
-    /// # Errors
-    /// `Spent` where no call is left. `NoSlot` where calls are left, but no node or fewer than four entries are free; a try
-    /// does not free retired slots first (`try_settle` does). The pass is then unchanged.
+    /// # Errors `Spent` where no call is left. `NoSlot` where calls are left, but no node or fewer than four entries
+    /// are free; a try does not free retired slots first (`try_settle` does). The pass is then unchanged.
     pub fn try_put(&mut self, line: u32, key: u64, val: u64) -> Result<Try, PassError>
         requires closed { (shown self.old).opened ≡ None }
         ensures made { IfOk result (λ tried. IfDone tried (MadePut (shown self.old) (shown self.new) line key val)) }
@@ -116,9 +115,9 @@ impl<'t> IndexPass<'t> {
         answer
     }
 
-    /// Looks once for the first pair of the open snapshot whose key is at least `key`. It takes no memory and never waits:
-    /// where an entry has no number yet it answers `Pending`, and the count of such entries rises. A pass that is alone
-    /// in its index meets none.
+    /// Looks once for the first pair of the open snapshot whose key is at least `key`. It takes no memory and never
+    /// waits: where an entry has no number yet it answers `Pending`, and the count of such entries rises. A pass that
+    /// is alone in its index meets none.
     pub fn try_next_from(&mut self, key: u64) -> Look
         requires open { IsSome (shown self.old).opened }
         ensures first { (at : ℕ) → (shown self.old).opened ≡ Some at → IsAnswer result (first_from key (after (shown self.old).seen at)) }

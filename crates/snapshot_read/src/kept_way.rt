@@ -133,8 +133,8 @@ impl Way {
         Some(self.steps[self.count])
     }
 
-    /// Takes a search that goes on for this key: the one kept last that covers it, else that which begins at the root. Those
-    /// kept later are forgotten.
+    /// Takes a search that goes on for this key: the one kept last that covers it, else that which begins at the root.
+    /// Those kept later are forgotten.
     pub(crate) fn take(&mut self, key: u64) -> Search
         ensures covers { Covers key result }
         ensures kept { (v : View) (t : ℕ) → Every (IsOnWay v t) self.old → Every (IsOnWay v t) self.new }

@@ -1,6 +1,6 @@
 //! Reads of a snapshot on the running table: the first pair from a key on, of the map as it was after so many updates,
-//! whatever other passes do meanwhile. The layer above uses `begin`, `end`, `next_from` and `try_next_from`, on a pass that
-//! holds no lock, or `next_on` and `try_next_on`, which go on from what a `Way` has kept of the snapshot.
+//! whatever other passes do meanwhile. The layer above uses `begin`, `end`, `next_from` and `try_next_from`, on a pass
+//! that holds no lock, or `next_on` and `try_next_on`, which go on from what a `Way` has kept of the snapshot.
 #![tactic(auto)]
 
 mod kept_way;

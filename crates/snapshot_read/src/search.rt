@@ -56,8 +56,8 @@ fn go_on(
     }
 }
 
-/// The first pair from the key on, in the snapshot that is open at `at`. The search goes on from one that is kept, where
-/// one covers the key.
+/// The first pair from the key on, in the snapshot that is open at `at`. The search goes on from one that is kept,
+/// where one covers the key.
 pub(crate) fn look_on(pass: &mut TablePass<'_>, at: u64, key: u64, way: &mut Way) -> Look
     requires reads { ReadsAt pass.old.view at }
     requires kept { Every (IsOnWay pass.old.view at) way.old }

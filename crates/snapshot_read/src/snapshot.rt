@@ -39,9 +39,9 @@ pub fn end(pass: &mut TablePass<'_>)
     pass.close_section();
 }
 
-/// One look for the first pair of the open snapshot whose key is at least `key`. It does not wait: where an entry has no
-/// stamp yet it answers `Pending`, and the count of such entries rises; a pass that is alone on its table meets none.
-/// The search goes on from the way that an earlier one of this snapshot has kept, and keeps its own.
+/// One look for the first pair of the open snapshot whose key is at least `key`. It does not wait: where an entry has
+/// no stamp yet it answers `Pending`, and the count of such entries rises; a pass that is alone on its table meets
+/// none. The search goes on from the way that an earlier one of this snapshot has kept, and keeps its own.
 pub fn try_next_on(pass: &mut TablePass<'_>, way: &mut Way, key: u64) -> Look
     requires reads { IsReading pass.old.view }
     requires kept { IsKeptWay pass.old.view way.old }
@@ -73,9 +73,9 @@ pub fn try_next_from(pass: &mut TablePass<'_>, key: u64) -> Look
     try_next_on(pass, &mut way, key)
 }
 
-/// The first pair of the open snapshot whose key is at least `key`. Where an entry has no stamp yet it tries again, until
-/// the pass that has it pending has written it. In between it lets other threads run. The search goes on from the way that
-/// an earlier one of this snapshot has kept, and keeps its own.
+/// The first pair of the open snapshot whose key is at least `key`. Where an entry has no stamp yet it tries again,
+/// until the pass that has it pending has written it. In between it lets other threads run. The search goes on from the
+/// way that an earlier one of this snapshot has kept, and keeps its own.
 pub fn next_on<R: Wait>(pass: &mut TablePass<'_>, rt: &R, way: &mut Way, key: u64) -> Option<Pair>
     requires reads { IsReading pass.old.view }
     requires kept { IsKeptWay pass.old.view way.old }

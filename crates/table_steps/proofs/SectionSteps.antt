@@ -12,7 +12,7 @@ use Rattle.core_grace.specs.Batches.{is_empty, looked}
 use Rattle.core_grace.specs.Sections.{is_even, left_word}
 use Rattle.core_events.specs.declared.event.Event.{Event}
 use Rattle.core_events.specs.declared.event.Kind.TheVariants.{Enter, Leave, LookSec, Fill}
-use Rattle.core_events.specs.FillMoves.{filled_view, filled_with, with_filled}
+use Rattle.core_events.specs.FillMoves.{filled_view, filled_with, with_filled, known_before, used_view}
 use Rattle.core_events.specs.Moves.{entered, left, in_section, nowhere}
 use Rattle.core_laws.specs.ViewNeeds.{event_at, IsOutside, May, MayFill}
 use Rattle.core_invariant.proofs.KeptViews.{SeatPart, part_of, entered_part}
@@ -98,8 +98,8 @@ part_moved v w word same is =
 filled_slots : (v : View) (w : Word) (value : ℕ) (k : KeptSlots) → KeepsSlots v k → KeepsSlots (filled_view v w value) k
 filled_slots v w value k keeps = by_test (is_even v.section_word)
   where
-    by_test : (b : Bool) → KeepsSlots (cond b v (with_filled v (filled_with v.reading.filled w value))) k
-    by_test true = keeps
+    by_test : (b : Bool) → KeepsSlots (cond b (used_view v w) (with_filled (used_view v w) (filled_with (known_before v w) w value))) k
+    by_test true = record { free = keeps.free; batch = keeps.batch; retired = keeps.retired; looks = keeps.looks }
     by_test false = record { free = keeps.free; batch = keeps.batch; retired = keeps.retired; looks = keeps.looks }
 
 pub same_room : (k : KeptSlots) → HasRoomOf k k

@@ -13,7 +13,7 @@ use Rattle.index_words.specs.Words.{memory}
 use Rattle.core_grace.specs.Batches.{is_empty, batch_taken, batch_freed, all_passed, settled, looked, looked_at}
 use Rattle.core_grace.specs.Sections.{is_even}
 use Rattle.core_events.specs.declared.event.Kind.TheVariants.{LookSec, Fill}
-use Rattle.core_events.specs.FillMoves.{filled_view, filled_with, with_filled}
+use Rattle.core_events.specs.FillMoves.{filled_view, filled_with, with_filled, known_before, used_view}
 use Rattle.core_events.specs.Moves.{entered, in_section, nowhere}
 use Rattle.core_invariant.specs.Rule.{InRule}
 use Rattle.core_invariant.specs.SeatRule.{SeatRight}
@@ -68,7 +68,7 @@ filled_part z v w value = still_kept z (λ w. 0) Rattle.std.proofs.Common.[] v w
 pub filled_still : (v : View) (w : Word) (value : ℕ) → IsStill v (filled_view v w value)
 filled_still v w value = by_test (is_even v.section_word)
   where
-    by_test : (b : Bool) → IsStill v (cond b v (with_filled v (filled_with v.reading.filled w value)))
+    by_test : (b : Bool) → IsStill v (cond b (used_view v w) (with_filled (used_view v w) (filled_with (known_before v w) w value)))
     by_test true = record { held = refl; update = refl }
     by_test false = record { held = refl; update = refl }
 

@@ -1,6 +1,6 @@
 //! The running table: a pass's seat, and its steps on the words that all passes share. Each step is one move, and is
-//! the event of its name of the pure machine. The layers above use the steps of `TablePass`, and `SharedTable`, which is
-//! opened for the passes and closed to their history.
+//! the event of its name of the pure machine. The layers above use the steps of `TablePass`, and `SharedTable`, which
+//! is opened for the passes and closed to their history.
 #![tactic(auto)]
 
 mod close;

@@ -52,8 +52,8 @@ impl<'t> TablePass<'t> {
         number
     }
 
-    /// Announces how many updates the pass has seen, before it reads in its section; or, outside of a section, takes the
-    /// announcement back.
+    /// Announces how many updates the pass has seen, before it reads in its section; or, outside of a section, takes
+    /// the announcement back.
     pub fn announce(&mut self, number: Option<u64>)
         requires can { CanAnnounce self.old number }
         ensures same { IsSamePass self.old self.new }

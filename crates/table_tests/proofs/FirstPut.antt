@@ -36,7 +36,7 @@ use Rattle.table_steps.specs.Passes.{Pass}
 use Rattle.table_steps.specs.Stamps.{reading_at, with_seen, CanAnnounce, HasSeen, ReadsNow}
 use Rattle.table_steps.specs.Loads.{HasLoadedHead}
 use Rattle.table_steps.specs.Raises.{HasNew}
-use Rattle.table_tests.specs.FirstPut.{at_start, at_seen, at_announced, at_root, at_locked_root, MayStore}
+use Rattle.table_tests.specs.FirstPut.{at_start, at_seen, at_announced, at_root, at_locked_root}
 
 pub one_above : 0 < 1
 one_above = omega arith
@@ -112,37 +112,6 @@ number_filled v r w number value word x is at found view =
     let same : x ≡ word = some_same x word (sym found ∙ ap (λ (u : View). word_at u.layout number) is ∙ at) in
     view ∙ ap (λ (u : View). filled_view u x value) is ∙ ap (λ (y : Word). filled_view r y value) same
 
--- a fill leaves the free slots, so the pass may store to the same words behind it
-module _ (v : View) (fs : List Filled) where
-  abbrev u : View
-  u = with_filled v fs
-
-  may_still : (w : Word) → MayFill v w → MayFill u w
-  may_still Stamp may = absurd may
-  may_still (Section n) may = absurd may
-  may_still (Announced n) may = absurd may
-  may_still (Node field k) may = may
-  may_still (Entry part e) may = may
-
-  all_still : (ws : List Word) → Every (MayStore v) ws → Every (MayStore u) ws
-  all_still [] all = tt
-  all_still (w ∷ ws) all = ((all.0.0, may_still w all.0.1), all_still ws all.1)
-
-stores_still : (v : View) (word : Word) (value : ℕ) (ws : List Word) → Every (MayStore v) ws → Every (MayStore (filled_view v word value)) ws
-stores_still v word value ws all = by_test (is_even v.section_word)
-  where
-    by_test : (b : Bool) → Every (MayStore (cond b v (with_filled v (filled_with v.reading.filled word value)))) ws
-    by_test true = all
-    by_test false = all_still v (filled_with v.reading.filled word value) ws all
-
--- and so to those behind the first one
-pub stores_later : (v : View) (word : Word) (value : ℕ) (ws : List Word) → Every (MayStore v) ws → Every (MayStore (filled_view v word value)) (take (length ws - 1) (drop 1 ws))
-stores_later v word value [] all = tt
-stores_later v word value (w ∷ ws) all =
-    let long : length (w ∷ ws) - 1 ≡ length ws = omega arith in
-    let rest : ws ≡ take (length (w ∷ ws) - 1) ws = sym (ap (λ n. take n ws) long ∙ take_all (length ws) ws (omega arith)) in
-    subst (Every (MayStore (filled_view v word value))) rest (stores_still v word value ws all.1)
-
 -- with its entry in front of the root's bundle
 abbrev pub at_prepared : View
 at_prepared = prepared at_locked_root Right 0 1
@@ -170,8 +139,8 @@ may_prepare = record {
   old = inl refl;
   free = one_above;
   small = omega arith;
-  next = filled_at at_locked_root 7 (Entry Next 1) 0 refl;
-  unnumbered = filled_at at_locked_root 6 (Entry Number 1) 0 refl;
+  next = filled_at at_locked_root 10 (Entry Next 1) 0 refl;
+  unnumbered = filled_at at_locked_root 9 (Entry Number 1) 0 refl;
 }
 
 abbrev holds_head : HoldsHead at_prepared 0 Right 1
@@ -200,7 +169,7 @@ holds_grow = record {
     now = 1;
     head = holds_head;
     unmarked = refl;
-    still = inr (one_above, filled_at at_prepared 7 (Entry Next 1) 0 refl);
+    still = inr (one_above, filled_at at_prepared 10 (Entry Next 1) 0 refl);
   };
   tree = Null;
   read = refl;
@@ -209,18 +178,18 @@ holds_grow = record {
   slot = 1;
   new = record {
     free = one_above;
-    unmarked = filled_at at_prepared 3 (Node Mark 1) 0 refl;
-    key_is = filled_at at_prepared 0 (Node Key 1) 5 refl;
-    val_is = filled_at at_prepared 1 (Node Val 1) 7 refl;
+    unmarked = filled_at at_prepared 0 (Node Mark 1) 0 refl;
+    key_is = filled_at at_prepared 7 (Node Key 1) 5 refl;
+    val_is = filled_at at_prepared 8 (Node Val 1) 7 refl;
     left_head = 0;
-    left_link = (filled_at at_prepared 4 (Node (Head Left) 1) 0 refl, inl (refl, refl));
+    left_link = (filled_at at_prepared 1 (Node (Head Left) 1) 0 refl, inl (refl, refl));
     right_head = 0;
-    right_link = (filled_at at_prepared 5 (Node (Head Right) 1) 0 refl, inl (refl, refl));
+    right_link = (filled_at at_prepared 2 (Node (Head Right) 1) 0 refl, inl (refl, refl));
     apart = λ _. refl;
   };
   entry = 1;
   pending = refl;
-  prepared = record { some = one_above; head = holds_head; pending = one_above; leads = filled_at at_prepared 2 (Entry Child 1) 1 refl };
+  prepared = record { some = one_above; head = holds_head; pending = one_above; leads = filled_at at_prepared 11 (Entry Child 1) 1 refl };
 }
 
 pub has_new : HasNew at_prepared (1 ∷ 0 ∷ 0 ∷ [])
@@ -228,8 +197,8 @@ has_new = inr (
   one_above,
   record {
     free = one_above;
-    left_head = filled_at at_prepared 4 (Node (Head Left) 1) 0 refl;
-    right_head = filled_at at_prepared 5 (Node (Head Right) 1) 0 refl;
+    left_head = filled_at at_prepared 1 (Node (Head Left) 1) 0 refl;
+    right_head = filled_at at_prepared 2 (Node (Head Right) 1) 0 refl;
     left_free = inl refl;
     right_free = inl refl;
     apart = λ _. refl;

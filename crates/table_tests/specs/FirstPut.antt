@@ -40,22 +40,11 @@ at_announced = announced_view at_seen 1
 abbrev pub at_root : View
 at_root = head_loaded (reading_at [] at_announced 0 false []) 0 Right 0 0
 
--- it has filled node 1 with key 5 and value 7, and entry 1, which leads to it
+-- it has filled node 1 with key 5 and value 7, and entry 1, which leads to it; the other words of both are 0, since they
+-- were never used
 abbrev pub at_pair : View
 at_pair = filled_view (filled_view (filled_view at_root (Node Key 1) 5) (Node Val 1) 7) (Entry Child 1) 1
 
--- and the other words of both with 0
-abbrev pub other_words : List Word
-other_words = Node Mark 1 ∷ Node (Head Left) 1 ∷ Node (Head Right) 1 ∷ Entry Number 1 ∷ Entry Next 1 ∷ []
-
-abbrev pub after_clears : List Word → View → View
-after_clears [] v = v
-after_clears (w ∷ ws) v = after_clears ws (filled_view v w 0)
-
--- the pass may store to this word of the table
-abbrev pub MayStore : View → Word → Type 0
-MayStore v w = (is_there v.layout w ≡ true) × MayFill v w
-
 -- it has locked the root, and found it unmarked and still without a child
 abbrev pub at_locked_root : View
-at_locked_root = head_loaded (mark_loaded (locked_view (after_clears other_words at_pair) 0) 0 0) 0 Right 0 0
+at_locked_root = head_loaded (mark_loaded (locked_view at_pair 0) 0 0) 0 Right 0 0

@@ -1,12 +1,11 @@
 // The first put of a table by single steps, and what another pass reads at its stages. All numbers were worked by hand.
 ghost use Rattle.std.specs.Prelude.{◌≡◌, true, IfOk};
-ghost use Rattle.key_map.specs.Lists.{Every};
-ghost use Rattle.table_tests.specs.FirstPut.{at_start, at_seen, at_root, at_pair, at_locked_root, other_words, after_clears, MayStore};
+ghost use Rattle.table_tests.specs.FirstPut.{at_start, at_seen, at_root, at_pair, at_locked_root};
 ghost use Rattle.snapshot_read.specs.Snapshots.{IsReading};
 ghost use Rattle.table_steps.specs.Passes.{AtRest, IsPassOf};
 
 use crate::set_up::both;
-use index_words::{Change, Field, Layout, NoMemory, Pair, Part, PassSize, Side, Word};
+use index_words::{Change, Layout, NoMemory, Pair, PassSize, Side};
 use snapshot_read::{Look, begin, end, try_next_from};
 use std::alloc::Global;
 use std::test::Fail;
@@ -54,7 +53,8 @@ fn reads_nothing(pass: &mut TablePass<'_>) -> bool
     pass.load_stamp() == 0 && pass.load_head(0, Side::Right) == 0
 }
 
-/// Fills node 1 with key 5 and value 7, and entry 1, which leads to it.
+/// Fills node 1 with key 5 and value 7, and entry 1, which leads to it. Both were never used, so their other words are
+/// known to be 0.
 fn fill_pair(pass: &mut TablePass<'_>)
     requires root { pass.old.view ≡ at_root }
     ensures { pass.new.view ≡ at_pair }
@@ -64,39 +64,9 @@ fn fill_pair(pass: &mut TablePass<'_>)
     pass.fill(35, 1);
 }
 
-/// The other words of both.
-const OTHERS: [Word; 5] = [
-    Word::Node(Field::Mark, 1),
-    Word::Node(Field::Head(Side::Left), 1),
-    Word::Node(Field::Head(Side::Right), 1),
-    Word::Entry(Part::Stamp, 1),
-    Word::Entry(Part::Next, 1),
-];
-
-/// Stores 0 to these words. They hold it from the start, but a pass knows only what it has stored in its section.
-fn clear(pass: &mut TablePass<'_>, words: &[Word])
-    requires free { Every (MayStore pass.old.view) words.now }
-    ensures { pass.new.view ≡ after_clears words.now pass.old.view }
-{
-    let [word, rest @ ..] = words else {
-        return;
-    };
-    pass.fill_word(*word, 0);
-    clear(pass, rest);
-}
-
-/// Fills all words of the new node and of its entry.
-fn fill(pass: &mut TablePass<'_>)
-    requires root { pass.old.view ≡ at_root }
-    ensures { pass.new.view ≡ after_clears other_words at_pair }
-{
-    fill_pair(pass);
-    clear(pass, &OTHERS);
-}
-
 /// Locks the root, and tells whether it is unmarked and still without a child.
 fn locks_root(pass: &mut TablePass<'_>) -> bool
-    requires filled { pass.old.view ≡ after_clears other_words at_pair }
+    requires filled { pass.old.view ≡ at_pair }
     ensures { result ≡ true → pass.new.view ≡ at_locked_root }
 {
     pass.try_lock(0) && !pass.load_mark(0) && pass.load_head(0, Side::Right) == 0
@@ -151,7 +121,7 @@ fn a_reader_waits_at_an_entry_until_it_has_its_number(rt: HostRuntime) -> Result
     let mut other = table.attach(two);
     assert!(rt; sees_nothing(&mut pass));
     assert!(rt; reads_nothing(&mut pass));
-    fill(&mut pass);
+    fill_pair(&mut pass);
     assert!(rt; locks_root(&mut pass));
     let read = Read {
         prepared: (0, Look::Pending),

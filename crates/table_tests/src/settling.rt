@@ -111,8 +111,8 @@ const BOTH_BUNDLES: [Row; 12] = [
     Row::FreeEntries(16),
 ];
 
-/// A node that goes out gives back the entries of both its bundles: here two on the left, where a put was made twice, and
-/// one on the right.
+/// A node that goes out gives back the entries of both its bundles: here two on the left, where a put was made twice,
+/// and one on the right.
 #[test]
 fn a_replaced_node_gives_its_entries_back(rt: HostRuntime) -> Result<(), Fail> {
     let (table, mut keys) = opened(rt.alloc(), &[FIVE_NODES])?;

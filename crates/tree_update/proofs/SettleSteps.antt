@@ -1,5 +1,5 @@
 -- What the looks of a try to settle leave of the view.
-use Rattle.std.proofs.Common.{◌≡◌, ◌≢◌, ℕ, ◌+◌, ◌<◌, List, [], ◌∷◌, ◌++◌, length, cond, Bool, true, false, not, eqb, ◌&&◌, ◌||◌, Option, Some, None, find, filter, ◌≤◌, arith, refl, ap, ◌∙◌, sym, subst}
+use Rattle.std.proofs.Common.{◌≡◌, ◌≢◌, ℕ, ◌+◌, ◌<◌, List, [], ◌∷◌, ◌++◌, length, cond, Bool, true, false, not, eqb, ◌&&◌, ◌||◌, Option, Some, None, find, filter, ◌≤◌, arith, refl, ap, ◌∙◌, sym, subst, append-nil}
 use Rattle.std.specs.Option.{option_map}
 use Rattle.std.proofs.lemmas.Bool.{eq-eqb, eqb-true, and_parts}
 use Rattle.std.proofs.lemmas.List.{length-append}
@@ -11,7 +11,7 @@ use Rattle.index_words.specs.declared.view.slots.SectionFound.{SectionFound}
 use Rattle.index_words.specs.declared.layout.Layout.{Layout}
 use Rattle.index_words.specs.Views.{no_slots, no_looks, no_reading}
 use Rattle.key_map.specs.Lists.{has}
-use Rattle.core_grace.specs.Batches.{batch_taken, batch_freed, both, first_found, is_empty, is_find, lets_pass, looked_at, all_passed, settled, times_found}
+use Rattle.core_grace.specs.Batches.{apart_from, batch_taken, batch_freed, both, first_found, is_empty, is_find, lets_pass, looked_at, all_passed, settled, times_found}
 use Rattle.core_grace.proofs.RuleMoves.{looked_by}
 use Rattle.core_grace.specs.Progress.{PassedOthers}
 use Rattle.core_grace.proofs.Progress.{passed_all}
@@ -42,6 +42,9 @@ settled_apart passes v = either apart_from_slots (all_passed passes v.number v.g
 taken_free : (v : View) → (batch_taken v).free ≡ v.free
 taken_free v = either (λ u. u.free) (is_empty v.batch) (taken_of v) v v.free refl refl
 
+taken_unused : (v : View) → (batch_taken v).unused ≡ v.unused
+taken_unused v = either (λ u. u.unused) (is_empty v.batch) (taken_of v) v v.unused refl refl
+
 -- a batch that waits is not taken again
 pub taken_waits : (w : View) → is_empty w.batch ≡ false → batch_taken w ≡ w
 taken_waits w waits = ap (λ b. cond b (taken_of w) w) waits
@@ -61,6 +64,42 @@ waits_still v some = by (is_empty v.batch) some
     by true some = some
     by false some = refl
 
+-- where no slot waits, nothing is to be freed
+empty_list : {X : Type 0} (xs : List X) → eqb (length xs) 0 ≡ true → xs ≡ []
+empty_list [] none = refl
+empty_list (x ∷ xs) none = let long : length (x ∷ xs) ≡ 0 = eqb-true (length (x ∷ xs)) 0 none in absurd (omega arith)
+
+empty_slots : (s : Slots) → is_empty s ≡ true → s ≡ no_slots
+empty_slots s none =
+    let parts = and_parts (eqb (length s.nodes) 0) (eqb (length s.entries) 0) none in
+    ap (λ (ks : List ℕ). record { nodes = ks; entries = s.entries }) (empty_list s.nodes parts.0) ∙ ap (λ (es : List ℕ). record { nodes = []; entries = es }) (empty_list s.entries parts.1)
+
+none_apart : (xs : List ℕ) → filter (λ k. not (has k [])) xs ≡ xs
+none_apart [] = refl
+none_apart (x ∷ xs) = ap (λ ys. x ∷ ys) (none_apart xs)
+
+none_both : (s : Slots) → both s no_slots ≡ s
+none_both s = ap (λ (ks : List ℕ). record { nodes = ks; entries = s.entries ++ [] }) (append-nil s.nodes) ∙ ap (λ (es : List ℕ). record { nodes = s.nodes; entries = es }) (append-nil s.entries)
+
+apart_none : (s : Slots) → apart_from no_slots s ≡ s
+apart_none s =
+    ap (λ (ks : List ℕ). record { nodes = ks; entries = filter (λ e. not (has e [])) s.entries }) (none_apart s.nodes)
+    ∙ ap (λ (es : List ℕ). record { nodes = s.nodes; entries = es }) (none_apart s.entries)
+
+pub rest_settled : (v : View) → (is_empty v.batch && is_empty v.retired) ≡ true → HasSettled v v
+rest_settled v none =
+    let parts = and_parts (is_empty v.batch) (is_empty v.retired) none in
+    let batch : v.batch ≡ no_slots = empty_slots v.batch parts.0 in
+    let retired : v.retired ≡ no_slots = empty_slots v.retired parts.1 in
+    let taken : batch_taken v ≡ taken_of v = ap (λ b. cond b (taken_of v) v) parts.0 in
+    let waits : batch_of v ≡ no_slots = ap (λ (u : View). u.batch) taken ∙ retired in
+    record {
+      free = sym (ap (both v.free) waits ∙ none_both v.free);
+      batch = batch;
+      retired = retired ∙ sym (ap (λ (u : View). u.retired) taken);
+      unused = sym (ap (λ (s : Slots). apart_from s v.unused) waits ∙ apart_none v.unused);
+    }
+
 -- the slots with the batch free, and with the batch that waits
 pub freed_apart : (v w : View) → w ≡ batch_freed (batch_taken v) → KeepsAllElse v w
 freed_apart v w is = ap apart_from_slots is ∙ taken_apart v
@@ -70,6 +109,7 @@ freed_settled v w is = record {
   free = ap (λ (u : View). u.free) is ∙ ap (λ (s : Slots). both s (batch_of v)) (taken_free v);
   batch = ap (λ (u : View). u.batch) is;
   retired = ap (λ (u : View). u.retired) is;
+  unused = ap (λ (u : View). u.unused) is ∙ ap (apart_from (batch_of v)) (taken_unused v);
 }
 
 pub batch_apart : (v w : View) → HasBatch v w → KeepsAllElse v w
@@ -325,6 +365,7 @@ module _ (passes : ℕ) (v : View) (y : ℕ) where
         free = ap (λ (u : View). u.free) is ∙ ap (λ (s : Slots). both s (batch_of v)) (taken_free v);
         batch = ap (λ (u : View). u.batch) is;
         retired = ap (λ (u : View). u.retired) is;
+        unused = ap (λ (u : View). u.unused) is ∙ ap (apart_from (batch_of v)) (taken_unused v);
       }
 
   pub left_apart : v.reading ≡ no_reading → (e w : View) (x : ℕ) → e ≡ entered passes v y → w ≡ left e x → KeepsAllElse v w

@@ -5,7 +5,7 @@ use Rattle.index_words.specs.declared.view.slots.SectionFound.{SectionFound}
 use Rattle.index_words.specs.declared.view.slots.Slots.{Slots}
 use Rattle.index_words.specs.Views.{no_slots, no_looks}
 use Rattle.key_map.specs.Lists.{has}
-use Rattle.core_grace.specs.Batches.{batch_taken, batch_freed, both, is_empty, is_number, looked_at, times_found}
+use Rattle.core_grace.specs.Batches.{apart_from, batch_taken, batch_freed, both, is_empty, is_number, looked_at, times_found}
 use Rattle.core_grace.specs.Sections.{is_even}
 use Rattle.table_rule.specs.Running.{Happened}
 use Rattle.table_steps.specs.Gives.{looking}
@@ -17,7 +17,7 @@ use Rattle.tree_update.specs.declared.settle.Settling.TheVariants.{Settled, Held
 
 -- the view but for the own section word, the slots, and what is known of the batch
 abbrev pub apart_from_slots : View → View
-apart_from_slots v = record v { section_word = 0; free = no_slots; retired = no_slots; batch = no_slots; grace = no_looks }
+apart_from_slots v = record v { section_word = 0; free = no_slots; retired = no_slots; batch = no_slots; grace = no_looks; unused = no_slots }
 
 -- all else is as it was: the history, what was counted, what was read, and the rest
 abbrev pub KeepsAllElse : View → View → Type 0
@@ -42,11 +42,12 @@ batch_of v = (batch_taken v).batch
 abbrev pub retired_of : View → Slots
 retired_of v = (batch_taken v).retired
 
--- every slot of the batch is free
+-- every slot of the batch is free, and was used
 pub record HasSettled (v w : View) : Type 0 where
   pub free : w.free ≡ both v.free (batch_of v)
   pub batch : w.batch ≡ no_slots
   pub retired : w.retired ≡ retired_of v
+  pub unused : w.unused ≡ apart_from (batch_of v) v.unused
 
 -- the batch waits: the view is as it was but that the batch was taken, and for new looks
 abbrev pub HasBatch : View → View → Type 0

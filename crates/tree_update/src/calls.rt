@@ -1,7 +1,7 @@
 //! The calls that update the map: a put, a put that is made only where the key is not there, and a removal.
 //!
-//! Each tries until a try comes through. It waits between the tries alone: outside of the section, with no lock held and
-//! nothing pending, so that no other pass waits for it meanwhile.
+//! Each tries until a try comes through. It waits between the tries alone: outside of the section, with no lock held
+//! and nothing pending, so that no other pass waits for it meanwhile.
 ghost use Rattle.std.specs.Prelude.{◌≡◌, ◌↔◌, ◌<◌, ◌≤◌, None, is_some, IfOk, IfSome, IsErrOf, OnErr};
 ghost use Rattle.key_map.specs.Map.{value_at};
 ghost use Rattle.table_steps.specs.Passes.{AtRest, IsSamePass};
@@ -187,8 +187,8 @@ fn make_removal<R: Wait>(pass: &mut TablePass<'_>, rt: &R, line: u32, key: u64) 
     unreachable!()
 }
 
-/// Puts the key with this value, for the request line `line`. It takes no memory. While other passes hold the locks that
-/// it needs, or are inside sections in which they may use slots that it needs, it lets other threads run.
+/// Puts the key with this value, for the request line `line`. It takes no memory. While other passes hold the locks
+/// that it needs, or are inside sections in which they may use slots that it needs, it lets other threads run.
 pub fn put<R: Wait>(
     pass: &mut TablePass<'_>,
     rt: &R,

@@ -48,8 +48,8 @@ fn look_once(pass: &mut TablePass<'_>, other: u32) -> PassLook
     PassLook::Inside(word)
 }
 
-/// Looks at another pass, twice at most, where the batch has not passed it. The second look tells whether the pass is in
-/// the section still in which the first one found it.
+/// Looks at another pass, twice at most, where the batch has not passed it. The second look tells whether the pass is
+/// in the section still in which the first one found it.
 fn look_at(pass: &mut TablePass<'_>, other: u32) -> PassLook
     requires rest { AtRest pass.old.view }
     requires there { other < pass.old.view.layout.passes }

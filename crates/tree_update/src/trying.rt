@@ -40,9 +40,10 @@ pub enum Try {
     /// What the search had found has changed since: a node is marked, or a bundle has another head.
     ///
     /// That takes a step of another pass between the search and the looks of this try. A pass that stands still in the
-    /// middle of an update, wherever it does, is met as `Busy` or `Pending`: the search reads at the number of all updates
-    /// so far, and ends where an entry has no number yet, so what it remembers are the heads of their bundles; and a node
-    /// is marked only once the entries that lead around it have numbers, so that the search does not come to it.
+    /// middle of an update, wherever it does, is met as `Busy` or `Pending`: the search reads at the number of all
+    /// updates so far, and ends where an entry has no number yet, so what it remembers are the heads of their bundles;
+    /// and a node is marked only once the entries that lead around it have numbers, so that the search does not come to
+    /// it.
     Moved,
     /// An entry had no number yet: another pass has it pending.
     Pending,

@@ -31,8 +31,8 @@ const ENOUGH: usize = 6;
 /// for ever.
 const LOOKS: u32 = 65_536;
 
-/// What a wait does between two tries: a short spin, since another pass may be done soon where it runs on a processor of
-/// its own, and then a yield, which lets other threads run.
+/// What a wait does between two tries: a short spin, since another pass may be done soon where it runs on a processor
+/// of its own, and then a yield, which lets other threads run.
 pub(crate) fn pause() {
     for _ in 0..PAUSES {
         spin_loop();
@@ -97,8 +97,8 @@ fn look_around(pass: &mut TablePass<'_>) -> Sight
 }
 
 /// Waits until each announcement is gone that stood below the number of all updates so far, where the pass has so few
-/// entries that its next update might leave it too few for another one. So the update cuts, and brings back what hangs in
-/// its bundles. The wait is bounded.
+/// entries that its next update might leave it too few for another one. So the update cuts, and brings back what hangs
+/// in its bundles. The wait is bounded.
 pub(crate) fn wait_for_cuts(pass: &mut TablePass<'_>)
     requires rest { AtRest pass.old.view }
     ensures same { IsSamePass pass.old pass.new }

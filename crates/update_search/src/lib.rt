@@ -1,6 +1,6 @@
 //! The search for the plan of an update on the running table: down the tree that the pass reads, by loads, to the plan
-//! with the entries with which the pass remembers the plan's links. The layer above uses `begin_search` and `find_plan`;
-//! what is found can be tried (`IsReadyToTry`).
+//! with the entries with which the pass remembers the plan's links. The layer above uses `begin_search` and
+//! `find_plan`; what is found can be tried (`IsReadyToTry`).
 #![tactic(auto)]
 
 mod children;

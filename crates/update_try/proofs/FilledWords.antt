@@ -13,7 +13,7 @@ use Rattle.index_words.proofs.Seats.{one_term}
 use Rattle.key_map.specs.Lists.{count, Every, IsItem}
 use Rattle.core_grace.specs.Sections.{is_even}
 use Rattle.core_grace.specs.Slots.{own, nodes_of}
-use Rattle.core_events.specs.FillMoves.{filled_view, filled_with, with_filled}
+use Rattle.core_events.specs.FillMoves.{filled_view, filled_with, with_filled, known_before, used_view}
 use Rattle.core_invariant.proofs.Owned.{slot_high}
 use Rattle.core_laws.specs.ViewNeeds.{MayFill}
 use Rattle.core_updates.specs.declared.plan.Plan.{Plan}
@@ -143,6 +143,6 @@ fill_within plan slots entries place f is = slice_get_within (fills_of plan slot
 pub filled_nexts : (v w : View) (f : Filled) → w ≡ filled_view v f.word f.value → KeepsNexts v w
 filled_nexts v w f now i item is = subst (λ (u : View). IsItem u.held.nexts i item) (sym now) (by (is_even v.section_word))
   where
-    by : (b : Bool) → IsItem (cond b v (with_filled v (filled_with v.reading.filled f.word f.value))).held.nexts i item
+    by : (b : Bool) → IsItem (cond b (used_view v f.word) (with_filled (used_view v f.word) (filled_with (known_before v f.word) f.word f.value))).held.nexts i item
     by true = is
     by false = is

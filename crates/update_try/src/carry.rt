@@ -1,9 +1,9 @@
 //! A try of an update: its plan is carried out, or given up.
 //!
-//! The order is that of the steps below. The nodes are locked in the plan's order, each by one try. The looks come under
-//! the locks, and what is filled and put in front of bundles comes behind the last look. Behind the raise the entries get
-//! their numbers before the bundles are cut and the nodes that went out are marked, and the marks come before the first
-//! unlock. The locks are given back on every way out, and the section is left.
+//! The order is that of the steps below. The nodes are locked in the plan's order, each by one try. The looks come
+//! under the locks, and what is filled and put in front of bundles comes behind the last look. Behind the raise the
+//! entries get their numbers before the bundles are cut and the nodes that went out are marked, and the marks come
+//! before the first unlock. The locks are given back on every way out, and the section is left.
 ghost use Rattle.std.specs.Prelude.{◌≡◌, ◌+◌, ◌<◌, ℕ, length, IfOk, IfErr, Some};
 ghost use Rattle.core_updates.specs.PlanEvents.{HasSlots};
 ghost use Rattle.core_updates.specs.Plans.{fronts_of};

@@ -1,7 +1,7 @@
 //! The try of a plan on the running table: the steps that carry an update out, or give it up; the laws of `plan_laws`
-//! lead from stage to stage. The layer above uses `plan_slots` and `carry_out`. The stages of `carry_out` are public too,
-//! for callers that stop between them: `validate`, `make_ready`, `raise_plan`, `finalise_all`, `prune_all`, `mark_all`,
-//! `unlock_all` and `leave_section`, in this order.
+//! lead from stage to stage. The layer above uses `plan_slots` and `carry_out`. The stages of `carry_out` are public
+//! too, for callers that stop between them: `validate`, `make_ready`, `raise_plan`, `finalise_all`, `prune_all`,
+//! `mark_all`, `unlock_all` and `leave_section`, in this order.
 #![tactic(auto)]
 
 mod after_raise;

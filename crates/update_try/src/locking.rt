@@ -9,8 +9,8 @@ use crate::release::unlock_first;
 use core_updates::Plan;
 use table_steps::TablePass;
 
-/// Locks the nodes of a plan, in its order, each by one try. Where a lock is found held, those that were taken are given
-/// back, and this answers false: another pass then held it.
+/// Locks the nodes of a plan, in its order, each by one try. Where a lock is found held, those that were taken are
+/// given back, and this answers false: another pass then held it.
 pub(crate) fn lock_all(pass: &mut TablePass<'_>, plan: &Plan, heads: &[u32; 9]) -> bool
     requires searched { IsSearched pass.old.view pass.old.number plan.now heads.now }
     ensures same { IsSamePass pass.old pass.new }

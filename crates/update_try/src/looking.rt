@@ -99,8 +99,8 @@ fn look_along_link(
     Ok(())
 }
 
-/// Looks at what stands at this place of a plan. The keys and values there are those of the tree that the pass reads, so
-/// they are found to be the plan's.
+/// Looks at what stands at this place of a plan. The keys and values there are those of the tree that the pass reads,
+/// so they are found to be the plan's.
 fn look_at(
     pass: &mut TablePass<'_>,
     plan: &Plan,
@@ -133,8 +133,8 @@ fn look_at(
     }
 }
 
-/// Looks at all that a plan asks for, under the locks of all its nodes, and walks along the bundles of the nodes that go
-/// out. Where a look fails the locks are given back.
+/// Looks at all that a plan asks for, under the locks of all its nodes, and walks along the bundles of the nodes that
+/// go out. Where a look fails the locks are given back.
 pub(crate) fn look_all(
     pass: &mut TablePass<'_>,
     plan: &Plan,

@@ -51,8 +51,8 @@ fn key_of(plan: &Plan) -> u64
     plan.key()
 }
 
-/// Raises the update of a plan, with all its entries in front of their bundles, and answers its place. Of each node that
-/// goes out the pass has found both bundles since it locked it.
+/// Raises the update of a plan, with all its entries in front of their bundles, and answers its place. Of each node
+/// that goes out the pass has found both bundles since it locked it.
 pub fn raise_plan(
     pass: &mut TablePass<'_>,
     line: u32,

@@ -32,8 +32,8 @@ fn entry_at(pass: &TablePass<'_>, place: usize) -> u32
     entry
 }
 
-/// A free node and four free entries of a pass, each the last ones of its lists, where they are found first. None where it
-/// has no free node, or fewer than four free entries.
+/// A free node and four free entries of a pass, each the last ones of its lists, where they are found first. None where
+/// it has no free node, or fewer than four free entries.
 pub fn plan_slots(pass: &TablePass<'_>) -> Option<PlanSlots>
     ensures free { IfSome result (HasSlots pass.now.view) }
     ensures apart { IfSome result AreApart }

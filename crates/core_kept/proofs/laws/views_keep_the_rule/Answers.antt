@@ -1,6 +1,7 @@
 use Rattle.core_invariant.proofs.SpentViews.{spent_after}
 use Rattle.core_kept.proofs.OwnPlaces.{places_after}
 use Rattle.core_kept.proofs.WaitingSlots.{waits_after}
+use Rattle.core_kept.proofs.UnusedSlots.{unused_after}
 use Rattle.core_kept.proofs.SectionLaw.{moves_sections}
 use Rattle.core_kept.proofs.SectionWords.{spare_after}
 use Rattle.core_kept.proofs.SeenLaw.{keeps_seen}
@@ -12,6 +13,7 @@ returns c = record {
   spare = λ z words vs right i v at n w found value o kind met. spare_after z words vs right i v at n w found value o kind met;
   places = λ z words vs right i v at w value kind o own met. places_after z words vs right i v at w value kind o own met;
   waits = λ z words vs right i v at n w found value kind o own met. waits_after z words vs right i v at n w found value kind o own met;
+  unused = λ z words vs right i v at n w found value kind o met. unused_after z words vs right i v at n w found value kind o met;
   seen = keeps_seen;
   sections = moves_sections;
 }
