@@ -3,8 +3,12 @@
 
     tests/index_runs.py PROGRAM [--runs N] [--passes P] [--keys K] [--requests R] [--updates U] [--listings L]
                         [--page P] [--nodes N] [--entries E] [--seconds S] [--seed SEED]
-    tests/index_runs.py PROGRAM --held MEANWHILE [--runs N] [--passes P] [--keys K] [--requests R]
+    tests/index_runs.py PROGRAM --held MEANWHILE [--runs N] [--passes P] [--keys K] [--requests R] [--nodes N] [--entries E]
+                        [--puts]
     tests/index_runs.py PROGRAM --tries [--runs N] [--passes P] [--keys K] [--requests R] [--nodes N] [--least-met N]
+    tests/index_runs.py PROGRAM --visits READERS [--runs N] [--requests R] [--turns T] [--nodes N] [--entries E]
+    tests/index_runs.py PROGRAM --few READERS [--runs N] [--passes P] [--keys K] [--requests R] [--turns T] [--nodes N]
+                        [--entries E] [--least-made M]
     tests/index_runs.py PROGRAM --sections TURNS [--runs N]
     tests/index_runs.py PROGRAM --waits TURNS [--runs N] [--seconds S]
 
@@ -27,7 +31,26 @@ were refused is told.
 With `--held` the first pass makes its requests, all updates; then each other pass opens a snapshot and is held inside it
 while the first one makes MEANWHILE more updates. Their listings come after these: they are the map at the place that
 was theirs. Behind each of the updates a try to settle is held by pass 1 in its first section, once something was taken out;
-behind the end of the snapshots one settles.
+behind the end of the snapshots one settles. With `--nodes N --entries E` the first pass has so few slots, and still no
+update may be refused. With `--puts` all updates are puts.
+
+With `--visits` one pass of few slots puts and removes one key by turns, R requests, while readers come and go: each opens a
+snapshot, stays in it for T turns, reads it and closes it, T turns between two visits, until the requests are made. Once they
+are gone the pass makes one more update. An update is refused only where a reader was at a visit at some time of the call, by
+the readers' own counts of visits begun and ended. How many were refused is told.
+
+With `--few` P passes of few slots make updates, over the table itself, beside such readers. When all is done one pass behind
+another puts each key and removes it, and each tells which of its slots are free. Beside the history this is checked:
+
+- no slot is free in two places, or twice, and no slot is free that the table has not;
+- as many nodes are not free as the map has keys. It is empty at the end, but where the passes that own slots own too few to
+  empty it: such a run counts as not emptied, and where no run is emptied that is a failure;
+- where the map is empty just two entries are not free, which the one bundle left keeps: that of the last removal, and the
+  one that it found, of the put before it. These two updates are of one pass that nobody works beside, so the removal cuts
+  what is behind.
+
+How many updates were refused is told, how many of them while a reader was at a visit, and fewer than M updates in a hundred
+requests are a failure.
 
 With `--tries` each request is one try of a put. With `--least-met N` fewer than N tries in all the runs that found a lock
 held, that found that something had moved, or that found an entry without a number, are a failure.
@@ -69,7 +92,7 @@ def checked(lines, nodes, scarce=False):
                 refused += 1
                 continue
             at = int(fields[1] if kind in "PRI" else fields[0])
-            made = kind == "P" or (kind in "RI" and fields[-1] == "true")
+            made = kind == "P" or (kind in "RI" and (fields[-1] == "true") == (kind == "R"))
             if at < last or (made and at == last):
                 return f"pass {number}: place {at} behind place {last}", None
             last = at
@@ -108,9 +131,9 @@ def checked(lines, nodes, scarce=False):
                 if (fields[4] == "true") != was:
                     return f"place {at}: pass {number} was told {fields[4]}", None
             elif kind == "I":
-                if fields[4] == "true" and was:
+                if fields[4] == "false" and was:
                     return f"place {at}: pass {number} put key {fields[2]} though it was there", None
-                if fields[4] == "false" and fields[2] not in state:
+                if fields[4] == "true" and fields[2] not in state:
                     return f"place {at}: pass {number} found key {fields[2]} that is not there", None
             elif fields[3] == "true":
                 if not was:
@@ -120,16 +143,34 @@ def checked(lines, nodes, scarce=False):
     return None, (len(history), listings, refused)
 
 
-def printed(words, *numbers):
-    """The lines of one run, of these words."""
+def misplaced(lines, nodes, entries, is_empty):
+    """What is wrong with the free slots that the passes tell at the end, or None. The table has so many nodes and entries."""
+    free = {"node": [], "entry": []}
+    for line in lines:
+        _, _, kind, *slots = line.split()
+        free[kind] += map(int, slots)
+    for kind, most in (("node", nodes), ("entry", entries)):
+        if len(set(free[kind])) != len(free[kind]):
+            return f"a slot is free in two places: {kind} {sorted(free[kind])}"
+        if not set(free[kind]) <= set(range(1, most + 1)):
+            return f"a free slot is none of the table: {kind} {sorted(free[kind])}"
+    if is_empty and len(free["node"]) != nodes:
+        return f"{nodes - len(free['node'])} nodes are nowhere"
+    left = entries - len(free["entry"])
+    if is_empty and left != 2:
+        return f"{left} entries are not free, and the map is empty"
+    return None
+
+
+def printed(words, task, **numbers):
+    """The lines of one run of this task, with these numbers."""
+    named = [word for name, number in numbers.items() for word in (name, str(number))]
     try:
-        ended = subprocess.run(
-            [words.program, *map(str, numbers)], capture_output=True, text=True, timeout=words.seconds
-        )
+        ended = subprocess.run([words.program, task, *named], capture_output=True, text=True, timeout=words.seconds)
     except subprocess.TimeoutExpired:
-        sys.exit(f"{numbers}: the run had not ended after {words.seconds} seconds")
+        sys.exit(f"{named}: the run had not ended after {words.seconds} seconds")
     if ended.returncode != 0:
-        sys.exit(f"{numbers}: status {ended.returncode}: {ended.stderr}")
+        sys.exit(f"{named}: status {ended.returncode}: {ended.stderr}")
     return ended.stdout.splitlines()
 
 
@@ -137,10 +178,10 @@ def run_of_requests(words, seed):
     """A run in which each pass makes its requests: what is wrong, and how many updates, listings and refusals it has."""
     nodes = words.requests if words.nodes is None else words.nodes
     entries = 4 * words.requests + 4 if words.entries is None else words.entries
-    numbers = (
-        words.passes, words.keys, words.requests, words.updates, words.listings, words.page, seed, nodes, entries,
+    lines = printed(
+        words, "run", passes=words.passes, keys=words.keys, requests=words.requests, updates=words.updates,
+        listings=words.listings, page=words.page, seed=seed, nodes=nodes, entries=entries,
     )
-    lines = printed(words, "run", *numbers)
     if len(lines) < words.passes * words.requests:
         return f"{lines[:1]}", None
     wrong, counts = checked(lines, nodes, words.entries is not None)
@@ -149,11 +190,17 @@ def run_of_requests(words, seed):
 
 def run_while_held(words, seed):
     """A run in which all passes but the first are held: what is wrong, and how many updates, listings and held tries it has."""
-    updates = words.requests + words.held + 1
-    lines = printed(words, "held", words.passes, words.keys, words.requests, words.held, seed)
-    wrong, counts = checked([line for line in lines if line[0] != "T"], updates)
+    readers = words.passes - 1
+    nodes = words.nodes or words.requests + words.held + 1
+    lines = printed(
+        words, "puts" if words.puts else "held", passes=1, readers=readers, keys=words.keys, requests=words.requests,
+        updates=100, page=words.keys, meanwhile=words.held, seed=seed, nodes=nodes, entries=words.entries or 4 * nodes,
+    )
+    wrong, counts = checked([line for line in lines if line[0] != "T"], nodes)
     if wrong:
         return wrong, None
+    if counts[2] > 0:
+        return f"{counts[2]} updates were refused", None
     out, tried, held = 0, 0, 0
     for line in lines:
         kind, number, *fields = line.split()
@@ -161,19 +208,103 @@ def run_while_held(words, seed):
             out += fields[-1] == "true"
         if kind == "T":
             tried += 1
-            wanted = ["held", "1", "1"] if out > 0 and tried <= words.held else ["settled"]
+            is_held = out > 0 and tried <= words.held and readers > 0
+            wanted = ["held", "1", "1"] if is_held else ["settled"]
             if fields != wanted:
                 return f"try {tried} to settle: {fields}, and not {wanted}", None
             held += fields[0] == "held"
-    if tried != words.held + 1 or counts[1] != words.passes - 1:
+    if tried != words.held + 1 or counts[1] != readers:
         return f"{tried} tries to settle, {counts[1]} listings", None
     return None, {"updates": counts[0], "listings": counts[1], "held tries": held}
+
+
+def refused_beside(lines):
+    """How many updates were refused while a reader was at a visit at some time of the call, and how many while nobody was."""
+    beside = alone = 0
+    for line in lines:
+        if line[0] == "N":
+            gone, come = map(int, line.split()[3:])
+            beside, alone = beside + (come > gone), alone + (come == gone)
+    return beside, alone
+
+
+def run_beside_visits(words, seed):
+    """A run of one pass beside readers that come and go: what is wrong, and what it had."""
+    nodes, entries = words.nodes or 3, words.entries or 12
+    lines = printed(
+        words, "visits", passes=1, readers=words.visits, keys=1, requests=words.requests, updates=100, page=1,
+        turns=words.turns, seed=seed, nodes=nodes, entries=entries,
+    )
+    wrong, counts = checked(lines, nodes, True)
+    if wrong:
+        return wrong, None
+    beside, alone = refused_beside(lines)
+    if alone > 0:
+        return f"{alone} updates were refused while nobody read", None
+    # a removal behind a refused put finds no key, and is no update
+    asked = sum(line[0] in "PRN" for line in lines)
+    if asked != words.requests + 1:
+        return f"{asked} requests were answered", None
+    return None, {"requests": asked, "updates": counts[0], "visits": counts[1], "refused, all of them beside a reader": beside}
+
+
+def places_of(lines, nodes, entries, keys):
+    """What is wrong with the free slots that the passes tell at the end, or None. The table has so many nodes and entries,
+    and the map so many keys."""
+    free = {"node": [], "entry": []}
+    for line in lines:
+        _, _, kind, *slots = line.split()
+        free[kind] += map(int, slots)
+    for kind, most in (("node", nodes), ("entry", entries)):
+        if len(set(free[kind])) != len(free[kind]):
+            return f"a slot is free in two places: {kind} {sorted(free[kind])}"
+        if not set(free[kind]) <= set(range(1, most + 1)):
+            return f"a free slot is none of the table: {kind} {sorted(free[kind])}"
+    if nodes - len(free["node"]) != keys:
+        return f"{nodes - len(free['node'])} nodes are not free, and the map has {keys} keys"
+    left = entries - len(free["entry"])
+    if keys == 0 and left != 2:
+        return f"{left} entries are not free, and the map is empty"
+    return None
+
+
+def run_with_few_slots(words, seed):
+    """A run of passes with few slots beside readers: what is wrong, and what it had."""
+    passes, readers, each = words.passes, words.few, words.requests
+    nodes, entries = words.nodes or 3, words.entries or 12
+    lines = printed(
+        words, "few", passes=passes, readers=readers, keys=words.keys, requests=each, turns=words.turns, seed=seed, nodes=nodes,
+        entries=entries,
+    )
+    wrong, counts = checked([line for line in lines if line[0] != "F"], nodes, True)
+    if wrong:
+        return wrong, None
+    state = set()
+    for line in lines:
+        if line[0] == "J":
+            fields = line.split()
+            (state.add if len(fields) == 6 else state.discard)(fields[4])
+    free = [line for line in lines if line[0] == "F"]
+    if len(free) != 2 * (passes + readers):
+        return f"{len(free)} lists of free slots: {lines[:1]}", None
+    wrong = places_of(free, passes * nodes + readers, passes * entries + 4 * readers, len(state))
+    if wrong:
+        return wrong, None
+    if counts[0] * 100 < words.least_made * passes * each:
+        return f"{counts[0]} updates of {passes * each} requests were made", None
+    return None, {
+        "updates": counts[0], "visits": counts[1], "refused": counts[2], "of them beside a reader": refused_beside(lines)[0],
+        "not emptied": int(bool(state)),
+    }
 
 
 def run_of_tries(words, seed):
     """A run of tries: what is wrong, and how many puts were made and how many tries have met what."""
     nodes = 64 if words.nodes is None else words.nodes
-    lines = printed(words, "tries", words.passes, words.keys, words.requests, nodes, seed)
+    lines = printed(
+        words, "tries", passes=words.passes, keys=words.keys, requests=words.requests, nodes=nodes, entries=4 * words.requests,
+        seed=seed,
+    )
     wrong, counts = checked([line for line in lines if line[0] != "C"], nodes)
     if wrong:
         return wrong, None
@@ -187,7 +318,7 @@ def run_of_tries(words, seed):
 def run_in_sections(words, _seed):
     """A run over the table itself: what is wrong, and how many looks it has."""
     turns, looks = words.sections, 0
-    lines = printed(words, "sections", turns)
+    lines = printed(words, "sections", turns=turns)
     found = [line.split()[1:] for line in lines if line[0] == "S"]
     history = [line for line in lines if line[0] == "J"]
     # The puts were made one behind another: each pass's number as the key, with the values 1 and 2.
@@ -218,7 +349,7 @@ def run_while_waiting(words, _seed):
         resource.setrlimit(resource.RLIMIT_CPU, (words.seconds, words.seconds))
 
     ended = subprocess.run(
-        [words.program, "waits", str(words.waits)], capture_output=True, text=True, preexec_fn=limited
+        [words.program, "waits", "turns", str(words.waits)], capture_output=True, text=True, preexec_fn=limited
     )
     if ended.returncode != 0:
         return f"status {ended.returncode}, with {words.seconds} seconds of one processor", None
@@ -237,16 +368,21 @@ def main():
     parser.add_argument("program")
     for name, value in (
         ("runs", 10), ("passes", 4), ("keys", 16), ("requests", 2000), ("updates", 60), ("listings", 10),
-        ("page", 10), ("seed", 1), ("seconds", 60), ("least-met", 0),
+        ("page", 10), ("seed", 1), ("seconds", 60), ("least-met", 0), ("least-made", 0), ("turns", 3),
     ):
         parser.add_argument(f"--{name}", type=int, default=value)
-    for name in ("nodes", "entries", "held", "sections", "waits"):
+    for name in ("nodes", "entries", "held", "visits", "few", "sections", "waits"):
         parser.add_argument(f"--{name}", type=int)
-    parser.add_argument("--tries", action="store_true")
+    for name in ("tries", "puts"):
+        parser.add_argument(f"--{name}", action="store_true")
     words = parser.parse_args()
     make = run_of_requests
     if words.held is not None:
         make = run_while_held
+    elif words.visits is not None:
+        make = run_beside_visits
+    elif words.few is not None:
+        make = run_with_few_slots
     elif words.sections is not None:
         make = run_in_sections
     elif words.waits is not None:
@@ -264,6 +400,8 @@ def main():
     for name in ("busy", "moved", "pending"):
         if words.tries and sums[name] < words.least_met:
             sys.exit(f"{sums[name]} tries were answered {name}, and {words.least_met} were wanted")
+    if sums.get("not emptied", 0) == words.runs:
+        sys.exit(f"none of the {words.runs} runs was emptied")
     told = ", ".join(f"{count} {name}" for name, count in sums.items())
     print(f"{words.runs} runs, none wrong: {told}")
 

@@ -12,5 +12,5 @@ mod v1_pages;
 
 pub use gate::{Gate, OpenGate};
 pub use listing::list;
-pub use pages::next_query;
+pub use pages::{Resumption, Start, next_query, resume, start_of};
 pub use run::run_client;

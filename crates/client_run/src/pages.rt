@@ -38,15 +38,15 @@ pub fn next_query(
     }
 }
 
-// Where a listing goes on: its query, and the point behind the page before.
+/// Where a listing goes on: its query, with the token of the page before, and the point behind that page.
 #[derive(Drop)]
-pub(crate) struct Resumption {
-    query: ListQuery,
-    point: TokenPoint,
+pub struct Resumption {
+    pub query: ListQuery,
+    pub point: TokenPoint,
 }
 
-// Where the page behind a reply begins, where there is one.
-fn resume(
+/// Where the page behind a reply begins. None exactly as `next_query` says.
+pub fn resume(
     alloc: Global,
     dir: &Directory,
     last: Option<&Reply>,
@@ -94,17 +94,19 @@ fn behind(
     }
 }
 
-// Where a LIST begins.
+/// Where a LIST begins.
 #[derive(Drop)]
-pub(crate) enum Start {
-    // At the first admitted key.
+pub enum Start {
+    /// At the first admitted key.
     First,
+    /// Behind this point.
     Behind(TokenPoint),
-    // Nowhere: the text is that of no token, or of another listing's.
+    /// Nowhere: the text is that of no token, or of another listing's.
     Bad,
 }
 
-fn start_of(alloc: Global, query: &ListQuery) -> Result<Start, NoMemory>
+/// Where the token of a query tells the listing to begin. An error is want of memory.
+pub fn start_of(alloc: Global, query: &ListQuery) -> Result<Start, NoMemory>
     ensures { IfOk result (IsStartOf query.now) }
 {
     if query.token.bytes().is_empty() {

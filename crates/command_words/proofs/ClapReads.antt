@@ -18,33 +18,25 @@ use Rattle.clap.specs.declared.parser.matches.ArgMatches.{ArgMatches}
 use Rattle.clap.specs.declared.parser.matches.ArgMatches.TheViews.{out-ArgMatches, out-SubCommand}
 use Rattle.clap.proofs.OnLiterals.{clap_on_literals}
 use Rattle.command_words.specs.declared.form.Form.{Form}
-use Rattle.command_words.specs.declared.form.Form.TheVariants.{Run, Sample}
+use Rattle.command_words.specs.declared.form.Form.TheVariants.{Run, Check, Sample}
 use Rattle.command_words.specs.Program.{program, read_of, IsForm}
-use Rattle.command_words.specs.Words.{HasSlots}
+use Rattle.command_words.specs.Words.{HasSlots, IsVerb}
 
 pub program_simple : is_simple program ≡ true
 unfolding clap_on_literals
 program_simple = refl
-
-takes_run : takes program (codes "run" ∷ []) ≡ true
-unfolding clap_on_literals
-takes_run = refl
-
-pub reads_run : read_of (subcommand_of program (codes "run" ∷ [])) ≡ Some (codes "run", None)
-unfolding clap_on_literals
-reads_run = refl
 
 -- ---- a number is one of nine digits and others behind it
 
 abbrev sample_words : List ℕ → List (List ℕ)
 sample_words number = codes "sample" ∷ number ∷ []
 
--- the option `--slots` of `run`: its number is the word behind it, or stands in the same word
-abbrev slots_words : List ℕ → List (List ℕ)
-slots_words number = codes "run" ∷ codes "--slots" ∷ number ∷ []
+-- the option `--slots`: its number is the word behind it, or stands in the same word
+abbrev slots_words : List ℕ → List ℕ → List (List ℕ)
+slots_words verb number = verb ∷ codes "--slots" ∷ number ∷ []
 
-abbrev joined_words : List ℕ → List (List ℕ)
-joined_words number = codes "run" ∷ (codes "--slots=" ++ number) ∷ []
+abbrev joined_words : List ℕ → List ℕ → List (List ℕ)
+joined_words verb number = verb ∷ (codes "--slots=" ++ number) ∷ []
 
 -- one of nine digits
 nine : (P : ℕ → Type 0) → P 49 → P 50 → P 51 → P 52 → P 53 → P 54 → P 55 → P 56 → P 57 → (d : ℕ) → 48 < d → d < 58 → P d
@@ -91,21 +83,86 @@ reads_sample_digits : (digits : List ℕ) (d : ℕ) → 48 < d → d < 58 → re
 unfolding clap_on_literals
 reads_sample_digits digits = nine (λ d. read_of (subcommand_of program (sample_words (d ∷ digits))) ≡ Some (codes "sample", Some (d ∷ digits))) refl refl refl refl refl refl refl refl refl
 
-takes_slots_digits : (digits : List ℕ) (d : ℕ) → 48 < d → d < 58 → takes program (slots_words (d ∷ digits)) ≡ true
-unfolding clap_on_literals
-takes_slots_digits digits = nine (λ d. takes program (slots_words (d ∷ digits)) ≡ true) refl refl refl refl refl refl refl refl refl
+-- what clap takes and reads of a verb that may name a number of slots
+record ReadsVerb (verb : List ℕ) : Type 0 where
+  takes_alone : takes program (verb ∷ []) ≡ true
+  reads_alone : read_of (subcommand_of program (verb ∷ [])) ≡ Some (verb, None)
+  takes_apart : (digits : List ℕ) (d : ℕ) → 48 < d → d < 58 → takes program (slots_words verb (d ∷ digits)) ≡ true
+  reads_apart : (digits : List ℕ) (d : ℕ) → 48 < d → d < 58 → read_of (subcommand_of program (slots_words verb (d ∷ digits))) ≡ Some (verb, Some (d ∷ digits))
+  takes_joined : (digits : List ℕ) (d : ℕ) → 48 < d → d < 58 → takes program (joined_words verb (d ∷ digits)) ≡ true
+  reads_joined : (digits : List ℕ) (d : ℕ) → 48 < d → d < 58 → read_of (subcommand_of program (joined_words verb (d ∷ digits))) ≡ Some (verb, Some (d ∷ digits))
 
-reads_slots_digits : (digits : List ℕ) (d : ℕ) → 48 < d → d < 58 → read_of (subcommand_of program (slots_words (d ∷ digits))) ≡ Some (codes "run", Some (d ∷ digits))
+run_takes_alone : takes program (codes "run" ∷ []) ≡ true
 unfolding clap_on_literals
-reads_slots_digits digits = nine (λ d. read_of (subcommand_of program (slots_words (d ∷ digits))) ≡ Some (codes "run", Some (d ∷ digits))) refl refl refl refl refl refl refl refl refl
+run_takes_alone = refl
 
-takes_joined_digits : (digits : List ℕ) (d : ℕ) → 48 < d → d < 58 → takes program (joined_words (d ∷ digits)) ≡ true
+run_reads_alone : read_of (subcommand_of program (codes "run" ∷ [])) ≡ Some (codes "run", None)
 unfolding clap_on_literals
-takes_joined_digits digits = nine (λ d. takes program (joined_words (d ∷ digits)) ≡ true) refl refl refl refl refl refl refl refl refl
+run_reads_alone = refl
 
-reads_joined_digits : (digits : List ℕ) (d : ℕ) → 48 < d → d < 58 → read_of (subcommand_of program (joined_words (d ∷ digits))) ≡ Some (codes "run", Some (d ∷ digits))
+run_takes_apart : (digits : List ℕ) (d : ℕ) → 48 < d → d < 58 → takes program (slots_words (codes "run") (d ∷ digits)) ≡ true
 unfolding clap_on_literals
-reads_joined_digits digits = nine (λ d. read_of (subcommand_of program (joined_words (d ∷ digits))) ≡ Some (codes "run", Some (d ∷ digits))) refl refl refl refl refl refl refl refl refl
+run_takes_apart digits = nine (λ d. takes program (slots_words (codes "run") (d ∷ digits)) ≡ true) refl refl refl refl refl refl refl refl refl
+
+run_reads_apart : (digits : List ℕ) (d : ℕ) → 48 < d → d < 58 → read_of (subcommand_of program (slots_words (codes "run") (d ∷ digits))) ≡ Some (codes "run", Some (d ∷ digits))
+unfolding clap_on_literals
+run_reads_apart digits =
+    nine (λ d. read_of (subcommand_of program (slots_words (codes "run") (d ∷ digits))) ≡ Some (codes "run", Some (d ∷ digits))) refl refl refl refl refl refl refl refl refl
+
+run_takes_joined : (digits : List ℕ) (d : ℕ) → 48 < d → d < 58 → takes program (joined_words (codes "run") (d ∷ digits)) ≡ true
+unfolding clap_on_literals
+run_takes_joined digits = nine (λ d. takes program (joined_words (codes "run") (d ∷ digits)) ≡ true) refl refl refl refl refl refl refl refl refl
+
+run_reads_joined : (digits : List ℕ) (d : ℕ) → 48 < d → d < 58 → read_of (subcommand_of program (joined_words (codes "run") (d ∷ digits))) ≡ Some (codes "run", Some (d ∷ digits))
+unfolding clap_on_literals
+run_reads_joined digits =
+    nine (λ d. read_of (subcommand_of program (joined_words (codes "run") (d ∷ digits))) ≡ Some (codes "run", Some (d ∷ digits))) refl refl refl refl refl refl refl refl refl
+
+run_reads : ReadsVerb (codes "run")
+run_reads = record {
+  takes_alone = run_takes_alone;
+  reads_alone = run_reads_alone;
+  takes_apart = run_takes_apart;
+  reads_apart = run_reads_apart;
+  takes_joined = run_takes_joined;
+  reads_joined = run_reads_joined;
+}
+
+check_takes_alone : takes program (codes "check" ∷ []) ≡ true
+unfolding clap_on_literals
+check_takes_alone = refl
+
+check_reads_alone : read_of (subcommand_of program (codes "check" ∷ [])) ≡ Some (codes "check", None)
+unfolding clap_on_literals
+check_reads_alone = refl
+
+check_takes_apart : (digits : List ℕ) (d : ℕ) → 48 < d → d < 58 → takes program (slots_words (codes "check") (d ∷ digits)) ≡ true
+unfolding clap_on_literals
+check_takes_apart digits = nine (λ d. takes program (slots_words (codes "check") (d ∷ digits)) ≡ true) refl refl refl refl refl refl refl refl refl
+
+check_reads_apart : (digits : List ℕ) (d : ℕ) → 48 < d → d < 58 → read_of (subcommand_of program (slots_words (codes "check") (d ∷ digits))) ≡ Some (codes "check", Some (d ∷ digits))
+unfolding clap_on_literals
+check_reads_apart digits =
+    nine (λ d. read_of (subcommand_of program (slots_words (codes "check") (d ∷ digits))) ≡ Some (codes "check", Some (d ∷ digits))) refl refl refl refl refl refl refl refl refl
+
+check_takes_joined : (digits : List ℕ) (d : ℕ) → 48 < d → d < 58 → takes program (joined_words (codes "check") (d ∷ digits)) ≡ true
+unfolding clap_on_literals
+check_takes_joined digits = nine (λ d. takes program (joined_words (codes "check") (d ∷ digits)) ≡ true) refl refl refl refl refl refl refl refl refl
+
+check_reads_joined : (digits : List ℕ) (d : ℕ) → 48 < d → d < 58 → read_of (subcommand_of program (joined_words (codes "check") (d ∷ digits))) ≡ Some (codes "check", Some (d ∷ digits))
+unfolding clap_on_literals
+check_reads_joined digits =
+    nine (λ d. read_of (subcommand_of program (joined_words (codes "check") (d ∷ digits))) ≡ Some (codes "check", Some (d ∷ digits))) refl refl refl refl refl refl refl refl refl
+
+check_reads : ReadsVerb (codes "check")
+check_reads = record {
+  takes_alone = check_takes_alone;
+  reads_alone = check_reads_alone;
+  takes_apart = check_takes_apart;
+  reads_apart = check_reads_apart;
+  takes_joined = check_takes_joined;
+  reads_joined = check_reads_joined;
+}
 
 numerals : IsNumeralModel (λ digits. all_ascii_digits digits ≡ true) (digits_value 10)
 numerals = numerals_by_value _ tells_all_ascii_digits
@@ -143,25 +200,26 @@ reads_decimal words word of_digits n some small =
     ap (λ (t : List ℕ). read_of (subcommand_of program (words t))) first.is ∙ of_digits first.digits first.d first.low first.high
     ∙ ap (λ (t : List ℕ). Some (word, Some t)) (sym first.is)
 
--- clap takes the words of each form
-takes_slots : (words : List (List ℕ)) (n : ℕ) → HasSlots (codes "run") words n → takes program words ≡ true
-takes_slots words n is = elim is.spelled [
-  | inl apart ↦ ap (takes program) apart ∙ takes_decimal slots_words takes_slots_digits n is.some (omega (arith, is.most))
-  | inr joined ↦ ap (takes program) joined ∙ takes_decimal joined_words takes_joined_digits n is.some (omega (arith, is.most))
+-- clap takes the words of each verb
+takes_verb : (verb : List ℕ) (words : List (List ℕ)) (slots : Option ℕ) → ReadsVerb verb → IsVerb verb words slots → takes program words ≡ true
+takes_verb verb words None reads is = ap (takes program) is ∙ reads.takes_alone
+takes_verb verb words (Some n) reads is = elim is.spelled [
+  | inl apart ↦ ap (takes program) apart ∙ takes_decimal (slots_words verb) reads.takes_apart n is.some (omega (arith, is.most))
+  | inr joined ↦ ap (takes program) joined ∙ takes_decimal (joined_words verb) reads.takes_joined n is.some (omega (arith, is.most))
 ]
 
 pub takes_form : (words : List (List ℕ)) (form : Form) → IsForm words form → takes program words ≡ true
-takes_form words (Run None) is = ap (takes program) is ∙ takes_run
-takes_form words (Run (Some n)) is = takes_slots words n is
+takes_form words (Run slots) is = takes_verb (codes "run") words slots run_reads is
+takes_form words (Check slots) is = takes_verb (codes "check") words slots check_reads is
 takes_form words (Sample n) is = ap (takes program) is.spelled ∙ takes_decimal sample_words takes_sample_digits n is.some (omega (arith, is.most))
 
 -- and reads them
-reads_slots : (words : List (List ℕ)) (n : ℕ) → HasSlots (codes "run") words n → read_of (subcommand_of program words) ≡ Some (codes "run", Some (decimal n))
-reads_slots words n is = elim is.spelled [
+reads_slots : (verb : List ℕ) (words : List (List ℕ)) (n : ℕ) → ReadsVerb verb → HasSlots verb words n → read_of (subcommand_of program words) ≡ Some (verb, Some (decimal n))
+reads_slots verb words n reads is = elim is.spelled [
   | inl apart ↦
-      ap (λ (ws : List (List ℕ)). read_of (subcommand_of program ws)) apart ∙ reads_decimal slots_words (codes "run") reads_slots_digits n is.some (omega (arith, is.most))
+      ap (λ (ws : List (List ℕ)). read_of (subcommand_of program ws)) apart ∙ reads_decimal (slots_words verb) verb reads.reads_apart n is.some (omega (arith, is.most))
   | inr joined ↦
-      ap (λ (ws : List (List ℕ)). read_of (subcommand_of program ws)) joined ∙ reads_decimal joined_words (codes "run") reads_joined_digits n is.some (omega (arith, is.most))
+      ap (λ (ws : List (List ℕ)). read_of (subcommand_of program ws)) joined ∙ reads_decimal (joined_words verb) verb reads.reads_joined n is.some (omega (arith, is.most))
 ]
 
 -- ---- from the matches to what is read
@@ -183,16 +241,25 @@ pub rows_read : (m : ArgMatches) (name : Text) (inner : List Row) (word : Text) 
 rows_read m name inner word number =
     sub_read (λ b. ((out-SubCommand (box_value b)).name.now, rows_of (found_of (out-SubCommand (box_value b)).matches))) (out-ArgMatches m).subcommand name inner word number
 
+-- what is answered of a verb, by whether a number of slots was read
+pub record AnswersVerb (verb : List ℕ) (form : Option ℕ → Form) (m : ArgMatches) (result : Option Form) : Type 0 where
+  pub alone : read_of (subcommand_rows_of m) ≡ Some (verb, None) → result ≡ Some (form None)
+  pub named : (n : ℕ) → read_of (subcommand_rows_of m) ≡ Some (verb, Some (decimal n)) → n ≤ 8192 → result ≡ Some (form (Some n))
+
+verb_read : (verb : List ℕ) (form : Option ℕ → Form) (words : List (List ℕ)) (m : ArgMatches) (result : Option Form) (slots : Option ℕ) → ReadsVerb verb
+    → subcommand_rows_of m ≡ subcommand_of program words → AnswersVerb verb form m result → IsVerb verb words slots → result ≡ Some (form slots)
+verb_read verb form words m result None reads rows answers is =
+    answers.alone (ap read_of rows ∙ ap (λ (ws : List (List ℕ)). read_of (subcommand_of program ws)) is ∙ reads.reads_alone)
+verb_read verb form words m result (Some n) reads rows answers is = answers.named n (ap read_of rows ∙ reads_slots verb words n reads is) is.most
+
 -- the form of the words is read
 pub form_read : (words : List (List ℕ)) (m : ArgMatches) (result : Option Form) (form : Form) → subcommand_rows_of m ≡ subcommand_of program words
-    → (read_of (subcommand_rows_of m) ≡ Some (codes "run", None) → result ≡ Some (Run None))
-    → ((n : ℕ) → read_of (subcommand_rows_of m) ≡ Some (codes "run", Some (decimal n)) → n ≤ 8192 → result ≡ Some (Run (Some n)))
+    → AnswersVerb (codes "run") Run m result → AnswersVerb (codes "check") Check m result
     → ((n : ℕ) → read_of (subcommand_rows_of m) ≡ Some (codes "sample", Some (decimal n)) → n ≤ 40000 → result ≡ Some (Sample n))
     → IsForm words form → result ≡ Some form
-form_read words m result (Run None) rows run slots sample is =
-    run (ap read_of rows ∙ ap (λ (ws : List (List ℕ)). read_of (subcommand_of program ws)) is ∙ reads_run)
-form_read words m result (Run (Some n)) rows run slots sample is = slots n (ap read_of rows ∙ reads_slots words n is) is.most
-form_read words m result (Sample n) rows run slots sample is =
+form_read words m result (Run slots) rows run check sample is = verb_read (codes "run") Run words m result slots run_reads rows run is
+form_read words m result (Check slots) rows run check sample is = verb_read (codes "check") Check words m result slots check_reads rows check is
+form_read words m result (Sample n) rows run check sample is =
     sample n
     (ap read_of rows ∙ ap (λ (ws : List (List ℕ)). read_of (subcommand_of program ws)) is.spelled
     ∙ reads_decimal sample_words (codes "sample") reads_sample_digits n is.some (omega (arith, is.most)))

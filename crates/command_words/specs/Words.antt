@@ -18,6 +18,10 @@ IsVerb verb words (Some n) = HasSlots verb words n
 abbrev pub IsRun : List (List ℕ) → Option ℕ → Type 0
 IsRun words slots = IsVerb (codes "run") words slots
 
+-- the word `check`, alone or with a number of node slots
+abbrev pub IsCheck : List (List ℕ) → Option ℕ → Type 0
+IsCheck words slots = IsVerb (codes "check") words slots
+
 -- the word `sample`, and behind it a number from 1 to 40,000 in decimal digits without a leading zero
 pub record IsSample (words : List (List ℕ)) (n : ℕ) : Type 0 where
   pub some : 0 < n
@@ -26,4 +30,4 @@ pub record IsSample (words : List (List ℕ)) (n : ℕ) : Type 0 where
 
 -- the words are a form of the program
 abbrev pub HasForm : List (List ℕ) → Type 0
-HasForm words = ((slots : Option ℕ) × IsRun words slots) ⊎ ((n : ℕ) × IsSample words n)
+HasForm words = ((slots : Option ℕ) × IsRun words slots) ⊎ (((slots : Option ℕ) × IsCheck words slots) ⊎ ((n : ℕ) × IsSample words n))

@@ -52,15 +52,17 @@ fn matches_of<'a>(alloc: Global, words: &'a [&'a str]) -> Result<Option<ArgMatch
     }
 }
 
-// The command, with `run` and `sample`.
+// The command, with `run`, `check` and `sample`.
 fn program<'a>(alloc: Global) -> Result<Command<'a>, AllocError>
     ensures { IfOk result (λ command. app_of command ≡ spec.program) }
 {
     let run = run_command(alloc)?;
+    let check = check_command(alloc)?;
     let sample = sample_command(alloc)?;
     Command::new(alloc, "bucketidx")
         .no_binary_name(true)
         .subcommand(run)?
+        .subcommand(check)?
         .subcommand(sample)
 }
 
@@ -70,6 +72,14 @@ fn run_command<'a>(alloc: Global) -> Result<Command<'a>, AllocError>
     ensures local { IfOk result (λ command. (out-Command command).has_globals ≡ false) }
 {
     Command::new(alloc, "run").arg(Arg::new(alloc, "number").long("slots"))
+}
+
+// `check`, whose number is the value of an option.
+fn check_command<'a>(alloc: Global) -> Result<Command<'a>, AllocError>
+    ensures app { IfOk result (λ command. app_of command ≡ spec.check_app) }
+    ensures local { IfOk result (λ command. (out-Command command).has_globals ≡ false) }
+{
+    Command::new(alloc, "check").arg(Arg::new(alloc, "number").long("slots"))
 }
 
 // `sample` with its number.
@@ -83,6 +93,8 @@ fn sample_command<'a>(alloc: Global) -> Result<Command<'a>, AllocError>
 fn form_in(matches: &ArgMatches) -> Option<Form>
     ensures run { read_of (subcommand_rows_of matches.now) ≡ Some (codes "run", None) → result ≡ Some (Form.Run None) }
     ensures slots { (n : ℕ) → read_of (subcommand_rows_of matches.now) ≡ Some (codes "run", Some (decimal n)) → n ≤ most_slots → result ≡ Some (Form.Run (Some n)) }
+    ensures check { read_of (subcommand_rows_of matches.now) ≡ Some (codes "check", None) → result ≡ Some (Form.Check None) }
+    ensures check_slots { (n : ℕ) → read_of (subcommand_rows_of matches.now) ≡ Some (codes "check", Some (decimal n)) → n ≤ most_slots → result ≡ Some (Form.Check (Some n)) }
     ensures sample { (n : ℕ) → read_of (subcommand_rows_of matches.now) ≡ Some (codes "sample", Some (decimal n)) → n ≤ most_asked → result ≡ Some (Form.Sample n) }
 {
     match matches.subcommand() {
@@ -94,24 +106,30 @@ fn form_in(matches: &ArgMatches) -> Option<Form>
 fn form_named(name: &str, number: Option<&str>) -> Option<Form>
     ensures run { name.now ≡ codes "run" → option_map (λ s. s.now) number.entry ≡ None → result ≡ Some (Form.Run None) }
     ensures slots { (n : ℕ) → name.now ≡ codes "run" → option_map (λ s. s.now) number.entry ≡ Some (decimal n) → n ≤ most_slots → result ≡ Some (Form.Run (Some n)) }
+    ensures check { name.now ≡ codes "check" → option_map (λ s. s.now) number.entry ≡ None → result ≡ Some (Form.Check None) }
+    ensures check_slots { (n : ℕ) → name.now ≡ codes "check" → option_map (λ s. s.now) number.entry ≡ Some (decimal n) → n ≤ most_slots → result ≡ Some (Form.Check (Some n)) }
     ensures sample { (n : ℕ) → name.now ≡ codes "sample" → option_map (λ s. s.now) number.entry ≡ Some (decimal n) → n ≤ most_asked → result ≡ Some (Form.Sample n) }
 {
     match name {
-        "run" => run_of(number),
+        "run" => Some(Form::Run {
+            slots: slots_in(number)?,
+        }),
+        "check" => Some(Form::Check {
+            slots: slots_in(number)?,
+        }),
         "sample" => Some(Form::Sample(number_of(number?)?)),
         _ => None,
     }
 }
 
-fn run_of(number: Option<&str>) -> Option<Form>
-    ensures run { option_map (λ s. s.now) number.entry ≡ None → result ≡ Some (Form.Run None) }
-    ensures slots { (n : ℕ) → option_map (λ s. s.now) number.entry ≡ Some (decimal n) → n ≤ most_slots → result ≡ Some (Form.Run (Some n)) }
+// The number of slots, where one is named. None where it is no number.
+fn slots_in(number: Option<&str>) -> Option<Option<u32>>
+    ensures unnamed { option_map (λ s. s.now) number.entry ≡ None → result ≡ Some None }
+    ensures named { (n : ℕ) → option_map (λ s. s.now) number.entry ≡ Some (decimal n) → n ≤ most_slots → result ≡ Some (Some n) }
 {
     match number {
-        None => Some(Form::Run { slots: None }),
-        Some(text) => Some(Form::Run {
-            slots: Some(number_of(text)?),
-        }),
+        None => Some(None),
+        Some(text) => Some(Some(number_of(text)?)),
     }
 }
 

@@ -11,7 +11,7 @@ use std::alloc::Global;
 /// The most requests of each client that `sample` may be asked for.
 const MOST_ASKED: u32 = 40_000;
 
-/// The most node slots that `run` may be asked to give each client.
+/// The most node slots that `run` or `check` may be asked to give each client.
 const MOST_SLOTS: u32 = 8192;
 
 /// Whether the words are just as the form is written.
@@ -20,6 +20,7 @@ pub(crate) fn is_spelled(alloc: Global, words: &[Text], form: Form) -> Result<bo
 {
     match form {
         Form::Run { slots } => is_verb(alloc, words, b"run", slots),
+        Form::Check { slots } => is_verb(alloc, words, b"check", slots),
         Form::Sample(n) => is_sample(alloc, words, n),
     }
 }

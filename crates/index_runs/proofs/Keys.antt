@@ -13,7 +13,7 @@ every_key : (index : Home) (left : List Worked) → ((i : ℕ) (d : Worked) → 
 every_key index [] each = tt
 every_key index (w ∷ left) each = (each 0 w (omega arith), every_key index left (λ i d lt. each (suc i) d (omega arith)))
 
-same_numbers : (keys : List Pass) (left : List Worked) → length left ≡ length keys
+pub same_numbers : (keys : List Pass) (left : List Worked) → length left ≡ length keys
     → ((i : ℕ) (k : Pass) (d : Worked) → i < length keys → number_of (key_of (get_or left i d)) ≡ number_of (get_or keys i k))
     → map number_of (map key_of left) ≡ map number_of keys
 same_numbers [] [] long each = refl

@@ -6,6 +6,7 @@ use Rattle.table_steps.specs.Closes.{number_of}
 use Rattle.table_steps.specs.Passes.{Pass}
 use Rattle.shared_index.specs.Keys.{IsKeyOf}
 use Rattle.index_runs.specs.declared.run.Worked.{Worked}
+use Rattle.index_runs.specs.Sections.{IsBack}
 
 -- the key of the pass
 abbrev pub key_of : Worked → Pass
@@ -21,3 +22,8 @@ pub record LaidDown (index : Home) (keys : List Pass) (left : List Worked) : Typ
   pub one_each : length left ≡ length keys
   pub each : (i : ℕ) (k : Pass) (d : Worked) → i < length keys
       → IsKeyOf index (key_of (slice_index_or left i d)) × (number_of (key_of (slice_index_or left i d)) ≡ number_of (slice_index_or keys i k))
+
+-- each pass of the table was laid down with the number that it had
+pub record AllBack (table : Home) (keys : List Pass) (left : List Worked) : Type 0 where
+  pub one_each : length left ≡ length keys
+  pub each : (i : ℕ) (k : Pass) (d : Worked) → i < length keys → IsBack table (slice_index_or keys i k) (key_of (slice_index_or left i d))

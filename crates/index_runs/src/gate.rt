@@ -1,4 +1,4 @@
-// A gate between threads: a number that rises, and for which others wait.
+// Gates between threads: numbers that rise, and for which others wait.
 use std::sync::atomic::{AtomicU64, Ordering};
 use std::thread::yield_now;
 
@@ -22,14 +22,50 @@ impl Gate {
         self.raised.fetch_add(1, Ordering::SeqCst);
     }
 
+    /// The number.
+    pub(crate) fn raised(&self) -> u64 {
+        self.raised.load(Ordering::SeqCst)
+    }
+
     /// Waits until the number was raised so often. Whether it was: there is a bound on turns.
     pub(crate) fn wait_for(&self, number: u64) -> bool {
         for _ in 0..TURNS {
-            if self.raised.load(Ordering::SeqCst) >= number {
+            if self.raised() >= number {
                 return true;
             }
             yield_now();
         }
         false
+    }
+}
+
+/// What the passes of a run tell each other.
+#[derive(Drop)]
+pub(crate) struct Gates {
+    /// Raised by a reader for each of its snapshots: by one that is held once it is open, by all others before that.
+    pub(crate) come: Gate,
+    /// Raised by a reader that has closed its snapshot.
+    pub(crate) gone: Gate,
+    /// Raised by each writer that has made its requests.
+    pub(crate) done: Gate,
+    /// Raised by each reader that comes no more, and by each writer that has made its last updates.
+    pub(crate) ended: Gate,
+}
+
+impl Gates {
+    pub(crate) fn new() -> Gates {
+        Gates {
+            come: Gate::new(),
+            gone: Gate::new(),
+            done: Gate::new(),
+            ended: Gate::new(),
+        }
+    }
+}
+
+/// Lets other threads run, so often.
+pub(crate) fn stay(turns: u32) {
+    for _ in 0..turns {
+        yield_now();
     }
 }

@@ -1,13 +1,52 @@
 // What is printed of a run, a line each.
+use crate::plan::Asked;
+use crate::run::Ran;
+use crate::sections::Sectioned;
 use crate::turns::Found;
 use crate::work::Event;
 use index_words::{Change, Update};
-use key_map::New;
+use key_map::Done;
 use shared_index::Settling;
 use std::fmt::Write;
 use std::io;
 
-pub(crate) fn print_events(rt: &HostRuntime, number: usize, events: &[Event]) -> io::Result<()> {
+/// What a run came to.
+#[derive(Drop)]
+pub(crate) enum Outcome {
+    Ran(Ran),
+    /// A run of which nothing is printed.
+    Timed,
+    Sectioned(Sectioned),
+    /// What each pass has found or done while another one had stopped.
+    Waited(Vec<Option<u64>>),
+}
+
+/// Prints a run.
+pub(crate) fn print_outcome(rt: &HostRuntime, outcome: &Outcome) -> io::Result<()> {
+    match outcome {
+        Outcome::Ran(ran) => {
+            for (number, events) in ran.events.iter().enumerate() {
+                print_events(rt, number, events.as_slice())?;
+            }
+            print_history(rt, ran.history.as_slice())
+        }
+        Outcome::Timed => println!(rt; "made"),
+        Outcome::Sectioned(ended) => {
+            for (number, found) in ended.found.iter().enumerate() {
+                print_found(rt, number, found)?;
+            }
+            print_history(rt, ended.history.as_slice())
+        }
+        Outcome::Waited(answers) => {
+            for (number, answer) in answers.iter().enumerate() {
+                println!(rt; "W {number} {}", answer.unwrap_or(0))?;
+            }
+            Ok(())
+        }
+    }
+}
+
+fn print_events(rt: &HostRuntime, number: usize, events: &[Event]) -> io::Result<()> {
     for event in events {
         print_event(rt, number, event)?;
     }
@@ -16,28 +55,8 @@ pub(crate) fn print_events(rt: &HostRuntime, number: usize, events: &[Event]) ->
 
 fn print_event(rt: &HostRuntime, number: usize, event: &Event) -> io::Result<()> {
     match event {
-        Event::Put {
-            line,
-            key,
-            val,
-            done,
-        } => println!(rt; "P {number} {line} {} {key} {val} {}", done.at, done.was),
-        Event::Inserted {
-            line,
-            key,
-            val,
-            answer: New::Made { at },
-        } => println!(rt; "I {number} {line} {at} {key} {val} true"),
-        Event::Inserted {
-            line,
-            key,
-            val,
-            answer: New::Kept { at },
-        } => println!(rt; "I {number} {line} {at} {key} {val} false"),
-        Event::Removed { line, key, done } => {
-            println!(rt; "R {number} {line} {} {key} {}", done.at, done.was)
-        }
-        Event::Refused { line } => println!(rt; "N {number} {line}"),
+        Event::Answered { line, asked, done } => print_answer(rt, number, *line, *asked, *done),
+        Event::Refused { line, gone, come } => println!(rt; "N {number} {line} {gone} {come}"),
         Event::Listed {
             at,
             from,
@@ -55,10 +74,29 @@ fn print_event(rt: &HostRuntime, number: usize, event: &Event) -> io::Result<()>
             println!(rt; "T {number} held {seat} {word}")
         }
         Event::Met(met) => println!(rt; "C {number} {} {} {}", met.busy, met.moved, met.pending),
+        Event::Free { nodes, entries } => {
+            println!(rt; "F {number} node{}", listed(rt, nodes.as_slice())?)?;
+            println!(rt; "F {number} entry{}", listed(rt, entries.as_slice())?)
+        }
     }
 }
 
-pub(crate) fn print_history(rt: &HostRuntime, history: &[Update]) -> io::Result<()> {
+fn print_answer(
+    rt: &HostRuntime,
+    number: usize,
+    line: u32,
+    asked: Asked,
+    done: Done,
+) -> io::Result<()> {
+    let Done { at, was } = done;
+    match asked {
+        Asked::Put { key, val } => println!(rt; "P {number} {line} {at} {key} {val} {was}"),
+        Asked::PutNew { key, val } => println!(rt; "I {number} {line} {at} {key} {val} {was}"),
+        Asked::Remove { key } => println!(rt; "R {number} {line} {at} {key} {was}"),
+    }
+}
+
+fn print_history(rt: &HostRuntime, history: &[Update]) -> io::Result<()> {
     for (place, update) in history.iter().enumerate() {
         let place = place.saturating_add(1);
         match update.change {
@@ -75,9 +113,18 @@ pub(crate) fn print_history(rt: &HostRuntime, history: &[Update]) -> io::Result<
     Ok(())
 }
 
+/// The numbers of slots, each behind a space.
+fn listed(rt: &HostRuntime, slots: &[u32]) -> Result<String, std::fmt::Error> {
+    let mut text = String::new(rt.alloc());
+    for slot in slots {
+        write!(text, " {slot}")?;
+    }
+    Ok(text)
+}
+
 /// What a pass over the table has found: its meetings, its looks and those that found a word fallen, and of each pass the
 /// first and the last word.
-pub(crate) fn print_found(rt: &HostRuntime, number: usize, found: &Found) -> io::Result<()> {
+fn print_found(rt: &HostRuntime, number: usize, found: &Found) -> io::Result<()> {
     print!(rt;
         "S {number} {} {} {}",
         found.meetings, found.looks, found.falls

@@ -4,23 +4,17 @@ ghost use Rattle.table_steps.specs.Closes.{number_of};
 ghost use Rattle.shared_index.specs.Keys.{AreAllKeys, IsKeyOf};
 ghost use Rattle.index_runs.specs.Runs.{LaidDown, key_of};
 
-use crate::gate::Gate;
+use crate::gate::Gates;
 use crate::held::work_or_be_held;
+use crate::plan::{Run, Task};
 use crate::tries::try_puts;
-use crate::work::{Event, Plan, Task, work};
-use index_words::{PassSize, Update};
+use crate::visits::work_or_visit;
+use crate::work::{Event, work};
+use index_words::Update;
 use shared_index::{OpenError, PassKey, SharedIndex};
 use std::alloc::{AllocError, Global};
 use std::sync::Wait;
 use std::thread::{Threads, map_vec};
-
-/// What the passes are to do, and the slots of each.
-#[derive(Clone, Copy, Drop)]
-pub(crate) struct Run {
-    pub(crate) plan: Plan,
-    pub(crate) nodes: u32,
-    pub(crate) entries: u32,
-}
 
 /// What a run came to: what each pass was answered, and the history.
 #[derive(Drop)]
@@ -46,29 +40,15 @@ impl From<AllocError> for Stopped {
 /// What a pass leaves: its key, and what it was answered.
 #[derive(Drop)]
 pub(crate) struct Worked {
-    key: PassKey,
-    events: Result<Vec<Event>, AllocError>,
-}
-
-/// The size of each pass.
-fn sizes_of(alloc: Global, run: &Run) -> Result<Vec<PassSize>, AllocError> {
-    let mut sizes = Vec::new(alloc);
-    let calls = run.plan.requests.saturating_add(run.plan.meanwhile);
-    for _ in 0..run.plan.passes {
-        sizes.push(PassSize {
-            nodes: run.nodes,
-            entries: run.entries,
-            calls,
-        })?;
-    }
-    Ok(sizes)
+    pub(crate) key: PassKey,
+    pub(crate) events: Result<Vec<Event>, AllocError>,
 }
 
 /// Opens an index, with its keys.
 fn opened(alloc: Global, run: &Run) -> Result<(SharedIndex, Vec<PassKey>), Stopped>
     ensures all { IfOk result (λ o. AreAllKeys o.0 o.1.items) }
 {
-    let sizes = sizes_of(alloc, run)?;
+    let sizes = run.sizes(alloc)?;
     match SharedIndex::open(alloc, sizes.as_slice()) {
         Ok(opened) => Ok(opened),
         Err(OpenError::BadSizes) => Err(Stopped::BadSizes),
@@ -82,18 +62,19 @@ fn work_on<R: Wait>(
     alloc: Global,
     index: &SharedIndex,
     key: PassKey,
-    plan: &Plan,
-    gate: &Gate,
+    run: &Run,
+    gates: &Gates,
 ) -> Worked
     requires of { IsKeyOf index.now key }
     ensures of { IsKeyOf index.now result.key }
     ensures number { number_of result.key ≡ number_of key }
 {
     let mut pass = index.attach(key);
-    let events = match plan.task {
-        Task::Requests => work(rt, alloc, &mut pass, plan),
-        Task::Held => work_or_be_held(rt, alloc, &mut pass, plan, gate),
-        Task::Tries => try_puts(alloc, &mut pass, plan),
+    let events = match run.task {
+        Task::Held | Task::HeldPuts => work_or_be_held(rt, alloc, &mut pass, run, gates),
+        Task::Visits => work_or_visit(rt, alloc, &mut pass, run, gates),
+        Task::Tries => try_puts(alloc, &mut pass, run),
+        _ => work(rt, alloc, &mut pass, run, gates),
     };
     Worked {
         key: pass.detach(),
@@ -107,21 +88,21 @@ fn work_on_each<R: Threads + Wait + Sync>(
     alloc: Global,
     index: &SharedIndex,
     keys: Vec<PassKey>,
-    plan: &Plan,
+    run: &Run,
 ) -> Result<Vec<Worked>, AllocError>
     requires all { AreAllKeys index.now keys.items }
     ensures laid { IfOk result (λ left. LaidDown index.now keys.items left.items) }
 {
-    let gate = Gate::new();
-    let run = |key: PassKey| -> Worked
+    let gates = Gates::new();
+    let work = |key: PassKey| -> Worked
         requires { IsKeyOf index.now key }
         ensures { IsKeyOf index.entry.now result.key × (number_of result.key ≡ number_of key) }
-    { work_on(rt, alloc, index, key, plan, &gate) };
-    map_vec(rt, keys, &run)
+    { work_on(rt, alloc, index, key, run, &gates) };
+    map_vec(rt, keys, &work)
 }
 
 /// What the passes leave, kept apart: their keys in one list, what they were answered in another.
-fn take_apart(
+pub(crate) fn take_apart(
     alloc: Global,
     mut left: Vec<Worked>,
 ) -> Result<(Vec<PassKey>, Vec<Vec<Event>>), AllocError>
@@ -146,12 +127,12 @@ fn work_all<R: Threads + Wait + Sync>(
     alloc: Global,
     index: &SharedIndex,
     keys: Vec<PassKey>,
-    plan: &Plan,
+    run: &Run,
 ) -> Result<(Vec<PassKey>, Vec<Vec<Event>>), AllocError>
     requires all { AreAllKeys index.now keys.items }
     ensures all { IfOk result (λ p. AreAllKeys index.now p.0.items) }
 {
-    let left = work_on_each(rt, alloc, index, keys, plan)?;
+    let left = work_on_each(rt, alloc, index, keys, run)?;
     let (back, events) = take_apart(alloc, left)?;
     Ok((back, events))
 }
@@ -163,7 +144,7 @@ pub(crate) fn make_run<R: Threads + Wait + Sync>(
     run: &Run,
 ) -> Result<Ran, Stopped> {
     let (index, keys) = opened(alloc, run)?;
-    let (keys, events) = work_all(rt, alloc, &index, keys, &run.plan)?;
+    let (keys, events) = work_all(rt, alloc, &index, keys, run)?;
     match index.finish(alloc, keys) {
         Ok(history) => Ok(Ran { events, history }),
         Err(_) => Err(Stopped::NoMemory),

@@ -8,6 +8,7 @@ ghost use Rattle.table_steps.specs.Passes.{IsPassOf};
 ghost use Rattle.index_runs.specs.Sections.{AreBack, AreOf, IsBack, keys_of};
 
 use crate::gate::Gate;
+use crate::run::Stopped;
 use crate::turns::{Found, Seat, Work, hear_and_work, look_around, work_and_tell};
 use index_words::{Layout, PassSize, Update};
 use std::alloc::Global;
@@ -30,14 +31,6 @@ pub(crate) struct Four {
     pub(crate) b: Seat,
     pub(crate) c: Seat,
     pub(crate) d: Seat,
-}
-
-/// Why a run did not come to its end.
-#[derive(Clone, Copy, Debug)]
-pub(crate) enum Stopped {
-    /// No table takes these sizes.
-    BadSizes,
-    NoMemory,
 }
 
 /// What a run came to.

@@ -4,8 +4,8 @@ ghost use Rattle.shared_index.specs.Keys.{home_of_pass};
 ghost use Rattle.shared_index.specs.Shown.{shown};
 ghost use Rattle.index_runs.specs.Runs.{GoesOn};
 
-use crate::random::Random;
-use crate::work::{Event, Plan};
+use crate::plan::{Asked, Run};
+use crate::work::Event;
 use bucket_terms::KeyPass;
 use key_map::PassError;
 use shared_index::{IndexPass, Try};
@@ -31,11 +31,11 @@ impl Met {
     }
 }
 
-/// Tries as many puts as the plan has requests. Answers those that were made, and what the others have met.
+/// Tries as many puts as the run has requests. Answers those that were made, and what the others have met.
 pub(crate) fn try_puts(
     alloc: Global,
     pass: &mut IndexPass<'_>,
-    plan: &Plan,
+    run: &Run,
 ) -> Result<Vec<Event>, AllocError>
     requires closed { (shown pass.old).opened ≡ None }
     ensures goes { GoesOn (shown pass.old) (shown pass.new) }
@@ -43,15 +43,14 @@ pub(crate) fn try_puts(
 {
     let mut events = Vec::new(alloc);
     let mut met = Met::default();
-    let mut random = Random::of(plan.seed.wrapping_add(u64::from(pass.client())));
-    'tries: for line in 1..=plan.requests {
-        let key = random.below(plan.keys);
+    let mut random = run.random(pass.client());
+    'tries: for line in 1..=run.requests {
+        let key = random.below(u64::from(run.keys));
         let val = random.below(1_000_000);
         match try_put(pass, line, key, val) {
-            Ok(Try::Done(done)) => events.push(Event::Put {
+            Ok(Try::Done(done)) => events.push(Event::Answered {
                 line,
-                key,
-                val,
+                asked: Asked::Put { key, val },
                 done,
             })?,
             Ok(tried) => met.count(tried),

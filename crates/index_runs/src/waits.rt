@@ -8,7 +8,7 @@ ghost use Rattle.table_steps.specs.Passes.{AtRest, IsPassOf};
 ghost use Rattle.tree_update.specs.Trying.{OffersSlots};
 
 use crate::gate::Gate;
-use crate::sections::Stopped;
+use crate::run::Stopped;
 use core_updates::{Plan, PlanSlots};
 use index_words::{Change, Layout, PassSize};
 use snapshot_read::{begin, end, next_from};

@@ -2,73 +2,32 @@
 ghost use Rattle.std.specs.Prelude.{◌≡◌, IsSome, None};
 ghost use Rattle.index_runs.specs.Runs.{GoesOn};
 
+use crate::gate::Gates;
+use crate::plan::{Asked, Run, Task};
 use crate::random::Random;
 use crate::tries::Met;
 use bucket_terms::KeyPass;
 use index_words::Pair;
-use key_map::{Done, New};
+use key_map::{Done, New, PassError};
 use shared_index::Settling;
 use std::alloc::{AllocError, Global};
 use std::sync::Wait;
 
-/// What each pass is to do.
-#[derive(Clone, Copy, Drop)]
-pub(crate) struct Plan {
-    /// So many requests, with lines from 1 on.
-    pub(crate) requests: u32,
-    /// Keys are below this number.
-    pub(crate) keys: u64,
-    /// Of a hundred requests so many are updates, two puts for each removal. One of these two is of a new key alone.
-    pub(crate) updates: u64,
-    /// Of a hundred requests so many are listings; all others look for one key.
-    pub(crate) listings: u64,
-    /// A listing has at most so many pairs.
-    pub(crate) page: usize,
-    pub(crate) seed: u64,
-    /// Whether the answers are kept.
-    pub(crate) keeps: bool,
-    pub(crate) task: Task,
-    /// How many passes there are.
-    pub(crate) passes: u32,
-    /// So many updates are made while other passes are held.
-    pub(crate) meanwhile: u32,
-}
-
-/// What the passes do with their plan.
-#[derive(Clone, Copy, Drop)]
-pub(crate) enum Task {
-    /// All make their requests.
-    Requests,
-    /// One makes its requests, and then updates while the others are held inside a snapshot.
-    Held,
-    /// Each request is a single try of a put.
-    Tries,
-}
-
 /// A request of a pass, with its answer.
 #[derive(Drop)]
 pub(crate) enum Event {
-    Put {
+    /// An update was answered. A put of a new key is not made where the key was there, and a removal where it was not.
+    Answered {
         line: u32,
-        key: u64,
-        val: u64,
+        asked: Asked,
         done: Done,
     },
-    /// A put that is made only where the key is not there.
-    Inserted {
-        line: u32,
-        key: u64,
-        val: u64,
-        answer: New,
-    },
-    Removed {
-        line: u32,
-        key: u64,
-        done: Done,
-    },
-    /// There was no slot for an update, or no call was left.
+    /// There was no slot for an update, or no call was left. Of the visits of readers so many had ended before it, and
+    /// so many had begun until it was refused: where these are as many, nobody read at any time of the call.
     Refused {
         line: u32,
+        gone: u64,
+        come: u64,
     },
     /// The first pairs of the map at a place, from a key on, so many at most.
     Listed {
@@ -81,75 +40,137 @@ pub(crate) enum Event {
     Tried(Settling),
     /// What the tries that were not made have met.
     Met(Met),
+    /// The free slots of the pass.
+    Free {
+        nodes: Vec<u32>,
+        entries: Vec<u32>,
+    },
 }
 
-/// Makes all requests of a plan, and answers what they were answered, as far as that is kept.
+impl Event {
+    /// What an update was answered before which so many visits had ended.
+    pub(crate) fn of(
+        line: u32,
+        asked: Asked,
+        answer: Result<Done, PassError>,
+        gone: u64,
+        gates: &Gates,
+    ) -> Event {
+        match answer {
+            Ok(done) => Event::Answered { line, asked, done },
+            Err(_) => Event::Refused {
+                line,
+                gone,
+                come: gates.come.raised(),
+            },
+        }
+    }
+
+    /// A listing of the whole map.
+    pub(crate) fn of_all(at: u64, page: usize, pairs: Vec<Pair>) -> Event {
+        Event::Listed {
+            at,
+            from: 0,
+            page,
+            pairs,
+        }
+    }
+}
+
+/// The place of a put of a new key, and whether the key was there.
+pub(crate) fn done_of(new: New) -> Done {
+    match new {
+        New::Made { at } => Done { at, was: false },
+        New::Kept { at } => Done { at, was: true },
+    }
+}
+
+/// Makes all requests of a run, and answers what they were answered, as far as that is kept.
 pub(crate) fn work<P: KeyPass, R: Wait>(
     rt: &R,
     alloc: Global,
     pass: &mut P,
-    plan: &Plan,
+    run: &Run,
+    gates: &Gates,
 ) -> Result<Vec<Event>, AllocError>
     requires closed { (P.view pass.old).opened ≡ None }
     ensures goes { GoesOn (P.view pass.old) (P.view pass.new) }
     ensures home { P.home pass.new ≡ P.home pass.old }
 {
     let mut events = Vec::new(alloc);
-    let mut random = Random::of(plan.seed.wrapping_add(u64::from(pass.client())));
-    for line in 1..=plan.requests {
-        let kind = random.below(100);
-        let event = if kind < plan.updates {
-            update(rt, pass, plan, &mut random, line)
-        } else if kind - plan.updates < plan.listings {
-            listing(rt, alloc, pass, random.below(plan.keys), plan.page)?
-        } else {
-            listing(rt, alloc, pass, random.below(plan.keys), 1)?
-        };
-        if plan.keeps {
+    let mut random = run.random(pass.client());
+    for line in 1..=run.requests {
+        let event = request(rt, alloc, pass, run, gates, &mut random, line)?;
+        if !matches!(run.task, Task::Timed) {
             events.push(event)?;
         }
     }
     Ok(events)
 }
 
+/// A random request.
+fn request<P: KeyPass, R: Wait>(
+    rt: &R,
+    alloc: Global,
+    pass: &mut P,
+    run: &Run,
+    gates: &Gates,
+    random: &mut Random,
+    line: u32,
+) -> Result<Event, AllocError>
+    requires closed { (P.view pass.old).opened ≡ None }
+    ensures goes { GoesOn (P.view pass.old) (P.view pass.new) }
+    ensures home { P.home pass.new ≡ P.home pass.old }
+{
+    let kind = random.below(100);
+    let (updates, listings) = (u64::from(run.updates), u64::from(run.listings));
+    if kind < updates {
+        let asked = run.asked(pass.client(), line, random);
+        return Ok(update(rt, pass, asked, line, gates));
+    }
+    let page = if kind - updates < listings {
+        run.page
+    } else {
+        1
+    };
+    let from = random.below(u64::from(run.keys));
+    listing(rt, alloc, pass, from, page as usize)
+}
+
+/// Makes an update.
 pub(crate) fn update<P: KeyPass, R: Wait>(
     rt: &R,
     pass: &mut P,
-    plan: &Plan,
-    random: &mut Random,
+    asked: Asked,
     line: u32,
+    gates: &Gates,
 ) -> Event
     requires closed { (P.view pass.old).opened ≡ None }
     ensures goes { GoesOn (P.view pass.old) (P.view pass.new) }
     ensures home { P.home pass.new ≡ P.home pass.old }
 {
-    let key = random.below(plan.keys);
-    if random.below(3) == 0 {
-        return match pass.remove(rt, line, key) {
-            Ok(done) => Event::Removed { line, key, done },
-            Err(_) => Event::Refused { line },
-        };
-    }
-    let val = random.below(1_000_000);
-    if random.below(2) == 0 {
-        return match pass.put_new(rt, line, key, val) {
-            Ok(answer) => Event::Inserted {
-                line,
-                key,
-                val,
-                answer,
-            },
-            Err(_) => Event::Refused { line },
-        };
-    }
-    match pass.put(rt, line, key, val) {
-        Ok(done) => Event::Put {
-            line,
-            key,
-            val,
-            done,
+    let gone = gates.gone.raised();
+    let answer = answer(rt, pass, asked, line);
+    Event::of(line, asked, answer, gone, gates)
+}
+
+fn answer<P: KeyPass, R: Wait>(
+    rt: &R,
+    pass: &mut P,
+    asked: Asked,
+    line: u32,
+) -> Result<Done, PassError>
+    requires closed { (P.view pass.old).opened ≡ None }
+    ensures goes { GoesOn (P.view pass.old) (P.view pass.new) }
+    ensures home { P.home pass.new ≡ P.home pass.old }
+{
+    match asked {
+        Asked::Put { key, val } => pass.put(rt, line, key, val),
+        Asked::PutNew { key, val } => match pass.put_new(rt, line, key, val) {
+            Ok(new) => Ok(done_of(new)),
+            Err(error) => Err(error),
         },
-        Err(_) => Event::Refused { line },
+        Asked::Remove { key } => pass.remove(rt, line, key),
     }
 }
 

@@ -10,6 +10,7 @@ pub mod CountedLines
 pub mod LineCounts
 pub mod Interned
 pub mod InputLaws
+pub mod CheckInputs
 pub mod Rising
 pub mod Sound
 pub mod PieceLaws

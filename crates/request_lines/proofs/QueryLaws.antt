@@ -146,6 +146,7 @@ holds_more version seen p ps causes.NoClient = refl
 holds_more version seen p ps causes.TooManyClients = refl
 holds_more version seen p ps causes.TooManyLines = refl
 holds_more version seen p ps causes.TooManyEntries = refl
+holds_more version seen p ps causes.NoText = refl
 
 holds_none : (version : Version) (seen : List Name) (c : Cause) → holds_behind version seen [] c ≡ false
 holds_none version seen causes.NotUtf8 = refl
@@ -167,6 +168,7 @@ holds_none version seen causes.NoClient = refl
 holds_none version seen causes.TooManyClients = refl
 holds_none version seen causes.TooManyLines = refl
 holds_none version seen causes.TooManyEntries = refl
+holds_none version seen causes.NoText = refl
 
 turned : (b : Bool) (cause : Cause) → (if b then None else Some cause) ≡ (if not b then Some cause else None)
 turned true cause = refl
@@ -338,6 +340,7 @@ have_is version ps causes.NoClient = refl
 have_is version ps causes.TooManyClients = refl
 have_is version ps causes.TooManyLines = refl
 have_is version ps causes.TooManyEntries = refl
+have_is version ps causes.NoText = refl
 
 -- ---- where no name stands twice
 

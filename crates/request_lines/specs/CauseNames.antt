@@ -2,7 +2,7 @@
 -- The names of the causes, as standard error has them.
 use Rattle.std.specs.Prelude.{ℕ, List, codes}
 use Rattle.request_lines.specs.declared.cause.Cause.{Cause}
-use Rattle.request_lines.specs.declared.cause.Cause.TheVariants.{NotUtf8, UnknownVerb, WrongFields, BadEscape, EmptyKey, KeyTooLong, BadNumber, NumberTooLarge, BadEtag, UnknownParameter, RepeatedParameter, BadListType, BadMaxKeys, BadEncoding, BadFetchOwner, NoClient, TooManyClients, TooManyLines, TooManyEntries}
+use Rattle.request_lines.specs.declared.cause.Cause.TheVariants.{NotUtf8, UnknownVerb, WrongFields, BadEscape, EmptyKey, KeyTooLong, BadNumber, NumberTooLarge, BadEtag, UnknownParameter, RepeatedParameter, BadListType, BadMaxKeys, BadEncoding, BadFetchOwner, NoClient, TooManyClients, TooManyLines, TooManyEntries, NoText}
 
 abbrev pub cause_name : Cause → List ℕ
 cause_name NotUtf8 = codes "NotUtf8"
@@ -24,3 +24,4 @@ cause_name NoClient = codes "NoClient"
 cause_name TooManyClients = codes "TooManyClients"
 cause_name TooManyLines = codes "TooManyLines"
 cause_name TooManyEntries = codes "TooManyEntries"
+cause_name NoText = codes "NoText"

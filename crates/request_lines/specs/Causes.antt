@@ -2,7 +2,7 @@
 -- The order of the causes.
 use Rattle.std.specs.Prelude.{ℕ, nat_le, Option, Some, None, if◌then◌else◌}
 use Rattle.request_lines.specs.declared.cause.Cause.{Cause}
-use Rattle.request_lines.specs.declared.cause.Cause.TheVariants.{NotUtf8, UnknownVerb, WrongFields, BadEscape, EmptyKey, KeyTooLong, BadNumber, NumberTooLarge, BadEtag, UnknownParameter, RepeatedParameter, BadListType, BadMaxKeys, BadEncoding, BadFetchOwner, NoClient, TooManyClients, TooManyLines, TooManyEntries}
+use Rattle.request_lines.specs.declared.cause.Cause.TheVariants.{NotUtf8, UnknownVerb, WrongFields, BadEscape, EmptyKey, KeyTooLong, BadNumber, NumberTooLarge, BadEtag, UnknownParameter, RepeatedParameter, BadListType, BadMaxKeys, BadEncoding, BadFetchOwner, NoClient, TooManyClients, TooManyLines, TooManyEntries, NoText}
 
 -- the place of a cause in the order in which they are tested
 unfoldable pub place_of : Cause → ℕ
@@ -25,6 +25,7 @@ place_of NoClient = 15
 place_of TooManyClients = 16
 place_of TooManyLines = 17
 place_of TooManyEntries = 18
+place_of NoText = 19
 
 -- the earlier of two causes
 unfoldable pub earliest : Option Cause → Option Cause → Option Cause

@@ -47,6 +47,8 @@ pub enum Cause {
     TooManyLines,
     /// The pages of the LIST, LISTV1 and NEXT lines so far can have more than 4,000,000 entries together.
     TooManyEntries,
+    /// The input of `check` has no line `----`: told of the line behind the last one, where no line has a cause.
+    NoText,
 }
 
 /// Shown by its name, as the line on standard error and the documents have it.
@@ -77,6 +79,7 @@ impl fmt::Display for Cause {
             Cause::TooManyClients => f.write_str("TooManyClients"),
             Cause::TooManyLines => f.write_str("TooManyLines"),
             Cause::TooManyEntries => f.write_str("TooManyEntries"),
+            Cause::NoText => f.write_str("NoText"),
         }
     }
 }

@@ -1,9 +1,10 @@
 //! A session's text, read line by line: which clients there are, what each of them asks, and the first fault.
-//! The layers above use `read_session`, what `specs/Session.antt` says of every session, and the grammar of
-//! `specs/Input.antt`.
+//! The layers above use `read_session`, what `specs/SessionLaws.antt` says of every session, and the grammar of
+//! `specs/Input.antt`; and `read_check_input`, for a session with a written text behind it.
 #![tactic(auto)]
 
 mod cause;
+mod check_input;
 mod command;
 mod counts;
 mod interner;
@@ -27,6 +28,7 @@ mod values;
 mod verb;
 
 pub use cause::Cause;
+pub use check_input::{CheckInput, read_check_input};
 pub use limits::MAX_INPUT_BYTES;
 pub use names::Names;
 pub use read::read_session;

@@ -98,6 +98,28 @@ impl Names {
             Err(_) => Err(NoMemory),
         }
     }
+
+    /// The same, and the names stay: each distinct one is copied.
+    pub fn directory(&self, alloc: Global) -> Result<Directory, NoMemory>
+        requires { All IsFine self.now }
+        ensures { IfOk result (HoldsEachOnce self.now) }
+    {
+        match Directory::new(alloc, copies(alloc, &self.names)?) {
+            Ok(dir) => Ok(dir),
+            Err(_) => Err(NoMemory),
+        }
+    }
+}
+
+// A copy of each name.
+fn copies(alloc: Global, names: &[Text]) -> Result<Vec<Text>, NoMemory>
+    ensures { IfOk result (λ copied. copied.items ≡ names.now) }
+{
+    let mut copied = Vec::with_capacity(alloc, names.len())?;
+    for name in names {
+        copied.push(name.copy(alloc)?)?;
+    }
+    Ok(copied)
 }
 
 // The names at these places.

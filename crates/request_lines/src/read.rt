@@ -65,8 +65,8 @@ fn line_feed(bytes: &[u8]) -> Option<usize>
     memchr(b'\n', bytes)
 }
 
-// The line without one carriage return at its end.
-fn without_return(line: &[u8]) -> &[u8]
+/// The line without one carriage return at its end.
+pub(crate) fn without_return(line: &[u8]) -> &[u8]
     ensures { result.now ≡ strip_carriage_return line.now }
 {
     match line.split_last() {

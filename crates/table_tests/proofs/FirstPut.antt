@@ -1,29 +1,26 @@
 -- The first put of a table by single steps: each step may be made at its stage.
-use Rattle.std.proofs.Common.{◌≡◌, ℕ, ◌-◌, ◌<◌, List, [], ◌∷◌, length, take, drop, Bool, true, false, cond, arith, refl, ap, ◌∙◌, sym, subst, inl, inr, Some, None}
+use Rattle.std.proofs.Common.{◌≡◌, ℕ, ◌<◌, List, [], ◌∷◌, length, false, arith, refl, ap, ◌∙◌, sym, subst, inl, inr, Some, None}
 use Rattle.std.specs.List.{slice_get}
-use Rattle.std.proofs.lemmas.List.{length-append, take_all}
+use Rattle.std.proofs.lemmas.List.{length-append}
 use Rattle.index_words.specs.declared.side.Side.TheVariants.{Left, Right}
 use Rattle.index_words.specs.declared.view.View.{View}
-use Rattle.index_words.specs.declared.view.reading.Filled.{Filled}
 use Rattle.index_words.specs.declared.view.reading.TreeNode.{TreeNode}
 use Rattle.index_words.specs.declared.view.update.HeldNode.{HeldNode}
 use Rattle.index_words.specs.declared.view.update.LoadedHead.{LoadedHead}
 use Rattle.index_words.specs.declared.word.Field.TheVariants.{Key, Val, Mark, Head}
 use Rattle.index_words.specs.declared.word.Part.TheVariants.{Child, Stamp as Number, Next}
 use Rattle.index_words.specs.declared.word.Word.{Word}
-use Rattle.index_words.specs.declared.word.Word.TheVariants.{Node, Entry, Stamp, Section, Announced}
+use Rattle.index_words.specs.declared.word.Word.TheVariants.{Node, Entry}
 use Rattle.index_words.specs.Words.{word_at}
 use Rattle.key_map.specs.declared.update.Update.{Update}
 use Rattle.key_map.specs.declared.update.Change.TheVariants.{Put}
 use Rattle.key_map.specs.History.{after}
-use Rattle.key_map.specs.Lists.{Every}
 use Rattle.key_map.specs.Map.{pair}
 use Rattle.core_invariant.proofs.TreeReads.{after_length}
-use Rattle.core_events.specs.FillMoves.{filled_view, filled_with, with_filled}
+use Rattle.core_events.specs.FillMoves.{filled_view}
 use Rattle.core_events.specs.LoadMoves.{bundle_link, head_loaded}
 use Rattle.core_events.specs.LockMoves.{nothing_loaded}
 use Rattle.core_events.specs.Moves.{entered}
-use Rattle.core_grace.specs.Sections.{is_even}
 use Rattle.core_events.specs.UpdateMoves.{prepared}
 use Rattle.core_laws.specs.ViewNeeds.{HasFilled, IsInside, MayFill, MayLoadStamp, MayPrepare, MayReadHead}
 use Rattle.core_events.specs.Versions.{tree_nodes}

@@ -1,14 +1,12 @@
 -- Helper: the clauses of the crate's calls do not rest on this file.
 -- The first put of a table of two passes by single steps, as a test makes it: what the pass's view is at its stages.
-use Rattle.std.specs.Prelude.{◌≡◌, List, [], ◌∷◌, true, false}
+use Rattle.std.specs.Prelude.{[], false}
 use Rattle.index_words.specs.declared.layout.Layout.{Layout}
-use Rattle.index_words.specs.declared.side.Side.TheVariants.{Left, Right}
+use Rattle.index_words.specs.declared.side.Side.TheVariants.{Right}
 use Rattle.index_words.specs.declared.view.View.{View}
-use Rattle.index_words.specs.declared.word.Field.TheVariants.{Key, Val, Mark, Head}
-use Rattle.index_words.specs.declared.word.Part.TheVariants.{Child, Stamp as Number, Next}
-use Rattle.index_words.specs.declared.word.Word.{Word}
+use Rattle.index_words.specs.declared.word.Field.TheVariants.{Key, Val}
+use Rattle.index_words.specs.declared.word.Part.TheVariants.{Child}
 use Rattle.index_words.specs.declared.word.Word.TheVariants.{Node, Entry}
-use Rattle.index_words.specs.Words.{is_there}
 use Rattle.key_map.specs.declared.pass.PassSize.{PassSize}
 use Rattle.core_events.specs.FillMoves.{filled_view}
 use Rattle.core_events.specs.Announcing.{announced_view}
@@ -16,7 +14,6 @@ use Rattle.core_events.specs.LoadMoves.{head_loaded}
 use Rattle.core_events.specs.LockMoves.{locked_view, mark_loaded}
 use Rattle.core_events.specs.Moves.{entered}
 use Rattle.core_events.specs.Openings.{pass_view}
-use Rattle.core_laws.specs.ViewNeeds.{MayFill}
 use Rattle.table_steps.specs.Stamps.{with_seen, reading_at}
 
 -- one node, the entries of one update, and one call

@@ -16,7 +16,7 @@ use Rattle.bucket_terms.specs.declared.reply.Reply.TheVariants.{Put as PutReply,
 use Rattle.bucket_terms.specs.declared.reply.Placed.{Placed}
 use Rattle.bucket_terms.specs.Listing.{page_of}
 use Rattle.bucket_terms.specs.V1Listing.{v1_page}
-use Rattle.bucket_terms.specs.LegalRun.{RequestLine, Setting, Answered, IsRight, IsOf, IsPointOf, MakesNone, Resumed, KeepsOrder, next_of, update_at, last_listing, is_update}
+use Rattle.bucket_terms.specs.LegalRun.{RequestLine, Setting, Answered, IsAnswered, IsRight, IsOf, IsPointOf, MakesNone, Resumed, KeepsOrder, next_of, update_at, last_listing, is_update}
 use Rattle.bucket_terms.specs.RunParts.{head_by}
 use Rattle.page_token.proofs.OneTokenLaws.{one_token}
 use Rattle.sample_laws.specs.Alone.{rank_of}
@@ -104,24 +104,30 @@ module _ (s : Setting) (rising : Rises s.dir) (last : Option Reply) (line : ℕ)
   one_told Next None a b h k = h ∙ sym k
 
 -- a place in the history is small where the history is short
-small_place : (s : Setting) (earlier : List Answered) (line : ℕ) (at : Option ℕ) → length s.updates < 2 ^ 64 → IfSome at (KeepsOrder s earlier line) → IfSome at (λ n. n < 2 ^ 64)
+pub small_place : (s : Setting) (earlier : List Answered) (line : ℕ) (at : Option ℕ) → length s.updates < 2 ^ 64 → IfSome at (KeepsOrder s earlier line) → IfSome at (λ n. n < 2 ^ 64)
 small_place s earlier line None short order = tt
 small_place s earlier line (Some at) short order = let within : at ≤ length s.updates = order.within in omega arith
+
+-- at a place, or without one, one reply is an answer
+pub one_answer : (s : Setting) (earlier : List Answered) (asked : RequestLine) (p q : Placed) → Rises s.dir
+    → IsAnswered s earlier asked p → IsAnswered s earlier asked q → p.at ≡ q.at → p ≡ q
+one_answer s earlier asked p q rising h k at =
+    let last = last_listing earlier in
+    let right : IsRight s last asked p.at q.reply = subst (λ (o : Option ℕ). IsRight s last asked o q.reply) (sym at) k.right in
+    let reply : p.reply ≡ q.reply =
+    one_told s rising last asked.line asked.request p.at p.reply q.reply
+    (told_is s rising last asked.line asked.request p.at p.reply h.right)
+    (told_is s rising last asked.line asked.request p.at q.reply right) in
+    ap (λ (n : ℕ). record { client = n; line = p.line; at = p.at; reply = p.reply }) (h.client ∙ sym k.client)
+    ∙ ap (λ (n : ℕ). record { client = q.client; line = n; at = p.at; reply = p.reply }) (h.line ∙ sym k.line)
+    ∙ ap (λ (o : Option ℕ). record { client = q.client; line = q.line; at = o; reply = p.reply }) at
+    ∙ ap (λ (r : Reply). record { client = q.client; line = q.line; at = q.at; reply = r }) reply
 
 -- a reply line is that of one reply
 pub one_reply : (c : Checked) (updates : List Update) (client : ℕ) (earlier : List Answered) (asked : RequestLine) (text : List ℕ) (p q : Placed)
     → Rises c.dir → length updates < 2 ^ 64 → IsReplyLine c updates client earlier asked text p → IsReplyLine c updates client earlier asked text q → p ≡ q
 one_reply c updates client earlier asked text p q rising short h k =
     let s = setting c updates client in
-    let last = last_listing earlier in
     let at : p.at ≡ q.at =
     place_told c.dir c.records p q (small_place s earlier asked.line p.at short h.answered.order) (small_place s earlier asked.line q.at short k.answered.order) (sym h.text_is ∙ k.text_is) in
-    let right : IsRight s last asked p.at q.reply = subst (λ (o : Option ℕ). IsRight s last asked o q.reply) (sym at) k.answered.right in
-    let reply : p.reply ≡ q.reply =
-    one_told s rising last asked.line asked.request p.at p.reply q.reply
-    (told_is s rising last asked.line asked.request p.at p.reply h.answered.right)
-    (told_is s rising last asked.line asked.request p.at q.reply right) in
-    ap (λ (n : ℕ). record { client = n; line = p.line; at = p.at; reply = p.reply }) (h.answered.client ∙ sym k.answered.client)
-    ∙ ap (λ (n : ℕ). record { client = q.client; line = n; at = p.at; reply = p.reply }) (h.answered.line ∙ sym k.answered.line)
-    ∙ ap (λ (o : Option ℕ). record { client = q.client; line = q.line; at = o; reply = p.reply }) at
-    ∙ ap (λ (r : Reply). record { client = q.client; line = q.line; at = q.at; reply = r }) reply
+    one_answer s earlier asked p q rising h.answered k.answered at

@@ -18,7 +18,7 @@ use Rattle.text_laws.proofs.Quotes.{quoted_same}
 -- ---- replies
 
 -- the text begins with this place, and a comma stands behind it
-abbrev Begins : Option ℕ → List ℕ → Type 0
+abbrev pub Begins : Option ℕ → List ℕ → Type 0
 Begins at text = (rest : List ℕ) × (text ≡ spec.place_text at ++ 44 ∷ rest)
 
 start_begins : (at : Option ℕ) (client : ℕ) (rest : List ℕ) → Begins at (spec.start_text at client ++ rest)
@@ -36,6 +36,12 @@ reply_begins dir records at client line (Listed query page) = start_begins at cl
 reply_begins dir records at client line (ListedV1 query page) = start_begins at client _
 reply_begins dir records at client line BadToken = start_begins at client _
 reply_begins dir records at client line NoSlot = start_begins at client _
+
+-- the line of a reply begins with the reply's place
+pub line_begins : (dir : List (List ℕ)) (records : List Record) (p : Placed) → Begins p.at (line_of (reply_data dir records p))
+line_begins dir records p =
+    let begins = reply_begins dir records p.at p.client p.line p.reply in
+    (begins.0, sym (reply_line dir records p.at p.client p.line p.reply) ∙ begins.1)
 
 one_place : (a b : Option ℕ) (r s : List ℕ) → IfSome a (λ n. n < 2 ^ 64) → IfSome b (λ n. n < 2 ^ 64)
     → spec.place_text a ++ 44 ∷ r ≡ spec.place_text b ++ 44 ∷ s → a ≡ b

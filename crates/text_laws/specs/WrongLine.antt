@@ -7,6 +7,7 @@ use Rattle.bucket_terms.specs.declared.reply.Placed.{Placed}
 use Rattle.bucket_terms.specs.LegalRun.{RequestLine, Answered, Setting, IsOf, IsAnswered, IsChangeOf, answered_lines, lines_of}
 use Rattle.answer_text.specs.Lines.{line_of, journal_data, reply_data}
 use Rattle.answer_text.specs.Shown.{last_data}
+pub use Rattle.request_lines.specs.TextLines.{with_byte, text_lines}
 
 -- what a text is checked against: the names, the records, each client's request lines, and its node slots
 pub record Checked : Type 0 where
@@ -14,18 +15,6 @@ pub record Checked : Type 0 where
   pub records : List Record
   pub parts : List (List RequestLine)
   pub slots : ℕ → ℕ
-
--- ---- lines
-
--- the byte in front of these lines: it belongs to the first of them
-abbrev pub with_byte : ℕ → List (List ℕ) → List (List ℕ)
-with_byte b [] = (b ∷ []) ∷ []
-with_byte b (line ∷ lines) = (b ∷ line) ∷ lines
-
--- the lines of a text, each with its line feed. A last piece without one is a line too.
-abbrev pub text_lines : List ℕ → List (List ℕ)
-text_lines [] = []
-text_lines (b ∷ text) = if b == 10 then (b ∷ []) ∷ text_lines text else with_byte b (text_lines text)
 
 -- how many requests these clients have
 abbrev pub requests_of : List (List RequestLine) → ℕ

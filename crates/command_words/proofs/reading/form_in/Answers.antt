@@ -18,6 +18,18 @@ returns-in-Some-clause-slots c = λ n is most.
     (sym c.in-Some.ensures.name) (sym c.in-Some.ensures.rows) is in
     c.form_named.ensures.slots n read.0 (c.get_str.ensures ∙ first_value-rows (found_of c.in-Some.inner.now) (codes "number") ∙ read.1) most
 
+pub returns-in-Some-clause-check : goal.returns-in-Some-clause-check
+returns-in-Some-clause-check c = λ is.
+    let read = rows_read c.args.matches.now c.in-Some.name.now (rows_of (found_of c.in-Some.inner.now)) (codes "check") None
+    (sym c.in-Some.ensures.name) (sym c.in-Some.ensures.rows) is in
+    c.form_named.ensures.check read.0 (c.get_str.ensures ∙ first_value-rows (found_of c.in-Some.inner.now) (codes "number") ∙ read.1)
+
+pub returns-in-Some-clause-check_slots : goal.returns-in-Some-clause-check_slots
+returns-in-Some-clause-check_slots c = λ n is most.
+    let read = rows_read c.args.matches.now c.in-Some.name.now (rows_of (found_of c.in-Some.inner.now)) (codes "check") (Some (decimal n))
+    (sym c.in-Some.ensures.name) (sym c.in-Some.ensures.rows) is in
+    c.form_named.ensures.check_slots n read.0 (c.get_str.ensures ∙ first_value-rows (found_of c.in-Some.inner.now) (codes "number") ∙ read.1) most
+
 pub returns-in-Some-clause-sample : goal.returns-in-Some-clause-sample
 returns-in-Some-clause-sample c = λ n is most.
     let read = rows_read c.args.matches.now c.in-Some.name.now (rows_of (found_of c.in-Some.inner.now)) (codes "sample") (Some (decimal n))

@@ -1,0 +1,37 @@
+-- Where a client's reply lines stand in a text.
+use Rattle.std.proofs.Common.{◌≡◌, ℕ, zero, suc, ◌+◌, ◌-◌, ◌<◌, ◌≤◌, min, List, [], ◌∷◌, length, take, drop, map, get_or, refl, sym, ap, ◌∙◌, arith}
+use Rattle.std.specs.Borrow.{Bor}
+use Rattle.std.proofs.lemmas.List.{get_or-take, get_or-drop, get_or-map, length-take, length-drop, length-map}
+use Rattle.bucket_terms.specs.LegalRun.{RequestLine, lines_of}
+use Rattle.text_laws.specs.WrongLine.{Checked, HasAllParts, requests_of, reply_texts, first_reply, text_at}
+use Rattle.replay_check.specs.Looking.{texts_of}
+
+pub first_more : (parts : List (List RequestLine)) (k : ℕ) → k < length parts → requests_of (take (suc k) parts) ≡ requests_of (take k parts) + length (lines_of parts k)
+first_more [] k inside = absurd (omega arith)
+first_more (p ∷ parts) zero inside = omega arith
+first_more (p ∷ parts) (suc k) inside = let rest = first_more parts k (omega arith) in omega arith
+
+pub first_within : (parts : List (List RequestLine)) (k : ℕ) → k < length parts → requests_of (take k parts) + length (lines_of parts k) ≤ requests_of parts
+first_within [] k inside = absurd (omega arith)
+first_within (p ∷ parts) zero inside = omega arith
+first_within (p ∷ parts) (suc k) inside = let rest = first_within parts k (omega arith) in omega arith
+
+module _ (c : Checked) (texts : List (List ℕ)) (number : ℕ) where
+  pub text_is : (n : ℕ) → n < length (lines_of c.parts number) → text_at (reply_texts c texts number) n ≡ text_at texts (first_reply c number + n)
+  text_is n inside =
+      get_or-take (length (lines_of c.parts number)) (drop (first_reply c number) texts) n [] inside ∙ get_or-drop (first_reply c number) texts n []
+
+  module _ (long : HasAllParts c texts) (within : number < length c.parts) where
+    pub line_within : (n : ℕ) → n < length (lines_of c.parts number) → first_reply c number + n < length texts
+    line_within n inside = let most = first_within c.parts number within in omega arith
+
+    pub reply_within : (n : ℕ) → n < length (lines_of c.parts number) → n < length (reply_texts c texts number)
+    reply_within n inside =
+        let most = first_within c.parts number within in
+        omega (arith, length-take (length (lines_of c.parts number)) (drop (first_reply c number) texts), length-drop (first_reply c number) texts)
+
+  pub few_replies : length (reply_texts c texts number) ≤ length (lines_of c.parts number)
+  few_replies = omega (arith, length-take (length (lines_of c.parts number)) (drop (first_reply c number) texts))
+
+pub text_there : (lines : List (Bor (List ℕ))) (n : ℕ) (d : Bor (List ℕ)) → n < length lines → text_at (texts_of lines) n ≡ (get_or lines n d).now
+text_there lines n d inside = get_or-map (λ (line : Bor (List ℕ)). line.now) lines n d [] inside

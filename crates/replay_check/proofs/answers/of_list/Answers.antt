@@ -1,0 +1,8 @@
+use Rattle.std.proofs.Common.{subst}
+use Rattle.client_run.specs.Starts.{IsStartOf}
+use Rattle.client_run.specs.declared.pages.Start.{Start}
+use Rattle.client_run.proofs.Listings.{no_point}
+use Rattle.replay_check.proofs.answers.of_list.Goals as goal
+
+pub returns-in-Bad-clause-look : goal.returns-in-Bad-clause-look
+returns-in-Bad-clause-look c = no_point c.args.query.now (subst (λ (s : Start). IsStartOf c.args.query.now s) c.in-Bad.is c.in_ok-start_of.ensures)

@@ -1,0 +1,8 @@
+pub mod Answering
+pub mod Digits
+pub mod Judging
+pub mod Looking
+pub mod Own
+pub mod Replaying
+pub mod Telling
+pub mod Turns

@@ -1,0 +1,35 @@
+// The lines of a text, each with its end.
+ghost use Rattle.std.specs.Prelude.{◌≡◌, ◌<◌, ◌≤◌, ◌∷◌, ℕ, List, length, map, take, drop, IfOk};
+ghost use Rattle.std.specs.Borrow.{Bor};
+ghost use Rattle.text_laws.specs.WrongLine.{text_lines};
+
+use key_names::NoMemory;
+use memchr::memchr;
+use std::alloc::Global;
+
+/// The lines of the text, each with its line feed. A last piece without one is a line too.
+pub(crate) fn cut(alloc: Global, text: &[u8]) -> Result<Vec<&[u8]>, NoMemory>
+    ensures { IfOk result (λ lines. map (λ (line : Bor (List ℕ)). line.now) lines.items ≡ text_lines text.now) }
+{
+    let mut lines = Vec::new(alloc);
+    let mut left = text;
+    while !left.is_empty() {
+        let (line, rest) = left.split_at(line_len(left));
+        lines.push(line)?;
+        left = rest;
+    }
+    Ok(lines)
+}
+
+// The length of the first line, with its end.
+fn line_len(text: &[u8]) -> usize
+    requires { 0 < length text.now }
+    ensures some { 0 < result }
+    ensures most { result ≤ length text.now }
+    ensures cut { text_lines text.now ≡ take result text.now ∷ text_lines (drop result text.now) }
+{
+    match memchr(b'\n', text) {
+        Some(end) => end + 1,
+        None => text.len(),
+    }
+}

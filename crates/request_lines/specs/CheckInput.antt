@@ -1,0 +1,50 @@
+-- The input of `check`: a session, a line that is `----`, and a written text.
+use Rattle.std.specs.Prelude.{◌≡◌, ℕ, ◌+◌, ◌-◌, ◌==◌, Bool, List, [], ◌∷◌, ◌++◌, length, take, codes, slice_index, Option, Some, None, if◌then◌else◌}
+use Rattle.std.specs.List.{concat}
+use Rattle.std.specs.Option.{option_or}
+use Rattle.std.specs.Str.{bytes_eq}
+use Rattle.std.specs.Str.Lines.{strip_carriage_return}
+use Rattle.request_lines.specs.declared.cause.Cause.TheVariants.{NoText}
+use Rattle.request_lines.specs.declared.session.Session.{Session}
+use Rattle.request_lines.specs.declared.session_error.InputError.{InputError}
+use Rattle.request_lines.specs.Input.{IsSessionOf, refusal_of}
+use Rattle.request_lines.specs.TextLines.{text_lines}
+
+-- a line without the line feed at its end, where it has one
+abbrev pub strip_line_feed : List ℕ → List ℕ
+strip_line_feed line = if slice_index line (length line - 1) == 10 then take (length line - 1) line else line
+
+-- the line is `----`; one carriage return at its end is dropped
+abbrev pub is_divider : List ℕ → Bool
+is_divider line = bytes_eq (strip_carriage_return (strip_line_feed line)) (codes "----")
+
+-- the bytes of these lines before the first line `----`, or of all where there is none
+abbrev pub before_divider : List (List ℕ) → List ℕ
+before_divider [] = []
+before_divider (line ∷ lines) = if is_divider line then [] else line ++ before_divider lines
+
+-- the bytes of the lines behind the first line `----`, where there is one
+abbrev pub behind_divider : List (List ℕ) → Option (List ℕ)
+behind_divider [] = None
+behind_divider (line ∷ lines) = if is_divider line then Some (concat lines) else behind_divider lines
+
+-- the part of an input that has the session, and the text behind the line `----`
+unfoldable pub session_part : List ℕ → List ℕ
+session_part input = before_divider (text_lines input)
+
+unfoldable pub text_part : List ℕ → Option (List ℕ)
+text_part input = behind_divider (text_lines input)
+
+-- where the line `----` is missing, this is told of the line behind the last one
+abbrev pub missing_text : List ℕ → Option (List ℕ) → Option InputError
+missing_text input None = Some (record { line = length (text_lines input) + 1; cause = NoText })
+missing_text input (Some text) = None
+
+-- the refusal of an input of `check`: that of its session, or else that the line `----` is missing
+unfoldable pub check_refusal : List ℕ → Option InputError
+check_refusal input = option_or (refusal_of (session_part input)) (missing_text input (text_part input))
+
+-- the session and the text of an input of `check`
+pub record IsCheckInput (input : List ℕ) (session : Session) (text : List ℕ) : Type 0 where
+  pub of_part : IsSessionOf (session_part input) session
+  pub text_is : text_part input ≡ Some text
