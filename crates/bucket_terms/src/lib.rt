@@ -5,6 +5,7 @@
 
 mod boxed_query;
 mod boxed_v1_query;
+mod homed;
 mod key_pass;
 mod list_query;
 mod page;
@@ -19,6 +20,7 @@ mod v1_query;
 
 pub use boxed_query::BoxedQuery;
 pub use boxed_v1_query::BoxedV1Query;
+pub use homed::{Homed, Tagged};
 pub use key_pass::KeyPass;
 pub use list_query::ListQuery;
 pub use page::{Page, PageEntry};

@@ -1,19 +1,18 @@
 -- What a right journal tells of the basis of the reply lines, and of the verdict.
-use Rattle.std.proofs.Common.{◌≡◌, ℕ, ◌+◌, ◌-◌, ◌^◌, ◌<◌, ◌≤◌, List, [], length, map, Option, Some, None, get_or, inl, inr, refl, sym, ap, ◌∙◌, subst, arith}
+use Rattle.std.proofs.Common.{◌≡◌, ℕ, ◌+◌, ◌-◌, ◌<◌, ◌≤◌, List, [], length, get_or, inl, inr, refl, sym, ap, ◌∙◌, arith}
 use Rattle.std.specs.Borrow.{Bor}
 use Rattle.std.proofs.lemmas.List.{length-map, length-take, length-drop}
 use Rattle.std.proofs.lemmas.Option.{slice_get_within}
 use Rattle.bucket_terms.specs.LegalRun.{lines_of}
 use Rattle.bucket_terms.specs.declared.reply.Placed.{Placed}
-use Rattle.request_lines.specs.Session.{request_lines}
 use Rattle.request_lines.specs.SessionLaws.{all_requests}
 use Rattle.answer_text.specs.Lines.{line_of}
 use Rattle.answer_text.specs.Shown.{last_data}
-use Rattle.text_laws.specs.WrongLine.{AreJournal, AreAllReplies, AreRight, IsWrongLine, IsWrongReply, journal_texts, last_text, requests_of, text_at}
+use Rattle.text_laws.specs.WrongLine.{AreAllReplies, IsWrongReply, journal_texts, last_text, requests_of, text_at}
 use Rattle.replay_check.specs.declared.basis.Basis.{Basis}
 use Rattle.replay_check.specs.declared.verdict.Verdict.TheVariants.{Legal, Wrong}
 use Rattle.replay_check.specs.Judging.{IsVerdict}
-use Rattle.replay_check.specs.Looking.{AreMade, HasJournal, IsBasis, IsFirstWrong, against, texts_in}
+use Rattle.replay_check.specs.Looking.{AreMade, HasJournal, IsBasis, against, texts_in}
 use Rattle.replay_check.proofs.BasisLaws.{requests_are}
 use Rattle.replay_check.proofs.MadeUpdates.{are_made, few_updates}
 use Rattle.replay_check.proofs.TextPlaces.{first_within, text_there}

@@ -1,24 +1,23 @@
 -- What the basis of the reply lines tells of a client's lines.
 use Rattle.std.proofs.Common.{◌≡◌, ℕ, zero, suc, ◌∷◌, ◌==◌, ◌&&◌, nat_lt, ◌+◌, ◌^◌, ◌<◌, ◌≤◌, List, [], length, map, get_or, Option, Some, None, refl, sym, ap, ◌∙◌, subst, arith}
-use Rattle.std.specs.List.{slice_get, count_by}
-use Rattle.std.specs.Option.{unwrap_or, option_map}
+use Rattle.std.specs.List.{slice_get}
+use Rattle.std.specs.Option.{option_map}
 use Rattle.std.specs.Borrow.{Bor}
-use Rattle.std.proofs.lemmas.Option.{slice_get_read, slice_get-map, slice_get-get_or, slice_get_within}
+use Rattle.std.proofs.lemmas.Option.{slice_get_read, slice_get-map}
 use Rattle.std.proofs.lemmas.List.{get_or_default, length-map, length-append}
 use Rattle.std.proofs.lemmas.List.Sums.{count_by-le-length}
 use Rattle.key_names.specs.Names.{Rises}
 use Rattle.key_map.specs.declared.update.Update.{Update}
-use Rattle.bucket_terms.specs.LegalRun.{RequestLine, lines_of, slots_of}
-use Rattle.bucket_terms.specs.RunParts.{default_slots}
+use Rattle.bucket_terms.specs.LegalRun.{RequestLine, lines_of}
 use Rattle.request_lines.specs.declared.session.Asked.{Asked}
 use Rattle.request_lines.specs.declared.session.ClientPart.{ClientPart}
 use Rattle.request_lines.specs.Session.{request_line, request_lines}
 use Rattle.request_lines.specs.SessionLaws.{Rise, all_requests}
-use Rattle.text_laws.specs.WrongLine.{Checked, HasAllParts, first_reply, reply_texts, requests_of, text_at}
+use Rattle.text_laws.specs.WrongLine.{first_reply, reply_texts, requests_of, text_at}
 use Rattle.replay_check.specs.declared.basis.Basis.{Basis}
 use Rattle.replay_check.specs.declared.turns.Client.{Client}
-use Rattle.replay_check.specs.Own.{AreOwn, history_of}
-use Rattle.replay_check.specs.Telling.{IsRead, IsOfSession}
+use Rattle.replay_check.specs.Own.{history_of}
+use Rattle.replay_check.specs.Telling.{IsOfSession}
 use Rattle.replay_check.specs.Turns.{IsOwnPlace, used_before}
 use Rattle.replay_check.specs.Looking.{IsBasis, HasComeOn, against, texts_in}
 use Rattle.replay_check.proofs.SessionLines.{lines_are, rising_lines}

@@ -1,11 +1,10 @@
 -- What is answered at a place, or without one, is the one reply that can be right.
-use Rattle.std.proofs.Common.{◌≡◌, ℕ, zero, suc, ◌-◌, ◌<◌, ◌≤◌, Bool, true, false, nat_le, nat_lt, ◌==◌, ◌&&◌, List, get_or, if◌then◌else◌, Option, Some, None, MatchOption, inl, inr, refl, sym, ap, ◌∙◌, subst, arith}
+use Rattle.std.proofs.Common.{◌≡◌, ℕ, zero, suc, ◌-◌, ◌≤◌, Bool, true, false, nat_le, nat_lt, ◌==◌, ◌&&◌, List, if◌then◌else◌, Option, Some, None, MatchOption, inl, inr, refl, sym, ap, ◌∙◌, subst, arith}
 use Rattle.std.specs.List.{count_by}
-use Rattle.std.proofs.lemmas.Bool.{cases_Bool, false≢true}
+use Rattle.std.proofs.lemmas.Bool.{false≢true}
 use Rattle.std.proofs.lemmas.Bool.Decides.{nat_tests}
 use Rattle.std.proofs.lemmas.Option.{same_Some, none-some, slice_get_within, get_or_from_slice_get}
 use Rattle.key_names.specs.Names.{Rises, IsRank}
-use Rattle.key_map.specs.declared.pair.Pair.{Pair}
 use Rattle.key_map.specs.declared.update.Update.{Update}
 use Rattle.key_map.specs.declared.update.Change.{Change}
 use Rattle.key_map.specs.declared.update.Change.TheVariants.{Put as PutVal, Remove}
@@ -17,13 +16,11 @@ use Rattle.bucket_terms.specs.declared.token_point.TokenPoint.{TokenPoint}
 use Rattle.bucket_terms.specs.declared.request.Request.{Request}
 use Rattle.bucket_terms.specs.declared.request.Request.TheVariants.{Put, PutNew, Delete, Head, List as ListRequest, ListV1, Next}
 use Rattle.bucket_terms.specs.declared.reply.Reply.{Reply}
-use Rattle.bucket_terms.specs.declared.reply.Reply.TheVariants.{Put as PutReply, Exists, Deleted, Found, Missing, Listed, ListedV1, BadToken, NoSlot}
-use Rattle.bucket_terms.specs.V1Listing.{v1_page}
+use Rattle.bucket_terms.specs.declared.reply.Reply.TheVariants.{Put as PutReply, Exists, Deleted, Listed, BadToken, NoSlot}
 use Rattle.bucket_terms.specs.RunParts.{head_by}
-use Rattle.bucket_terms.specs.LegalRun.{Setting, IsRight, IsOf, IsChangeOf, MakesNone, UpdateStands, Finds, IsPointOf, Resumed, is_update, next_of, update_at}
-use Rattle.sample_laws.specs.Alone.{rank_of}
+use Rattle.bucket_terms.specs.LegalRun.{Setting, IsRight, IsOf, MakesNone, UpdateStands, IsPointOf, Resumed, is_update, next_of, update_at}
 use Rattle.sample_laws.proofs.Ranks.{rank_of-is}
-use Rattle.replay_check.specs.Answering.{IsTheReply, IsOwn, own_reply, kept_by, absent_by, IsLook, next_page, slot_reply, IsRefusal, asked_line}
+use Rattle.replay_check.specs.Answering.{IsTheReply, IsOwn, own_reply, kept_by, absent_by, IsLook, next_page, IsRefusal, asked_line}
 
 clash : {P : Type 0} (b : Bool) → b ≡ true → b ≡ false → P
 clash b holds fails = absurd (false≢true (sym fails ∙ holds))

@@ -22,3 +22,4 @@ pub mod Starting
 pub mod ClientLines
 pub mod JournalTexts
 pub mod JournalLaws
+pub mod TreePairLaws

@@ -1,14 +1,14 @@
 -- The updates of right journal lines: each is one that a line of its client would make, no two are of one line, and so
 -- there are no more than the clients have lines.
-use Rattle.std.proofs.Common.{◌≡◌, ℕ, zero, suc, ◌+◌, ◌<◌, ◌≤◌, Bool, true, false, cond, ◌==◌, nat_lt, All, Any, List, [], ◌∷◌, ◌++◌, length, take, get_or, Option, Some, None, if◌then◌else◌, inl, inr, refl, sym, ap, ◌∙◌, subst, arith}
+use Rattle.std.proofs.Common.{◌≡◌, ℕ, zero, suc, ◌+◌, ◌<◌, ◌≤◌, Bool, true, false, ◌==◌, nat_lt, Any, List, [], ◌∷◌, ◌++◌, length, take, Some, if◌then◌else◌, inl, inr, refl, sym, ap, ◌∙◌, subst, arith}
 use Rattle.std.specs.List.{count_by, slice_get}
 use Rattle.std.proofs.lemmas.Bool.{cases_Bool, cases_eq, cases_lt}
 use Rattle.std.proofs.lemmas.Bool.Decides.{nat_tests}
-use Rattle.std.proofs.lemmas.Option.{same_Some, none-some, slice_get_within, slice_get-get_or, get_or_from_slice_get}
+use Rattle.std.proofs.lemmas.Option.{same_Some, none-some, slice_get_within, get_or_from_slice_get}
 use Rattle.std.proofs.lemmas.List.{length-take-le}
 use Rattle.key_map.specs.declared.update.Update.{Update}
 use Rattle.bucket_terms.specs.LegalRun.{RequestLine, lines_of}
-use Rattle.text_laws.specs.WrongLine.{Checked, AreOfOneLine, Makes, AreJournal, IsJournalLine, IsWrongUpdate, requests_of}
+use Rattle.text_laws.specs.WrongLine.{Checked, AreOfOneLine, Makes, AreJournal, IsWrongUpdate, requests_of}
 use Rattle.text_laws.proofs.GoesOn.{journal_length}
 use Rattle.replay_check.specs.Looking.{AreMade}
 use Rattle.replay_check.proofs.UsedBefore.{mark, count_none, count_cons, counts_add, line_of_update}

@@ -1,18 +1,17 @@
 -- A client whose first lines are right: at its first line, behind one line more, and before a wrong line.
-use Rattle.std.proofs.Common.{◌≡◌, ℕ, zero, suc, ◌+◌, ◌^◌, ◌<◌, ◌≤◌, Bool, true, false, cond, All, Any, List, [], ◌∷◌, ◌++◌, length, take, Option, Some, None, IfSome, is_some, if◌then◌else◌, refl, sym, ap, ◌∙◌, subst, arith}
+use Rattle.std.proofs.Common.{◌≡◌, ℕ, suc, ◌+◌, ◌^◌, ◌<◌, ◌≤◌, Bool, true, false, cond, Any, List, [], ◌∷◌, ◌++◌, length, take, Option, Some, None, IfSome, is_some, if◌then◌else◌, sym, ap, ◌∙◌, subst, arith}
 use Rattle.std.specs.List.{slice_get}
 use Rattle.std.specs.Option.{unwrap_or, ForSome}
-use Rattle.std.proofs.lemmas.Option.{same_Some, none-some, slice_get_within, slice_get-get_or, get_or_from_slice_get, IfSome_then}
+use Rattle.std.proofs.lemmas.Option.{same_Some, none-some, slice_get_within, IfSome_then}
 use Rattle.key_names.specs.Names.{Rises}
 use Rattle.key_map.specs.declared.update.Update.{Update}
 use Rattle.bucket_terms.specs.declared.reply.Reply.{Reply}
 use Rattle.bucket_terms.specs.declared.reply.Placed.{Placed}
-use Rattle.bucket_terms.specs.declared.request.Request.{Request}
-use Rattle.bucket_terms.specs.LegalRun.{RequestLine, Answered, Setting, IsOf, IsChangeOf, KeepsOrder, answered_lines, is_listing, last_listing, lines_of}
+use Rattle.bucket_terms.specs.LegalRun.{RequestLine, Answered, IsOf, IsChangeOf, answered_lines, is_listing, last_listing, lines_of}
 use Rattle.bucket_terms.proofs.LastListing.{last_listing-push}
 use Rattle.client_run.specs.Listing.{HasPageInRange}
 use Rattle.request_lines.specs.SessionLaws.{Rise}
-use Rattle.text_laws.specs.WrongLine.{Checked, IsReplyLine, AreReplies, HasAllParts, Makes, setting, reply_texts, first_reply, text_at}
+use Rattle.text_laws.specs.WrongLine.{Checked, IsReplyLine, HasAllParts, Makes, setting, reply_texts, first_reply, text_at}
 use Rattle.text_laws.proofs.Spelled.{line_begins}
 use Rattle.text_laws.proofs.OneReply.{small_place}
 use Rattle.replay_check.specs.declared.replay.Replay.{Replay}

@@ -1,7 +1,7 @@
 -- What is found of a client's next line.
-use Rattle.std.proofs.Common.{◌≡◌, ℕ, ◌+◌, ◌^◌, ◌<◌, List, length, Option, Some, None, refl, sym, ap, ◌∙◌, subst, arith}
+use Rattle.std.proofs.Common.{◌≡◌, ℕ, ◌^◌, ◌<◌, List, length, Option, Some, refl, sym, ◌∙◌, subst}
 use Rattle.std.specs.List.{slice_get}
-use Rattle.std.proofs.lemmas.Option.{same_Some, slice_get_within}
+use Rattle.std.proofs.lemmas.Option.{same_Some}
 use Rattle.key_map.specs.declared.update.Update.{Update}
 use Rattle.bucket_terms.specs.declared.record.Record.{Record}
 use Rattle.bucket_terms.specs.declared.reply.Placed.{Placed}
@@ -13,7 +13,7 @@ use Rattle.replay_check.specs.declared.turns.Client.{Client}
 use Rattle.replay_check.specs.Replaying.{IsReplayed}
 use Rattle.replay_check.specs.Own.{history_of}
 use Rattle.replay_check.specs.Turns.{KnowsTurn, IsOwnPlace}
-use Rattle.replay_check.specs.Looking.{IsBasis, IsLookedAt, IsDue, IsNextFound, HasComeOn, against, answers_of, texts_in}
+use Rattle.replay_check.specs.Looking.{IsBasis, IsLookedAt, IsDue, IsNextFound, against, answers_of, texts_in}
 use Rattle.replay_check.proofs.NextLines.{knows_turn}
 use Rattle.replay_check.proofs.BasisLaws.{names_rise, short_64, inside, lines_rise}
 

@@ -1,17 +1,14 @@
 -- The order of a client's places, by the greatest place so far; and which reply is fit.
-use Rattle.std.proofs.Common.{◌≡◌, ℕ, zero, suc, ◌+◌, ◌-◌, ◌<◌, ◌≤◌, Bool, true, false, nat_lt, ◌==◌, ◌&&◌, All, List, [], ◌∷◌, ◌++◌, length, get_or, Option, Some, None, IfSome, inl, inr, refl, sym, ap, ◌∙◌, subst, arith}
+use Rattle.std.proofs.Common.{◌≡◌, ℕ, zero, suc, ◌+◌, ◌<◌, ◌≤◌, All, List, [], length, get_or, Option, Some, None, IfSome, refl, sym, ◌∙◌, subst, arith}
 use Rattle.std.specs.List.{slice_get}
-use Rattle.std.proofs.lemmas.Bool.{cases_lt}
-use Rattle.std.proofs.lemmas.Option.{same_Some, none-some, slice_get_within, get_or_from_slice_get, slice_get-get_or}
-use Rattle.std.proofs.lemmas.List.Elements.{All-nil, All-weaker}
+use Rattle.std.proofs.lemmas.Option.{none-some, slice_get_within, get_or_from_slice_get}
+use Rattle.std.proofs.lemmas.List.Elements.{All-nil}
 use Rattle.key_names.specs.Names.{Rises}
 use Rattle.key_map.specs.declared.update.Update.{Update}
 use Rattle.bucket_terms.specs.declared.reply.Reply.{Reply}
-use Rattle.bucket_terms.specs.declared.reply.Placed.{Placed}
-use Rattle.bucket_terms.specs.LegalRun.{RequestLine, Setting, Answered, IsOf, IsRight, IsAnswered, KeepsOrder, MakesNone, update_at, last_listing}
-use Rattle.replay_check.specs.Answering.{IsTheReply, IsOwn, own_reply, IsLook, IsRefusal}
-use Rattle.replay_check.specs.Turns.{HasSeen, IsFit, IsFound, placed_at}
-use Rattle.replay_check.proofs.Candidates.{own_is, look_is, refusal_is}
+use Rattle.bucket_terms.specs.LegalRun.{RequestLine, Setting, Answered, IsOf, IsRight, KeepsOrder, MakesNone, update_at, last_listing}
+use Rattle.replay_check.specs.Answering.{IsTheReply}
+use Rattle.replay_check.specs.Turns.{HasSeen, IsFound}
 
 abbrev UpTo : ℕ → Answered → Type 0
 UpTo at a = IfSome a.placed.at (λ place. place ≤ at)

@@ -1,5 +1,5 @@
 -- The values of a history's updates are places of records, and so are those of its maps, pages and replies.
-use Rattle.std.proofs.Common.{◌≡◌, ℕ, ◌<◌, All, IfSome, length, take, List, [], ◌∷◌, Bool, true, false, Option, Some, None, inl, inr, refl, sym, ap, ◌∙◌, subst, fold, nat_lt, nat_le, ◌==◌, if◌then◌else◌}
+use Rattle.std.proofs.Common.{◌≡◌, ℕ, ◌<◌, All, IfSome, length, take, List, [], ◌∷◌, Bool, true, false, Option, Some, None, inl, inr, refl, sym, subst, fold, nat_lt, nat_le, ◌==◌, if◌then◌else◌}
 use Rattle.std.specs.Option.{ForSome, MatchOption}
 use Rattle.std.proofs.lemmas.Option.{same_Some, none-some}
 use Rattle.std.proofs.lemmas.Bool.{cases_Bool}
@@ -18,7 +18,7 @@ use Rattle.bucket_terms.specs.declared.page.Page.{Page}
 use Rattle.bucket_terms.specs.declared.request.Request.{Request}
 use Rattle.bucket_terms.specs.declared.request.Request.TheVariants.{Put, PutNew, Delete, Head, List as ListRequest, ListV1, Next}
 use Rattle.bucket_terms.specs.declared.reply.Reply.{Reply}
-use Rattle.bucket_terms.specs.declared.reply.Reply.TheVariants.{Listed, ListedV1, BadToken, NoSlot}
+use Rattle.bucket_terms.specs.declared.reply.Reply.TheVariants.{ListedV1, BadToken, NoSlot}
 use Rattle.bucket_terms.specs.Listing.{is_under, is_admitted, group_len, entry_by, entry_of, is_same_group, entries_of, page_of}
 use Rattle.bucket_terms.specs.V1Listing.{plain, marker_point, v1_page}
 use Rattle.bucket_terms.specs.PageParts.{listing}
@@ -28,7 +28,7 @@ use Rattle.bucket_terms.specs.LegalRun.{Resumed, next_of}
 use Rattle.key_names.specs.Names.{name_at}
 use Rattle.answer_text.specs.InRange.{HasRecord, IsPageOf, IsReplyOf}
 use Rattle.client_run.specs.Listing.{HasPageInRange}
-use Rattle.replay_check.specs.Answering.{IsLook, kept_by, absent_by, own_reply, next_page, IsRefusal, slot_reply}
+use Rattle.replay_check.specs.Answering.{IsLook, kept_by, absent_by, own_reply, next_page, IsRefusal}
 
 -- the change puts, where it puts, a value below the count
 abbrev pub PutsBelow : ℕ → Change → Type 0

@@ -1,17 +1,13 @@
 -- The records of a session's updates, and of the maps of its history.
-use Rattle.std.proofs.Common.{◌≡◌, ℕ, ◌<◌, All, Any, IfSome, List, length, map, Option, Some, None, refl, sym, ap, ◌∙◌, subst}
+use Rattle.std.proofs.Common.{◌≡◌, ℕ, ◌<◌, All, Any, IfSome, List, length, Some, sym, subst}
 use Rattle.std.specs.List.{slice_get}
-use Rattle.std.proofs.lemmas.Option.{slice_get-get_or, slice_get_within, get_or_from_slice_get}
+use Rattle.std.proofs.lemmas.Option.{slice_get-get_or}
 use Rattle.std.proofs.lemmas.List.Elements.{All-map, All-weaker}
-use Rattle.key_names.specs.Names.{IsRank}
 use Rattle.key_map.specs.declared.pair.Pair.{Pair}
 use Rattle.key_map.specs.declared.update.Update.{Update}
-use Rattle.key_map.specs.declared.update.Change.{Change}
-use Rattle.key_map.specs.History.{after}
-use Rattle.key_map.specs.PlainMap.{RoomyMap}
 use Rattle.bucket_terms.specs.declared.request.Request.{Request}
 use Rattle.bucket_terms.specs.declared.request.Request.TheVariants.{Put, PutNew, Delete, Head, List as ListRequest, ListV1, Next}
-use Rattle.bucket_terms.specs.LegalRun.{RequestLine, IsChangeOf, lines_of}
+use Rattle.bucket_terms.specs.LegalRun.{RequestLine, IsChangeOf}
 use Rattle.request_lines.specs.declared.session.Asked.{Asked}
 use Rattle.request_lines.specs.declared.session.ClientPart.{ClientPart}
 use Rattle.request_lines.specs.declared.session.Session.{Session}
@@ -23,7 +19,7 @@ use Rattle.replay_check.specs.Replaying.{IsReplayed}
 use Rattle.replay_check.specs.Telling.{IsRead, IsOfSession}
 use Rattle.replay_check.specs.Looking.{AreMade}
 use Rattle.replay_check.proofs.Recorded.{PutsBelow, below_after}
-use Rattle.replay_check.proofs.SessionLines.{each_at, part_at, lines_are, part_of, lines_of_part}
+use Rattle.replay_check.proofs.SessionLines.{each_at, part_of, lines_of_part}
 use Rattle.replay_check.proofs.UsedBefore.{line_of_update}
 
 puts_below : (count : ℕ) (dir : List (List ℕ)) (u : Update) (request : Request) → IfSome (record_place request) (λ place. place < count) → IsChangeOf dir u request → PutsBelow count u.change
@@ -55,6 +51,6 @@ module _ (session : Session) (dir : List (List ℕ)) (read : IsRead session dir)
   all_puts : All (λ (u : Update). PutsBelow (length session.records) u.change) updates
   all_puts i d inside = puts i _ (slice_get-get_or updates i d inside)
 
-  pub recorded_map : (replay : Replay) (at : ℕ) → IsReplayed replay updates at → All (λ (p : Pair). p.val < length session.records) replay.map.pairs
+  pub recorded_map : (replay : Replay) (at : ℕ) → IsReplayed replay updates at → All (λ (p : Pair). p.val < length session.records) replay.map
   recorded_map replay at replayed =
-      subst (λ (m : RoomyMap). All (λ (p : Pair). p.val < length session.records) m.pairs) (sym replayed.map_is) (below_after (length session.records) updates at all_puts)
+      subst (λ (m : List Pair). All (λ (p : Pair). p.val < length session.records) m) (sym replayed.map_is) (below_after (length session.records) updates at all_puts)

@@ -1,7 +1,7 @@
 -- Where a client's reply lines stand in a text.
-use Rattle.std.proofs.Common.{◌≡◌, ℕ, zero, suc, ◌+◌, ◌-◌, ◌<◌, ◌≤◌, min, List, [], ◌∷◌, length, take, drop, map, get_or, refl, sym, ap, ◌∙◌, arith}
+use Rattle.std.proofs.Common.{◌≡◌, ℕ, zero, suc, ◌+◌, ◌<◌, ◌≤◌, List, [], ◌∷◌, length, take, drop, get_or, ◌∙◌, arith}
 use Rattle.std.specs.Borrow.{Bor}
-use Rattle.std.proofs.lemmas.List.{get_or-take, get_or-drop, get_or-map, length-take, length-drop, length-map}
+use Rattle.std.proofs.lemmas.List.{get_or-take, get_or-drop, get_or-map, length-take, length-drop}
 use Rattle.bucket_terms.specs.LegalRun.{RequestLine, lines_of}
 use Rattle.text_laws.specs.WrongLine.{Checked, HasAllParts, requests_of, reply_texts, first_reply, text_at}
 use Rattle.replay_check.specs.Looking.{texts_of}

@@ -1,15 +1,12 @@
 -- What is found for a request line, by what is known of it.
-use Rattle.std.proofs.Common.{◌≡◌, ◌≢◌, ℕ, zero, suc, ◌+◌, ◌-◌, ◌<◌, ◌≤◌, Bool, List, length, Option, Some, None, inl, inr, refl, sym, ap, ◌∙◌, subst, arith}
+use Rattle.std.proofs.Common.{◌≡◌, ℕ, suc, ◌+◌, ◌-◌, ◌<◌, ◌≤◌, List, length, Option, Some, None, inl, inr, sym, ap, ◌∙◌, subst, arith}
 use Rattle.std.specs.List.{slice_get}
 use Rattle.std.proofs.lemmas.Option.{same_Some, none-some}
 use Rattle.std.proofs.lemmas.Bool.{cases_lt}
-use Rattle.key_map.specs.declared.update.Update.{Update}
 use Rattle.key_map.specs.declared.pair.Pair.{Pair}
 use Rattle.key_map.specs.KeyMap.{map_has, after}
-use Rattle.key_map.specs.PlainMap.{RoomyMap}
 use Rattle.bucket_terms.specs.declared.reply.Reply.{Reply}
-use Rattle.bucket_terms.specs.declared.request.Request.{Request}
-use Rattle.bucket_terms.specs.LegalRun.{RequestLine, Setting, Answered, IsOf, IsChangeOf, MakesNone, last_listing}
+use Rattle.bucket_terms.specs.LegalRun.{RequestLine, Setting, Answered, IsOf, last_listing}
 use Rattle.replay_check.specs.declared.replay.Replay.{Replay}
 use Rattle.replay_check.specs.declared.turns.Client.{Client}
 use Rattle.replay_check.specs.Answering.{IsOwn, own_reply, IsLook, IsRefusal, IsTheReply}
@@ -37,10 +34,10 @@ module _ (s : Setting) (earlier : List Answered) (asked : RequestLine) (replay :
 
     -- the map is that at the place
     pub was_looked : (found : Option Reply) → KnowsTurn s earlier asked replay None client → client.seen ≤ at → replay.at ≡ at
-        → IsLook s.dir replay.map.pairs client.last asked.request found → IsFound s earlier asked (Some at) found
+        → IsLook s.dir replay.map client.last asked.request found → IsFound s earlier asked (Some at) found
     was_looked found knows most here look =
         let within : replay.at ≤ length s.updates = knows.replayed.within in
-        let map : replay.map.pairs ≡ after s.updates at = ap (λ (m : RoomyMap). m.pairs) knows.replayed.map_is ∙ ap (after s.updates) here in
+        let map : replay.map ≡ after s.updates at = knows.replayed.map_is ∙ ap (after s.updates) here in
         let on_map : IsLook s.dir (after s.updates at) client.last asked.request found = subst (λ (m : List Pair). IsLook s.dir m client.last asked.request found) map look in
         let last = subst (λ (o : Option Reply). IsLook s.dir (after s.updates at) o asked.request found) knows.last_is on_map in
         looked_found s knows.rising earlier asked client.seen knows.seen at found (omega arith) most knows.own_is

@@ -1,5 +1,5 @@
 -- The first wrong line, where no line is due any more.
-use Rattle.std.proofs.Common.{◌≡◌, ℕ, zero, suc, ◌+◌, ◌^◌, ◌<◌, ◌≤◌, List, [], ◌∷◌, ◌++◌, length, take, get_or, Option, Some, None, IfSome, inl, inr, refl, sym, ap, ◌∙◌, subst, arith}
+use Rattle.std.proofs.Common.{◌≡◌, ℕ, zero, suc, ◌+◌, ◌<◌, ◌≤◌, List, [], ◌∷◌, ◌++◌, length, take, get_or, Option, Some, None, IfSome, inl, inr, refl, sym, ap, ◌∙◌, subst, arith}
 use Rattle.std.specs.List.{slice_get}
 use Rattle.std.specs.Option.{unwrap_or}
 use Rattle.std.proofs.lemmas.Bool.{cases_lt}
@@ -7,10 +7,10 @@ use Rattle.std.proofs.lemmas.Option.{slice_get-get_or, IfSome_then}
 use Rattle.std.proofs.lemmas.List.{take_all, length_push, get_or_append_left, get_or_push}
 use Rattle.key_map.specs.declared.update.Update.{Update}
 use Rattle.bucket_terms.specs.declared.reply.Placed.{Placed}
-use Rattle.bucket_terms.specs.LegalRun.{RequestLine, answered_lines, lines_of}
-use Rattle.text_laws.specs.WrongLine.{Checked, IsReplyLine, AreReplies, AreAllReplies, IsWrongReply, reply_texts, first_reply, text_at}
+use Rattle.bucket_terms.specs.LegalRun.{RequestLine, lines_of}
+use Rattle.text_laws.specs.WrongLine.{Checked, IsReplyLine, AreReplies, AreAllReplies, IsWrongReply, reply_texts, text_at}
 use Rattle.replay_check.specs.declared.turns.Client.{Client}
-use Rattle.replay_check.specs.Looking.{HasCome, IsReadyAt, AreReady, answers_of}
+use Rattle.replay_check.specs.Looking.{IsReadyAt, AreReady, answers_of}
 use Rattle.replay_check.proofs.TextPlaces.{few_replies}
 
 -- a list for each number below a bound

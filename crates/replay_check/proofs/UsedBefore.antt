@@ -1,12 +1,12 @@
 -- How many updates a client's earlier lines have, from one line to the next.
-use Rattle.std.proofs.Common.{◌≡◌, ℕ, zero, suc, ◌+◌, ◌<◌, ◌≤◌, ◌⊎◌, Bool, true, false, cond, ltb, ◌==◌, ◌&&◌, nat_lt, All, Any, List, [], ◌∷◌, length, get_or, Option, Some, None, is_some, if◌then◌else◌, inl, inr, refl, sym, ap, ◌∙◌, subst, arith}
+use Rattle.std.proofs.Common.{◌≡◌, ℕ, zero, suc, ◌+◌, ◌<◌, ◌≤◌, ◌⊎◌, Bool, true, false, cond, ◌==◌, ◌&&◌, nat_lt, Any, List, [], ◌∷◌, get_or, Option, Some, None, is_some, inl, inr, refl, sym, ap, ◌∙◌, subst, arith}
 use Rattle.std.specs.List.{count_by, slice_get}
 use Rattle.std.proofs.lemmas.Bool.{cases_Bool, cases_eq, cases_lt}
 use Rattle.std.proofs.lemmas.Bool.Decides.{nat_tests}
 use Rattle.std.proofs.lemmas.Option.{same_Some, none-some, slice_get_within, slice_get-get_or, get_or_from_slice_get}
 use Rattle.std.proofs.lemmas.List.Sums.{sum_by-cons}
 use Rattle.key_map.specs.declared.update.Update.{Update}
-use Rattle.bucket_terms.specs.LegalRun.{RequestLine, IsOf, MakesNone, lines_of}
+use Rattle.bucket_terms.specs.LegalRun.{RequestLine, IsOf, lines_of}
 use Rattle.request_lines.specs.SessionLaws.{Rise}
 use Rattle.text_laws.specs.WrongLine.{Checked, Makes}
 use Rattle.replay_check.specs.Turns.{IsOwnPlace, used_before}

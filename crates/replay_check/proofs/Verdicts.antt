@@ -1,8 +1,7 @@
 -- What a verdict says, from the lines to the whole text.
-use Rattle.std.proofs.Common.{◌≡◌, ◌↔◌, ℕ, zero, suc, ◌+◌, ◌-◌, ◌^◌, ◌<◌, ◌≤◌, ◌==◌, Bool, true, false, if◌then◌else◌, All, List, Option, [], ◌∷◌, length, map, take, drop, inl, inr, refl, sym, ap, ◌∙◌, subst, arith}
+use Rattle.std.proofs.Common.{◌≡◌, ◌↔◌, ℕ, ◌-◌, ◌^◌, ◌<◌, ◌≤◌, All, List, Option, length, map, take, drop, refl, sym, ap, ◌∙◌, subst, arith}
 use Rattle.std.specs.Borrow.{Bor}
-use Rattle.std.proofs.lemmas.Bool.{cases_Bool}
-use Rattle.std.proofs.lemmas.List.{take-map, drop-map, length-map, length-drop, length-take}
+use Rattle.std.proofs.lemmas.List.{take-map, drop-map, length-map, length-drop}
 use Rattle.std.proofs.lemmas.List.Elements.{All-map, All-weaker}
 use Rattle.bucket_terms.specs.LegalRun.{RequestLine}
 use Rattle.key_names.specs.Names.{Rises}
@@ -10,7 +9,7 @@ use Rattle.request_lines.specs.declared.session.ClientPart.{ClientPart}
 use Rattle.request_lines.specs.declared.session.Session.{Session}
 use Rattle.request_lines.specs.Session.{request_lines}
 use Rattle.request_lines.specs.SessionLaws.{HasLineNumber, Rise, all_requests}
-use Rattle.text_laws.specs.WrongLine.{Checked, HasAllParts, AreRight, AreJournal, IsWrongLine, journal_texts, requests_of, text_lines, with_byte}
+use Rattle.text_laws.specs.WrongLine.{Checked, HasAllParts, IsWrongLine, journal_texts, requests_of, text_lines}
 use Rattle.text_laws.specs.TextLaws.{IsCheckable, IsLegalText}
 use Rattle.text_laws.proofs.FromLegal.{from_legal}
 use Rattle.text_laws.proofs.ToLegal.{to_legal}

@@ -1,6 +1,6 @@
 -- Helper: the headline does not rest on this file.
 -- Where the digits of a text stand.
-use Rattle.std.specs.Prelude.{◌≡◌, ℕ, ◌+◌, ◌-◌, ◌<◌, ◌≤◌, true, false, List, ◌++◌, length, codes, decimal, slice_index_or}
+use Rattle.std.specs.Prelude.{◌≡◌, ℕ, ◌-◌, ◌<◌, ◌≤◌, true, false, List, ◌++◌, length, codes, decimal, slice_index_or}
 use Rattle.std.specs.Char.{is_ascii_digit}
 
 abbrev pub byte_at : List ℕ → ℕ → ℕ

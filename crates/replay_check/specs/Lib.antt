@@ -5,4 +5,5 @@ pub mod Looking
 pub mod Own
 pub mod Replaying
 pub mod Telling
+pub mod TreePairs
 pub mod Turns

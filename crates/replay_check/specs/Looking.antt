@@ -1,12 +1,12 @@
 -- Helper: the headline does not rest on this file.
 -- What is found of the reply lines, one after another.
-use Rattle.std.specs.Prelude.{◌≡◌, ℕ, zero, ◌+◌, ◌-◌, ◌*◌, ◌^◌, ◌<◌, ◌≤◌, ◌==◌, Bool, List, [], ◌∷◌, ◌++◌, length, map, take, Any, Option, Some, None, is_some, IfSome, MatchOption, slice_get, if◌then◌else◌}
+use Rattle.std.specs.Prelude.{◌≡◌, ℕ, ◌+◌, ◌-◌, ◌*◌, ◌^◌, ◌<◌, ◌≤◌, ◌==◌, List, [], ◌∷◌, ◌++◌, length, map, take, Any, Option, Some, is_some, IfSome, MatchOption, slice_get, if◌then◌else◌}
 use Rattle.std.specs.Borrow.{Bor}
 use Rattle.std.specs.Option.{unwrap_or, ForSome}
 use Rattle.key_map.specs.declared.update.Update.{Update}
 use Rattle.bucket_terms.specs.declared.reply.Placed.{Placed}
 use Rattle.bucket_terms.specs.declared.request.Request.{Request}
-use Rattle.bucket_terms.specs.LegalRun.{RequestLine, Answered, answered_lines, is_listing, last_listing, lines_of, slots_of}
+use Rattle.bucket_terms.specs.LegalRun.{RequestLine, Answered, answered_lines, is_listing, last_listing, lines_of}
 use Rattle.answer_text.specs.Pieces.{place_text}
 use Rattle.client_run.specs.Listing.{HasPageInRange}
 use Rattle.text_laws.specs.WrongLine.{Checked, AreJournal, journal_texts, IsReplyLine, AreReplies, AreAllReplies, IsWrongReply, AreOfOneLine, HasAllParts, Makes, reply_texts, first_reply, text_at}

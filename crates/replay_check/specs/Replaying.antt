@@ -2,16 +2,14 @@
 -- A map that is brought forward along a history.
 use Rattle.std.specs.Prelude.{◌≡◌, ℕ, ◌-◌, ◌<◌, ◌≤◌, List, length, Some, slice_get}
 use Rattle.key_map.specs.declared.update.Update.{Update}
-use Rattle.key_map.specs.PlainMap.{roomy}
 use Rattle.key_map.specs.History.{after}
 use Rattle.key_map.specs.Map.{map_has}
 use Rattle.replay_check.specs.declared.replay.Replay.{Replay}
 
--- the map is that after so many of these updates, and has room for them all
+-- the map is that after so many of these updates
 pub record IsReplayed (r : Replay) (updates : List Update) (at : ℕ) : Type 0 where
   pub at_is : r.at ≡ at
   pub within : at ≤ length updates
-  pub map_is : r.map ≡ roomy (after updates at) (length updates)
-  pub size : length r.map.pairs ≤ at
+  pub map_is : r.map ≡ after updates at
   -- whether the key of the last of them was there just before it
   pub was_is : (u : Update) → 0 < at → slice_get updates (at - 1) ≡ Some u → r.was ≡ map_has u.key (after updates (at - 1))

@@ -2,7 +2,7 @@
 ghost use Rattle.std.specs.Prelude.{◌≡◌, ℕ, List, Some, None, Option, Contains, IfSome, IfOk, MatchOption};
 ghost use Rattle.std.specs.Option.{option_copied, ForSome};
 ghost use Rattle.key_names.specs.Names.{IsRank};
-ghost use Rattle.key_map.specs.Map.{IsMap, map_has, value_at};
+ghost use Rattle.key_map.specs.Map.{map_has};
 ghost use Rattle.bucket_terms.specs.declared.token_point.TokenPoint.{TokenPoint as Point};
 ghost use Rattle.bucket_terms.specs.declared.request.Request.TheVariants.{List as ListRequest, Next};
 ghost use Rattle.bucket_terms.specs.declared.reply.Reply.{Reply as AnyReply};
@@ -10,17 +10,20 @@ ghost use Rattle.bucket_terms.specs.declared.reply.Reply.TheVariants.{Listed, Li
 ghost use Rattle.bucket_terms.specs.Listing.{page_of};
 ghost use Rattle.bucket_terms.specs.V1Listing.{v1_page};
 ghost use Rattle.bucket_terms.specs.LegalRun.{IsPointOf, next_of};
-ghost use Rattle.bucket_terms.specs.RunParts.{head_by, head_answer};
+ghost use Rattle.bucket_terms.specs.PageInRange.{IsInRange};
+ghost use Rattle.bucket_terms.specs.RunParts.{head_answer};
 ghost use Rattle.request_lines.specs.SessionLaws.{requested_name};
 ghost use Rattle.client_run.specs.Listing.{HasPageInRange};
 ghost use Rattle.replay_check.specs.Answering.{own_reply, kept_by, absent_by, slot_reply, start_reply, next_page, IsListedFrom, IsLook, IsRefusal};
 
-use bucket_terms::{BoxedQuery, BoxedV1Query, ListQuery, Reply, Request, TokenPoint, V1Query};
+use crate::replay_map::ReplayMap;
+use bucket_terms::{
+    BoxedQuery, BoxedV1Query, ListQuery, Page, Reply, Request, TokenPoint, V1Query,
+};
 use client_run::{Resumption, Start, resume, start_of};
-use key_map::{Pair, PlainMap};
 use key_names::{Directory, NoMemory, Text};
 use list_v1::{plain_query, point_of};
-use page_rules::page_by_look_ups;
+use page_rules::PageCursor;
 use std::alloc::Global;
 
 /// The reply of a request that was refused, and so has no place: `used` are the updates of its client's earlier lines. None
@@ -108,7 +111,7 @@ pub(crate) fn of_update(request: &Request, was: bool) -> Option<Reply>
 /// The reply of a request that made no update, where the map is that at its place. None where it can't have looked there.
 pub(crate) fn of_look(
     alloc: Global,
-    map: &PlainMap,
+    map: &ReplayMap,
     dir: &Directory,
     last: Option<&Reply>,
     request: &Request,
@@ -116,7 +119,7 @@ pub(crate) fn of_look(
 ) -> Result<Option<Reply>, NoMemory>
     requires known { IfSome (requested_name request.now) (Contains dir.now) }
     requires last_in_range { ForSome (option_copied last) (HasPageInRange dir.now) }
-    ensures look { IfOk result (IsLook dir.now map.now.pairs (option_copied last.entry) request.now) }
+    ensures look { IfOk result (IsLook dir.now map.now (option_copied last.entry) request.now) }
     ensures in_range { IfOk result (λ found. ForSome found (HasPageInRange dir.now)) }
 {
     match request {
@@ -130,8 +133,8 @@ pub(crate) fn of_look(
     }
 }
 
-fn of_kept(map: &PlainMap, key: u64) -> Option<Reply>
-    ensures { result ≡ kept_by (map_has key map.now.pairs) }
+fn of_kept(map: &ReplayMap, key: u64) -> Option<Reply>
+    ensures { result ≡ kept_by (map_has key map.now) }
 {
     if map.has(key) {
         Some(Reply::Exists)
@@ -140,8 +143,8 @@ fn of_kept(map: &PlainMap, key: u64) -> Option<Reply>
     }
 }
 
-fn of_absent(map: &PlainMap, key: u64) -> Option<Reply>
-    ensures { result ≡ absent_by (map_has key map.now.pairs) }
+fn of_absent(map: &ReplayMap, key: u64) -> Option<Reply>
+    ensures { result ≡ absent_by (map_has key map.now) }
 {
     if map.has(key) {
         None
@@ -150,31 +153,22 @@ fn of_absent(map: &PlainMap, key: u64) -> Option<Reply>
     }
 }
 
-fn of_head(map: &PlainMap, key: u64) -> Reply
-    ensures { result ≡ head_answer key map.now.pairs }
+fn of_head(map: &ReplayMap, key: u64) -> Reply
+    ensures { result ≡ head_answer key map.now }
 {
-    // the call's clauses tell the proof that the keys rise
-    let _rising = map.pairs();
-    head_reply(key, map.first_from(key))
-}
-
-// The answer of a HEAD of this key, where `first` is the first pair from the key on.
-fn head_reply(key: u64, first: Option<Pair>) -> Reply
-    ensures { result ≡ head_by (value_at key first) }
-{
-    match first {
-        Some(pair) if pair.key == key => Reply::Found { val: pair.val },
-        _ => Reply::Missing,
+    match map.get(key) {
+        Some(val) => Reply::Found { val },
+        None => Reply::Missing,
     }
 }
 
 fn of_list(
     alloc: Global,
-    map: &PlainMap,
+    map: &ReplayMap,
     dir: &Directory,
     query: &ListQuery,
 ) -> Result<Option<Reply>, NoMemory>
-    ensures look { IfOk result (λ found. MatchOption found ((point : Option Point) → ¬ (IsPointOf query.now point)) (IsListedFrom dir.now map.now.pairs query.now)) }
+    ensures look { IfOk result (λ found. MatchOption found ((point : Option Point) → ¬ (IsPointOf query.now point)) (IsListedFrom dir.now map.now query.now)) }
     ensures in_range { IfOk result (λ found. ForSome found (HasPageInRange dir.now)) }
 {
     match start_of(alloc, query)? {
@@ -186,12 +180,12 @@ fn of_list(
 
 fn of_next(
     alloc: Global,
-    map: &PlainMap,
+    map: &ReplayMap,
     dir: &Directory,
     last: Option<&Reply>,
 ) -> Result<Option<Reply>, NoMemory>
     requires { ForSome (option_copied last) (HasPageInRange dir.now) }
-    ensures look { IfOk result (λ found. MatchOption (next_of dir.now (option_copied last.entry)) (found ≡ None) (λ next. found ≡ Some (next_page dir.now map.now.pairs next))) }
+    ensures look { IfOk result (λ found. MatchOption (next_of dir.now (option_copied last.entry)) (found ≡ None) (λ next. found ≡ Some (next_page dir.now map.now next))) }
     ensures in_range { IfOk result (λ found. ForSome found (HasPageInRange dir.now)) }
 {
     match resume(alloc, dir, last)? {
@@ -204,28 +198,56 @@ fn of_next(
 
 fn listed(
     alloc: Global,
-    map: &PlainMap,
+    map: &ReplayMap,
     dir: &Directory,
     query: ListQuery,
     point: Option<TokenPoint>,
 ) -> Result<Reply, NoMemory>
-    ensures page { IfOk result (λ reply. reply ≡ Listed query (page_of dir.now query point map.now.pairs)) }
+    ensures page { IfOk result (λ reply. reply ≡ Listed query (page_of dir.now query point map.now)) }
     ensures in_range { IfOk result (HasPageInRange dir.now) }
 {
     let query = BoxedQuery::new(alloc, query)?;
-    let page = page_by_look_ups(alloc, dir, map.pairs(), query.get(), point.as_ref())?;
+    let page = page_from(alloc, dir, map, query.get(), point.as_ref())?;
     Ok(Reply::Listed { query, page })
 }
 
-fn of_v1(alloc: Global, map: &PlainMap, dir: &Directory, query: &V1Query) -> Result<Reply, NoMemory>
-    ensures page { IfOk result (λ reply. reply ≡ ListedV1 query.now (v1_page dir.now query.now map.now.pairs)) }
+fn of_v1(
+    alloc: Global,
+    map: &ReplayMap,
+    dir: &Directory,
+    query: &V1Query,
+) -> Result<Reply, NoMemory>
+    ensures page { IfOk result (λ reply. reply ≡ ListedV1 query.now (v1_page dir.now query.now map.now)) }
     ensures in_range { IfOk result (HasPageInRange dir.now) }
 {
     let plain = plain_query(alloc, query)?;
     let point = point_of(alloc, query)?;
     let query = BoxedV1Query::new(alloc, query.copy(alloc)?)?;
-    let page = page_by_look_ups(alloc, dir, map.pairs(), &plain, point.as_ref())?;
+    let page = page_from(alloc, dir, map, &plain, point.as_ref())?;
     Ok(Reply::ListedV1 { query, page })
+}
+
+// The page of a query from a point on, by one look for each entry.
+fn page_from(
+    alloc: Global,
+    dir: &Directory,
+    map: &ReplayMap,
+    query: &ListQuery,
+    point: Option<&TokenPoint>,
+) -> Result<Page, NoMemory>
+    ensures page { IfOk result (λ page. page ≡ page_of dir.now query.now (option_copied point.entry) map.now) }
+    ensures in_range { IfOk result (IsInRange dir.now) }
+{
+    // the call's clauses tell the proof that the keys rise
+    let _keys = map.len();
+    let mut cursor = PageCursor::new(alloc, dir, query, point);
+    while let Some(rank) = cursor.next_rank() {
+        match map.first_from(rank) {
+            Some(pair) => cursor.take(alloc, pair)?,
+            None => break,
+        }
+    }
+    Ok(cursor.finish())
 }
 
 /// The rank of a name that the directory has. It is searched for only where the hint is not the rank.

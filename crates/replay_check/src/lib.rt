@@ -13,6 +13,7 @@ mod looking;
 mod numbers;
 mod own;
 mod replay;
+mod replay_map;
 mod texts;
 mod turns;
 mod verdict;

@@ -37,7 +37,7 @@ pub(crate) fn line_reply(
 ) -> Result<Option<Placed>, NoMemory>
     requires known { IfSome (requested_name asked.now.request) (Contains dir.now) }
     requires last_in_range { ForSome client.now.last (HasPageInRange dir.now) }
-    requires recorded { All (λ (p : AnyPair). p.val < length records.now) replay.now.map.pairs }
+    requires recorded { All (λ (p : AnyPair). p.val < length records.now) replay.now.map }
     ensures looked { IfOk result (λ found. (c : Checked) (updates : List AnyUpdate) (earlier : List Answered) → c.dir ≡ dir.now → c.records ≡ records.now
         → client.now.due ≡ replay.now.at → IsDue c updates number earlier (request_line asked.now) text.now client.now → length updates < 2 ^ 64
         → KnowsTurn (setting c updates number) earlier (request_line asked.now) replay.now own client.now

@@ -23,10 +23,10 @@ pub(crate) fn first_wrong(alloc: Global, basis: &Basis<'_>) -> Result<Option<usi
     ensures { IfOk result (IsFirstWrong (against basis.now) basis.now.updates.now (texts_in basis.now)) }
 {
     let mut clients = starts(alloc, basis)?;
-    let mut replay = Replay::new(alloc, basis.updates)?;
+    let mut replay = Replay::new(alloc);
     look_all(alloc, basis, &replay, &mut clients)?;
     for _ in 0..basis.updates.len() {
-        replay.advance(basis.updates);
+        replay.advance(basis.updates)?;
         look_all(alloc, basis, &replay, &mut clients)?;
     }
     Ok(first_unfinished(basis, &clients))

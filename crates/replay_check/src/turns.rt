@@ -54,7 +54,7 @@ pub(crate) fn reply_at(
     ensures found { IfOk result (λ found. (s : Setting) (earlier : List Answered) → s.dir ≡ dir.now → KnowsTurn s earlier (request_line asked.now) replay.now own client.now
         → IsFound s earlier (request_line asked.now) at found) }
     ensures in_range { IfOk result (λ found. ForSome found (HasPageInRange dir.now)) }
-    ensures recorded { (records : List AnyRecord) → All (λ (p : AnyPair). p.val < length records) replay.now.map.pairs → IfOk result (λ found. IfSome found (IsReplyOf dir.now records)) }
+    ensures recorded { (records : List AnyRecord) → All (λ (p : AnyPair). p.val < length records) replay.now.map → IfOk result (λ found. IfSome found (IsReplyOf dir.now records)) }
 {
     match at {
         Some(at) => placed(alloc, dir, replay, client, own, asked, hint, at),
@@ -106,7 +106,7 @@ fn placed(
     ensures found { IfOk result (λ found. (s : Setting) (earlier : List Answered) → s.dir ≡ dir.now → KnowsTurn s earlier (request_line asked.now) replay.now own client.now
         → IsFound s earlier (request_line asked.now) (Some at) found) }
     ensures in_range { IfOk result (λ found. ForSome found (HasPageInRange dir.now)) }
-    ensures recorded { (records : List AnyRecord) → All (λ (p : AnyPair). p.val < length records) replay.now.map.pairs → IfOk result (λ found. IfSome found (IsReplyOf dir.now records)) }
+    ensures recorded { (records : List AnyRecord) → All (λ (p : AnyPair). p.val < length records) replay.now.map → IfOk result (λ found. IfSome found (IsReplyOf dir.now records)) }
 {
     if at < client.seen {
         return Ok(None);

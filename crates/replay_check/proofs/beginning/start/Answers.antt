@@ -1,8 +1,6 @@
-use Rattle.std.proofs.Common.{◌≡◌, ℕ, ◌+◌, ◌^◌, ◌<◌, ◌≤◌, List, length, map, Option, Some, None, refl, sym, ap, ◌∙◌, subst, arith}
+use Rattle.std.proofs.Common.{◌≡◌, None, refl, sym, ap, ◌∙◌, arith}
 use Rattle.std.specs.Option.{unwrap_or}
-use Rattle.bucket_terms.specs.LegalRun.{lines_of}
 use Rattle.bucket_terms.specs.RunParts.{default_slots}
-use Rattle.request_lines.specs.Session.{request_lines}
 use Rattle.replay_check.specs.Looking.{against, texts_in}
 use Rattle.replay_check.proofs.BasisLaws.{there, short_64, few_of_part, inside, lines_rise}
 use Rattle.replay_check.proofs.NextLines.{come_first}

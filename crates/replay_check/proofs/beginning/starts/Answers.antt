@@ -1,10 +1,10 @@
-use Rattle.std.proofs.Common.{◌≡◌, ℕ, zero, suc, ◌<◌, ◌+◌, ◌≤◌, ◌⊎◌, List, [], ◌∷◌, ◌++◌, Option, Some, None, length, take, get_or, inl, inr, refl, sym, ap, ◌∙◌, subst, arith}
+use Rattle.std.proofs.Common.{◌≡◌, ℕ, zero, suc, ◌<◌, ◌+◌, ◌⊎◌, List, [], ◌∷◌, ◌++◌, Some, length, take, inl, inr, refl, sym, ap, ◌∙◌, subst, arith}
 use Rattle.std.specs.List.{slice_get}
 use Rattle.std.proofs.lemmas.Option.{same_Some, none-some}
 use Rattle.std.proofs.lemmas.List.{length_push}
 use Rattle.bucket_terms.specs.LegalRun.{lines_of}
 use Rattle.request_lines.specs.declared.session.ClientPart.{ClientPart}
-use Rattle.text_laws.specs.WrongLine.{first_reply, requests_of}
+use Rattle.text_laws.specs.WrongLine.{requests_of}
 use Rattle.replay_check.specs.declared.turns.Client.{Client}
 use Rattle.replay_check.specs.Looking.{IsReadyOn, against}
 use Rattle.replay_check.proofs.BasisLaws.{there, lines_long, first_few, inside, part_count}

@@ -1,4 +1,4 @@
-use Rattle.std.proofs.Common.{◌≡◌, ℕ, ◌<◌, ◌≤◌, length, Some}
+use Rattle.std.proofs.Common.{◌≡◌, ℕ, length, Some}
 use Rattle.std.specs.List.{slice_get}
 use Rattle.text_laws.specs.WrongLine.{first_reply}
 use Rattle.replay_check.specs.declared.turns.Client.{Client}

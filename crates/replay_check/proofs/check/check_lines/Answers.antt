@@ -1,10 +1,8 @@
-use Rattle.std.proofs.Common.{◌≡◌, ℕ, ◌+◌, ◌-◌, ◌<◌, ◌≤◌, List, [], length, map, take, Option, Some, inl, inr, refl, sym, ap, ◌∙◌, subst, arith}
+use Rattle.std.proofs.Common.{◌≡◌, ℕ, List, [], Option, inl, inr, refl, sym, subst, arith}
 use Rattle.key_map.specs.declared.update.Update.{Update}
 use Rattle.request_lines.specs.declared.session.Session.{Session}
-use Rattle.request_lines.specs.Session.{request_lines}
-use Rattle.text_laws.specs.WrongLine.{Checked, AreJournal, HasAllParts, IsWrongUpdate, journal_texts, requests_of}
+use Rattle.text_laws.specs.WrongLine.{AreJournal, IsWrongUpdate, journal_texts}
 use Rattle.replay_check.specs.declared.journal.Journal.TheVariants.{Right, Wrong as WrongPlace}
-use Rattle.replay_check.specs.declared.verdict.Verdict.TheVariants.{Wrong}
 use Rattle.replay_check.specs.Own.{AreOwn}
 use Rattle.replay_check.specs.Telling.{IsOfSession, IsJournalOf, checked}
 use Rattle.replay_check.specs.Judging.{IsVerdict}

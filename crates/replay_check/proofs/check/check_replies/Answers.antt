@@ -1,7 +1,6 @@
-use Rattle.std.proofs.Common.{◌≡◌, ℕ, ◌+◌, ◌<◌, Some, subst, arith}
-use Rattle.text_laws.specs.WrongLine.{IsWrongReply}
+use Rattle.std.proofs.Common.{subst, arith}
 use Rattle.replay_check.specs.Looking.{IsFirstWrong, against, texts_in}
-use Rattle.replay_check.proofs.BasisJournals.{basis_is, few_lines, wrong_few, wrong_last, wrong_reply, all_right, last_is}
+use Rattle.replay_check.proofs.BasisJournals.{basis_is, few_lines, wrong_few}
 use Rattle.replay_check.proofs.check.check_replies.Goals as goal
 
 pub wrong-requires : goal.wrong-requires

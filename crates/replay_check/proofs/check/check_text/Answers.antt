@@ -1,4 +1,4 @@
-use Rattle.std.proofs.Common.{◌≡◌, ℕ, ◌^◌, ◌<◌, List, length, refl, sym, ap, ◌∙◌, subst, arith}
+use Rattle.std.proofs.Common.{◌≡◌, ℕ, List, length, refl, ap, ◌∙◌, subst, arith}
 use Rattle.std.specs.Borrow.{Bor}
 use Rattle.std.proofs.lemmas.List.{length-map}
 use Rattle.std.proofs.lemmas.Result.{IfOk-weaker}
@@ -27,7 +27,7 @@ returns-clause-legal c =
     let k = checked c.args.session.now c.args.dir.now c.args.slots in
     let w = (goal.at.returns-clause-legal c).After-check_lines in
     IfOk-weaker c.check_lines.result _ _ (λ verdict is.
-        legal_is k c.args.text.now (fine w) verdict (subst (λ (ts : List (List ℕ)). IsVerdict k ts verdict) (same_lines w) is))
+    legal_is k c.args.text.now (fine w) verdict (subst (λ (ts : List (List ℕ)). IsVerdict k ts verdict) (same_lines w) is))
     c.check_lines.ensures
 
 pub returns-clause-wrong : goal.returns-clause-wrong
@@ -35,5 +35,5 @@ returns-clause-wrong c =
     let k = checked c.args.session.now c.args.dir.now c.args.slots in
     let w = (goal.at.returns-clause-wrong c).After-check_lines in
     IfOk-weaker c.check_lines.result _ _ (λ verdict is.
-        wrong_is k c.args.text.now (fine w) verdict (subst (λ (ts : List (List ℕ)). IsVerdict k ts verdict) (same_lines w) is))
+    wrong_is k c.args.text.now (fine w) verdict (subst (λ (ts : List (List ℕ)). IsVerdict k ts verdict) (same_lines w) is))
     c.check_lines.ensures

@@ -1,8 +1,5 @@
-use Rattle.std.proofs.Common.{◌≡◌, ℕ, Result, Ok, Err, IfOk, IfSome, List, Option, Some, None, sym, ap, ◌∙◌, subst}
-use Rattle.bucket_terms.specs.declared.record.Record.{Record}
+use Rattle.std.proofs.Common.{Result, Ok, Err, IfOk, IfSome, Option, Some, None, subst}
 use Rattle.bucket_terms.specs.declared.reply.Reply.{Reply}
-use Rattle.bucket_terms.specs.declared.reply.Placed.{Placed}
-use Rattle.bucket_terms.specs.LegalRun.{Answered}
 use Rattle.answer_text.specs.InRange.{IsReplyOf}
 use Rattle.request_lines.specs.Session.{request_line}
 use Rattle.text_laws.specs.WrongLine.{setting}

@@ -1,11 +1,11 @@
-use Rattle.std.proofs.Common.{◌≡◌, ℕ, ◌+◌, ◌<◌, ◌≤◌, List, length, map, Some, inl, inr, refl, sym, ap, ◌∙◌, subst, arith}
+use Rattle.std.proofs.Common.{◌≡◌, ℕ, ◌+◌, ◌<◌, ◌≤◌, length, Some, inl, inr, refl, sym, ap, ◌∙◌, subst, arith}
 use Rattle.std.specs.List.{slice_get}
 use Rattle.std.proofs.lemmas.Bool.{cases_lt}
 use Rattle.std.proofs.lemmas.Option.{same_Some, slice_get_read}
 use Rattle.std.proofs.lemmas.List.{length-map}
 use Rattle.bucket_terms.specs.LegalRun.{lines_of}
 use Rattle.request_lines.specs.declared.session.ClientPart.{ClientPart}
-use Rattle.request_lines.specs.Session.{request_line, request_lines}
+use Rattle.request_lines.specs.Session.{request_line}
 use Rattle.replay_check.specs.declared.turns.Client.{Client}
 use Rattle.replay_check.specs.Looking.{against, texts_in}
 use Rattle.replay_check.proofs.BasisLaws.{there, few_lines, part_count}

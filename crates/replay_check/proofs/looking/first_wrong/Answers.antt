@@ -1,4 +1,4 @@
-use Rattle.std.proofs.Common.{◌≡◌, ℕ, ◌+◌, length, List, sym, subst, arith}
+use Rattle.std.proofs.Common.{◌≡◌, ℕ, ◌+◌, length, sym, subst, arith}
 use Rattle.replay_check.specs.Looking.{AreReadyOn}
 use Rattle.replay_check.proofs.looking.first_wrong.Goals as goal
 

@@ -1,4 +1,4 @@
-use Rattle.std.proofs.Common.{◌≡◌, ℕ, ◌+◌}
+use Rattle.std.proofs.Common.{◌≡◌, ◌+◌}
 use Rattle.replay_check.specs.Replaying.{IsReplayed}
 use Rattle.replay_check.specs.Looking.{AreReadyOn}
 use Rattle.replay_check.proofs.looking.first_wrong.Given as goal

@@ -1,4 +1,3 @@
-use Rattle.std.proofs.Common.{ℕ, ◌<◌, ◌≤◌}
 use Rattle.replay_check.specs.Looking.{IsReadyOn, looks_left}
 use Rattle.replay_check.proofs.looking.look_on.Given as goal
 

@@ -1,4 +1,4 @@
-use Rattle.std.proofs.Common.{◌≡◌, ℕ, ◌<◌, ◌+◌, All, List, Option, Some, None, length, get_or, sym, ap, ◌∙◌, subst, arith}
+use Rattle.std.proofs.Common.{◌≡◌, ◌<◌, All, List, Some, length, sym, ap, ◌∙◌, subst, arith}
 use Rattle.std.specs.List.{slice_get}
 use Rattle.std.proofs.lemmas.Result.{IfOk-weaker}
 use Rattle.key_map.specs.declared.pair.Pair.{Pair}
@@ -7,7 +7,7 @@ use Rattle.bucket_terms.specs.LegalRun.{lines_of}
 use Rattle.request_lines.specs.Session.{request_line}
 use Rattle.replay_check.specs.Own.{history_of}
 use Rattle.replay_check.specs.Turns.{IsOwnPlace}
-use Rattle.replay_check.specs.Looking.{against, texts_in}
+use Rattle.replay_check.specs.Looking.{against}
 use Rattle.replay_check.proofs.NextReplies.{found_next}
 use Rattle.replay_check.proofs.BasisLaws.{in_lines, few_lines, of_session, there, line_at, own_at, text_there_is, lines_long}
 use Rattle.replay_check.proofs.SessionLines.{lines_are}
@@ -26,7 +26,7 @@ bounds-basis-client c = in_lines c.args.basis.now c.requires.basis c.args.number
 pub line_reply-requires-clause-recorded : goal.line_reply-requires-clause-recorded
 line_reply-requires-clause-recorded c =
     let b = c.args.basis.now in
-    subst (λ (rs : List Record). All (λ (p : Pair). p.val < length rs) c.args.replay.now.map.pairs) (sym c.as_slice-records.ensures)
+    subst (λ (rs : List Record). All (λ (p : Pair). p.val < length rs) c.args.replay.now.map) (sym c.as_slice-records.ensures)
     (recorded_map b.session.now b.dir.now c.requires.basis.read (against b) (of_session b) b.updates.now c.requires.basis.made c.args.replay.now c.args.replay.now.at c.requires.here)
 
 pub returns-clause-found : goal.returns-clause-found

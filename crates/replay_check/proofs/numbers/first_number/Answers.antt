@@ -1,4 +1,4 @@
-use Rattle.std.proofs.Common.{ℕ, [], sym, ap, ◌∙◌, decimal, refl, take}
+use Rattle.std.proofs.Common.{[], ◌∙◌, decimal}
 use Rattle.text_laws.proofs.Runs.{digits_of}
 use Rattle.replay_check.proofs.DigitRuns.{front_taken}
 use Rattle.replay_check.proofs.numbers.first_number.Goals as goal

@@ -1,4 +1,4 @@
-use Rattle.std.proofs.Common.{ℕ, sym, ap, ◌∙◌}
+use Rattle.std.proofs.Common.{◌∙◌}
 use Rattle.replay_check.proofs.DigitRuns.{line_told}
 use Rattle.replay_check.proofs.numbers.line_in.Goals as goal
 

@@ -1,4 +1,3 @@
-use Rattle.std.proofs.Common.{ℕ, List, ◌∷◌, ◌++◌, Option, Some, None, refl, sym, ap, ◌∙◌, drop, codes}
 use Rattle.replay_check.proofs.DigitRuns.{place_told}
 use Rattle.replay_check.proofs.numbers.place_in.Goals as goal
 

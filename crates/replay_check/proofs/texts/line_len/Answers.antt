@@ -1,5 +1,3 @@
-use Rattle.std.proofs.Common.{◌+◌, sym, ap, ◌∙◌, drop, ◌∷◌, [], List, ℕ}
-use Rattle.std.proofs.lemmas.List.{take_all}
 use Rattle.replay_check.proofs.TextLines.{found_line, whole_line}
 use Rattle.replay_check.proofs.texts.line_len.Goals as goal
 

@@ -1,4 +1,4 @@
-use Rattle.std.proofs.Common.{◌≡◌, ℕ, Result, Ok, Err, IfOk, IfSome, ◌≤◌, ◌<◌, List, Option, Some, None, sym, ap, ◌∙◌, subst, arith}
+use Rattle.std.proofs.Common.{◌≡◌, ℕ, Result, Ok, Err, IfOk, IfSome, List, Option, Some, None, sym, ap, ◌∙◌, subst, arith}
 use Rattle.std.specs.Option.{option_copied}
 use Rattle.std.proofs.lemmas.Result.{IfOk-weaker}
 use Rattle.std.proofs.lemmas.Option.{same_Some}
@@ -15,7 +15,7 @@ use Rattle.replay_check.proofs.turns.placed.Goals.{then-own-at+else-client-at, e
 pub returns-in-None-clause-found : goal.returns-in-None-clause-found
 returns-in-None-clause-found c = IfOk-weaker c.of_look.result _ _ (λ found look. λ s earlier same knows.
     let asked = request_line c.args.asked.now in
-    let pairs = c.args.replay.now.map.pairs in
+    let pairs = c.args.replay.now.map in
     let none : KnowsTurn s earlier asked c.args.replay.now None c.args.client.now = subst (λ (o : Option ℕ). KnowsTurn s earlier asked c.args.replay.now o c.args.client.now) c.in-None.is knows in
     let here : IsLook s.dir pairs (option_copied c.as_ref.result) c.args.asked.now.request found =
     subst (λ (d : List (List ℕ)). IsLook d pairs (option_copied c.as_ref.result) c.args.asked.now.request found) (sym same) look in
@@ -52,7 +52,7 @@ both (Err e) P Q R f p q = tt
 
 pub returns-in-None-clause-recorded : goal.returns-in-None-clause-recorded
 returns-in-None-clause-recorded c = λ records below.
-    both c.of_look.result _ _ _ (λ found look in_range. look_recorded c.args.dir.now records c.args.replay.now.map.pairs below (option_copied c.as_ref.result) c.args.asked.now.request found look in_range)
+    both c.of_look.result _ _ _ (λ found look in_range. look_recorded c.args.dir.now records c.args.replay.now.map below (option_copied c.as_ref.result) c.args.asked.now.request found look in_range)
     c.of_look.ensures.look c.of_look.ensures.in_range
 
 pub returns-in-Some-clause-recorded : goal.returns-in-Some-clause-recorded
