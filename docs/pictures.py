@@ -102,8 +102,8 @@ def history():
     return p
 
 
-# The files that the headline rests on, by crate, below the part of it that they say. Those of the generated session are not
-# in the picture.
+# The files that the headline rests on, by crate, below the part of it that they say. Those of the generated session and of
+# checks are not in the picture.
 PARTS = [
     ("HasRead, IsTaken", ["the word run; the bytes", "read, and those written"], ["command_words", "outside_io"]),
     ("IsSessionOf", ["the session that", "the input's text says"], ["request_lines"]),
@@ -111,14 +111,14 @@ PARTS = [
     ("session_text", ["its lines of JSON,", "byte for byte"], ["answer_text"]),
 ]
 TOP_FILES = "serve_session"
-OF_SAMPLE = re.compile("Sampl|Summar")
+OF_OTHER_FORMS = re.compile("Sampl|Summar|Check|WrongLine|TextLines")
 
 
 def trusted():
-    """The definition files that TRUSTED.md lists, by crate, without those of the generated session."""
+    """The definition files that TRUSTED.md lists, by crate, without those of the forms `sample` and `check` alone."""
     found = {}
     for crate, name in re.findall(r"^\d+\. `crates/(\w+)/specs/(\w+)\.antt`", (DOCS / "TRUSTED.md").read_text(), re.M):
-        if not OF_SAMPLE.search(name):
+        if not OF_OTHER_FORMS.search(name):
             found.setdefault(crate, []).append(name)
     return found
 

@@ -9,6 +9,7 @@ The session is the first of rows.txt, whose whole text stands there, worked out 
 - Reads: the input fails behind each piece, also behind the last one. Nothing is written then.
 - Writes: the output takes so many bytes and no more, for each number of them. Just these were written.
 - Lines: each line is written at once.
+- Check: the same pieces, reads and writes where the session and its text are checked.
 - Several pieces: the same of texts that are put together in several pieces, on threads. The output fails at each line,
   at its first byte and in its middle.
 """
@@ -55,13 +56,13 @@ def all_read(given):
         time.sleep(0.0002)
 
 
-def from_pieces(program, pieces, fails):
+def from_pieces(program, pieces, fails, form="run"):
     """How a run ends whose reads give these pieces, and then fail or find the end; and what it has written."""
     given, taken = socket.socketpair()
     # A socket that is closed with bytes that were not read has the other one's reads fail.
     if fails:
         taken.send(b"!")
-    ran = subprocess.Popen([program, "run"], stdin=taken.fileno(), stdout=subprocess.PIPE, stderr=subprocess.PIPE)
+    ran = subprocess.Popen([program, form], stdin=taken.fileno(), stdout=subprocess.PIPE, stderr=subprocess.PIPE)
     taken.close()
     for piece in pieces:
         given.sendall(piece)
@@ -71,7 +72,7 @@ def from_pieces(program, pieces, fails):
     return (ran.returncode, said.decode()), text
 
 
-def into_room(program, raw, room):
+def into_room(program, raw, room, form="run"):
     """How a run ends whose output is a file that takes so many bytes; and what was written."""
 
     def limited():
@@ -80,15 +81,15 @@ def into_room(program, raw, room):
         resource.setrlimit(resource.RLIMIT_FSIZE, (room, room))
 
     with tempfile.TemporaryFile() as file:
-        ran = subprocess.run([program, "run"], input=raw, stdout=file, stderr=subprocess.PIPE, preexec_fn=limited)
+        ran = subprocess.run([program, form], input=raw, stdout=file, stderr=subprocess.PIPE, preexec_fn=limited)
         file.seek(0)
         return (ran.returncode, ran.stderr.decode()), file.read()
 
 
-def writes_of(program, raw):
+def writes_of(program, raw, form="run"):
     """The bytes of each write of a run. Such a pipe keeps them apart."""
     end, start = os.pipe2(os.O_DIRECT)
-    ran = subprocess.Popen([program, "run"], stdin=subprocess.PIPE, stdout=start)
+    ran = subprocess.Popen([program, form], stdin=subprocess.PIPE, stdout=start, stderr=subprocess.DEVNULL)
     os.close(start)
     ran.stdin.write(raw)
     ran.stdin.close()
@@ -107,18 +108,26 @@ def rooms_of_lines(text):
         start += len(line)
 
 
+def compared_by(program, form, raw, text, done):
+    """What was tried of a form, what came of it, and what was wanted."""
+    for step in PIECES:
+        yield "%s: pieces of %d bytes" % (form, step), from_pieces(program, cut(raw, step), False, form), (done, text)
+    pieces = cut(raw, 10)
+    for count in range(len(pieces) + 1):
+        yield "%s: a read that fails behind %d pieces" % (form, count), from_pieces(program, pieces[:count], True, form), (READ_FAULT, b"")
+    for room in range(len(text)):
+        yield "%s: room for %d bytes" % (form, room), into_room(program, raw, room, form), (WRITE_FAULT, text[:room])
+    yield form + ": room for all bytes", into_room(program, raw, len(text), form), (done, text)
+    yield form + ": a write a line", writes_of(program, raw, form), text.splitlines(keepends=True)
+
+
 def compared(program):
     """What was tried, what came of it, and what was wanted."""
     raw, text = whole_session()
-    for step in PIECES:
-        yield "pieces of %d bytes" % step, from_pieces(program, cut(raw, step), False), (DONE, text)
-    pieces = cut(raw, 10)
-    for count in range(len(pieces) + 1):
-        yield "a read that fails behind %d pieces" % count, from_pieces(program, pieces[:count], True), (READ_FAULT, b"")
-    for room in range(len(text)):
-        yield "room for %d bytes" % room, into_room(program, raw, room), (WRITE_FAULT, text[:room])
-    yield "room for all bytes", into_room(program, raw, len(text)), (DONE, text)
-    yield "a write a line", writes_of(program, raw), text.splitlines(keepends=True)
+    yield from compared_by(program, "run", raw, text, DONE)
+    yield from compared_by(program, "check", raw + b"----\n" + text, b'{"Legal":true}\n', DONE)
+    wrong = raw + b"----\n" + text.replace(b"false", b"true", 1)
+    yield from compared_by(program, "check", wrong, b'{"Legal":false,"Wrong":1}\n', (8, "bucketidx: wrong line 1\n"))
     raw, text = short_lines()
     yield "a write a line, in several pieces", writes_of(program, raw), text.splitlines(keepends=True)
     raw, text = long_lines()

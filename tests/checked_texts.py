@@ -1,47 +1,61 @@
 #!/usr/bin/env python3
-"""Compares the first wrong line that `check_text` names with that of a model, written from the definition alone.
+"""Compares the verdict of `check` on written texts with that of a model, which is written from the definition alone.
 
-    tests/checked_texts.py write FILE [--sessions N] [--changes N] [--seed N]      the cases, for crates/check_runs
-    tests/checked_texts.py compare FILE ANSWERS                                     the answers, one a line
+    tests/checked_texts.py PROGRAM [--sessions N] [--changes N] [--most-clients N] [--requests N] [--seed N]
 
-A case is a session and a text. The text is that of a legal run, made by the model, where requests of the clients follow one
-another in any order and a look may be answered at any place from the client's last one on; or it is such a text with one
-change. The model looks for a reply at each place of the history, so it reads no number from a line.
+Each random session gets a text of a legal run: what the program writes for it, or one that the model makes, where the
+clients' requests follow one another in any order and a look may be answered at any place from its client's last one on.
+`check` has to call it legal. Then come so many texts with one change each: a digit of a place, two lines changed about, a
+line left out or doubled, a line of the journal moved, a byte anywhere, a cut end. `check` has to name the first wrong line
+as the model does. The model looks for a reply at each place of the history, so it reads no number from a line. Where it
+names no line, tests/legal_runs.py has to find no fault, and else one.
 """
 import argparse
+import collections
+import multiprocessing
 import random
-import struct
+import re
+import subprocess
 import sys
 
-from legal_runs import UPDATES, asked_of, random_session
-from random_sessions import line_text, page_members, point_of
+from legal_runs import UPDATES, asked_of, default_slots, fault_of, random_session, rule_of, text_of
+from random_sessions import line_text, make_ready, page_members, point_of, v1_members
+
+KINDS = ["a digit of a place", "two lines changed about", "a line left out", "a line doubled", "a line of the journal moved", "a byte", "a cut end"]
 
 
 def text_bytes(members):
     return line_text(members).encode()
 
 
-def map_after(updates, place):
-    """The map after the first updates, each the request line that made it."""
-    records = {}
-    for asked in updates[:place]:
+class History:
+    """The updates, each by the request line that made it, their places by lines, and the map after each of them."""
+
+    def __init__(self):
+        self.updates, self.places, self.maps = [], {}, [{}]
+
+    def add(self, asked):
+        records = dict(self.maps[-1])
         name = asked.rest[0].encode()
         if asked.verb == "DELETE":
             records.pop(name, None)
         else:
             size, etag, modified = asked.rest[1:]
             records[name] = dict(Size=size, ETag=etag, LastModified=modified)
-    return records
+        self.updates.append(asked)
+        self.maps.append(records)
+        self.places[asked.line] = len(self.updates)
 
 
 class Client:
     """What a client was answered so far."""
 
-    def __init__(self, slots):
-        self.slots, self.last_place, self.last_listing = slots, 0, None
+    def __init__(self, history, slots):
+        self.history, self.slots = history, slots
+        self.last_place, self.made, self.last_listing = 0, 0, None
 
     def resolved(self, asked):
-        """The query and the point of a listing; None where the request is bad."""
+        """The query and the point of a LIST or NEXT; None where the request is bad."""
         if asked.verb == "LIST":
             query = asked.rest[0]
         elif self.last_listing and "NextContinuationToken" in self.last_listing[1]:
@@ -51,192 +65,231 @@ class Client:
         point = point_of(query) if query["token"] else None
         return None if query["token"] and point is None else (query, point)
 
-    def reply(self, updates, places, asked, at):
-        """The members of the reply of a request at a place, or None where it can't have one there."""
-        own = places.get((asked.client, asked.line))
-        common = dict(At=at, Client=asked.client, Line=asked.line)
-        if at is None:
-            if asked.verb in UPDATES:
-                used = sum(1 for client, line in places if client == asked.client and line < asked.line)
-                return dict(common, Status=503) if own is None and used >= self.slots else None
-            if asked.verb in ("LIST", "NEXT"):
-                return dict(common, Status=400) if self.resolved(asked) is None else None
-            return None
-        if at < self.last_place or at > len(updates) or (own is not None and (own != at or at <= self.last_place)):
-            return None
-        if own is not None:
-            there = asked.rest[0].encode() in map_after(updates, at - 1)
-            if asked.verb == "PUT":
-                return dict(common, Status=200, Replaced=there)
-            if asked.verb == "PUTNEW":
-                return None if there else dict(common, Status=200, Replaced=False)
-            return dict(common, Status=204) if there else None
-        records = map_after(updates, at)
+    def refused(self, asked):
+        """The status of a request that is answered at no place, or None where it can't be."""
+        if asked.verb in ("LIST", "NEXT"):
+            return 400 if self.resolved(asked) is None else None
+        lacks_slots = asked.verb in UPDATES and asked.line not in self.history.places and self.made >= self.slots
+        return 503 if lacks_slots else None
+
+    def updated(self, asked, at):
+        """The reply of a request that has an update, at its place."""
+        there = asked.rest[0].encode() in self.history.maps[at - 1]
+        if asked.verb == "PUT" or (asked.verb == "PUTNEW" and not there):
+            return dict(Status=200, Replaced=there)
+        return dict(Status=204) if asked.verb == "DELETE" and there else None
+
+    def looked(self, asked, at):
+        """The reply of a request that makes no update, at this place."""
+        records = self.history.maps[at]
         if asked.verb in ("LIST", "NEXT"):
             found = self.resolved(asked)
-            return dict(common, Status=200, **page_members(records, *found)) if found else None
+            return dict(Status=200, **page_members(records, *found)) if found else None
+        if asked.verb == "LISTV1":
+            return dict(Status=200, **v1_members(records, asked.rest[0]))
         record = records.get(asked.rest[0].encode())
         if asked.verb == "HEAD":
-            return dict(common, Status=200, **record) if record else dict(common, Status=404)
+            return dict(Status=200, **record) if record else dict(Status=404)
         if asked.verb == "PUTNEW":
-            return dict(common, Status=412) if record else None
-        if asked.verb == "DELETE":
-            return None if record else dict(common, Status=204)
-        return None
+            return dict(Status=412) if record else None
+        return dict(Status=204) if asked.verb == "DELETE" and not record else None
 
-    def answered(self, asked, members):
+    def reply(self, asked, at):
+        """The members of the reply at a place, or None where there is none."""
+        own = self.history.places.get(asked.line)
+        if at is None:
+            status = self.refused(asked)
+            members = dict(Status=status) if status else None
+        elif at < self.last_place or (own is not None and (own != at or at <= self.last_place)):
+            members = None
+        else:
+            members = self.looked(asked, at) if own is None else self.updated(asked, at)
+        return dict(members, At=at, Client=asked.client, Line=asked.line) if members else None
+
+    def go_on(self, asked, members):
         if members["At"] is not None:
             self.last_place = members["At"]
+        self.made += asked.line in self.history.places
         if asked.verb in ("LIST", "NEXT"):
             found = self.resolved(asked)
-            self.last_listing = (found[0], members) if found and members["Status"] == 200 else (None, {})
+            self.last_listing = (found[0], members) if found and members["Status"] == 200 else None
 
 
 def slots_of(lines, slots):
-    return slots or sum(asked.verb in UPDATES for asked in lines) + 1
+    return default_slots(lines) if slots is None else slots
 
 
 def journal_text(asked, at):
     return text_bytes(dict(At=at, Client=asked.client, Key=asked.rest[0], Line=asked.line, Verb=UPDATES[asked.verb]))
 
 
-def wrong_line(raw, text, slots):
-    """The first wrong line, counted from 1; 0 where there is none."""
-    clients = asked_of(raw)
+def behind_place(asked):
+    """A journal line behind its place."""
+    return journal_text(asked, 0).removeprefix(b'{"At":0')
+
+
+def lines_with_ends(text):
     lines = text.split(b"\n")
     last = lines.pop()
-    lines = [line + b"\n" for line in lines] + ([last] if last else [])
+    return [line + b"\n" for line in lines] + ([last] if last else [])
+
+
+def wrong_line(clients, text, slots):
+    """The first wrong line, counted from 1; None where there is none."""
+    lines = lines_with_ends(text)
     count = sum(map(len, clients))
     if len(lines) <= count:
         return len(lines) + 1
-    may_update = [asked for part in clients for asked in part if asked.verb in UPDATES]
-    updates, places = [], {}
+    may_update = {behind_place(asked): asked for part in clients for asked in part if asked.verb in UPDATES}
+    history = History()
     for at, line in enumerate(lines[count:-1], 1):
-        told = [asked for asked in may_update if journal_text(asked, at) == line and (asked.client, asked.line) not in places]
-        if not told:
+        start = b'{"At":%d' % at
+        asked = may_update.get(line[len(start) :]) if line.startswith(start) else None
+        if asked is None or asked.line in history.places:
             return count + at
-        updates.append(told[0])
-        places[told[0].client, told[0].line] = at
-    if lines[-1] != text_bytes(dict(Updates=len(updates))):
+        history.add(asked)
+    if lines[-1] != text_bytes(dict(Updates=len(history.updates))):
         return len(lines)
     number = 0
     for part in clients:
-        client = Client(slots_of(part, slots))
+        client = Client(history, slots_of(part, slots))
         for asked in part:
+            line = lines[number]
             number += 1
-            line = lines[number - 1]
-            right = None
-            for at in [None, *range(len(updates) + 1)]:
-                if not line.startswith(b'{"At":%s,' % (b"null" if at is None else b"%d" % at)):
-                    continue
-                members = client.reply(updates, places, asked, at)
-                if members is not None and text_bytes(members) == line:
-                    right = members
-            if right is None:
+            members = reply_with(client, asked, line)
+            if members is None:
                 return number
-            client.answered(asked, right)
-    return 0
+            client.go_on(asked, members)
+    return None
 
 
-def legal_text(rng, raw, slots):
-    """The text of a legal run, in a random order of the requests."""
-    clients = asked_of(raw)
-    state = [Client(slots_of(part, slots)) for part in clients]
-    updates, places, replies = [], {}, [[] for _ in clients]
+def reply_with(client, asked, line):
+    """The members of the reply that has this line, at whichever place."""
+    for at in [None, *range(len(client.history.updates) + 1)]:
+        if line.startswith(b'{"At":%s,' % (b"null" if at is None else b"%d" % at)):
+            members = client.reply(asked, at)
+            if members is not None and text_bytes(members) == line:
+                return members
+    return None
+
+
+def made_text(rng, clients, slots):
+    """The text of a legal run whose requests follow one another in a random order."""
+    history = History()
+    state = [Client(history, slots_of(part, slots)) for part in clients]
+    replies = [[] for _ in clients]
     turns = [number for number, part in enumerate(clients) for _ in part]
     rng.shuffle(turns)
     for number in turns:
-        asked = clients[number][len(replies[number])]
-        client = state[number]
-        members = client.reply(updates, places, asked, None)
-        if members is None or (asked.verb in UPDATES and rng.random() < 0.5):
-            members = None
-            place = rng.choice([len(updates), rng.randint(client.last_place, len(updates))])
-            if asked.verb in UPDATES:
-                there = asked.rest[0].encode() in map_after(updates, len(updates))
-                look = asked.verb != "PUT" and (there == (asked.verb == "PUTNEW"))
-                if look:
-                    place = len(updates)
-                else:
-                    updates.append(asked)
-                    places[asked.client, asked.line] = place = len(updates)
-            members = client.reply(updates, places, asked, place)
-        client.answered(asked, members)
+        asked, client = clients[number][len(replies[number])], state[number]
+        members = client.reply(asked, None)
+        if members is None or (members["Status"] == 503 and rng.random() < 0.5):
+            at = rng.choice([len(history.updates), rng.randint(client.last_place, len(history.updates))])
+            members = client.reply(asked, at)
+            if members is None:
+                # An update, unless the look has to be at the end of the history.
+                members = client.reply(asked, len(history.updates))
+            if members is None or asked.verb == "PUT":
+                history.add(asked)
+                members = client.reply(asked, len(history.updates))
+        client.go_on(asked, members)
         replies[number].append(text_bytes(members))
-    journal = [journal_text(asked, at) for at, asked in enumerate(updates, 1)]
-    return b"".join(line for part in replies for line in part) + b"".join(journal) + text_bytes(dict(Updates=len(updates)))
+    journal = [journal_text(asked, at) for at, asked in enumerate(history.updates, 1)]
+    return b"".join([line for part in replies for line in part] + journal + [text_bytes(dict(Updates=len(history.updates)))])
 
 
-def changed(rng, text):
-    """The text with one change."""
+def changed(rng, kind, text, count):
+    """The text with one change of this kind; `count` is how many reply lines it has."""
     lines = text.splitlines(keepends=True)
-    kind = rng.randrange(7)
-    place = rng.randrange(len(lines))
-    if kind == 0:
-        digits = [at for at, byte in enumerate(text) if chr(byte).isdigit()]
-        at = rng.choice(digits)
-        return text[:at] + b"%d" % rng.randrange(10) + text[at + 1:]
-    if kind == 1:
-        other = rng.randrange(len(lines))
+    place, other = rng.randrange(len(lines)), rng.randrange(len(lines))
+    if kind == "a digit of a place":
+        found = rng.choice([found for found in re.finditer(rb'"At":(\d+)', text)] or [re.search(rb":(\d+)}\n$", text)])
+        at = rng.randrange(*found.span(1))
+        return text[:at] + b"%d" % rng.randrange(10) + text[at + 1 :]
+    if kind == "two lines changed about":
         lines[place], lines[other] = lines[other], lines[place]
-    elif kind == 2:
+    elif kind == "a line left out":
         del lines[place]
-    elif kind == 3:
+    elif kind == "a line doubled":
         lines.insert(place, lines[place])
-    elif kind == 4:
-        lines.insert(rng.randrange(len(lines)), lines.pop(place))
-    elif kind == 5:
+    elif kind == "a line of the journal moved":
+        lines.insert(rng.randrange(count, len(lines)), lines.pop(rng.randrange(count, len(lines))))
+    elif kind == "a byte":
         at = rng.randrange(len(text))
-        return text[:at] + bytes([rng.choice([rng.randrange(256), 10, 34, 48, 125])]) + text[at + 1:]
+        return text[:at] + bytes([rng.choice([rng.randrange(256), 10, 34, 48, 125])]) + text[at + 1 :]
     else:
-        return text[:rng.randrange(len(text))]
+        return text[: rng.randrange(len(text))]
     return b"".join(lines)
 
 
-def write(options):
-    rng = random.Random(options.seed)
-    with open(options.file, "wb") as out:
-        for _ in range(options.sessions):
-            raw = random_session(rng, options.most_clients, options.requests, 10)
-            slots = rng.choice([0, 0, 1, 2, 3])
-            text = legal_text(rng, raw, slots)
-            for case in [text] + [changed(rng, text) for _ in range(options.changes)]:
-                out.write(struct.pack(">III", slots, len(raw), len(case)) + raw + case)
+def words_of(slots):
+    return ["check"] if slots is None else ["check", "--slots", str(slots)] if slots % 2 else ["check", "--slots=%d" % slots]
 
 
-def compare(options):
-    data, at, count, faults, legal = open(options.file, "rb").read(), 0, 0, 0, 0
-    answers = open(options.answers).read().split()
-    while at < len(data):
-        slots, session, text = struct.unpack(">III", data[at:at + 12])
-        raw, case = data[at + 12:at + 12 + session], data[at + 12 + session:at + 12 + session + text]
-        at += 12 + session + text
-        wanted = str(wrong_line(raw, case, slots))
-        legal += wanted == "0"
-        got = answers[count] if count < len(answers) else "nothing"
-        count += 1
+def verdict_of(program, raw, text, slots):
+    """The line that the program names, or None where it calls the text legal."""
+    ran = subprocess.run([program, *words_of(slots)], input=raw + b"----\n" + text, capture_output=True)
+    if (ran.returncode, ran.stdout, ran.stderr) == (0, b'{"Legal":true}\n', b""):
+        return None
+    named = re.fullmatch(rb"bucketidx: wrong line (\d+)\n", ran.stderr)
+    if ran.returncode != 8 or not named or ran.stdout != b'{"Legal":false,"Wrong":%s}\n' % named[1]:
+        return "status %d, %r, %r" % (ran.returncode, ran.stdout, ran.stderr)
+    return int(named[1])
+
+
+def is_fault_free(raw, text, slots):
+    """Whether the other model finds no fault."""
+    try:
+        return fault_of(raw, text.decode(), rule_of(slots)) is None
+    except UnicodeDecodeError:
+        return False
+
+
+def try_session(given):
+    """How many texts with a change are legal still, how many are not, and the first fault."""
+    number, options = given
+    rng = random.Random("%d %d" % (options.seed, number))
+    raw = random_session(rng, options)
+    clients = asked_of(raw)
+    slots = rng.choice([None, None, 1, 2, 3])
+    legal = text_of(options.program, raw, 60, slots).encode() if number % 4 == 0 else made_text(rng, clients, slots)
+    counts = collections.Counter()
+    for kind in [None] + [KINDS[(number + turn) % len(KINDS)] for turn in range(options.changes)]:
+        text = legal if kind is None else changed(rng, kind, legal, sum(map(len, clients)))
+        wanted, got = wrong_line(clients, text, slots), verdict_of(options.program, raw, text, slots)
+        if kind is None and wanted is not None:
+            got = "the model names a line of a legal text"
+        if (wanted is None) != is_fault_free(raw, text, slots):
+            got = "the models differ"
         if got != wanted:
-            faults += 1
-            print("case %d: %s for %s" % (count, got, wanted))
-            if faults == 1:
-                print(slots, raw.decode(), case.decode(errors="replace"))
-    print("%d texts, %d of them legal, %d faults" % (count, legal, faults))
-    return 1 if faults or count != len(answers) else 0
+            return counts, "%s\n----\n%s\nslots %s, %s: got %s, wanted %s" % (raw.decode(), text.decode(errors="replace"), slots, kind, got, wanted)
+        counts["unchanged" if kind is None else "legal" if wanted is None else "wrong"] += 1
+    return counts, None
 
 
 def main():
-    parser = argparse.ArgumentParser()
-    parser.add_argument("mode", choices=["write", "compare"])
-    parser.add_argument("file")
-    parser.add_argument("answers", nargs="?")
-    parser.add_argument("--sessions", type=int, default=50)
+    parser = argparse.ArgumentParser(description=__doc__.split("\n")[0])
+    parser.add_argument("program")
+    parser.add_argument("--sessions", type=int, default=400)
     parser.add_argument("--changes", type=int, default=10)
-    parser.add_argument("--most-clients", type=int, default=5)
+    parser.add_argument("--least-clients", type=int, default=1)
+    parser.add_argument("--most-clients", type=int, default=32)
     parser.add_argument("--requests", type=int, default=8)
+    parser.add_argument("--names", type=int, default=10)
     parser.add_argument("--seed", type=int, default=1)
+    parser.set_defaults(whole=False)
     options = parser.parse_args()
-    return write(options) if options.mode == "write" else compare(options)
+    make_ready(options.program)
+    counts = collections.Counter()
+    with multiprocessing.Pool() as pool:
+        for found, fault in pool.imap_unordered(try_session, ((number, options) for number in range(options.sessions))):
+            if fault:
+                pool.terminate()
+                sys.exit(fault)
+            counts += found
+    told = "%d texts are called legal; of %d with one change %d are called legal and %d wrong, at the line that the model names"
+    print(told % (counts["unchanged"], counts["legal"] + counts["wrong"], counts["legal"], counts["wrong"]), file=sys.stderr)
 
 
 if __name__ == "__main__":
-    sys.exit(main())
+    main()

@@ -3,8 +3,8 @@
 
     tests/exit_statuses.py PROGRAM
 
-The input of one run is a folder, which cannot be read, and the output of another a full device. One run has less
-memory than its input has bytes. With words of no form nothing of the input is read.
+The input of some runs is a folder, which cannot be read, and the output of others a full device. Two runs have less
+memory than their input has bytes. With words of no form nothing of the input is read.
 """
 import os
 import resource
@@ -14,6 +14,7 @@ import tempfile
 
 SESSION = b"CLIENT\nPUT a 1 e1 1\nLIST\n"
 FAULTY = b"CLIENT\nPUT a 1 e1 1\nPUT b\n"
+CHECKED = b'CLIENT\nHEAD a\n----\n{"At":0,"Client":0,"Line":2,"Status":404}\n{"Updates":0}\n'
 TOO_LONG = b"\n" * (64 * 1024 * 1024 + 1)
 # As long as an input may be, and too long for half as much memory.
 LONG = b"\n" * (64 * 1024 * 1024)
@@ -38,6 +39,22 @@ ROWS = [
     (["run"], "/", None, 5, "bucketidx: read fault\n", False),
     (["run"], SESSION, "/dev/full", 6, "bucketidx: write fault\n", False),
     (["run"], FAULTY, "/dev/full", 3, "bucketidx: line 3: WrongFields\n", False),
+    (["check"], CHECKED, None, 0, "", True),
+    (["check", "--slots", "1"], CHECKED, None, 0, "", True),
+    (["check", "--slots=1"], CHECKED, None, 0, "", True),
+    (["check"], CHECKED.replace(b"404", b"403"), None, 8, "bucketidx: wrong line 1\n", True),
+    (["check", "now"], CHECKED, None, 2, "bucketidx: bad words\n", False),
+    (["check", "--slots=0"], CHECKED, None, 2, "bucketidx: bad words\n", False),
+    (["checks"], CHECKED, None, 2, "bucketidx: bad words\n", False),
+    (["check"], SESSION, None, 3, "bucketidx: line 4: NoText\n", False),
+    (["check"], FAULTY, None, 3, "bucketidx: line 3: WrongFields\n", False),
+    (["run"], CHECKED, None, 3, "bucketidx: line 3: UnknownVerb\n", False),
+    (["check"], TOO_LONG, None, 4, "bucketidx: input too long\n", False),
+    (["check"], "/", None, 5, "bucketidx: read fault\n", False),
+    (["check"], CHECKED, "/dev/full", 6, "bucketidx: write fault\n", False),
+    # A fault of the output comes before the verdict.
+    (["check"], CHECKED.replace(b"404", b"403"), "/dev/full", 6, "bucketidx: write fault\n", False),
+    (["check"], SESSION, "/dev/full", 3, "bucketidx: line 4: NoText\n", False),
 ]
 
 
@@ -56,13 +73,13 @@ def run(program, words, source, target):
         return ran.returncode, said, bool(ran.stdout), os.lseek(file.fileno(), 0, os.SEEK_CUR) > 0
 
 
-def without_memory(program):
+def without_memory(program, form):
     """How a run ends that gets half as much memory as its input wants."""
 
     def limited():
         resource.setrlimit(resource.RLIMIT_AS, (len(LONG) // 2, len(LONG) // 2))
 
-    ran = subprocess.run([program, "run"], input=LONG, capture_output=True, preexec_fn=limited)
+    ran = subprocess.run([program, form], input=LONG, capture_output=True, preexec_fn=limited)
     return ran.returncode, ran.stderr.decode(), ran.stdout
 
 
@@ -76,10 +93,12 @@ def main():
             wanted, shown = (status, error, writes, reads), source[:40]
             print("words %r, input %r, output %s\n  got    %r\n  wanted %r" % (words, shown, target, got, wanted))
             sys.exit(1)
-    got, wanted = without_memory(sys.argv[1]), (7, "bucketidx: no memory\n", b"")
-    if got != wanted:
-        sys.exit("a long input and little memory\n  got    %r\n  wanted %r" % (got, wanted))
-    print("%d runs ended with the wanted status and line" % (len(ROWS) + 1), file=sys.stderr)
+    forms = ("run", "check")
+    for form in forms:
+        got, wanted = without_memory(sys.argv[1], form), (7, "bucketidx: no memory\n", b"")
+        if got != wanted:
+            sys.exit("%s, a long input and little memory\n  got    %r\n  wanted %r" % (form, got, wanted))
+    print("%d runs ended with the wanted status and line" % (len(ROWS) + len(forms)), file=sys.stderr)
 
 
 if __name__ == "__main__":

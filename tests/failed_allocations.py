@@ -4,10 +4,10 @@
     tests/failed_allocations.py PROGRAM [SESSION ..]
 
 Without names it takes each text of examples/ that has its answers beside it, tests/three_clients.txt, whose text does
-not depend on the schedule, a session whose text is put together in several pieces, on threads, and the sessions of
-tests/rows.py whose clients have a named number of node slots. Wanted of each
-failure: status 7, a start of the whole text, down to nothing, and one line on standard error; or the whole text and
-status 0, where a thread could not be started, and its client was run or its piece made without one. A session of several
+not depend on the schedule, a session whose text is put together in several pieces, on threads, the sessions of
+tests/rows.py whose clients have a named number of node slots, and two texts that `check` is given, one legal and one
+not. Wanted of each failure: status 7, a start of the whole text, down to nothing, and one line on standard error; or the
+same end as without a failure, where a thread could not be started, and its client was run or its piece made without one. A session of several
 clients needs answers that do not depend on the schedule. PROGRAM is the built program itself,
 crates/bucketidx/out/bucketidx. A small library, which is compiled with cc and loaded before the C library, counts the
 program's allocations and refuses one of them; those of the C library itself are let through. Not part of the gate.
@@ -18,6 +18,7 @@ import sys
 import tempfile
 from pathlib import Path
 
+from check_rows import VERDICTS
 from legal_runs import words_of
 from rows import rows
 from several_pieces import long_lines
@@ -28,6 +29,8 @@ THREE = HERE / "tests" / "three_clients.txt"
 PAGES = "a_common_prefix_fills_the_page_and_next_goes_on"
 # The examples whose clients have a named number of node slots.
 SLOTS = {"few_slots": 2}
+# The rows of `check`: a legal text, and one with a wrong line.
+CHECKED = ["the text of a run", "an answer that is not true"]
 LIBRARY = r"""
 #define _GNU_SOURCE
 #include <dlfcn.h>
@@ -111,14 +114,15 @@ def refused_rightly(ran, whole):
 def failures_of(tried, session, text=None, words=("run",)):
     """How many allocations were refused in turn, at how many of them something was written, and at how many all of it."""
     ran = tried.run(session, words=words)
-    if ran.returncode != 0:
+    ended = ran.returncode, ran.stdout, ran.stderr
+    if ran.returncode not in (0, 8):
         sys.exit("status %d without a failing allocation" % ran.returncode)
     if text not in (None, ran.stdout):
         sys.exit("without a failing allocation the text is another one")
     whole, count, begun, borne = ran.stdout, tried.allocations(), 0, 0
     for number in range(1, count + 1):
         ran = tried.run(session, number, words)
-        if ran.returncode == 0 and ran.stdout == whole and not ran.stderr:
+        if (ran.returncode, ran.stdout, ran.stderr) == ended:
             borne += 1
             continue
         if not refused_rightly(ran, whole):
@@ -142,6 +146,7 @@ def main():
             tries.append(("a text of several pieces", *long_lines(), words_of(None)))
             tries += [(row.name, row.raw, None, row.words) for row in rows() if len(row.words) > 1 and not row.refusal]
             tries += [(row.name, row.raw, None, row.words) for row in rows() if row.name == PAGES]
+            tries += [("check: " + name, raw + line + text, None, words) for name, words, raw, line, text, _ in VERDICTS if name in CHECKED]
             tries.append(("three clients, of two slots each", THREE.read_bytes(), None, words_of(2)))
         for name, session, text, words in tries:
             count, begun, borne = failures_of(tried, session, text, words)

@@ -54,7 +54,8 @@ def model(n):
 def bad_words():
     """Lists of words of no form."""
     return [words.split() for words in BAD_WORDS] + [[""], ["run", ""], ["sample", ""], ["sample", "1", ""], ["sample", " 1"],
-        ["run", "--slots", ""], ["run", "--slots", "1", ""], ["run", "--slots=1", ""], ["run", "--slots= 1"], ["run", "--slots 1"]]
+        ["run", "--slots", ""], ["run", "--slots", "1", ""], ["run", "--slots=1", ""], ["run", "--slots= 1"], ["run", "--slots 1"],
+        ["check", ""], ["check", "--slots", ""], ["check", "--slots=1", ""]]
 
 
 def try_bad_words(program):

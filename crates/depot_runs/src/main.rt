@@ -1,13 +1,14 @@
-// Threads at a depot by itself. Each draws tags, gives a parcel with each tag that it draws, and takes a parcel after every
-// third one and wherever the depot is full, until so many parcels were given in all. Then the depot is closed.
+// Threads at a depot by itself. Each draws tags, gives a parcel with each tag that it draws, takes two after each of
+// the first 64 of 128 of them, and one wherever the depot is full, until so many parcels were given in all. Then the
+// depot is closed.
 //
 //     depot_runs SEATS ROOM PARCELS
-//             prints a line for each seat, `S SEAT GIVEN TAKEN EMPTIES FULLS`, a line for each tag that it gave, `G SEAT TAG`,
-//             and for each that it took, `T SEAT TAG`, and one for each tag that was left, `L TAG`:
+//             prints a line for each seat, `S SEAT GIVEN TAKEN EMPTIES FULLS`, a line for each tag that it gave,
+//             `G SEAT TAG`, and for each that it took, `T SEAT TAG`, and one for each tag that was left, `L TAG`:
 //             `tests/depot_runs.py` checks them
 //
-// Without words a depot of one parcel is tried from one seat, and then a small run is made: how many parcels were given, and
-// how many were taken or left, is printed.
+// Without words a depot of one parcel is tried from one seat, and then a small run is made: how many parcels were
+// given, and how many were taken or left, is printed.
 #![tactic(auto)]
 
 mod one_by_one;

@@ -7,8 +7,8 @@ use slot_depot::{Depot, DepotSeat};
 use std::io;
 use std::sync::Wait;
 
-/// Gives two parcels, of which the second one comes back, and takes twice, of which the second finds nothing. Each answer is
-/// printed.
+/// Gives two parcels, of which the second one comes back, and takes twice, of which the second finds nothing. Each
+/// answer is printed.
 pub(crate) fn print_one_by_one<R: Wait>(rt: &HostRuntime, wait: &R) -> io::Result<()> {
     let Ok((depot, mut seats)) = Depot::open(rt.alloc(), 1, 1, &Token { tag: 0 }) else {
         return println!(rt; "no memory");

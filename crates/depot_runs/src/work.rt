@@ -59,7 +59,8 @@ fn give<R: Wait>(
     unreachable!()
 }
 
-/// Gives parcels with the tags that the seat draws, below `parcels`, and takes one after every third of them.
+/// Gives parcels with the tags that the seat draws, below `parcels`. Of each 128 of them it takes two after each of
+/// the first 64, so that the depot runs empty, and none after the others, so that it runs full.
 pub(crate) fn work<R: Wait>(
     rt: &R,
     alloc: Global,
@@ -84,7 +85,8 @@ pub(crate) fn work<R: Wait>(
             break;
         }
         give(rt, depot, seat, tag, &mut log)?;
-        if turn % 3 == 0 {
+        if turn % 128 < 64 {
+            take(rt, depot, seat, &mut log)?;
             take(rt, depot, seat, &mut log)?;
         }
     }

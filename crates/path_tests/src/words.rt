@@ -10,6 +10,10 @@ fn form(alloc: Global, texts: &[&str]) -> Result<Option<Form>, NoMemory> {
     form_of(alloc, &words)
 }
 
+fn check(slots: Option<u32>) -> Result<Option<Form>, NoMemory> {
+    Ok(Some(Form::Check { slots }))
+}
+
 fn run(slots: Option<u32>) -> Result<Option<Form>, NoMemory> {
     Ok(Some(Form::Run { slots }))
 }
@@ -22,6 +26,9 @@ fn forms_are_read(rt: HostRuntime) {
     assert_eq!(rt; form(alloc, &["run", "--slots=1"]), run(Some(1)));
     assert_eq!(rt; form(alloc, &["run", "--slots", "8192"]), run(Some(8192)));
     assert_eq!(rt; form(alloc, &["run", "--slots=8192"]), run(Some(8192)));
+    assert_eq!(rt; form(alloc, &["check"]), check(None));
+    assert_eq!(rt; form(alloc, &["check", "--slots", "1"]), check(Some(1)));
+    assert_eq!(rt; form(alloc, &["check", "--slots=8192"]), check(Some(8192)));
     assert_eq!(rt; form(alloc, &["sample", "1"]), Ok(Some(Form::Sample(1))));
     assert_eq!(rt;
         form(alloc, &["sample", "40000"]),
@@ -32,7 +39,7 @@ fn forms_are_read(rt: HostRuntime) {
 #[test]
 fn other_words_are_none(rt: HostRuntime) {
     let alloc = rt.alloc();
-    let others: [&[&str]; 17] = [
+    let others: [&[&str]; 22] = [
         &[],
         &["--help"],
         &["run", "now"],
@@ -46,6 +53,11 @@ fn other_words_are_none(rt: HostRuntime) {
         &["run", "--slots=8193"],
         &["run", "--slots=1", "--slots=1"],
         &["--slots=1", "run"],
+        &["check", "now"],
+        &["check", "--slots"],
+        &["check", "--slots=0"],
+        &["check", "--slots", "8193"],
+        &["check", "run"],
         &["sample", "--slots=1"],
         &["sample", "01"],
         &["sample", "40001"],

@@ -19,8 +19,3 @@ pub record AreOwn (parts : List (List RequestLine)) (updates : List Update) (tab
   pub count : (client : ℕ) → client < length parts → length (slice_index_or tables client []) ≡ length (lines_of parts client)
   pub each : (client place : ℕ) (l : RequestLine) → client < length parts → slice_get (lines_of parts client) place ≡ Some l
       → IsOwnPlace (history_of updates client) l.line (entry_at tables client place)
-
--- the same of one client
-pub record IsOwnTable (updates : List Update) (client : ℕ) (lines : List RequestLine) (table : List (Option ℕ)) : Type 0 where
-  pub count : length table ≡ length lines
-  pub each : (place : ℕ) (l : RequestLine) → slice_get lines place ≡ Some l → IsOwnPlace (history_of updates client) l.line (slice_index_or table place None)

@@ -86,7 +86,7 @@ fn look(
     requires inside { client.old.next < length (lines_of (against basis.now).parts number) }
     requires due { client.old.due ≡ replay.now.at }
     ensures ready { OnOk result (IsReadyOn basis.now number replay.now.at client.new) }
-    ensures fewer { OnOk result (looks_left (length (lines_of (against basis.now).parts number)) replay.now.at client.new < looks_left (length (lines_of (against basis.now).parts number)) replay.now.at client.old) }
+    ensures fewer { let lines = length (lines_of (against basis.now).parts number) in OnOk result (looks_left lines replay.now.at client.new < looks_left lines replay.now.at client.old) }
 {
     match next_reply(alloc, basis, replay, number, client)? {
         Some(placed) => {

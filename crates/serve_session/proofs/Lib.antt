@@ -5,5 +5,8 @@ pub mod Sessions
 pub mod Sent
 pub mod Sampled
 pub mod Forms
+pub mod VerdictLines
 -- The text of an input of one client is determined, and so is the refusal of an input.
 pub mod OneText
+-- The verdict on a text is determined.
+pub mod OneVerdict

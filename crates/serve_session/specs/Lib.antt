@@ -4,5 +4,6 @@ pub mod Taken
 pub mod Texts
 pub mod Sending
 pub mod Summaries
+pub mod Checks
 pub mod Sampled
 pub mod OneText

@@ -1,11 +1,13 @@
 -- Helper: the headline does not rest on this file.
--- What the headline determines: the text of an input of one client, and the refusal of an input.
+-- What the headline determines: the text of an input of one client, the refusal of an input, and the verdict on a text.
 use Rattle.std.specs.Prelude.{◌≡◌, ◌≢◌, ◌⊎◌, ℕ, List, [], length, Option, Some, None}
 use Rattle.outside_io.specs.Streams.{one_more, IsTaken}
 use Rattle.bucket_terms.specs.declared.reply.Placed.{Placed}
 use Rattle.request_lines.specs.declared.session_error.InputError.{InputError}
 use Rattle.bucket_terms.specs.LegalRun.{Run}
+use Rattle.replay_check.specs.declared.verdict.Verdict.{Verdict}
 use Rattle.serve_session.specs.Served.{HoldsOfInput, IsRunOf, RefusedInput}
+use Rattle.serve_session.specs.Checks.{HasVerdict, RefusedCheck}
 
 -- from one input, where it has one client, whose node slots are not named, and behind one text that was taken before, one
 -- text is taken
@@ -32,3 +34,15 @@ abbrev pub RunnersRunLaw : Type 0
 RunnersRunLaw =
     (old new : ℕ) (replied : List (List Placed)) (run : Run) → (run.replies ≡ []) ⊎ IsRunOf old new replied run → run.replies ≢ []
     → (run.replies ≡ replied) × (new ≡ one_more old)
+
+-- from one input one verdict is found
+abbrev pub OneVerdictLaw : Type 0
+OneVerdictLaw =
+    (named : Option ℕ) (input : List ℕ) (after after' : Option (List ℕ)) (v w : Verdict)
+    → HasVerdict named (Some input) after v → HasVerdict named (Some input) after' w → v ≡ w
+
+-- and none where the input is refused
+abbrev pub RefusedOrCheckedLaw : Type 0
+RefusedOrCheckedLaw =
+    (named : Option ℕ) (input : List ℕ) (after after' : Option (List ℕ)) (e : InputError) (v : Verdict)
+    → RefusedCheck (Some input) after e → ¬ (HasVerdict named (Some input) after' v)

@@ -3,7 +3,7 @@
 use Rattle.std.specs.Prelude.{ℕ, List, ◌++◌, codes, decimal}
 use Rattle.request_lines.specs.CauseNames.{cause_name}
 use Rattle.serve_session.specs.declared.status.Status.{Status}
-use Rattle.serve_session.specs.declared.status.Status.TheVariants.{Done, BadWords, BadInput, TooLong, ReadFault, WriteFault, NoMemory}
+use Rattle.serve_session.specs.declared.status.Status.TheVariants.{Done, BadWords, BadInput, TooLong, ReadFault, WriteFault, NoMemory, Illegal}
 
 abbrev pub exit_code : Status → ℕ
 exit_code Done = 0
@@ -13,6 +13,7 @@ exit_code TooLong = 4
 exit_code ReadFault = 5
 exit_code WriteFault = 6
 exit_code NoMemory = 7
+exit_code (Illegal line) = 8
 
 -- behind the program's name, a colon and a space
 abbrev pub status_text : Status → List ℕ
@@ -23,3 +24,4 @@ status_text TooLong = codes "input too long"
 status_text ReadFault = codes "read fault"
 status_text WriteFault = codes "write fault"
 status_text NoMemory = codes "no memory"
+status_text (Illegal line) = codes "wrong line " ++ decimal line

@@ -1,18 +1,21 @@
 //! The whole of the program but for the real input and output: reads the words and the input, has the clients of the
 //! session run over one shared index, and writes the answers, the journal of updates and their number as lines of JSON;
-//! or runs a generated session, and writes a line of numbers. The call is `serve`, and its clauses say what a run has read
-//! and written. The layer above hands it the input, the output and what runs the clients.
+//! or runs a generated session, and writes a line of numbers; or checks a written text. The call is `serve`, and its
+//! clauses say what a run has read and written. The layer above hands it the input, the output and what runs the clients.
 #![tactic(auto)]
 
+mod checking;
 mod laws;
 mod running;
 mod sample;
 mod serving;
 mod status;
 mod summary;
+mod verdict;
 mod writing;
 
-pub use laws::one_text;
+pub use laws::{one_text, one_verdict};
 pub use serving::serve;
 pub use status::Status;
 pub use summary::summary_line;
+pub use verdict::verdict_line;

@@ -1,16 +1,20 @@
 // The whole of the program but for the real input and output.
 ghost use Rattle.std.specs.Prelude.{◌≡◌, ◌⊎◌, ◌≤◌, ℕ, Option};
 ghost use Rattle.outside_io.specs.Streams.{one_more, Gave, IsOver, IsTaken, TakesStart};
-ghost use Rattle.command_words.specs.Words.{IsRun, IsSample, HasForm};
+ghost use Rattle.command_words.specs.Words.{IsRun, IsCheck, IsSample, HasForm};
 ghost use Rattle.request_lines.specs.declared.session_error.InputError.{InputError};
 ghost use Rattle.serve_session.specs.declared.status.Status.TheVariants.{Done as IsDone, BadWords as HasBadWords};
 ghost use Rattle.request_lines.specs.Input.{most_input_bytes};
 ghost use Rattle.sample_laws.specs.Sample.{sample_summary};
 ghost use Rattle.serve_session.specs.Served.{Wrote, WroteBy, HoldsOfSample, RefusedInput, IsRunOf};
 ghost use Rattle.serve_session.specs.Summaries.{summary_text};
+ghost use Rattle.serve_session.specs.Checks.{Told, RefusedCheck};
+ghost use Rattle.replay_check.specs.declared.verdict.Verdict.{Verdict};
+ghost use Rattle.replay_check.specs.declared.verdict.Verdict.TheVariants.{Legal as IsLegal, Wrong as IsWrong};
 ghost use Rattle.client_threads.specs.ClientSlots.{IsNamable};
 
 use crate::Status;
+use crate::checking::serve_check;
 use crate::running::run_session;
 use crate::sample::serve_sample;
 use client_run::Gate;
@@ -25,12 +29,13 @@ use std::sync::Wait;
 use std::thread::Threads;
 
 /// Does what the words ask, which are those behind the program's name. The forms `run` read a session, run its clients
-/// over one shared index and write its text; the form `sample` runs the generated session and writes its summary. With
+/// over one shared index and write its text; the form `sample` runs the generated session and writes its summary. The forms
+/// `check` read a session and a written text, and write whether the text is that of a legal run of the session. With
 /// `--slots N` each client of the session has N node slots, else one more than it has PUT, PUTNEW and DELETE lines. The
 /// runner runs the clients. The gate is told of each request before and after it is answered.
-/// After `Done` the text of one legal run of the input's session was written, or the line of the summary; after
-/// `WriteFault` a start of such a text or line; after `NoMemory` nothing or a start of one. Each other end comes before
-/// anything is written.
+/// After `Done` the text of one legal run of the input's session was written, or the line of the summary, or of the verdict
+/// that a text is legal, and after `Illegal` that of the verdict which names its first wrong line; after `WriteFault` a start
+/// of such a text or line; after `NoMemory` nothing or a start of one. Each other end comes before anything is written.
 ///
 /// ```
 /// // with the one word `run`
@@ -58,13 +63,19 @@ pub fn serve<S: Source, K: Sink, G: Gate + Sync, R: Runner<G>, Rt: Threads + Wai
     ensures sample_runner { (n : ℕ) → IsSample words.now n → result ≡ IsDone → HoldsOfSample n (IsRunOf (R.runs runner.old) (R.runs runner.new) (R.replied runner.new)) }
     ensures sample_ends { (n : ℕ) → IsSample words.now n → (result ≡ IsDone) ⊎ ((result ≡ Status.WriteFault) ⊎ (result ≡ Status.NoMemory)) }
 
+    // A check: the line of the verdict, which is that on the text behind the input's session.
+    ensures check_legal { (slots : Option ℕ) → IsCheck words.now slots → result ≡ IsDone → Told IsTaken IsLegal slots S.rest source.old source.new K.taken sink.old sink.new }
+    ensures check_wrong { (slots : Option ℕ) → (line : ℕ) → IsCheck words.now slots → result ≡ Status.Illegal line → Told IsTaken (IsWrong line) slots S.rest source.old source.new K.taken sink.old sink.new }
+    ensures wrong_only_where_checked { (line : ℕ) → result ≡ Status.Illegal line → (slots : Option ℕ) × IsCheck words.now slots }
+
     // An end before anything is written: the words, the input or the source are why.
     ensures bad_words { result ≡ HasBadWords → ¬ (HasForm words.now) }
     ensures no_form { ¬ (HasForm words.now) → (result ≡ HasBadWords) ⊎ (result ≡ Status.NoMemory) }
-    ensures nothing_read { ((slots : Option ℕ) → ¬ (IsRun words.now slots)) → source.new ≡ source.old }
-    ensures nothing_written { ¬ (result ≡ IsDone) → ¬ (result ≡ Status.WriteFault) → ¬ (result ≡ Status.NoMemory) → sink.new ≡ sink.old }
+    ensures nothing_read { ((slots : Option ℕ) → ¬ (IsRun words.now slots)) → ((slots : Option ℕ) → ¬ (IsCheck words.now slots)) → source.new ≡ source.old }
+    ensures nothing_written { ¬ (result ≡ IsDone) → ¬ (result ≡ Status.WriteFault) → ¬ (result ≡ Status.NoMemory) → ((line : ℕ) → ¬ (result ≡ Status.Illegal line)) → sink.new ≡ sink.old }
     ensures nothing_written_without_form { ¬ (HasForm words.now) → sink.new ≡ sink.old }
-    ensures bad_input { (e : InputError) → result ≡ Status.BadInput e → RefusedInput (S.rest source.old) (S.rest source.new) e }
+    ensures bad_input { (slots : Option ℕ) → (e : InputError) → IsRun words.now slots → result ≡ Status.BadInput e → RefusedInput (S.rest source.old) (S.rest source.new) e }
+    ensures check_bad_input { (slots : Option ℕ) → (e : InputError) → IsCheck words.now slots → result ≡ Status.BadInput e → RefusedCheck (S.rest source.old) (S.rest source.new) e }
     ensures too_long { result ≡ Status.TooLong → Gave (S.rest source.old) (S.rest source.new) (IsOver most_input_bytes) }
 
     // Faults and want of memory: a fault is told exactly where one was counted, and what was taken is a start of the
@@ -74,14 +85,17 @@ pub fn serve<S: Source, K: Sink, G: Gate + Sync, R: Runner<G>, Rt: Threads + Wai
     ensures no_other_read_fault { ¬ (result ≡ Status.ReadFault) → S.faults source.new ≡ S.faults source.old }
     ensures write_fault { (slots : Option ℕ) → IsRun words.now slots → result ≡ Status.WriteFault → Wrote TakesStart slots S.rest source.old source.new K.taken sink.old sink.new }
     ensures sample_write_fault { (n : ℕ) → IsSample words.now n → result ≡ Status.WriteFault → TakesStart (K.taken sink.old) (K.taken sink.new) (summary_text (sample_summary n)) }
+    ensures check_write_fault { (slots : Option ℕ) → IsCheck words.now slots → result ≡ Status.WriteFault → (verdict : Verdict) × Told TakesStart verdict slots S.rest source.old source.new K.taken sink.old sink.new }
     ensures write_fault_only_where_faulted { result ≡ Status.WriteFault → K.faults sink.new ≡ one_more (K.faults sink.old) }
     ensures no_other_write_fault { ¬ (result ≡ Status.WriteFault) → K.faults sink.new ≡ K.faults sink.old }
     ensures no_memory_source { result ≡ Status.NoMemory → Gave (S.rest source.old) (S.rest source.new) (λ n. n ≤ most_input_bytes) }
     ensures no_memory { (slots : Option ℕ) → IsRun words.now slots → result ≡ Status.NoMemory → (sink.new ≡ sink.old) ⊎ Wrote TakesStart slots S.rest source.old source.new K.taken sink.old sink.new }
+    ensures check_no_memory { (slots : Option ℕ) → IsCheck words.now slots → result ≡ Status.NoMemory → sink.new ≡ sink.old }
     ensures sample_no_memory { (n : ℕ) → IsSample words.now n → result ≡ Status.NoMemory → sink.new ≡ sink.old }
 {
     match form_of(alloc, words) {
         Ok(Some(Form::Run { slots })) => serve_input(rt, alloc, slots, source, sink, gate, runner),
+        Ok(Some(Form::Check { slots })) => serve_check(alloc, slots, source, sink),
         Ok(Some(Form::Sample(n))) => serve_sample(rt, alloc, n, sink, gate, runner),
         Ok(None) => Status::BadWords,
         Err(_) => Status::NoMemory,
@@ -104,6 +118,7 @@ fn serve_input<S: Source, K: Sink, G: Gate + Sync, R: Runner<G>, Rt: Threads + W
 
     // An end before anything is written.
     ensures reads { ¬ (result ≡ HasBadWords) }
+    ensures checks_nothing { (line : ℕ) → ¬ (result ≡ Status.Illegal line) }
     ensures nothing_written { ¬ (result ≡ IsDone) → ¬ (result ≡ Status.WriteFault) → ¬ (result ≡ Status.NoMemory) → sink.new ≡ sink.old }
     ensures bad_input { (e : InputError) → result ≡ Status.BadInput e → RefusedInput (S.rest source.old) (S.rest source.new) e }
     ensures too_long { result ≡ Status.TooLong → Gave (S.rest source.old) (S.rest source.new) (IsOver most_input_bytes) }

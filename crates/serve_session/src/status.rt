@@ -15,11 +15,12 @@ use std::fmt;
 /// ```
 #[derive(Clone, Copy, Debug, PartialEq, Eq)]
 pub enum Status {
-    /// The input was read to its end, and the whole text was taken.
+    /// The input was read to its end, and the whole text was taken. A text that was checked is legal.
     Done,
     /// The words are no form of the program. Nothing was read or written.
     BadWords,
-    /// The grammar refuses the input at this line. Nothing was written.
+    /// The input is refused at this line: by the grammar, or because the text that is to be checked is missing. Nothing was
+    /// written.
     BadInput(InputError),
     /// The input has more than 67,108,864 bytes. Nothing was written.
     TooLong,
@@ -29,10 +30,12 @@ pub enum Status {
     WriteFault,
     /// Memory was wanted. Nothing or a start of the text was written.
     NoMemory,
+    /// The checked text is that of no legal run: this is its first wrong line. The whole line of the verdict was written.
+    Illegal(u32),
 }
 
 impl Status {
-    /// Whether the whole text was taken.
+    /// Whether the whole text was taken, and a text that was checked is legal.
     pub fn is_done(&self) -> bool
         ensures { IsTrue result ↔ (self.now ≡ Status.Done) }
     {
@@ -51,6 +54,7 @@ impl Status {
             Status::ReadFault => 5,
             Status::WriteFault => 6,
             Status::NoMemory => 7,
+            Status::Illegal(_) => 8,
         }
     }
 }
@@ -74,6 +78,7 @@ impl fmt::Display for Status {
             Status::ReadFault => write!(f, "read fault"),
             Status::WriteFault => write!(f, "write fault"),
             Status::NoMemory => write!(f, "no memory"),
+            Status::Illegal(line) => write!(f, "wrong line {line}"),
         }
     }
 }

@@ -91,8 +91,8 @@ fn drain<T: Tagged + Drop, Rt: Wait>(
 }
 
 impl<T: Tagged + Drop> Depot<T> {
-    /// Closes the depot to the parcels that are left in it. Each tag stands as often in all that its seats gave as in all
-    /// that they took and among the parcels that are left. It may wait, as `take` does.
+    /// Closes the depot to the parcels that are left in it. Each tag stands as often in all that its seats gave as in
+    /// all that they took and among the parcels that are left. It may wait, as `take` does.
     ///
     /// # Errors
     /// For want of memory alone. The depot and its seats then come back unchanged.

@@ -13,10 +13,10 @@ use std::alloc::Global;
 use std::marker::{Brand, Model};
 use std::sync::Wait;
 
-/// A place where the threads of one index leave parcels for one another. Each has a seat of its own. Contracts see which
-/// depot it is, and how many parcels it holds at most; the index whose parcels it takes is told by its seats (`terms`).
-/// What it holds at a moment no contract can say, since others give and take at any time; what its seats have given and
-/// taken comes out even with it, which `close` tells.
+/// A place where the threads of one index leave parcels for one another. Each has a seat of its own. Contracts see
+/// which depot it is, and how many parcels it holds at most; the index whose parcels it takes is told by its seats
+/// (`terms`). What it holds at a moment no contract can say, since others give and take at any time; what its seats
+/// have given and taken comes out even with it, which `close` tells.
 #[derive(Drop)]
 pub struct Depot<T: Tagged> {
     pub(crate) queue: ParcelQueue<T>,
@@ -88,8 +88,8 @@ impl<T: Tagged + Drop> Depot<T> {
     }
 
     /// Takes a parcel that was left, the oldest one. `None` only where a look of this call has found the depot empty.
-    /// `empties` has then risen by one, and the rest of the seat's book is as it was. It takes no memory, and may wait for
-    /// another thread that is about to give or take.
+    /// `empties` has then risen by one, and the rest of the seat's book is as it was. It takes no memory, and may wait
+    /// for another thread that is about to give or take.
     pub fn take<Rt: Wait>(&self, rt: &Rt, seat: &mut DepotSeat<T>) -> Option<T>
         requires seat { IsSeatOf self.now seat.old }
         ensures seat { seat.new.id ≡ seat.old.id }

@@ -1,12 +1,11 @@
 -- The first wrong line of a text that was written for a session. The lines are looked at in this order: first the journal,
 -- line by line; then the last line; then the reply lines. The first one that is not right is the wrong line.
-use Rattle.std.specs.Prelude.{◌≡◌, ℕ, ◌+◌, ◌-◌, ◌<◌, ◌≤◌, ◌⊎◌, ◌==◌, List, [], ◌∷◌, ◌++◌, length, take, drop, All, Any, if◌then◌else◌, Some, slice_get, slice_index_or}
+use Rattle.std.specs.Prelude.{◌≡◌, ℕ, ◌+◌, ◌-◌, ◌<◌, ◌≤◌, ◌⊎◌, List, [], ◌∷◌, ◌++◌, length, take, drop, All, Any, codes, Some, slice_get, slice_index_or}
 use Rattle.key_map.specs.declared.update.Update.{Update}
 use Rattle.bucket_terms.specs.declared.record.Record.{Record}
 use Rattle.bucket_terms.specs.declared.reply.Placed.{Placed}
 use Rattle.bucket_terms.specs.LegalRun.{RequestLine, Answered, Setting, IsOf, IsAnswered, IsChangeOf, answered_lines, lines_of}
-use Rattle.answer_text.specs.Lines.{line_of, journal_data, reply_data}
-use Rattle.answer_text.specs.Shown.{last_data}
+use Rattle.answer_text.specs.Lines.{always, object_of, whole, line_of, journal_data, reply_data}
 pub use Rattle.request_lines.specs.TextLines.{with_byte, text_lines}
 
 -- what a text is checked against: the names, the records, each client's request lines, and its node slots
@@ -92,6 +91,10 @@ journal_texts c texts = take (length texts - requests_of c.parts - 1) (drop (req
 abbrev pub last_text : List (List ℕ) → List ℕ
 last_text texts = text_at texts (length texts - 1)
 
+-- the last line of a text of so many updates
+abbrev pub counting_line : ℕ → List ℕ
+counting_line count = line_of (object_of (always (codes "Updates") (whole count) ∷ []))
+
 -- the text has a line for each request, for each update of the journal, and one more
 abbrev pub HasAllParts : Checked → List (List ℕ) → Type 0
 HasAllParts c texts = requests_of c.parts < length texts
@@ -135,7 +138,7 @@ pub record IsWrongAtLast (c : Checked) (texts : List (List ℕ)) (line : ℕ) : 
   pub long : HasAllParts c texts
   pub updates : List Update
   pub journal : AreJournal c [] (journal_texts c texts) updates
-  pub wrong : ¬ (last_text texts ≡ line_of (last_data (length updates)))
+  pub wrong : ¬ (last_text texts ≡ counting_line (length updates))
   pub line_is : line ≡ length texts
 
 -- the journal and the last line are right, and the wrong line is a reply line
@@ -143,7 +146,7 @@ pub record IsWrongInReplies (c : Checked) (texts : List (List ℕ)) (line : ℕ)
   pub long : HasAllParts c texts
   pub updates : List Update
   pub journal : AreJournal c [] (journal_texts c texts) updates
-  pub last : last_text texts ≡ line_of (last_data (length updates))
+  pub last : last_text texts ≡ counting_line (length updates)
   pub place : ℕ
   pub wrong : IsWrongReply c updates texts place
   pub line_is : line ≡ place + 1
@@ -157,6 +160,6 @@ pub record AreRight (c : Checked) (texts : List (List ℕ)) : Type 0 where
   pub long : HasAllParts c texts
   pub updates : List Update
   pub journal : AreJournal c [] (journal_texts c texts) updates
-  pub last : last_text texts ≡ line_of (last_data (length updates))
+  pub last : last_text texts ≡ counting_line (length updates)
   pub replies : List (List Placed)
   pub replied : AreAllReplies c updates texts (length c.parts) replies

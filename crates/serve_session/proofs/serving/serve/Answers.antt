@@ -1,10 +1,10 @@
 use Rattle.std.proofs.Common.{ℕ, inl, inr, subst}
 use Rattle.outside_io.specs.Streams.{IsTaken, TakesStart}
-use Rattle.command_words.specs.declared.form.Form.TheVariants.{Run, Sample}
+use Rattle.command_words.specs.declared.form.Form.TheVariants.{Run, Check, Sample}
 use Rattle.sample_laws.specs.Sample.{sample_summary}
 use Rattle.serve_session.specs.Served.{HoldsOfSample, IsRunOf}
 use Rattle.serve_session.specs.Summaries.{summary_text}
-use Rattle.serve_session.proofs.Forms.{one_number, input_named, found_form, found_none, no_form}
+use Rattle.serve_session.proofs.Forms.{one_number, input_named, check_named, found_form, found_none, no_form}
 use Rattle.serve_session.proofs.serving.serve.Goals as goal
 
 -- the slots that were found are those that the words name
@@ -31,6 +31,30 @@ returns-in-Ok-Some-Run-clause-no_memory g c = λ slots is none.
           (input_named c.args.words.now c.in-Ok-Some-Run.slots slots _ _ _
           (found_form c.args.words.now c.in-Ok-Some-Run.field-0 (Run c.in-Ok-Some-Run.slots) (cc) c.in-Ok-Some-Run.ensures.form) is wrote)
     ]
+
+pub returns-in-Ok-Some-Check-clause-check_legal : goal.returns-in-Ok-Some-Check-clause-check_legal
+returns-in-Ok-Some-Check-clause-check_legal g c = λ slots is done.
+    let told = c.serve_check.ensures.legal done in (
+      check_named c.args.words.now c.in-Ok-Some-Check.slots slots _ _ _
+          (found_form c.args.words.now c.in-Ok-Some-Check.field-0 (Check c.in-Ok-Some-Check.slots) (cc) c.in-Ok-Some-Check.ensures.form) is told.0,
+      told.1,
+    )
+
+pub returns-in-Ok-Some-Check-clause-check_wrong : goal.returns-in-Ok-Some-Check-clause-check_wrong
+returns-in-Ok-Some-Check-clause-check_wrong g c = λ slots line is wrong.
+    let told = c.serve_check.ensures.wrong line wrong in (
+      check_named c.args.words.now c.in-Ok-Some-Check.slots slots _ _ _
+          (found_form c.args.words.now c.in-Ok-Some-Check.field-0 (Check c.in-Ok-Some-Check.slots) (cc) c.in-Ok-Some-Check.ensures.form) is told.0,
+      told.1,
+    )
+
+pub returns-in-Ok-Some-Check-clause-check_write_fault : goal.returns-in-Ok-Some-Check-clause-check_write_fault
+returns-in-Ok-Some-Check-clause-check_write_fault g c = λ slots is fault.
+    let told = c.serve_check.ensures.write_fault fault in
+    let verdict =
+    check_named c.args.words.now c.in-Ok-Some-Check.slots slots _ _ _
+    (found_form c.args.words.now c.in-Ok-Some-Check.field-0 (Check c.in-Ok-Some-Check.slots) (cc) c.in-Ok-Some-Check.ensures.form) is told.1.0 in
+    (told.0, (verdict, told.1.1))
 
 pub returns-in-Ok-Some-Sample-clause-sample : goal.returns-in-Ok-Some-Sample-clause-sample
 returns-in-Ok-Some-Sample-clause-sample g c = λ n is done.
