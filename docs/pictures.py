@@ -253,7 +253,7 @@ def session():
     stage(620, 226, "lines", ["of JSON"])
     stage(620, 324, "bytes", ["of the output"], "key")
     p.text(98, 20, "read_all", "t m", 11)
-    for x, y, name in [(98, 92, "read_session"), (98, 190, "into_directory"), (702, 92, ""), (702, 190, ""), (702, 288, "write_all")]:
+    for x, y, name in [(98, 92, "read_session"), (98, 190, "take_directory"), (702, 92, ""), (702, 190, ""), (702, 288, "write_all")]:
         p.arrow(x, y, x, y + 36)
         p.text(x + 8, y + 21, name, "t m", 11, "start")
 

@@ -39,7 +39,7 @@ snapshot, stays in it for T turns, reads it and closes it, T turns between two v
 are gone the pass makes one more update. An update is refused only where a reader was at a visit at some time of the call, by
 the readers' own counts of visits begun and ended. How many were refused is told.
 
-With `--few` P passes of few slots make updates, over the table itself, beside such readers. When all is done one pass behind
+With `--few` P passes of few slots make updates beside such readers. When all is done one pass behind
 another puts each key and removes it, and each tells which of its slots are free. Beside the history this is checked:
 
 - no slot is free in two places, or twice, and no slot is free that the table has not;
@@ -141,25 +141,6 @@ def checked(lines, nodes, scarce=False):
             elif fields[2] in state:
                 return f"place {at}: pass {number} did not find key {fields[2]}", None
     return None, (len(history), listings, refused)
-
-
-def misplaced(lines, nodes, entries, is_empty):
-    """What is wrong with the free slots that the passes tell at the end, or None. The table has so many nodes and entries."""
-    free = {"node": [], "entry": []}
-    for line in lines:
-        _, _, kind, *slots = line.split()
-        free[kind] += map(int, slots)
-    for kind, most in (("node", nodes), ("entry", entries)):
-        if len(set(free[kind])) != len(free[kind]):
-            return f"a slot is free in two places: {kind} {sorted(free[kind])}"
-        if not set(free[kind]) <= set(range(1, most + 1)):
-            return f"a free slot is none of the table: {kind} {sorted(free[kind])}"
-    if is_empty and len(free["node"]) != nodes:
-        return f"{nodes - len(free['node'])} nodes are nowhere"
-    left = entries - len(free["entry"])
-    if is_empty and left != 2:
-        return f"{left} entries are not free, and the map is empty"
-    return None
 
 
 def printed(words, task, **numbers):

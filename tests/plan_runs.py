@@ -8,8 +8,8 @@ turn it is. PROGRAM makes a plan for each update from the tree that the pass rea
 and tells what each try has come to, and where it has cut a bundle. A try that was validated must raise. One
 that was not must have raised the count of its cause by one, and no other count. Each look-up in a snapshot
 must find what the map had at its number, whatever was cut meanwhile. At the end the words must spell the
-tree of the whole history. The model of map and tree shares no code with the machine. The script ends with
-status 1 at the first difference.
+tree of the whole history, and each plain link must lead where the tree does. The model of map and tree
+shares no code with the machine. The script ends with status 1 at the first difference.
 """
 import argparse
 import random
@@ -18,7 +18,7 @@ import sys
 from collections import Counter
 
 LEFT, RIGHT = 0, 1
-KEY, VAL, LOCK, MARK, HEAD = 0, 1, 2, 3, 4
+KEY, VAL, LOCK, MARK, HEAD, LINK, TAG = 0, 1, 2, 3, 4, 6, 8
 PTR, TS, NEXT = 0, 1, 2
 COUNT_OF = {"Busy": "busy", "Moved": "moves", "Pending": "waits"}
 OUTCOMES = {"Done", "Absent", "Busy", "Moved", "Pending"}
@@ -90,12 +90,20 @@ class Words:
     def entry(self, entry, part):
         return self.words[1 + 2 * self.passes + 10 * (self.nodes + 1) + 3 * (entry - 1) + part]
 
+    def ask_link(self, node, side, child, number):
+        """The plain link leads to the child, and its tag is at most the number."""
+        link, tag = self.node(node, LINK + side), self.node(node, TAG + side)
+        ask(link == child, "the plain link of %d on %d leads to %d, and not to %d" % (node, side, link, child))
+        ask(tag <= number, "the tag of %d on %d is %d, above %d" % (node, side, tag, number))
+
     def tree(self, node=0, side=RIGHT):
         entry = self.node(node, HEAD + side)
         if not entry:
+            self.ask_link(node, side, 0, 0)
             return None
         ask(self.entry(entry, TS) > 0, "entry %d is pending at the end" % entry)
         child = self.entry(entry, PTR)
+        self.ask_link(node, side, child, self.entry(entry, TS))
         if not child:
             return None
         ask(not self.node(child, MARK) and not self.node(child, LOCK), "node %d is marked or locked" % child)

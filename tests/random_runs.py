@@ -19,7 +19,7 @@ import sys
 from collections import Counter
 
 LEFT, RIGHT = 0, 1
-KEY, VAL, LOCK, MARK, HEAD = 0, 1, 2, 3, 4
+KEY, VAL, LOCK, MARK, HEAD, LINK, TAG = 0, 1, 2, 3, 4, 6, 8
 PTR, TS, NEXT = 0, 1, 2
 
 
@@ -52,6 +52,12 @@ class Table:
     def head(self, node, side):
         return self.node(node, HEAD + side)
 
+    def link(self, node, side):
+        return self.node(node, LINK + side)
+
+    def tag(self, node, side):
+        return self.node(node, TAG + side)
+
     def entry(self, entry, part):
         return 1 + 2 * self.passes + 10 * (self.nodes + 1) + 3 * (entry - 1) + part
 
@@ -67,6 +73,15 @@ class Table:
                 return self.words[self.entry(entry, PTR)]
             entry = self.words[self.entry(entry, NEXT)]
         return 0
+
+    def newest(self, node, side):
+        """The greatest number in the bundle of a link, 0 for none."""
+        return max((self.number(entry) for entry in self.chain_from(self.words[self.head(node, side)])), default=0)
+
+    def chain_from(self, entry):
+        while entry:
+            yield entry
+            entry = self.words[self.entry(entry, NEXT)]
 
     def pairs(self, number, node=0, side=RIGHT):
         """The pairs of the tree that is spelled at a number, from left to right."""
@@ -91,6 +106,8 @@ class Seat:
         self.retired, self.batch, self.found, self.passed = ([], []), ([], []), {}, set()
         # The section number, and the least number with the passes whose announcements it has looked at.
         self.at, self.least, self.looked = None, None, set()
+        # The plain links that its update has still to set, each with what it holds and its new child, and the tags to raise.
+        self.unset, self.owed = [], []
 
     # ---- steps: each is one event
 
@@ -187,7 +204,7 @@ class Seat:
 
     def cut_behind(self, front, entry):
         table = self.table
-        behind = list(self.chain_from(table.words[table.entry(entry, NEXT)]))
+        behind = list(table.chain_from(table.words[table.entry(entry, NEXT)]))
         if front:
             table.too_far.append((len(table.events), "%d Cut %d 0" % (self.number, table.entry(front, NEXT))))
         self.store("Cut", table.entry(entry, NEXT), 0)
@@ -206,8 +223,9 @@ class Seat:
     def has_retired(self):
         return any(self.retired) or any(self.batch)
 
-    def fill_node(self, node, key, val):
-        for field, value in ((KEY, key), (VAL, val), (MARK, 0), (HEAD, 0), (HEAD + 1, 0)):
+    def fill_node(self, node, key, val, children):
+        words = ((KEY, key), (VAL, val), (MARK, 0), (HEAD, 0), (HEAD + 1, 0), (TAG, 0), (TAG + 1, 0))
+        for field, value in words + ((LINK, children[LEFT]), (LINK + 1, children[RIGHT])):
             if self.table.words[self.table.node(node, field)] != value:
                 self.store("Fill", self.table.node(node, field), value)
                 yield
@@ -296,8 +314,10 @@ class Seat:
             self.unlock(node)
             yield
 
-    def raise_stamp(self, line, key, change, taken, pending):
+    def raise_stamp(self, line, key, change, taken, pending, links):
         table = self.table
+        self.unset = [(node, side, table.words[table.link(node, side)], child) for node, side, child in links]
+        self.owed = [(node, side) for node, side, child in links if not child and change is None]
         text = "Put %d" % change if change is not None else "Remove"
         self.step("Raise", 0, 0, "%d %d %d %s" % (self.number, line, key, text))
         entries = [e for node in taken for side in (LEFT, RIGHT) for e in self.chain(node, side)]
@@ -314,12 +334,7 @@ class Seat:
         self.left -= 1
 
     def chain(self, node, side):
-        return self.chain_from(self.table.words[self.table.head(node, side)])
-
-    def chain_from(self, entry):
-        while entry:
-            yield entry
-            entry = self.table.words[self.table.entry(entry, NEXT)]
+        return self.table.chain_from(self.table.words[self.table.head(node, side)])
 
     def finish(self, entries, marked, locked, changed):
         """Ends an update: its numbers, the bundles of the links that it changed, marks, and locks."""
@@ -335,7 +350,27 @@ class Seat:
         for node in marked:
             self.store("Mark", self.table.node(node, MARK), 1)
             yield
+        yield from self.set_links()
         yield from self.unlock_all(locked)
+
+    def set_links(self):
+        """Sets the plain links that the update changes, and raises the tags of those that a removal made null."""
+        table = self.table
+        while self.unset:
+            node, side, was, child = self.unset[0]
+            if self.load("LoadLink", table.link(node, side)) != was:
+                raise Refused("the plain link of %d on %d" % (node, side))
+            yield
+            self.store("SetLink", table.link(node, side), child)
+            del self.unset[0]
+            yield
+        self.rng.shuffle(self.owed)
+        while self.owed:
+            tag = self.load("LoadTag", table.tag(*self.owed[0]))
+            yield
+            self.store("SetTag", table.tag(*self.owed[0]), tag + 1)
+            del self.owed[0]
+            yield
 
     def has_slots(self):
         return self.free[0] and len(self.free[1]) >= 4
@@ -397,11 +432,11 @@ class Seat:
     def insert(self, line, key, val, node, side, head):
         self.table.cases["insert"] += 1
         slot, entry = self.free[0].pop(), self.free[1].pop()
-        yield from self.fill_node(slot, key, val)
+        yield from self.fill_node(slot, key, val, (0, 0))
         yield from self.fill_entry(entry, slot, head)
         self.prepare(node, side, entry)
         yield
-        self.raise_stamp(line, key, val, [], [entry])
+        self.raise_stamp(line, key, val, [], [entry], [(node, side, slot)])
         yield
         yield from self.finish([entry], [], [node], [(node, side)])
 
@@ -422,12 +457,12 @@ class Seat:
         right = yield from self.locked_child(child, RIGHT)
         self.table.cases["replace"] += 1
         slot, entry = self.free[0].pop(), self.free[1].pop()
-        yield from self.fill_node(slot, key, val)
+        yield from self.fill_node(slot, key, val, (left[1], right[1]))
         below = yield from self.new_children(slot, (left[1], right[1]))
         yield from self.fill_entry(entry, slot, head)
         self.prepare(node, side, entry)
         yield
-        self.raise_stamp(line, key, val, [child], [entry] + below)
+        self.raise_stamp(line, key, val, [child], [entry] + below, [(node, side, slot)])
         yield
         yield from self.finish([entry] + below, [child], [node, child], [(node, side)])
 
@@ -442,7 +477,7 @@ class Seat:
         yield from self.fill_entry(entry, left[1] or right[1], head)
         self.prepare(node, side, entry)
         yield
-        self.raise_stamp(line, key, None, [child], [entry])
+        self.raise_stamp(line, key, None, [child], [entry], [(node, side, left[1] or right[1])])
         yield
         yield from self.finish([entry], [child], [node, child], [(node, side)])
         return True
@@ -466,8 +501,9 @@ class Seat:
         yield
         self.table.cases["remove, 2 children, " + ("deep" if parent != child else "right child")] += 1
         slot, entry = self.free[0].pop(), self.free[1].pop()
-        yield from self.fill_node(slot, first_key, first_val)
-        below = yield from self.new_children(slot, (left[1], right[1] if parent != child else first_right[1]))
+        children = (left[1], right[1] if parent != child else first_right[1])
+        yield from self.fill_node(slot, first_key, first_val, children)
+        below = yield from self.new_children(slot, children)
         entries = [entry] + below
         yield from self.fill_entry(entry, slot, head)
         if parent != child:
@@ -478,7 +514,8 @@ class Seat:
             entries.append(moved)
         self.prepare(node, side, entry)
         yield
-        self.raise_stamp(line, key, None, [child, first], entries)
+        links = [(node, side, slot)] + ([(parent, LEFT, first_right[1])] if parent != child else [])
+        self.raise_stamp(line, key, None, [child, first], entries, links)
         yield
         changed = [(node, side)] + ([(parent, LEFT)] if parent != child else [])
         yield from self.finish(entries, [child, first], nodes, changed)
@@ -545,6 +582,27 @@ def check(table, seats):
     assert len(set(slots)) == len(slots) and not set(slots) & set(owned)
 
 
+def check_links(table, seats):
+    """Each plain link of the tree leads where the tree does, but where a seat has still to set it; tags lie below numbers."""
+    stamp = table.words[0]
+    nodes = table.slots(stamp)
+    links = {(0, RIGHT)} | {(node, side) for node in nodes for side in (LEFT, RIGHT)}
+    unset = {(node, side): (seat, was, child) for seat in seats for node, side, was, child in seat.unset}
+    owed = Counter(link for seat in seats for link in seat.owed)
+    for link in set(unset) | set(owed):
+        assert link in links, "a link that is still to be set is none of the tree"
+    for node, side in links:
+        now, word = table.selected(node, side, stamp), table.words[table.link(node, side)]
+        if (node, side) in unset:
+            seat, was, child = unset[node, side]
+            held = table.words[table.node(node, LOCK)] == seat.number + 1
+            right = held and (word, now) == (was, child) and was != child
+        else:
+            right = word == now
+        if not right or table.words[table.tag(node, side)] + owed[node, side] > table.newest(node, side):
+            raise Refused("the plain link of %d on %d holds %d, and the tree has %d" % (node, side, word, now))
+
+
 def random_run(rng, count, inserts):
     most = (40, 90) if inserts else (12, 60)
     sizes = [(rng.randint(2, most[0]), rng.randint(8, most[1]), count) for _ in range(rng.randint(1, 4))]
@@ -558,13 +616,14 @@ def random_run(rng, count, inserts):
     while len(table.events) < count:
         next(lives[rng.randrange(len(seats))])
         steps += 1
+        check_links(table, seats)
         if steps % 17 == 0:
             check(table, seats)
     return table
 
 
 # An event of the first kind must not be left out before the seat's next event of the second, in the same section.
-NEEDED_BY = {"Prepare": "Raise", "Mark": "Unlock", "Finalise": "Unlock", "Announce": "LookAnn", "LookAnn": "Cut"}
+NEEDED_BY = {"Prepare": "Raise", "Mark": "Unlock", "Finalise": "Unlock", "SetLink": "Unlock", "SetTag": "Unlock", "Announce": "LookAnn", "LookAnn": "Cut"}
 CASES = {"insert", "replace", "remove, 0 children", "remove, 1 children", "remove, 2 children, deep", "remove, 2 children, right child"}
 CUTS = {"cut, behind an older reader", "cut, behind the newest entry read"}
 
@@ -576,16 +635,25 @@ def answer(program, sizes, events):
     return done.stdout + done.stderr
 
 
-def needed_event(rng, events):
-    """A random event that a later one needs, and the place of that one."""
+def lock_of(table, word):
+    """The lock of the node of a word."""
+    return word - (word - table.node(0, 0)) % 10 + LOCK
+
+
+def needed_event(rng, table):
+    """A random event that a later one needs, and the place of that one: for a plain link the unlock of its node."""
+    events = table.events
     places = [place for place, event in enumerate(events) if event.split()[1] in NEEDED_BY]
     rng.shuffle(places)
     for place in places:
-        seat, kind = events[place].split()[:2]
+        seat, kind, word = events[place].split()[:3]
+        needs = [seat, NEEDED_BY[kind]]
+        if kind in ("SetLink", "SetTag"):
+            needs.append(str(lock_of(table, int(word))))
         for later in range(place + 1, len(events)):
             if events[later].split()[:2] == [seat, "Leave"]:
                 break
-            if events[later].split()[:2] == [seat, NEEDED_BY[kind]]:
+            if events[later].split()[: len(needs)] == needs:
                 return place, later
     return None
 
@@ -604,7 +672,7 @@ def compare(program, rng, table, run):
             at = int(said.split()[1])
             print("\n".join(table.events[max(0, at - 12) : at + 1]))
         sys.exit(1)
-    found = needed_event(rng, table.events)
+    found = needed_event(rng, table)
     if found:
         place, later = found
         said = answer(program, table.sizes, table.events[:place] + table.events[place + 1 :])

@@ -27,7 +27,8 @@ use Rattle.bucket_terms.specs.LegalRun.{Run}
 abbrev pub is_kept : ℕ → Bool
 is_kept b = is_ascii_alphanumeric b || (b == 45) || (b == 46) || (b == 95) || (b == 126) || (b == 47)
 
--- the text as an answer shows it: where the query asks for it, each other byte is `%` and two upper-case hexadecimal digits
+-- the text as an answer shows it: where the query asks for it, each other byte is `%` and two upper-case hexadecimal
+-- digits
 abbrev pub shown : Bool → List ℕ → List ℕ
 shown true text = flat_map (λ b. if is_kept b then b ∷ [] else percent_encode_byte b) text
 shown false text = text
@@ -150,7 +151,8 @@ abbrev pub verb_text : Change → List ℕ
 verb_text (PutVal val) = codes "PUT"
 verb_text Remove = codes "DELETE"
 
--- one update of the history: its place, who made it for which request line, its key, which is never escaped, and its verb
+-- one update of the history: its place, who made it for which request line, its key, which is never escaped, and its
+-- verb
 abbrev pub journal_data : List (List ℕ) → ℕ → Update → Data
 journal_data dir place u = object_of (
     always (codes "At") (whole place) ∷ always (codes "Client") (whole u.client) ∷ always (codes "Key") (string (name_at dir u.key))

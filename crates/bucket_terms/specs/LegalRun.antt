@@ -56,8 +56,8 @@ pub record Resumed : Type 0 where
   pub query : ListQuery
   pub point : TokenPoint
 
--- what NEXT goes on from: the page of the client's last LIST or NEXT, where there is one and it was truncated. LISTV1 lines
--- between are passed over.
+-- what NEXT goes on from: the page of the client's last LIST or NEXT, where there is one and it was truncated. LISTV1
+-- lines between are passed over.
 abbrev pub next_of : List (List ℕ) → Option Reply → Option Resumed
 next_of dir (Some (Listed query page)) =
     option_map (λ point. record { query = record query { token = next_token query point }; point = point }) (page_point dir page)
@@ -130,8 +130,8 @@ ListsV1 s at query shown page = (shown ≡ query) × (page ≡ v1_page s.dir que
 abbrev pub HasUsedItsSlots : Setting → ℕ → Type 0
 HasUsedItsSlots s line = s.slots ≤ count_by (λ (u : Update). (u.client == s.client) && nat_lt u.line line) s.updates
 
--- the reply is right at its place, where `last` is the reply of the client's last LIST or NEXT. A request is refused, and so
--- has no place, only for a bad token or for want of slots.
+-- the reply is right at its place, where `last` is the reply of the client's last LIST or NEXT. A request is refused,
+-- and so has no place, only for a bad token or for want of slots.
 abbrev pub IsRight : Setting → Option Reply → RequestLine → Option ℕ → Reply → Type 0
 IsRight s last asked at reply = IsRightFor asked.request at reply
   where

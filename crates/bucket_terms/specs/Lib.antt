@@ -4,6 +4,7 @@ pub mod PageParts
 pub mod LegalRun
 pub mod RunParts
 pub mod PassView
+pub mod Pool
 pub mod PlainPass
 pub mod PlainInside
 pub use Rattle.key_map.specs.Map

@@ -101,8 +101,8 @@ four_digits n = (48 + n / 1000 % 10) ∷ (48 + n / 100 % 10) ∷ (48 + n / 10 % 
 abbrev pub sized : List ℕ → List ℕ
 sized text = four_digits (length text) ++ text
 
--- the bytes of a token. Without a bound: the letter, and the key or the common prefix. With a bound: `2` and the letter;
--- the prefix and the delimiter, each with its length; and the key or the common prefix.
+-- the bytes of a token. Without a bound: the letter, and the key or the common prefix. With a bound: `2` and the
+-- letter; the prefix and the delimiter, each with its length; and the key or the common prefix.
 abbrev pub bytes_by : TokenPoint → Option Bound → List ℕ
 bytes_by point None = point_letter point ∷ point_text point
 bytes_by point (Some bound) = 50 ∷ point_letter point ∷ (sized bound.prefix ++ (sized bound.delimiter ++ point_text point))

@@ -112,8 +112,8 @@ abbrev pub AnsweredRemoval : PassView → PassView → ℕ → ℕ → Done → 
 AnsweredRemoval old new line key done =
     MatchBool done.was (Removed old new line key done) (LookedFor old new key false done.at)
 
--- the key was not there and was put. A node slot is used. A pass whose map others change may have looked before, and not
--- have found it absent.
+-- the key was not there and was put. A node slot is used. A pass whose map others change may have looked before, and
+-- not have found it absent.
 pub record Inserted (old new : PassView) (line key val at : ℕ) : Type 0 where
   pub update : MadeUpdate old new line key (Put val) at
   pub absent : map_has key (after new.seen (at - 1)) ≡ false

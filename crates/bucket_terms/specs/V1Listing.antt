@@ -1,5 +1,5 @@
--- A listing of version 1 (Amazon S3 API reference, ListObjects: `Marker`, `NextMarker`): it is that of version 2 from the
--- point that the marker names.
+-- A listing of version 1 (Amazon S3 API reference, ListObjects: `Marker`, `NextMarker`): it is that of version 2 from
+-- the point that the marker names.
 use Rattle.std.specs.Prelude.{ℕ, Bool, false, ◌==◌, ◌&&◌, if◌then◌else◌, List, [], length, Option, Some, None}
 use Rattle.std.specs.Option.{option_map, option_map_or}
 use Rattle.key_names.specs.Names.{begins_with}

@@ -1,20 +1,17 @@
 // One caller's way to the map. A pass is used by one caller at a time. Other passes of the same index may
 // change the map between two of its calls and during them; an open snapshot stays as it is.
-ghost use Rattle.std.specs.Prelude.{◌≡◌, ◌↔◌, ℕ, List, None, Some, IsSome, IfOk, OnErr, IsErrOf};
+ghost use Rattle.std.specs.Prelude.{◌≡◌, ◌↔◌, ℕ, None, Some, IsSome, IfOk, OnErr, IsErrOf};
 ghost use Rattle.key_map.specs.Map.{first_from};
 ghost use Rattle.key_map.specs.History.{after};
 ghost use Rattle.bucket_terms.specs.PassView.{PassView, MadePut, AnsweredPutNew, AnsweredRemoval, Began, KnowsOwn, IsOutOfSlots};
 
+use crate::homed::Homed;
 use key_map::{Done, New, Pair, PassError};
 use std::sync::Wait;
 
 /// A pass to an ordered map from ranks to values, of which every update has a number.
 /// A call that takes `rt` may wait for another pass; no call takes memory.
-pub trait KeyPass {
-    /// The index that the pass is of: passes are of one index exactly where these are equal and not empty. A
-    /// pass of no index has the empty list.
-    ghost home: { Self → List ℕ };
-
+pub trait KeyPass: Homed {
     /// What its caller knows of the pass.
     ghost view: { Self → PassView };
 
@@ -25,7 +22,7 @@ pub trait KeyPass {
         ensures spent { IsErrOf result PassError.Spent ↔ ((view self.old).left ≡ 0) }
         ensures no_slot { IsErrOf result PassError.NoSlot ↔ IsOutOfSlots (view self.old) }
         ensures unchanged { OnErr result (view self.new ≡ view self.old) }
-        ensures home { home self.new ≡ home self.old };
+        ensures home { Self.home self.new ≡ Self.home self.old };
 
     /// Puts the key with this value where it is not there, for the request line `line`. Where it is there, no update is
     /// made: the answer is that of a snapshot. The conditions on slots are the same then.
@@ -41,7 +38,7 @@ pub trait KeyPass {
         ensures spent { IsErrOf result PassError.Spent ↔ ((view self.old).left ≡ 0) }
         ensures no_slot { IsErrOf result PassError.NoSlot ↔ IsOutOfSlots (view self.old) }
         ensures unchanged { OnErr result (view self.new ≡ view self.old) }
-        ensures home { home self.new ≡ home self.old };
+        ensures home { Self.home self.new ≡ Self.home self.old };
 
     /// Takes the key out, for the request line `line`. Where it is not there, no update is made: the answer is
     /// that of a snapshot. The conditions on slots are the same then.
@@ -51,26 +48,26 @@ pub trait KeyPass {
         ensures spent { IsErrOf result PassError.Spent ↔ ((view self.old).left ≡ 0) }
         ensures no_slot { IsErrOf result PassError.NoSlot ↔ IsOutOfSlots (view self.old) }
         ensures unchanged { OnErr result (view self.new ≡ view self.old) }
-        ensures home { home self.new ≡ home self.old };
+        ensures home { Self.home self.new ≡ Self.home self.old };
 
     /// Opens a snapshot and answers its place.
     fn begin(&mut self) -> u64
         requires { (view self.old).opened ≡ None }
         ensures began { Began (view self.old) (view self.new) result }
-        ensures home { home self.new ≡ home self.old };
+        ensures home { Self.home self.new ≡ Self.home self.old };
 
     /// The first pair of the open snapshot whose key is at least `key`.
     fn next_from<Rt: Wait>(&mut self, rt: &Rt, key: u64) -> Option<Pair>
         requires { IsSome (view self.old).opened }
         ensures first { (at : ℕ) → (view self.old).opened ≡ Some at → result ≡ first_from key (after (view self.old).seen at) }
         ensures same { view self.new ≡ view self.old }
-        ensures home { home self.new ≡ home self.old };
+        ensures home { Self.home self.new ≡ Self.home self.old };
 
     /// Closes the snapshot.
     fn end(&mut self)
         requires { IsSome (view self.old).opened }
         ensures closed { view self.new ≡ record (view self.old) { opened = None } }
-        ensures home { home self.new ≡ home self.old };
+        ensures home { Self.home self.new ≡ Self.home self.old };
 
     /// The number of the pass. A caller learns here too that the pass knows its own updates.
     fn client(&self) -> u32

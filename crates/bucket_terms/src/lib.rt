@@ -3,13 +3,13 @@
 //! of `KeyPass`, and `PlainPass`, a pass over one sorted list.
 #![tactic(auto)]
 
-mod boxed_query;
-mod boxed_v1_query;
+mod boxed;
 mod homed;
 mod key_pass;
 mod list_query;
 mod page;
 mod plain_pass;
+mod pool_pass;
 mod record;
 mod reply;
 mod request;
@@ -18,13 +18,13 @@ mod token;
 mod token_point;
 mod v1_query;
 
-pub use boxed_query::BoxedQuery;
-pub use boxed_v1_query::BoxedV1Query;
+pub use boxed::Boxed;
 pub use homed::{Homed, Tagged};
 pub use key_pass::KeyPass;
 pub use list_query::ListQuery;
 pub use page::{Page, PageEntry};
 pub use plain_pass::PlainPass;
+pub use pool_pass::{PoolPass, Slots};
 pub use record::Record;
 pub use reply::{Placed, Reply};
 pub use request::Request;

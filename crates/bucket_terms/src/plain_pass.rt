@@ -4,7 +4,7 @@ ghost use Rattle.key_map.specs.declared.update.Update.{Update};
 ghost use Rattle.bucket_terms.specs.PassView.{MadePut, AnsweredPutNew, AnsweredRemoval, IsOutOfSlots};
 ghost use Rattle.bucket_terms.specs.PlainPass.{fresh, KeepsLooks, LooksOnceIfAbsent, LooksOnceIfKept};
 
-use crate::KeyPass;
+use crate::{Homed, KeyPass};
 use key_map::{Change, Done, New, Pair, PassError, PassSize, PlainMap, Update};
 use key_names::NoMemory;
 use std::alloc::Global;
@@ -70,9 +70,13 @@ impl PlainPass {
     }
 }
 
-impl KeyPass for PlainPass {
-    ghost home = { λ _. [] };
+impl Homed for PlainPass {
+    ghost use Rattle.std.specs.Prelude.{[]};
 
+    ghost home = { λ _. [] };
+}
+
+impl KeyPass for PlainPass {
     ghost view = { λ pass. pass };
 
     fn put<Rt: Wait>(&mut self, _rt: &Rt, line: u32, key: u64, val: u64) -> Result<Done, PassError>

@@ -1,4 +1,4 @@
-use crate::{BoxedQuery, BoxedV1Query, Page};
+use crate::{Boxed, ListQuery, Page, V1Query};
 
 /// The answer to a request.
 #[derive(Debug, Drop)]
@@ -14,9 +14,9 @@ pub enum Reply {
     /// 404.
     Missing,
     /// 200. The query that was answered, with the token that it went on from, and its page.
-    Listed { query: BoxedQuery, page: Page },
+    Listed { query: Boxed<ListQuery>, page: Page },
     /// 200. The query of version 1 that was answered, and its page.
-    ListedV1 { query: BoxedV1Query, page: Page },
+    ListedV1 { query: Boxed<V1Query>, page: Page },
     /// 400. The continuation token is the text of no token, or of one with another prefix or delimiter; or
     /// there is no page to go on from.
     BadToken,

@@ -3,8 +3,8 @@ ghost use Rattle.std.specs.Prelude.{◌≡◌, IfOk};
 use key_names::{NoMemory, Text};
 use std::alloc::Global;
 
-/// The parameters of a listing of version 1 (Amazon S3 API reference, ListObjects). An empty text is a parameter that was
-/// not given.
+/// The parameters of a listing of version 1 (Amazon S3 API reference, ListObjects). An empty text is a parameter that
+/// was not given.
 #[derive(Debug, Drop)]
 pub struct V1Query {
     /// Only keys that begin with it are listed. At most 1,024 bytes.

@@ -1,7 +1,7 @@
 //! The program: reads a session on standard input, answers it, and writes the answers, the journal of updates and their
 //! number as lines of JSON; or runs a generated session, and writes a line of numbers; or reads a session and a written
-//! text, and writes whether the text is right. `serve` of `serve_session` is the whole of it, and its clauses say what a
-//! run has read and written; here stand the real input and output, the words of the command line, the runner of the
+//! text, and writes whether the text is right. `serve` of `serve_session` is the whole of it, and its clauses say what
+//! a run has read and written; here stand the real input and output, the words of the command line, the runner of the
 //! clients, and the exit status.
 #![tactic(auto)]
 

@@ -52,6 +52,10 @@ fn look_along(pass: &mut TablePass<'_>, at: u64, link: Link, entry: u32) -> Alon
 /// The child of a link of the tree that the pass reads at `at`: of the link's entries, from the newest on, the first
 /// one whose number is at most `at` has it. Their numbers fall, so it ends. None where an entry had no number yet,
 /// which another pass has pending; the count of such entries has then risen.
+///
+/// It is built into its callers: a search makes it in each level, and a call there stores and loads what the caller
+/// keeps in registers.
+#[inline(always)]
 pub fn child_at(pass: &mut TablePass<'_>, at: u64, link: Link) -> Option<Seen>
     requires reads { InsideAt pass.old.view at }
     requires link { IsTreeLink pass.old.view link.node link.side }

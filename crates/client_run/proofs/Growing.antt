@@ -98,20 +98,20 @@ start dir old knows closed = record {
   upto = λ k d below. absurd (omega arith);
 }
 
--- the next line is later than the own updates so far
-pub later_now : (dir : List (List ℕ)) (lines : List RequestLine) (old now : PassView) (replies : List Placed) (line : ℕ)
-    → Running dir lines old now replies → IsLaterLine old line → All (λ (l : RequestLine). l.line < line) lines → IsLaterLine now line
-later_now dir lines old now replies line run later rising = λ k d below own.
+-- a line behind those of a run is later than the own updates of then
+pub later_ran : (dir : List (List ℕ)) (lines : List RequestLine) (old now : PassView) (replies : List Placed) (line : ℕ)
+    → RanClient dir lines old now replies → IsLaterLine old line → All (λ (l : RequestLine). l.line < line) lines → IsLaterLine now line
+later_ran dir lines old now replies line ran later rising = λ k d below own.
     let u = get_or now.seen k d in
-    let mine : u.client ≡ old.number = own ∙ run.ran.continues.number in
+    let mine : u.client ≡ old.number = own ∙ ran.continues.number in
     elim (cases_lt k (length old.seen)) [
       | inl front ↦
-          let same : get_or now.seen k d ≡ get_or old.seen k d = ap (λ (us : List Update). get_or us k d) run.ran.continues.seen.1 ∙ get_or_append_left old.seen run.ran.continues.seen.0 d k front in
+          let same : get_or now.seen k d ≡ get_or old.seen k d = ap (λ (us : List Update). get_or us k d) ran.continues.seen.1 ∙ get_or_append_left old.seen ran.continues.seen.0 d k front in
           let h : (get_or old.seen k d).line < line = later k d front (sym (ap (λ (w : Update). w.client) same) ∙ mine) in
           let e : (get_or now.seen k d).line ≡ (get_or old.seen k d).line = ap (λ (w : Update). w.line) same in
           omega arith
       | inr back ↦
-          let by_line = run.ran.made k u back (slice_get-get_or now.seen k d below) mine in
+          let by_line = ran.made k u back (slice_get-get_or now.seen k d below) mine in
           let h : by_line.1.asked.line < line = subst (λ (a : Answered). a.asked.line < line) by_line.3 (All-answered (λ (l : RequestLine). l.line < line) lines replies rising by_line.0 by_line.1 by_line.2) in
           let e : by_line.1.asked.line ≡ u.line = by_line.4.line in
           omega arith

@@ -9,3 +9,5 @@ pub mod Walk
 pub mod Listings
 pub mod Stopping
 pub mod Sessions
+pub mod TradedAnswers
+pub mod TradedRuns

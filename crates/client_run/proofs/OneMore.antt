@@ -18,7 +18,7 @@ use Rattle.client_run.specs.ClientRun.{setting, IsLaterLine, Answers, AnswersInT
 use Rattle.client_run.specs.Listing.{HasPageInRange}
 use Rattle.client_run.proofs.Places.{slice_get-append_front, slice_get-append_back}
 use Rattle.client_run.proofs.Longer.{over, OtherLines, update_at-longer, AreAnswered-longer}
-use Rattle.client_run.proofs.Growing.{Running, count_earlier, answered_lines-push, AreAnswered-push, Any-front, Any-last, later_now}
+use Rattle.client_run.proofs.Growing.{Running, count_earlier, answered_lines-push, AreAnswered-push, Any-front, Any-last, later_ran}
 
 -- ---- the history grows
 
@@ -57,7 +57,7 @@ others dir lines mid now slots last a step rising = λ k d below j e within is.
 
 -- ---- the order of places
 
-placed_upto : (m n : ℕ) (at : Option ℕ) → m ≤ n → MatchOption at ⊤ (λ place. place ≤ m) → MatchOption at ⊤ (λ place. place ≤ n)
+pub placed_upto : (m n : ℕ) (at : Option ℕ) → m ≤ n → MatchOption at ⊤ (λ place. place ≤ m) → MatchOption at ⊤ (λ place. place ≤ n)
 placed_upto m n None le h = tt
 placed_upto m n (Some place) le h = omega arith
 
@@ -104,7 +104,7 @@ order_now dir mid now slots earlier line (Some n) c later upto from to = record 
 -- ---- looks at the stamp
 
 module _ (s : Setting) (more : List Update) where
-  has_own-longer : (line : ℕ) (at : Option ℕ) → MatchOption at ⊤ (λ n. n ≤ length s.updates) → has_own (over s (s.updates ++ more)) line at ≡ has_own s line at
+  pub has_own-longer : (line : ℕ) (at : Option ℕ) → MatchOption at ⊤ (λ n. n ≤ length s.updates) → has_own (over s (s.updates ++ more)) line at ≡ has_own s line at
   has_own-longer line None within = refl
   has_own-longer line (Some n) within =
       ap (λ (found : Option Update). is_of (over s (s.updates ++ more)) line found) (update_at-longer s more n within) ∙ is_of-longer (update_at s n)
@@ -113,7 +113,7 @@ module _ (s : Setting) (more : List Update) where
       is_of-longer None = refl
       is_of-longer (Some u) = refl
 
-  looked-longer : (asked : RequestLine) (client line : ℕ) (at : Option ℕ) (reply : Reply) → MatchOption at ⊤ (λ n. n ≤ length s.updates)
+  pub looked-longer : (asked : RequestLine) (client line : ℕ) (at : Option ℕ) (reply : Reply) → MatchOption at ⊤ (λ n. n ≤ length s.updates)
       → is_looked_up (over s (s.updates ++ more)) (record { asked = asked; placed = record { client = client; line = line; at = at; reply = reply } })
       ≡ is_looked_up s (record { asked = asked; placed = record { client = client; line = line; at = at; reply = reply } })
   looked-longer asked client line at (Put was) within = refl
@@ -178,7 +178,7 @@ in_turn_more dir earlier old mid now (m ∷ lines) (q ∷ replies) l p (between,
 in_turn_more dir earlier old mid now [] (q ∷ replies) l p none step = absurd none
 in_turn_more dir earlier old mid now (m ∷ lines) [] l p none step = absurd none
 
-places_from_old : (m n : ℕ) (at : Option ℕ) → m ≤ n → MatchOption at ⊤ (λ place. n ≤ place) → MatchOption at ⊤ (λ place. m ≤ place)
+pub places_from_old : (m n : ℕ) (at : Option ℕ) → m ≤ n → MatchOption at ⊤ (λ place. n ≤ place) → MatchOption at ⊤ (λ place. m ≤ place)
 places_from_old m n None le h = tt
 places_from_old m n (Some place) le h = omega arith
 
@@ -195,7 +195,7 @@ module _ (dir : List (List ℕ)) (lines : List RequestLine) (old mid now : PassV
   together = answered_lines-push lines replies l p run.same_length
 
   later_mid : IsLaterLine mid l.line
-  later_mid = later_now dir lines old mid replies l.line run later_old rising
+  later_mid = later_ran dir lines old mid replies l.line run.ran later_old rising
 
   -- what the pass lacks at a refusal was used up by own updates of this call
   enough : (n : ℕ) → n ≤ old.nodes → 4 * n ≤ old.entries → IsShort mid

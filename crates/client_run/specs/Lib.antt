@@ -1,3 +1,4 @@
 pub mod ClientRun
 pub mod Listing
 pub mod Starts
+pub mod Pooling

@@ -1,11 +1,13 @@
 //! The run of one client: its requests, in order, over any pass that keeps the clauses of `KeyPass`. The layer above
-//! uses `run_client`, whose clause says that the replies are those of a legal run over the history that the pass knows in
-//! the end.
+//! uses `run_client`, whose clause says that the replies are those of a legal run over the history that the pass knows
+//! in the end; and `run_pooled`, whose passes trade node slots through a depot around each update.
 #![tactic(auto)]
 
 mod gate;
 mod listing;
 mod pages;
+mod pool;
+mod pooled;
 mod run;
 mod updates;
 mod v1_pages;
@@ -13,4 +15,6 @@ mod v1_pages;
 pub use gate::{Gate, OpenGate};
 pub use listing::list;
 pub use pages::{Resumption, Start, next_query, resume, start_of};
+pub use pool::{hand_over, top_up};
+pub use pooled::run_pooled;
 pub use run::run_client;

@@ -12,15 +12,15 @@ ghost use Rattle.client_run.specs.Starts.{IsStartOf, IsStartBehind, resumed, res
 
 use crate::list;
 use crate::updates::{answer_at, refused};
-use bucket_terms::{BoxedQuery, KeyPass, ListQuery, Page, Placed, Reply, Token, TokenPoint};
+use bucket_terms::{Boxed, KeyPass, ListQuery, Page, Placed, Reply, Token, TokenPoint};
 use key_names::{Directory, NoMemory};
 use page_token::TokenError;
 use std::alloc::Global;
 use std::sync::Wait;
 
 /// The query of the next page behind a reply: None exactly where there is no reply, or it is no listing, or
-/// its page is not truncated. Else it is the query of the reply, with the token of its page: the text that the line of the
-/// reply shows.
+/// its page is not truncated. Else it is the query of the reply, with the token of its page: the text that the line of
+/// the reply shows.
 pub fn next_query(
     alloc: Global,
     dir: &Directory,
@@ -193,7 +193,7 @@ fn listed<P: KeyPass, Rt: Wait>(
     ensures home { P.home pass.new ≡ P.home pass.old }
 {
     let client = pass.client();
-    let query = BoxedQuery::new(alloc, query)?;
+    let query = Boxed::new(alloc, query)?;
     let (at, page) = list(rt, alloc, pass, dir, query.get(), point.as_ref())?;
     Ok(answer_at(client, line, at, Reply::Listed { query, page }))
 }

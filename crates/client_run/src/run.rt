@@ -51,7 +51,7 @@ pub fn run_client<P: KeyPass, G: Gate, Rt: Wait>(
 }
 
 // Answers one request; `hint` is where the directory may have its name, `last` the reply of the client's last listing.
-fn answer<P: KeyPass, Rt: Wait>(
+pub(crate) fn answer<P: KeyPass, Rt: Wait>(
     rt: &Rt,
     alloc: Global,
     pass: &mut P,
@@ -90,7 +90,7 @@ fn answer<P: KeyPass, Rt: Wait>(
 }
 
 // The place of the last LIST or NEXT: this request's, or else the one so far.
-fn later_listing(last: Option<usize>, request: &Request, place: usize) -> Option<usize>
+pub(crate) fn later_listing(last: Option<usize>, request: &Request, place: usize) -> Option<usize>
     ensures { result ≡ (if is_listing request.now then Some place else last) }
 {
     match request {
@@ -99,7 +99,7 @@ fn later_listing(last: Option<usize>, request: &Request, place: usize) -> Option
     }
 }
 
-fn reply_at(replies: &[Placed], place: Option<usize>) -> Option<&Reply>
+pub(crate) fn reply_at(replies: &[Placed], place: Option<usize>) -> Option<&Reply>
     requires { ForSome place (λ k. k < length replies.now) }
     ensures { option_copied result ≡ option_and_then (λ k. option_map (λ (p : Placed). p.reply) (slice_get replies.now k)) place }
 {

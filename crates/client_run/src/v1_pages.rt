@@ -7,7 +7,7 @@ ghost use Rattle.client_run.specs.Listing.{HasPageInRange, ListedV1As};
 
 use crate::list;
 use crate::updates::answer_at;
-use bucket_terms::{BoxedV1Query, KeyPass, ListQuery, Placed, Reply, TokenPoint, V1Query};
+use bucket_terms::{Boxed, KeyPass, ListQuery, Placed, Reply, TokenPoint, V1Query};
 use key_names::{Directory, NoMemory};
 use list_v1::{plain_query, point_of};
 use std::alloc::Global;
@@ -51,7 +51,7 @@ fn listed_v1<P: KeyPass, Rt: Wait>(
     ensures home { P.home pass.new ≡ P.home pass.old }
 {
     let client = pass.client();
-    let query = BoxedV1Query::new(alloc, shown)?;
+    let query = Boxed::new(alloc, shown)?;
     let (at, page) = list(rt, alloc, pass, dir, &plain, point.as_ref())?;
     Ok(answer_at(client, line, at, Reply::ListedV1 { query, page }))
 }

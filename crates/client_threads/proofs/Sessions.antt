@@ -1,5 +1,5 @@
 -- What a session gives for the run of its clients.
-use Rattle.std.proofs.Common.{◌≡◌, ℕ, ◌<◌, ◌==◌, All, length, map, List, [], ◌∷◌, false, arith}
+use Rattle.std.proofs.Common.{◌≡◌, ℕ, ◌<◌, ◌==◌, All, length, map, List, [], ◌∷◌, false, sym, subst, arith}
 use Rattle.std.specs.List.{slice_index_or}
 use Rattle.std.proofs.lemmas.Bool.Decides.{nat_tests}
 use Rattle.std.proofs.lemmas.List.Elements.{All-map, All-weaker}
@@ -16,15 +16,15 @@ recorded_below : (names : List (List ℕ)) (count : ℕ) (asked : List Asked) �
 recorded_below names count asked served =
     All-map (HasRecordBelow count) request_line asked (All-weaker (IsServed names count) (λ (a : Asked). HasRecordBelow count (request_line a)) (λ a is. is.place) asked served)
 
--- the session can be run, its names being the directory
-pub can_serve : (session : Session) (dir : List (List ℕ)) (names : List (List ℕ)) → 0 < length session.clients → HoldsEachOnce session.names dir → HasRequests session → HasLines session → IsSmall session
-    → CanServe dir (record session { names = names })
-can_serve session dir names some holds requests lines small = record {
+-- the session can be run once its names are taken out, which are the directory's
+pub can_serve : (session taken : Session) (dir : List (List ℕ)) → taken ≡ record session { names = [] } → 0 < length session.clients → HoldsEachOnce session.names dir
+    → HasRequests session → HasLines session → IsSmall session → CanServe dir taken
+can_serve session taken dir is some holds requests lines small = subst (CanServe dir) (sym is) (record {
   few = record { some = some; few = small.clients; requests = small.requests };
   askable = λ c d lt. askable dir session.names (length session.records) (slice_index_or session.clients c d).requests holds (requests.served c d lt);
   rising = lines.rising;
   recorded = λ c d lt. recorded_below session.names (length session.records) (slice_index_or session.clients c d).requests (requests.served c d lt);
-}
+})
 
 pub some_client : (clients : List ClientPart) → (length clients == 0) ≡ false → 0 < length clients
 some_client [] is = absurd (grind (arith, nat_tests))

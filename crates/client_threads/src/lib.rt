@@ -1,11 +1,10 @@
-//! Runs the clients of a session over one shared index, each over a pass of its own and on a thread of its own, and gives
-//! the whole history of their updates, with the numbers of the run. What runs the clients is a `Runner`; `Threaded` is
-//! the one of the program. The layer above reads the session, and writes the replies and the history.
+//! Runs the clients of a session over one shared index, each over a pass of its own and on a thread of its own, and
+//! gives the whole history of their updates, with the numbers of the run. What runs the clients is a `Runner`;
+//! `Threaded` is the one of the program. The layer above reads the session, and writes the replies and the history.
 #![tactic(auto)]
 
 mod counting;
 mod history;
-mod naming;
 mod opening;
 mod runner;
 mod slots;
@@ -13,7 +12,6 @@ mod threaded;
 
 pub use counting::summary_of;
 pub use history::history_of;
-pub use naming::directory_of;
 pub use opening::open_index;
 pub use runner::Runner;
 pub use slots::slots_suffice;

@@ -13,8 +13,8 @@ use shared_index::{OpenError, PassKey, SharedIndex};
 use std::alloc::Global;
 
 /// Opens an index with a pass for each client, with a call for each of its PUT, PUTNEW and DELETE lines. Each has the
-/// named number of node slots, or one more than it has such lines; and four times as many entry slots. So a small number
-/// of slots takes little room, however many lines there are.
+/// named number of node slots, or one more than it has such lines; and four times as many entry slots. So a small
+/// number of slots takes little room, however many lines there are.
 pub fn open_index(
     alloc: Global,
     slots: Option<u32>,

@@ -32,8 +32,8 @@ pub trait Runner<G: Gate + Sync> {
     /// The reply lists of the last run, one per client.
     ghost replied: { Self → List (List PlacedReply) };
 
-    /// Answers the requests of all clients, and gives the keys back, each with its number. The passes may have been used
-    /// before, and the index may have further passes, which others use at the same time.
+    /// Answers the requests of all clients, and gives the keys back, each with its number. The passes may have been
+    /// used before, and the index may have further passes, which others use at the same time.
     ///
     /// # Errors
     /// Want of memory ends the run. Updates may have been made then, and the keys are gone.

@@ -19,8 +19,8 @@ use std::sync::Wait;
 use std::thread;
 use std::thread::Threads;
 
-/// Runs each client on a thread of its own. Where a thread cannot be started, its client is run by the thread that was to
-/// start it.
+/// Runs each client on a thread of its own. Where a thread cannot be started, its client is run by the thread that was
+/// to start it.
 ///
 /// ```
 /// let mut runner = Threaded::new();

@@ -11,8 +11,8 @@ use std::alloc::Global;
 /// What the program is asked to do.
 #[derive(Clone, Copy, Debug, PartialEq, Eq)]
 pub enum Form {
-    /// `run`: runs the session on standard input. With `--slots N` or `--slots=N` each client has N node slots, from 1 to
-    /// 8,192; without it, one more than it has lines that may make an update.
+    /// `run`: runs the session on standard input. With `--slots N` or `--slots=N` each client has N node slots, from 1
+    /// to 8,192; without it, one more than it has lines that may make an update.
     Run { slots: Option<u32> },
     /// `check`: checks a written text of the session on standard input. `--slots N` or `--slots=N` is as for `run`.
     Check { slots: Option<u32> },

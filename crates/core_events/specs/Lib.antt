@@ -7,6 +7,9 @@ pub mod LoadMoves
 pub mod LoadNeeds
 pub mod UpdateMoves
 pub mod UpdateNeeds
+pub mod PlainNeeds
+pub mod PlainMoves
+pub mod PlainWork
 pub mod LockMoves
 pub mod LockNeeds
 pub mod Versions

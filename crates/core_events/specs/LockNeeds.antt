@@ -11,6 +11,7 @@ use Rattle.core_grace.specs.Sections.{is_even}
 use Rattle.core_events.specs.Needs.{is_lock, nothing_pending}
 use Rattle.core_events.specs.LoadMoves.{locks}
 use Rattle.core_events.specs.LoadNeeds.{is_reachable}
+use Rattle.core_events.specs.PlainNeeds.{is_done_at}
 
 abbrev pub is_mark : Field → Bool
 is_mark Mark = true
@@ -37,9 +38,9 @@ may_try_lock v (Node field k) value =
     is_lock field && not (is_even v.section_word) && may_lock v k && not (locks k v.held.nodes) && names_pass v.number value
 may_try_lock v _ value = false
 
--- unlock: the seat has locked the node, and nothing is pending
+-- unlock: the seat has locked the node, nothing is pending, and its update has set the node's plain links and raised their tags
 abbrev pub may_unlock : Memory → View → Word → ℕ → Bool
-may_unlock m v (Node field k) value = is_lock field && locks k v.held.nodes && nothing_pending m v && value == 0
+may_unlock m v (Node field k) value = is_lock field && locks k v.held.nodes && nothing_pending m v && is_done_at k v.update && value == 0
 may_unlock m v _ value = false
 
 -- load of a mark: inside a section

@@ -5,7 +5,7 @@ use Rattle.index_words.specs.declared.layout.Layout.{Layout}
 use Rattle.key_map.specs.declared.update.Update.{Update}
 use Rattle.index_words.specs.declared.view.View.{View}
 use Rattle.index_words.specs.declared.word.Field.{Field}
-use Rattle.index_words.specs.declared.word.Field.TheVariants.{Head}
+use Rattle.index_words.specs.declared.word.Field.TheVariants.{Head, Link, Tag}
 use Rattle.index_words.specs.declared.word.Part.TheVariants.{Child, Stamp as Number}
 use Rattle.index_words.specs.declared.word.Word.{Word}
 use Rattle.index_words.specs.declared.word.Word.TheVariants.{Section, Announced, Node, Entry}
@@ -14,7 +14,7 @@ use Rattle.index_words.specs.Views.{spent_view}
 use Rattle.core_grace.specs.Batches.{is_number, looked}
 use Rattle.core_events.specs.declared.event.Event.{Event}
 use Rattle.core_events.specs.declared.event.Kind.{Kind}
-use Rattle.core_events.specs.declared.event.Kind.TheVariants.{MakeSeat, SplitSeat, JoinSeat, Enter, Leave, LookSec, Fill, LoadStamp, LoadHead, LoadTs, LoadPtr, LoadNext, Prepare, Raise, Finalise, TryLock, Unlock, LoadMark, Mark, LoadKeyOrVal, Announce, LookAnn, Cut}
+use Rattle.core_events.specs.declared.event.Kind.TheVariants.{MakeSeat, SplitSeat, JoinSeat, Enter, Leave, LookSec, Fill, LoadStamp, LoadHead, LoadTs, LoadPtr, LoadNext, Prepare, Raise, Finalise, TryLock, Unlock, LoadMark, Mark, LoadKeyOrVal, Announce, LookAnn, Cut, LoadLink, SetLink, LoadTag, SetTag}
 use Rattle.core_events.specs.Tables.{Table, held_by}
 use Rattle.core_events.specs.Needs.{may_enter, may_leave, may_look, may_fill, may_split, may_join}
 use Rattle.core_events.specs.LoadNeeds.{may_load_stamp, may_load_head, may_load_part, may_load_next}
@@ -29,6 +29,8 @@ use Rattle.core_events.specs.TreeMoves.{tree_move}
 use Rattle.core_events.specs.LockMoves.{tried, unlocked_view, with_mark, mark_loaded, pair_loaded}
 use Rattle.core_events.specs.FillMoves.{filled_view}
 use Rattle.core_events.specs.Announcing.{may_announce, announced_view, may_look_ann, ann_loaded}
+use Rattle.core_events.specs.PlainNeeds.{may_load_link, may_load_tag, may_set_link, may_set_tag}
+use Rattle.core_events.specs.PlainMoves.{link_loaded, tag_loaded, link_set, tag_set}
 use Rattle.core_events.specs.CutNeeds.{may_cut}
 use Rattle.core_events.specs.CutMoves.{cut_off, cut_view}
 
@@ -57,6 +59,10 @@ needs LoadKeyOrVal z m views seat v w value update = may_load_pair v w value
 needs Announce z m views seat v w value update = may_announce v w value
 needs LookAnn z m views seat v w value update = may_look_ann v w value
 needs Cut z m views seat v w value update = may_cut z m views v w value
+needs LoadLink z m views seat v w value update = may_load_link v w value
+needs SetLink z m views seat v w value update = may_set_link m v w value
+needs LoadTag z m views seat v w value update = may_load_tag v w value
+needs SetTag z m views seat v w value update = may_set_tag m v w value
 
 -- a raise has an update of the view's own pass, and no other kind has one
 abbrev pub is_own_update : View → Option Update → Bool
@@ -149,6 +155,38 @@ abbrev pub cut_from : Layout → Memory → View → Word → View
 cut_from z m v (Entry p e) = cut_view v e (cut_off z m e)
 cut_from z m v _ = v
 
+abbrev pub link_at : View → Field → ℕ → ℕ → View
+link_at v (Link side) k x = link_loaded v k side x
+link_at v _ k x = v
+
+abbrev pub link_from : View → Word → ℕ → View
+link_from v (Node field k) x = link_at v field k x
+link_from v _ x = v
+
+abbrev pub tag_at : View → Field → ℕ → ℕ → View
+tag_at v (Tag side) k x = tag_loaded v k side x
+tag_at v _ k x = v
+
+abbrev pub tag_from : View → Word → ℕ → View
+tag_from v (Node field k) x = tag_at v field k x
+tag_from v _ x = v
+
+abbrev pub set_at : View → Field → ℕ → ℕ → View
+set_at v (Link side) k child = link_set v k side child
+set_at v _ k child = v
+
+abbrev pub set_from : View → Word → ℕ → View
+set_from v (Node field k) child = set_at v field k child
+set_from v _ child = v
+
+abbrev pub raised_tag_at : View → Field → ℕ → ℕ → View
+raised_tag_at v (Tag side) k x = tag_set v k side x
+raised_tag_at v _ k x = v
+
+abbrev pub raised_tag_from : View → Word → ℕ → View
+raised_tag_from v (Node field k) x = raised_tag_at v field k x
+raised_tag_from v _ x = v
+
 -- the view of the seat after an event of a kind that changes it alone, at a word that was found to hold `x`
 abbrev pub view_after : Kind → Layout → Memory → List View → View → Word → ℕ → ℕ → Option Update → View
 view_after Enter z m views v w x value update = entered z.passes v value
@@ -171,6 +209,10 @@ view_after LoadKeyOrVal z m views v w x value update = pair_from v w x
 view_after Announce z m views v w x value update = announced_view v value
 view_after LookAnn z m views v w x value update = ann_from v w x
 view_after Cut z m views v w x value update = cut_from z m v w
+view_after LoadLink z m views v w x value update = link_from v w x
+view_after SetLink z m views v w x value update = set_from v w value
+view_after LoadTag z m views v w x value update = tag_from v w x
+view_after SetTag z m views v w x value update = raised_tag_from v w value
 view_after _ z m views v w x value update = v
 
 -- the views after an event of a kind
@@ -194,6 +236,8 @@ words_after Unlock words at value = slice_set words at value
 words_after Mark words at value = slice_set words at value
 words_after Announce words at value = slice_set words at value
 words_after Cut words at value = slice_set words at value
+words_after SetLink words at value = slice_set words at value
+words_after SetTag words at value = slice_set words at value
 words_after _ words at value = words
 
 abbrev pub after_at : Table → Event → Option View → Option Word → Table

@@ -3,22 +3,26 @@
 use Rattle.std.specs.Prelude.{ℕ, List, [], ◌∷◌, ◌++◌, nat_lt, Bool, true, false, not, ◌==◌, ◌&&◌, ◌||◌, Option, Some, None}
 use Rattle.std.specs.List.{list_all}
 use Rattle.index_words.specs.declared.layout.Layout.{Layout}
+use Rattle.index_words.specs.declared.side.Side.{Side}
 use Rattle.index_words.specs.declared.side.Side.TheVariants.{Left, Right}
 use Rattle.key_map.specs.declared.update.Update.{Update}
 use Rattle.key_map.specs.declared.update.Change.{Change}
 use Rattle.key_map.specs.declared.update.Change.TheVariants.{Put, Remove}
 use Rattle.index_words.specs.declared.view.View.{View}
-use Rattle.index_words.specs.declared.word.Field.TheVariants.{Mark, Head}
-use Rattle.index_words.specs.declared.word.Part.TheVariants.{Stamp as Number, Next}
+use Rattle.index_words.specs.declared.view.update.UnsetLink.{UnsetLink}
+use Rattle.index_words.specs.declared.word.Field.TheVariants.{Mark, Head, Link, Tag}
+use Rattle.index_words.specs.declared.word.Part.TheVariants.{Child, Stamp as Number, Next}
 use Rattle.index_words.specs.declared.word.Word.TheVariants.{Node, Entry}
 use Rattle.index_words.specs.Words.{Memory}
 use Rattle.key_map.specs.Lists.{has}
+use Rattle.core_links.specs.Bundle.{child_of_entry}
 use Rattle.core_trees.specs.NamedTree.{NamedTree, Null, Branch}
 use Rattle.core_trees.specs.Search.{end_node, end_side}
 use Rattle.core_trees.specs.Slots.{put_takes, remove_takes, remove_brings}
 use Rattle.core_trees.specs.TreeStep.{subtree_at, tree_put, tree_remove}
 use Rattle.core_events.specs.declared.tree_move.TreeMove.{TreeMove}
 use Rattle.core_events.specs.LoadMoves.{locks}
+use Rattle.core_events.specs.PlainWork.{plain_move}
 use Rattle.core_events.specs.UpdateMoves.{listed_entry}
 use Rattle.core_trees.specs.SpelledTree.{spells}
 use Rattle.core_events.specs.SpelledNow.{child_now, graph_now, tree_now, bundle_now}
@@ -75,6 +79,7 @@ move_at z m u slot tree = record {
   entries = new_entries m (first_slot (brings u.change slot u.key tree));
   taken = takes u.change u.key tree;
   taken_entries = node_entries z m (takes u.change u.key tree);
+  plain = plain_move m u.change u.key slot tree;
 }
 
 -- what the raise of this update moves
@@ -84,6 +89,15 @@ tree_move z m vs v u = move_at z m u (new_slot m vs v u.key (tree_now z m vs)) (
 -- a free entry of the seat without a number and without a next
 abbrev pub is_fresh : Memory → View → ℕ → Bool
 is_fresh m v e = has e v.free.entries && m (Entry Number e) == 0 && m (Entry Next e) == 0
+
+-- the plain link of a new node leads to the child of the link's only entry, and its tag is 0
+abbrev pub is_plain_at : Memory → ℕ → Side → Bool
+is_plain_at m k side = m (Node (Link side) k) == child_of_entry (λ e. m (Entry Child e)) (m (Node (Head side) k)) && m (Node (Tag side) k) == 0
+
+-- a new node has its children in its plain links
+abbrev pub is_plain_new : Memory → Option ℕ → Bool
+is_plain_new m None = true
+is_plain_new m (Some k) = is_plain_at m k Left && is_plain_at m k Right
 
 -- a new node is a free slot of the seat, unmarked, whose bundles have different fresh entries
 abbrev pub is_new : Memory → View → Option ℕ → Bool
@@ -96,9 +110,17 @@ abbrev pub spells_after : Memory → List View → View → Update → ℕ → T
 spells_after m vs v u slot move tree =
     spells (graph_now m vs (v.update.pending ++ move.entries)) (child_now m vs (v.update.pending ++ move.entries) Right 0) (tree_after u.change slot u.key tree)
 
+-- the node of a link that is to be set is locked
+abbrev pub sets_locked : View → UnsetLink → Bool
+sets_locked v u = locks u.node v.held.nodes
+
+abbrev pub is_plain_step : Memory → View → TreeMove → Bool
+is_plain_step m v move = list_all (sets_locked v) move.plain.unset && is_plain_new m move.added
+
 abbrev pub is_step : Memory → List View → View → Update → ℕ → TreeMove → NamedTree → Bool
 is_step m vs v u slot move tree =
     is_key u.key && has_key u.change u.key tree && list_all (λ k. locks k v.held.nodes) move.taken && is_new m v move.added && spells_after m vs v u slot move tree
+    && is_plain_step m v move
 
 -- the pending entries and those of the new node, with the next number, spell the tree after the update; each node
 -- that is taken out is locked

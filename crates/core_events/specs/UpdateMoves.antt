@@ -44,7 +44,15 @@ abbrev pub raised_view : List Update → View → ℕ → Update → TreeMove �
 raised_view known v s u move = record v {
   history = record v.history { seen = known ++ u ∷ []; mine = v.history.mine ++ (s + 1) ∷ []; left = v.history.left - 1 };
   reading = nowhere v.reading;
-  update = record v.update { raised = Some (s + 1); added = move.added; taken = move.taken; pending = v.update.pending ++ move.entries };
+  update = record v.update {
+    raised = Some (s + 1);
+    added = move.added;
+    taken = move.taken;
+    pending = v.update.pending ++ move.entries;
+    unset = move.plain.unset;
+    owed = move.plain.owed;
+    unlinking = move.plain.unlinking;
+  };
   free = record { nodes = without_all (listed move.added) v.free.nodes; entries = without_all move.entries v.free.entries };
   retired = record { nodes = v.retired.nodes ++ move.taken; entries = v.retired.entries ++ move.taken_entries };
 }

@@ -47,13 +47,21 @@ pub enum Kind {
     /// Loads a key or a value.
     LoadKeyOrVal,
     /// Stores the own announcement: inside a section, before there is a section number, how many updates the seat has
-    /// seen, plus 1; outside of a section 0.
+    /// seen, plus 1. Outside of a section it stores 0.
     Announce,
     /// Loads the announcement of another pass, so that nothing is cut that this pass may read.
     LookAnn,
     /// Stores 0 as the next of the entry that the least number selects at a locked node: the bundle ends with it, and
     /// the entries behind are retired.
     Cut,
+    /// Loads a plain link of a locked node.
+    LoadLink,
+    /// Stores a plain link of a locked node, which the update has still to set.
+    SetLink,
+    /// Loads the tag of a plain link of a locked node.
+    LoadTag,
+    /// Stores the tag of a plain link that a removal has made null: one more than before.
+    SetTag,
 }
 
 /// One atomic step of one seat.

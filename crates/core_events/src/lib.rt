@@ -9,4 +9,4 @@ pub mod reads;
 pub mod tree_move;
 
 pub use event::{Event, Kind};
-pub use tree_move::TreeMove;
+pub use tree_move::{PlainMove, TreeMove};

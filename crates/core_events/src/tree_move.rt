@@ -1,4 +1,32 @@
-use index_words::Items;
+use index_words::{Items, OwedTag, Unlinking, UnsetLink};
+use std::alloc::Global;
+
+/// What an update has still to do at plain links, from its raise on.
+#[derive(Drop)]
+pub struct PlainMove {
+    /// The plain links to be set.
+    pub unset: Items<UnsetLink>,
+    /// The links whose tags are to be raised.
+    pub owed: Items<OwedTag>,
+    /// The successor that is to be unlinked behind a wait.
+    pub unlinking: Option<Unlinking>,
+}
+
+impl PlainMove {
+    ghost use Rattle.std.specs.Prelude.{◌≡◌};
+    ghost use Rattle.core_events.specs.PlainWork.{no_plain_move};
+
+    /// Nothing to do. It takes no memory.
+    pub fn none(alloc: Global) -> PlainMove
+        ensures { result ≡ no_plain_move }
+    {
+        PlainMove {
+            unset: Items::new(alloc),
+            owed: Items::new(alloc),
+            unlinking: None,
+        }
+    }
+}
 
 /// What a raise moves, beside the number of its entries. Contracts of crates above name it.
 #[derive(Drop)]
@@ -11,4 +39,6 @@ pub struct TreeMove {
     pub taken: Items<u32>,
     /// The entries of their bundles.
     pub taken_entries: Items<u32>,
+    /// What it leaves to be done at plain links.
+    pub plain: PlainMove,
 }

@@ -1,12 +1,13 @@
 -- One bundle, where what it reads stays the same at its entries.
-use Rattle.std.proofs.Common.{◌≡◌, ℕ, ◌<◌, ◌⊎◌, List, [], ◌∷◌, arith, refl, ◌∙◌, sym, subst, inl, inr}
+use Rattle.std.proofs.Common.{◌≡◌, ℕ, ◌+◌, ◌<◌, ◌≤◌, ◌⊎◌, List, [], ◌∷◌, eqb, arith, refl, ◌∙◌, sym, subst, inl, inr}
+use Rattle.std.proofs.lemmas.Bool.Decides.{eqb_tells}
 use Rattle.std.specs.List.{AllByRecursion}
 use Rattle.std.proofs.lemmas.Bool.{cases_lt}
 use Rattle.key_map.specs.Lists.{count, Every}
 use Rattle.core_links.specs.Bundle.{IsChain, select, AgreeAt}
 use Rattle.core_links.proofs.Chains.{chain_frame, select-here, select-behind, select-agree}
 use Rattle.core_invariant.specs.BundleRule.{BundleRight, IsNumbered, TailWritten, Falls}
-use Rattle.core_invariant.proofs.Frames.{every_listed, one_counted}
+use Rattle.core_invariant.proofs.Frames.{every_listed, one_counted, not_counted}
 
 -- a property of each number of a list
 pub listed_all : (P : ℕ → Type 0) (xs : List ℕ) → ((x : ℕ) → 0 < count x xs → P x) → AllByRecursion P xs
@@ -43,6 +44,46 @@ select_in number t (e ∷ es) =
         | inr some ↦ inr (subst (λ d. 0 < count d (e ∷ es)) (sym (select-behind number t e es above)) (omega (arith, some)))
       ]
       | inr here ↦ inr (subst (λ d. 0 < count d (e ∷ es)) (sym (select-here number t e es here)) (one_counted e (count e es)))
+    ]
+
+-- its number is at most the one that selects it
+pub select_low : (number : ℕ → ℕ) (t : ℕ) (es : List ℕ) → (select number t es ≡ 0) ⊎ (number (select number t es) ≤ t)
+select_low number t [] = inl refl
+select_low number t (e ∷ es) =
+    elim (cases_lt t (number e)) as (λ _. (select number t (e ∷ es) ≡ 0) ⊎ (number (select number t (e ∷ es)) ≤ t)) [
+      | inl above ↦ subst (λ d. (d ≡ 0) ⊎ (number d ≤ t)) (sym (select-behind number t e es above)) (select_low number t es)
+      | inr here ↦ inr (subst (λ d. number d ≤ t) (sym (select-here number t e es here)) here)
+    ]
+
+-- the next number selects the same entry, or one of the bundle whose number it is
+abbrev pub IsNext : (ℕ → ℕ) → ℕ → ℕ → List ℕ → Type 0
+IsNext number t d es = (d ≡ select number t es) ⊎ ((0 < count d es) × (number d ≡ t + 1))
+
+pub select_next : (number : ℕ → ℕ) (t : ℕ) (es : List ℕ) → IsNext number t (select number (t + 1) es) es
+select_next number t [] = inl refl
+select_next number t (e ∷ es) =
+    elim (cases_lt (t + 1) (number e)) as (λ _. IsNext number t (select number (t + 1) (e ∷ es)) (e ∷ es)) [
+      | inl above ↦
+          subst (λ d. IsNext number t d (e ∷ es)) (sym (select-behind number (t + 1) e es above))
+          (elim (select_next number t es) as (λ _. IsNext number t (select number (t + 1) es) (e ∷ es)) [
+            | inl same ↦ inl (same ∙ sym (select-behind number t e es (omega (arith, above))))
+            | inr new ↦ inr (omega (arith, new.0), new.1)
+          ])
+      | inr here ↦
+          subst (λ d. IsNext number t d (e ∷ es)) (sym (select-here number (t + 1) e es here))
+          (elim (cases_lt t (number e)) as (λ _. IsNext number t e (e ∷ es)) [
+            | inl new ↦ inr (one_counted e (count e es), omega (arith, here, new))
+            | inr old ↦ inl (sym (select-here number t e es old))
+          ])
+    ]
+
+-- an entry of a bundle is not 0
+pub chain_some : (next : ℕ → ℕ) (head e : ℕ) (es : List ℕ) → IsChain next head es → 0 < count e es → 0 < e
+chain_some next head e [] chain here = absurd (omega (arith, here))
+chain_some next head e (d ∷ es) chain here =
+    elim (eqb_tells d e) as (λ _. 0 < e) [
+      | inl same ↦ subst (λ x. 0 < x) same.1 chain.1
+      | inr other ↦ chain_some next (next d) e es chain.2 (not_counted (eqb d e) (count e es) other.0 here)
     ]
 
 -- the numbers fall where they stay the same at the bundle's entries

@@ -25,7 +25,7 @@ counted_by : (b : Bool) (n : ℕ) → b ≡ true → 0 < cond b 1 0 + n
 counted_by true n e = omega arith
 counted_by false n e = cc
 
-not_counted : (b : Bool) (n : ℕ) → b ≡ false → 0 < cond b 1 0 + n → 0 < n
+pub not_counted : (b : Bool) (n : ℕ) → b ≡ false → 0 < cond b 1 0 + n → 0 < n
 not_counted true n e some = cc
 not_counted false n e some = omega (arith, some)
 

@@ -14,13 +14,13 @@ use Rattle.index_words.specs.Words.{Memory}
 use Rattle.index_words.specs.Views.{no_slots, no_looks}
 use Rattle.core_grace.specs.Batches.{is_empty, batch_taken, batch_freed, all_passed, settled, looked, looked_at}
 use Rattle.core_events.specs.declared.event.Kind.{Kind}
-use Rattle.core_events.specs.declared.event.Kind.TheVariants.{MakeSeat, SplitSeat, JoinSeat, Enter, Leave, LookSec, Fill, LoadStamp, LoadHead, LoadTs, LoadPtr, LoadNext, Prepare, Raise, Finalise, TryLock, Unlock, LoadMark, Mark as MarkNode, LoadKeyOrVal, Announce, LookAnn, Cut}
+use Rattle.core_events.specs.declared.event.Kind.TheVariants.{MakeSeat, SplitSeat, JoinSeat, Enter, Leave, LookSec, Fill, LoadStamp, LoadHead, LoadTs, LoadPtr, LoadNext, Prepare, Raise, Finalise, TryLock, Unlock, LoadMark, Mark as MarkNode, LoadKeyOrVal, Announce, LookAnn, Cut, LoadLink, SetLink, LoadTag, SetTag}
 use Rattle.core_events.specs.Moves.{in_section, entered}
 use Rattle.core_grace.specs.Sections.{is_even}
 use Rattle.core_events.specs.FillMoves.{filled_with, with_filled, known_before, used_view, filled_view}
 use Rattle.core_events.specs.LoadMoves.{next_at}
 use Rattle.core_events.specs.LockMoves.{locked_view, met_lock}
-use Rattle.core_events.specs.Steps.{view_after, look_from, head_at, head_from, ts_from, ptr_from, next_from, prepared_at, prepared_from, raised_from, finalised_from, tried_from, unlocked_from, mark_from, marked_from, pair_from, ann_from, cut_from}
+use Rattle.core_events.specs.Steps.{view_after, look_from, head_at, head_from, ts_from, ptr_from, next_from, prepared_at, prepared_from, raised_from, finalised_from, tried_from, unlocked_from, mark_from, marked_from, pair_from, ann_from, cut_from, link_from, tag_from, set_from, raised_tag_from}
 use Rattle.index_words.specs.declared.view.history.SeenHistory.{SeenHistory}
 
 -- what a seat is, and what it still has to give
@@ -186,6 +186,58 @@ cut_part z m v (Section k) = refl
 cut_part z m v (Announced k) = refl
 cut_part z m v (Node f k) = refl
 
+link_part : (v : View) (w : Word) (x : ℕ) → part_of (link_from v w x) ≡ part_of v
+link_part v (Node Key k) x = refl
+link_part v (Node Val k) x = refl
+link_part v (Node Lock k) x = refl
+link_part v (Node Mark k) x = refl
+link_part v (Node (Head s) k) x = refl
+link_part v (Node (Link s) k) x = refl
+link_part v (Node (Tag s) k) x = refl
+link_part v Stamp x = refl
+link_part v (Section k) x = refl
+link_part v (Announced k) x = refl
+link_part v (Entry p e) x = refl
+
+set_part : (v : View) (w : Word) (x : ℕ) → part_of (set_from v w x) ≡ part_of v
+set_part v (Node Key k) x = refl
+set_part v (Node Val k) x = refl
+set_part v (Node Lock k) x = refl
+set_part v (Node Mark k) x = refl
+set_part v (Node (Head s) k) x = refl
+set_part v (Node (Link s) k) x = refl
+set_part v (Node (Tag s) k) x = refl
+set_part v Stamp x = refl
+set_part v (Section k) x = refl
+set_part v (Announced k) x = refl
+set_part v (Entry p e) x = refl
+
+tag_part : (v : View) (w : Word) (x : ℕ) → part_of (tag_from v w x) ≡ part_of v
+tag_part v (Node Key k) x = refl
+tag_part v (Node Val k) x = refl
+tag_part v (Node Lock k) x = refl
+tag_part v (Node Mark k) x = refl
+tag_part v (Node (Head s) k) x = refl
+tag_part v (Node (Link s) k) x = refl
+tag_part v (Node (Tag s) k) x = refl
+tag_part v Stamp x = refl
+tag_part v (Section k) x = refl
+tag_part v (Announced k) x = refl
+tag_part v (Entry p e) x = refl
+
+raised_tag_part : (v : View) (w : Word) (x : ℕ) → part_of (raised_tag_from v w x) ≡ part_of v
+raised_tag_part v (Node Key k) x = refl
+raised_tag_part v (Node Val k) x = refl
+raised_tag_part v (Node Lock k) x = refl
+raised_tag_part v (Node Mark k) x = refl
+raised_tag_part v (Node (Head s) k) x = refl
+raised_tag_part v (Node (Link s) k) x = refl
+raised_tag_part v (Node (Tag s) k) x = refl
+raised_tag_part v Stamp x = refl
+raised_tag_part v (Section k) x = refl
+raised_tag_part v (Announced k) x = refl
+raised_tag_part v (Entry p e) x = refl
+
 -- what a raise leaves of it
 record RaisedPart (v w : View) : Type 0 where
   pub owner : owner_of w ≡ owner_of v
@@ -231,6 +283,10 @@ module _ (z : Layout) (m : Memory) (vs : List View) (v : View) (w : Word) (x val
   still_kept LoadKeyOrVal still = pair_part v w x
   still_kept LookAnn still = ann_part v w x
   still_kept Cut still = cut_part z m v w
+  still_kept LoadLink still = link_part v w x
+  still_kept SetLink still = set_part v w value
+  still_kept LoadTag still = tag_part v w x
+  still_kept SetTag still = raised_tag_part v w value
   still_kept Enter still = cc
   still_kept Leave still = cc
   still_kept LoadStamp still = cc

@@ -62,3 +62,13 @@ pub mod AtEntries
 pub mod Cuts
 -- Numbers fall along a bundle: behind an entry whose number was found stands one whose number is written, and below it.
 pub mod Falling
+-- The links of a tree with their children, and what an update leaves of them.
+pub mod Children
+-- An item of a list that passes a test.
+pub mod Passing
+-- What an update leaves to be done at plain links, in the tree.
+pub mod PlainMoves
+-- The links that an update leaves to be set, and the tags that it leaves to be raised, over what the links lead to.
+pub mod PlainSteps
+-- What is said of plain links, where one view moves and has the same still to do, or where only other words change.
+pub mod PlainFrames

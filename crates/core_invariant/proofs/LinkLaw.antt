@@ -58,7 +58,7 @@ module _ (z : Layout) (m : Memory) (g : Meaning) where
         positive x p = grind (arith, nat_tests)
 
     -- the numbers of a bundle's entries
-    number_is : (k d : ℕ) (side : Side) → IsLive z vs k → 0 < count d (g.bundles.bundle side k) → entry_number m vs d ≡ g.bundles.number d
+    pub number_is : (k d : ℕ) (side : Side) → IsLive z vs k → 0 < count d (g.bundles.bundle side k) → entry_number m vs d ≡ g.bundles.number d
     number_is k d side live here =
         let right = rule.bundles k live side in
         number_by d (eqb (m (Entry Number d)) 0) refl

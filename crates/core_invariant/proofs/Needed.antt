@@ -159,10 +159,10 @@ pub record CanRaise (v : View) (u : Update) : Type 0 where
   pub some : 0 < count entry v.update.pending
 
 -- a locked node that was found in the list of those that are held
-record FoundHeld (P : HeldNode → Type 0) (hs : List HeldNode) (k : ℕ) (h : HeldNode) : Type 0 where
-  same : h.node ≡ k
-  known : P h
-  locked : 0 < count k (held_slots hs)
+pub record FoundHeld (P : HeldNode → Type 0) (hs : List HeldNode) (k : ℕ) (h : HeldNode) : Type 0 where
+  pub same : h.node ≡ k
+  pub known : P h
+  pub locked : 0 < count k (held_slots hs)
 
 found_by : (P : HeldNode → Type 0) (k : ℕ) (h x : HeldNode) (hs : List HeldNode) (b : Bool) → eqb x.node k ≡ b → P x → cond b (Some x) (find (λ (y : HeldNode). eqb y.node k) hs) ≡ Some h
     → (find (λ (y : HeldNode). eqb y.node k) hs ≡ Some h → FoundHeld P hs k h) → FoundHeld P (x ∷ hs) k h
@@ -174,7 +174,7 @@ found_by P k h x hs false is here found later =
     let rest = later found in
     record { same = rest.same; known = rest.known; locked = omega (arith, rest.locked) }
 
-found_held : (P : HeldNode → Type 0) (k : ℕ) (h : HeldNode) (hs : List HeldNode) → Every P hs → find (λ (y : HeldNode). eqb y.node k) hs ≡ Some h → FoundHeld P hs k h
+pub found_held : (P : HeldNode → Type 0) (k : ℕ) (h : HeldNode) (hs : List HeldNode) → Every P hs → find (λ (y : HeldNode). eqb y.node k) hs ≡ Some h → FoundHeld P hs k h
 found_held P k h [] all found = cc
 found_held P k h (x ∷ hs) all found = found_by P k h x hs (eqb x.node k) refl all.0 found (found_held P k h hs all.1)
 

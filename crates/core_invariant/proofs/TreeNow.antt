@@ -18,7 +18,8 @@ use Rattle.key_map.specs.Lists.{count, has, Every}
 use Rattle.key_map.proofs.Counting.{has-count, count-has}
 use Rattle.core_grace.specs.Slots.{nodes_of, own, own_free, is_slot}
 use Rattle.core_links.specs.Bundle.{no_number, select, child_of_entry}
-use Rattle.core_trees.specs.Slots.{occurs}
+use Rattle.core_trees.specs.LinkSteps.{IsLinkIn}
+use Rattle.core_trees.specs.Slots.{occurs, one_at, NamesOnce}
 use Rattle.core_trees.specs.SpelledAt.{graph_at}
 use Rattle.core_trees.specs.SpelledTree.{Graph, IsSpelled}
 use Rattle.core_trees.proofs.SpelledTree.{spelled-frame}
@@ -188,6 +189,18 @@ module _ (z : Layout) (m : Memory) (vs : List View) (g : Meaning) (rule : Rule z
         slot_high z.nodes k (omega (arith, one, same, there)),
         omega (arith, one, same, there, slot_one z.nodes k, sum_by-le-sum_by (own_free nodes_of k) (own nodes_of k) vs (λ v. omega arith)),
       )
+
+  -- the node of a link of the tree is live
+  pub link_live : (k : ℕ) (side : Side) → IsLinkIn 0 Right g.tree k side → IsLive z vs k
+  link_live k side (inl root) = subst (IsLive z vs) (sym root.0) root_lives
+  link_live k side (inr there) = node_lives k there
+
+  -- the tree names each node once, and not the root
+  pub names_once : NamesOnce 0 g.tree
+  names_once x = omega (arith, rule.slots.nodes.one x, count_slots x g.tree, root_apart z.nodes x)
+    where
+      root_apart : (last x : ℕ) → is_slot last x + one_at x 0 ≤ 1
+      root_apart last x = grind (arith, nat_tests)
 
   abbrev graph : Graph
   graph = graph_at (λ k. m (Node Key k)) (λ k. m (Node Val k)) (λ e. m (Entry Child e)) g.bundles.number g.bundles.bundle s

@@ -4,7 +4,6 @@ use Rattle.index_words.specs.declared.layout.Layout.{Layout}
 use Rattle.key_map.specs.declared.update.Update.{Update}
 use Rattle.index_words.specs.declared.view.View.{View}
 use Rattle.index_words.specs.declared.word.Word.{Word}
-use Rattle.index_words.specs.declared.word.Word.TheVariants.{Stamp}
 use Rattle.index_words.specs.Words.{memory, word_at, word_count}
 use Rattle.core_events.specs.declared.event.Kind.{Kind}
 use Rattle.core_invariant.specs.Rule.{InRule}
@@ -15,7 +14,7 @@ use Rattle.key_map.specs.Lists.{IsItem}
 -- the rule after an event, under a meaning that selects the same as the one before
 pub record After (z : Layout) (words : List ℕ) (vs : List View) (right : InRule z words vs) (words' : List ℕ) (ws : List View) : Type 0 where
   pub size : length words' ≡ word_count z
-  pub kept : Kept z (memory z words Stamp) vs right.meaning (memory z words') ws
+  pub kept : Kept z (memory z words) vs right.meaning (memory z words') ws
 
 -- an event of this kind that is allowed keeps the rule, and what each number that is read selects
 abbrev pub KeepsRuleAt : Kind → Type 0

@@ -12,6 +12,7 @@ pub mod BundleRule
 pub mod Readers
 pub mod FilledRule
 pub mod PruneRule
+pub mod PlainRule
 pub mod SeatRule
 pub mod Rule
 pub mod LinkLaw

@@ -13,6 +13,7 @@ use Rattle.core_events.specs.Tables.{Table, held_by}
 use Rattle.core_events.specs.Numbered.{entry_number}
 use Rattle.core_invariant.specs.Meanings.{Meaning}
 use Rattle.core_invariant.specs.BundleRule.{IsLive}
+use Rattle.core_invariant.specs.PlainRule.{PlainRight}
 use Rattle.core_invariant.specs.Rule.{Rule}
 
 -- the entries of a link's bundle, from its head on
@@ -44,8 +45,9 @@ SelectsSame z read vs g ws h =
     (t k : ℕ) (side : Side) → read t → IsLive z vs k → IsLive z ws k
     → select g.bundles.number t (g.bundles.bundle side k) ≡ select h.bundles.number t (h.bundles.bundle side k)
 
--- the rule holds after an event, under a meaning that selects the same
-pub record Kept (z : Layout) (s : ℕ) (vs : List View) (g : Meaning) (m' : Memory) (ws : List View) : Type 0 where
+-- the rule holds after an event, under a meaning that selects the same, and so does what is said of plain links
+pub record Kept (z : Layout) (m : Memory) (vs : List View) (g : Meaning) (m' : Memory) (ws : List View) : Type 0 where
   pub meaning : Meaning
   pub rule : Rule z m' ws meaning
-  pub same : SelectsSame z (IsRead s vs) vs g ws meaning
+  pub same : SelectsSame z (IsRead (m Stamp) vs) vs g ws meaning
+  pub plain : PlainRight m vs g → PlainRight m' ws meaning

@@ -8,7 +8,7 @@ use Rattle.index_words.specs.declared.view.update.HeldNode.{HeldNode}
 use Rattle.index_words.specs.declared.view.update.HeldNext.{HeldNext}
 use Rattle.index_words.specs.declared.view.update.HeldSide.{HeldSide}
 use Rattle.index_words.specs.declared.view.update.LoadedHead.{LoadedHead}
-use Rattle.index_words.specs.declared.word.Field.TheVariants.{Key, Val, Mark, Head}
+use Rattle.index_words.specs.declared.word.Field.TheVariants.{Key, Val, Mark, Head, Link, Tag}
 use Rattle.index_words.specs.declared.word.Part.TheVariants.{Stamp as Number, Next}
 use Rattle.index_words.specs.declared.word.Word.TheVariants.{Node, Entry}
 use Rattle.index_words.specs.Words.{Memory}
@@ -35,17 +35,25 @@ HeadRight head stamp loaded = (head ≡ loaded.entry) × IfSome loaded.stamp (λ
 pub record SideRight (word : ℕ) (stamp : ℕ → ℕ) (side : HeldSide) : Type 0 where
   pub head : IfSome side.head (HeadRight word stamp)
 
--- what was loaded of a locked node is what its words hold: over the keys, the values, the marks and the heads of nodes,
--- and the stamps of entries
-pub record NodeRight (key_of val_of mark_of : ℕ → ℕ) (head_of : Side → ℕ → ℕ) (stamp : ℕ → ℕ) (h : HeldNode) : Type 0 where
+-- a plain link and its tag as they were loaded are what the words hold
+abbrev pub PlainSide : ℕ → ℕ → Option ℕ → Option ℕ → Type 0
+PlainSide link tag known_link known_tag = IfSome known_link (λ x. link ≡ x) × IfSome known_tag (λ x. tag ≡ x)
+
+-- what was loaded of a locked node is what its words hold: over the keys, the values, the marks, the heads, the plain
+-- links and their tags of nodes, and the stamps of entries
+pub record NodeRight (key_of val_of mark_of : ℕ → ℕ) (head_of link_of tag_of : Side → ℕ → ℕ) (stamp : ℕ → ℕ) (h : HeldNode) : Type 0 where
   pub key : IfSome h.key (λ x. key_of h.node ≡ x)
   pub val : IfSome h.val (λ x. val_of h.node ≡ x)
   pub mark : IfSome h.mark (λ x. mark_of h.node ≡ x)
   pub left : SideRight (head_of Left h.node) stamp h.left
   pub right : SideRight (head_of Right h.node) stamp h.right
+  pub plain : PlainSide (link_of Left h.node) (tag_of Left h.node) h.left.link h.left.tag
+      × PlainSide (link_of Right h.node) (tag_of Right h.node) h.right.link h.right.tag
 
 abbrev pub IsNodeAt : Memory → HeldNode → Type 0
-IsNodeAt m = NodeRight (λ k. m (Node Key k)) (λ k. m (Node Val k)) (λ k. m (Node Mark k)) (λ s k. m (Node (Head s) k)) (λ e. m (Entry Number e))
+IsNodeAt m =
+    NodeRight (λ k. m (Node Key k)) (λ k. m (Node Val k)) (λ k. m (Node Mark k)) (λ s k. m (Node (Head s) k)) (λ s k. m (Node (Link s) k))
+    (λ s k. m (Node (Tag s) k)) (λ e. m (Entry Number e))
 
 -- a next word as it was loaded is what the word holds, and so is a written number beside it; its entry stands in a bundle
 -- of the locked node

@@ -16,6 +16,7 @@ use Rattle.core_invariant.specs.Histories.{HistoryRight}
 use Rattle.core_invariant.specs.OwnPlaces.{KnowsPlaces}
 use Rattle.core_invariant.specs.Locks.{lock_count, TreeUnmarked}
 use Rattle.core_invariant.specs.BundleRule.{IsLive, IsBundle, pending_count}
+use Rattle.core_invariant.specs.PlainRule.{PlainRight}
 use Rattle.core_invariant.specs.PruneRule.{PairsRight}
 use Rattle.core_invariant.specs.SeatRule.{SeatRight}
 use Rattle.core_invariant.specs.SpentViews.{IsSpent}
@@ -36,12 +37,14 @@ pub record Rule (z : Layout) (m : Memory) (vs : List View) (g : Meaning) : Type 
   pub single : (e : ℕ) → sum_by (pending_count e) vs ≤ 1
   pub seats : All (SeatRight z m g) vs
 
--- a table that meets the rule, where nothing is left of a view that was joined into another one, no word of a number
--- that is still to be given is used, each view knows where its own updates stand, its slots wait as they should, and those that it never used hold 0
+-- a table that meets the rule, whose plain links lead where they should, where nothing is left of a view that was joined into
+-- another one, no word of a number that is still to be given is used, each view knows where its own updates stand, its slots wait
+-- as they should, and those that it never used hold 0
 pub record InRule (z : Layout) (words : List ℕ) (vs : List View) : Type 0 where
   pub size : length words ≡ word_count z
   pub meaning : Meaning
   pub rule : Rule z (memory z words) vs meaning
+  pub plain : PlainRight (memory z words) vs meaning
   pub spent : All IsSpent vs
   pub spare : All (IsSpare (memory z words)) vs
   pub places : All KnowsPlaces vs

@@ -12,7 +12,8 @@ use Rattle.index_words.specs.declared.word.Word.{Word}
 use Rattle.index_words.specs.declared.view.reading.Reading.{Reading}
 use Rattle.index_words.specs.declared.view.update.Updating.{Updating}
 use Rattle.key_map.specs.declared.update.Update.{Update}
-use Rattle.index_words.specs.declared.word.Field.TheVariants.{Lock, Mark, Head}
+use Rattle.index_words.specs.declared.side.Side.{Side}
+use Rattle.index_words.specs.declared.word.Field.TheVariants.{Lock, Mark, Head, Link, Tag}
 use Rattle.index_words.specs.declared.word.Part.TheVariants.{Child, Stamp as Number}
 use Rattle.index_words.specs.declared.word.Word.TheVariants.{Section, Announced, Stamp, Node, Entry}
 use Rattle.index_words.specs.Views.{no_slots, no_looks, no_reading, no_update}
@@ -29,7 +30,9 @@ use Rattle.core_invariant.proofs.Pairs.{announced_idle, by_none}
 use Rattle.core_invariant.specs.Numbers.{number_count, NumbersRight, IsSpare}
 use Rattle.core_invariant.specs.OwnPlaces.{KnowsPlaces}
 use Rattle.core_invariant.specs.WaitingSlots.{WaitsRight}
+use Rattle.core_invariant.specs.PlainRule.{owed_count, child_at, greatest_of, SeatPlain}
 use Rattle.core_invariant.specs.UnusedSlots.{UnusedRight}
+use Rattle.core_invariant.proofs.PlainFrames.{idle_seat}
 use Rattle.core_invariant.specs.SectionRule.{IsIdle, SectionRight, IsOwnWord}
 use Rattle.core_links.specs.Bundle.{no_number}
 use Rattle.core_trees.specs.NamedTree.{Null}
@@ -141,6 +144,7 @@ record StartsWith (z : Layout) (vs : List View) : Type 0 where
   places : (n at : ℕ) → sum_by (place_count n at) vs ≡ 0
   locks : (k : ℕ) → sum_by (lock_count k) vs ≡ 0
   pending : (e : ℕ) → sum_by (pending_count e) vs ≡ 0
+  owed : (k : ℕ) (side : Side) → sum_by (owed_count k side) vs ≡ 0
   known : KnowsAll [] vs
 
 module _ (z : Layout) (vs : List View) (starts : StartsWith z vs) where
@@ -232,6 +236,13 @@ module _ (z : Layout) (vs : List View) (starts : StartsWith z vs) where
       single = λ e. omega (arith, starts.pending e);
       seats = All-weaker (IsFresh z) (SeatRight z (memory z ws) nothing_linked) seat_right vs starts.fresh;
     };
+    plain = record {
+      linked = λ k side there none. zero_memory z (word_count z) (Node (Link side) k);
+      tags = λ k side there. omega (arith, zero_memory z (word_count z) (Node (Tag side) k), starts.owed k side);
+      seats = All-weaker (IsFresh z) (SeatPlain (λ s k. memory z ws (Node (Link s) k)) (child_at (λ e. memory z ws (Entry Child e)) nothing_linked.bundles (memory z ws Stamp)) Null)
+          (λ v fresh. idle_seat (λ s k. memory z ws (Node (Link s) k)) (λ s k. memory z ws (Node (Tag s) k)) (child_at (λ e. memory z ws (Entry Child e)) nothing_linked.bundles (memory z ws Stamp))
+          (greatest_of nothing_linked.bundles (memory z ws Stamp)) Null v fresh.idle.update) vs starts.fresh;
+    };
     spent = All-weaker (IsFresh z) IsSpent (λ v fresh. live_spent v fresh.live) vs starts.fresh;
     spare = All-weaker (IsFresh z) (IsSpare (memory z ws)) (λ v fresh. zero_spare v.to_give) vs starts.fresh;
     places = All-weaker (IsFresh z) KnowsPlaces (λ v fresh. fresh.places) vs starts.fresh;
@@ -268,6 +279,7 @@ first_starts z = record {
   places = λ n x. omega (arith, sum_by-cons (place_count n x) (first_view z) []);
   locks = λ k. omega (arith, sum_by-cons (lock_count k) (first_view z) []);
   pending = λ e. omega (arith, sum_by-cons (pending_count e) (first_view z) []);
+  owed = λ k side. omega (arith, sum_by-cons (owed_count k side) (first_view z) []);
   known = record { place = 0; view = first_view z; at = record { within = omega arith; is = λ d. refl }; all = refl };
 }
 

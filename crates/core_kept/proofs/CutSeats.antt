@@ -20,7 +20,7 @@ use Rattle.key_map.specs.Lists.{count, has, Every, IsItem}
 use Rattle.key_map.proofs.Counting.{count-append}
 use Rattle.index_words.proofs.Seats.{Beside, sum_kept, all_moved}
 use Rattle.core_grace.specs.Holds.{Bundles, HoldsNode, HoldsEntry, held_slots, tree_slots, entries_of}
-use Rattle.core_grace.specs.Slots.{SlotRule}
+use Rattle.core_grace.specs.Slots.{SlotRule, nodes_of, own_free}
 use Rattle.core_links.specs.Bundle.{IsChain, no_number}
 use Rattle.core_events.specs.CutMoves.{next_cut, cut_view}
 use Rattle.core_events.specs.Numbered.{shown}
@@ -35,7 +35,7 @@ use Rattle.core_invariant.specs.Readers.{IsReachable, EntryRight, SourceRight, L
 use Rattle.core_invariant.specs.FilledRule.{IsOwnSlotWord}
 use Rattle.core_invariant.specs.SeatRule.{TreeRight, SeatRight}
 use Rattle.core_invariant.specs.Rule.{Rule}
-use Rattle.core_invariant.specs.LinkLaw.{Kept, IsRead}
+use Rattle.core_invariant.specs.LinkLaw.{IsRead, Kept, SelectsSame}
 use Rattle.core_invariant.proofs.Frames.{every_map, every_at, live_moved, pending_moved, bundle_weaker, count-middle}
 use Rattle.core_invariant.proofs.BundleFrames.{bundle_frame}
 use Rattle.core_invariant.proofs.Sides.{by_link}
@@ -52,6 +52,7 @@ use Rattle.core_kept.proofs.CutLists.{every_upto, falls_upto, tail_upto, chain_u
 use Rattle.core_kept.proofs.CutBundles.{select_cut, cut_here, cut_elsewhere, linked_cut, entries_fewer, reads_fewer, stands_fewer}
 use Rattle.core_kept.proofs.CutSlots.{slots_cut}
 use Rattle.core_kept.proofs.CutPlaces.{reads_from, unlocked, other_place, own_place, not_counted}
+use Rattle.core_kept.proofs.PlainKept.{quiet_work, plain_quiet, plain_same}
 
 -- what holds of each item that passes a test holds of it changed
 every_passing : {X : Type 0} (P Q : X → Type 0) (test : X → Bool) (f : X → X) (xs : List X) → ((x : X) → test x ≡ true → P x → Q (f x)) → Every P xs
@@ -321,7 +322,10 @@ module _ (z : Layout) (m : Memory) (vs : List View) (g : Meaning) (rule : Rule z
   read_low t (inl is) = omega (arith, is, cut.past)
   read_low t (inr by) = subst (λ (o : Option ℕ). IfSome o (λ x. b.number e ≤ x)) by.reads (reads_at by.seat by.view by.at)
 
-  pub cut_kept : Kept z (m Stamp) vs g m' ws
+  selects_same : SelectsSame z (IsRead (m Stamp) vs) vs g ws g'
+  selects_same t j s read live live' = select_cut b side k e front back cut.splits t s j (read_low t read)
+
+  pub cut_kept : Kept z m vs g m' ws
   cut_kept = record {
     meaning = g';
     rule = record {
@@ -336,5 +340,7 @@ module _ (z : Layout) (m : Memory) (vs : List View) (g : Meaning) (rule : Rule z
       single = λ d. omega (arith, sum_kept (pending_count d) vs i v w at refl, rule.single d);
       seats = all_moved (SeatRight z m g) (SeatRight z m' g') vs i v w at rule.seats own_seat other_seat;
     };
-    same = λ t j s read live live'. select_cut b side k e front back cut.splits t s j (read_low t read);
+    same = selects_same;
+    plain = λ right. plain_same z m vs g rule g' ws selects_same (λ j live. (live.0, sum_kept (own_free nodes_of j) vs i v w at refl ∙ live.1))
+        (λ d low. omega arith) (plain_quiet m g vs i v w at (quiet_work v w refl refl refl refl) right);
   }

@@ -28,7 +28,7 @@ use Rattle.core_links.specs.Bundle.{select, child_of_entry}
 use Rattle.core_events.specs.Versions.{slots_of}
 use Rattle.core_invariant.specs.Meanings.{Meaning}
 use Rattle.core_events.specs.Needs.{is_lock}
-use Rattle.core_invariant.specs.Locks.{NamesHolder, lock_count, HeadRight, SideRight, IsNodeAt, IsNextAt, IsTakenOut}
+use Rattle.core_invariant.specs.Locks.{NamesHolder, lock_count, HeadRight, SideRight, PlainSide, IsNodeAt, IsNextAt, IsTakenOut}
 use Rattle.core_invariant.specs.BundleRule.{IsLive, IsPendingAt, IsBundle, BundleRight, IsPending}
 use Rattle.core_invariant.specs.Readers.{IsReachable, StandsAt, IsPassed, PlaceRight, EntryRight, SourceRight, LinkRight}
 use Rattle.core_invariant.specs.FilledRule.{FilledRight}
@@ -90,6 +90,13 @@ module _ (z : Layout) (m : Memory) (vs : List View) (g : Meaning) (rule : Rule z
   node_seat i k n v u f x at free other fresh of seat =
       let held : (j : ℕ) → 0 < lock_count j u → j ≡ k → ⊥ = λ j some. held_apart i k j n v u at free of (held_holds u j some) (seat.locks j some).0 in
       let waits = free_node_waits z vs g rule.slots i n k v u at of free in
+      let plain_side : (side : Side) (h : HeldNode) → 0 < lock_count h.node u → (s : HeldSide)
+      → PlainSide (m (Node (PlainLink side) h.node)) (m (Node (Tag side) h.node)) s.link s.tag
+      → PlainSide (written m (Node f k) x (Node (PlainLink side) h.node)) (written m (Node f k) x (Node (Tag side) h.node)) s.link s.tag
+      = λ side h some s right. (
+        IfSome_then s.link right.0 (λ y is. node_other m f (PlainLink side) k h.node x (held h.node some) ∙ is),
+        IfSome_then s.tag right.1 (λ y is. node_other m f (Tag side) k h.node x (held h.node some) ∙ is),
+      ) in
       record {
         layout = seat.layout;
         section = record { section = seat.section.section; announced = seat.section.announced; outside = seat.section.outside; unlocked = seat.section.unlocked; done = seat.section.done };
@@ -111,6 +118,7 @@ module _ (z : Layout) (m : Memory) (vs : List View) (g : Meaning) (rule : Rule z
                 mark = IfSome_then h.mark right.mark (λ y is. node_other m f Mark k h.node x (held h.node some) ∙ is);
                 left = head_frame _ _ (λ e. m (Entry Number e)) h.left (node_other m f (Head Left) k h.node x (held h.node some)) right.left;
                 right = head_frame _ _ (λ e. m (Entry Number e)) h.right (node_other m f (Head Right) k h.node x (held h.node some)) right.right;
+                plain = (plain_side Left h some h.left right.plain.0, plain_side Right h some h.right right.plain.1);
               }) seat.loaded.nodes;
           nexts = seat.loaded.nexts;
         };
@@ -277,6 +285,7 @@ module _ (z : Layout) (m : Memory) (vs : List View) (g : Meaning) (rule : Rule z
                   mark = right.mark;
                   left = entry_side h.node Left h.left (locked h.node some) right.left;
                   right = entry_side h.node Right h.right (locked h.node some) right.right;
+                  plain = right.plain;
                 })
                 seat.loaded.nodes;
             nexts = every_map

@@ -34,7 +34,6 @@ use Rattle.core_invariant.specs.FilledRule.{IsOwnSlotWord}
 use Rattle.core_invariant.specs.SeatRule.{SeatRight}
 use Rattle.core_events.specs.UpdateMoves.{finalised}
 use Rattle.core_invariant.specs.Rule.{Rule}
-use Rattle.core_invariant.specs.LinkLaw.{Kept}
 use Rattle.core_invariant.proofs.Frames.{every_map, every_listed, every_at, live_moved}
 use Rattle.core_invariant.proofs.Without.{count-without_other, count-without-le, every_without}
 use Rattle.core_invariant.proofs.OneView.{history_kept, seat_at}
@@ -159,6 +158,7 @@ module _ (z : Layout) (m : Memory) (vs : List View) (g : Meaning) (rule : Rule z
     mark = right.mark;
     left = side_kept stamp stamp' _ h.left kept_stamp right.left;
     right = side_kept stamp stamp' _ h.right kept_stamp right.right;
+    plain = right.plain;
   }
 
   next_kept : (locked : List HeldNode) (l : HeldNext) → IsNextAt m g.bundles locked l → IsNextAt m' g.bundles locked l
@@ -248,23 +248,19 @@ module _ (z : Layout) (m : Memory) (vs : List View) (g : Meaning) (rule : Rule z
     links = of.links;
   }
 
-  pub finalise_kept : Kept z (m Stamp) vs g m' (set vs i w)
+  pub finalise_kept : Rule z m' (set vs i w) g
   finalise_kept = record {
-    meaning = g;
-    rule = record {
-      numbers = λ k. sum_kept (number_count k) vs i v w at refl ∙ rule.numbers k;
-      history = history_kept z _ g vs i v w at refl refl rule.history;
-      slots = quiet z (linked_by g) HoldsNode (HoldsEntry g.bundles) vs i v w at rule.slots refl refl refl
-          (record { nodes = λ k holds. inl holds; entries = λ x holds. inl holds }) (record { number = refl; section = inl refl })
-          (λ known. same_looks z (linked_by g) HoldsNode (HoldsEntry g.bundles) v w w refl refl known)
-          (λ u beside known. same_looks z (linked_by g) HoldsNode (HoldsEntry g.bundles) v w u refl refl known);
-      locks = λ k. sum_kept (lock_count k) vs i v w at refl ∙ rule.locks k;
-      tree = rule.tree;
-      marks = record { root = rule.marks.root; nodes = rule.marks.nodes };
-      bundles = bundle_kept;
-      pairs = pairs_same vs i v w at refl rule.pairs;
-      single = λ d. omega (arith, sum_moved (pending_count d) vs i v w at, count-without-le d e v.update.pending, rule.single d);
-      seats = all_moved (SeatRight z m g) (SeatRight z m' g) vs i v w at rule.seats own_kept other_kept;
-    };
-    same = λ t k side low live live'. refl;
+    numbers = λ k. sum_kept (number_count k) vs i v w at refl ∙ rule.numbers k;
+    history = history_kept z _ g vs i v w at refl refl rule.history;
+    slots = quiet z (linked_by g) HoldsNode (HoldsEntry g.bundles) vs i v w at rule.slots refl refl refl
+        (record { nodes = λ k holds. inl holds; entries = λ x holds. inl holds }) (record { number = refl; section = inl refl })
+        (λ known. same_looks z (linked_by g) HoldsNode (HoldsEntry g.bundles) v w w refl refl known)
+        (λ u beside known. same_looks z (linked_by g) HoldsNode (HoldsEntry g.bundles) v w u refl refl known);
+    locks = λ k. sum_kept (lock_count k) vs i v w at refl ∙ rule.locks k;
+    tree = rule.tree;
+    marks = record { root = rule.marks.root; nodes = rule.marks.nodes };
+    bundles = bundle_kept;
+    pairs = pairs_same vs i v w at refl rule.pairs;
+    single = λ d. omega (arith, sum_moved (pending_count d) vs i v w at, count-without-le d e v.update.pending, rule.single d);
+    seats = all_moved (SeatRight z m g) (SeatRight z m' g) vs i v w at rule.seats own_kept other_kept;
   }

@@ -77,6 +77,7 @@ module _ (z : Layout) (m : Memory) (vs : List View) (g : Meaning) (rule : Rule z
     mark = right.mark;
     left = record { head = again_right (m (Node (Head Left) node)) (m (Node (Head Left) h.node)) (λ e. m (Entry Number e)) h.left.head (ap (λ n. m (Node (Head Left) n)) (eqb-true h.node node is)) right.left.head };
     right = right.right;
+    plain = right.plain;
   }
   known_now node Right h true is right = record {
     key = right.key;
@@ -84,6 +85,7 @@ module _ (z : Layout) (m : Memory) (vs : List View) (g : Meaning) (rule : Rule z
     mark = right.mark;
     left = right.left;
     right = record { head = again_right (m (Node (Head Right) node)) (m (Node (Head Right) h.node)) (λ e. m (Entry Number e)) h.right.head (ap (λ n. m (Node (Head Right) n)) (eqb-true h.node node is)) right.right.head };
+    plain = right.plain;
   }
 
   -- a load of a head

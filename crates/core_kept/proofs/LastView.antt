@@ -9,8 +9,8 @@ use Rattle.index_words.specs.declared.side.Side.{Side}
 use Rattle.key_map.specs.declared.update.Update.{Update}
 use Rattle.index_words.specs.declared.view.View.{View}
 use Rattle.index_words.specs.declared.view.slots.Slots.{Slots}
-use Rattle.index_words.specs.declared.word.Field.TheVariants.{Head}
-use Rattle.index_words.specs.declared.word.Part.TheVariants.{Stamp as Number, Next}
+use Rattle.index_words.specs.declared.word.Field.TheVariants.{Head, Link}
+use Rattle.index_words.specs.declared.word.Part.TheVariants.{Child, Stamp as Number, Next}
 use Rattle.index_words.specs.declared.word.Word.TheVariants.{Stamp, Node, Entry}
 use Rattle.index_words.specs.Words.{Memory, memory}
 use Rattle.key_map.specs.Lists.{count, IsItem}
@@ -26,6 +26,7 @@ use Rattle.core_invariant.specs.Histories.{KnowsAll, place_count, calls_left}
 use Rattle.core_invariant.specs.Locks.{lock_count}
 use Rattle.core_invariant.specs.BundleRule.{IsLive, IsBundle, IsPendingAt, pending_count}
 use Rattle.core_invariant.specs.SeatRule.{SeatRight}
+use Rattle.core_invariant.specs.PlainRule.{unset_count, owed_count, child_at, SeatPlain, PlainRight}
 use Rattle.core_invariant.specs.SpentViews.{IsSpent}
 use Rattle.core_invariant.specs.Rule.{Rule, InRule}
 use Rattle.core_invariant.proofs.Frames.{bundle_weaker}
@@ -113,12 +114,20 @@ module _ (v : View) (vs : List View) where
       seats = all_turned (SeatRight z m g) rule.seats;
     }
 
+    plain_turned : PlainRight m (v ∷ vs) g → PlainRight m turned g
+    plain_turned right = record {
+      linked = λ k side there none. right.linked k side there (sym (sum_turned (unset_count k side)) ∙ none);
+      tags = λ k side there. omega (arith, right.tags k side there, sum_turned (owed_count k side));
+      seats = all_turned (SeatPlain (λ s k. m (Node (Link s) k)) (child_at (λ e. m (Entry Child e)) g.bundles (m Stamp)) g.tree) right.seats;
+    }
+
   -- a table whose first view stands last
   pub turned_right : (z : Layout) (words : List ℕ) → InRule z words (v ∷ vs) → InRule z words (vs ++ v ∷ [])
   turned_right z words right = record {
     size = right.size;
     meaning = right.meaning;
     rule = rule_turned z (memory z words) right.meaning right.rule;
+    plain = plain_turned z (memory z words) right.meaning right.rule right.plain;
     spent = all_turned IsSpent right.spent;
     spare = all_turned (IsSpare (memory z words)) right.spare;
     places = all_turned KnowsPlaces right.places;

@@ -2,7 +2,9 @@
 pub mod OwnPlaces
 -- Each view's slots wait as they should, after every event.
 pub mod WaitingSlots
--- The slots that a view never used hold 0, after every event: none but a fill stores to a word of a free slot.
+-- What events store to words of free slots: none but a fill stores to one.
+pub mod FreeWords
+-- The slots that a view never used hold 0, after every event.
 pub mod UnusedSlots
 -- The section words and the announcements of passes: an enter, a leave and an announcement alone store to one, and to their own.
 pub mod SectionWords
@@ -52,6 +54,16 @@ pub mod TryLocks
 pub mod Unlocks
 -- Loads and stores of marks keep the rule.
 pub mod Marks
+-- Loads of plain links and tags of a locked node, stores to them, and an update that has other links still to set.
+pub mod PlainWork
+pub mod LinkStores
+pub mod TagStores
+-- What is said of plain links after the kinds of events that set no plain link and raise no stamp.
+pub mod PlainKept
+-- What is said of plain links after a store to one, and after a store to a tag.
+pub mod PlainSets
+-- Each kind that loads or stores a plain link or its tag keeps the rule.
+pub mod StepPlain
 -- What the needs of events that lock, unlock or mark say, and so what each of these events keeps.
 pub mod LockSteps
 -- An event of a lock, of a mark, or of a key or a value that is allowed keeps the rule.
@@ -88,10 +100,16 @@ pub mod RaiseBundles
 pub mod RaiseTrees
 -- Raise: the rule on each seat, the one that raises and each other one.
 pub mod RaiseSeats
+-- Raise: the links of the new tree, and the greatest numbers of their bundles.
+pub mod RaiseLinks
+-- Raise: what is said of plain links.
+pub mod RaisePlain
 -- Raise keeps the rule: the stamp rises by one, the pending entries and those of the new node have that number, and
 pub mod Raise
 -- An event of an update that is allowed keeps the rule.
 pub mod StepUpdates
+-- A raise owes the tag of each link that leads to no node any more.
+pub mod RaiseOwes
 -- A look at an announcement keeps the rule: where the pass has a section number, its announcement is at most that.
 pub mod LooksAtAnn
 -- Lists of entries from which what stands behind one of them is cut off.

@@ -78,6 +78,7 @@ module _ (z : Layout) (m : Memory) (vs : List View) (g : Meaning) (rule : Rule z
         mark = known.mark;
         left = record { head = side_at e x _ stamp h.left.head refl known.left.head };
         right = record { head = side_at e x _ stamp h.right.head refl known.right.head };
+        plain = known.plain;
       }) seat.loaded.nodes)
       (nexts_back z m vs g rule i v at w.counts w.held.nodes w.held.nexts w.reading.place w.reading.above w.reading.links same)
       (subst (λ (p : Place). PlaceRight z stamp g.bundles w (place_known x p)) (sym here) (record {

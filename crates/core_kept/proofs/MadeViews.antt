@@ -32,7 +32,8 @@ use Rattle.core_invariant.proofs.OneView.{seat_at}
 use Rattle.core_invariant.proofs.Filled.{every_filled}
 use Rattle.core_invariant.proofs.SpentViews.{live_spent}
 use Rattle.core_kept.proofs.TwoViews.{WorksIf, count-take-drop, knows_push, idle_bare}
-use Rattle.core_kept.proofs.UnusedSlots.{LessOf, subset_less, less_right}
+use Rattle.core_kept.proofs.FreeWords.{LessOf, subset_less, less_right}
+use Rattle.core_kept.proofs.PlainKept.{quiet_work, quiet_pushed}
 
 either_none : (b : Bool) → 0 + cond b 0 0 ≡ 0
 either_none true = refl
@@ -165,6 +166,7 @@ module _ (z : Layout) (words : List ℕ) where
         size = right.size;
         meaning = right.meaning;
         rule = make_kept z m vs right.meaning i n v size at right.rule may spare.0;
+        plain = quiet_pushed m right.meaning vs i v w y at (quiet_work v w refl refl refl refl) refl right.plain;
         spent = All-push IsSpent (set vs i w) y (All-set IsSpent vs i w (live_spent w may.live) right.spent) (live_spent y refl);
         spare = All-push (IsSpare m) (set vs i w) y (All-set (IsSpare m) vs i w kept right.spare) tt;
         places = All-push KnowsPlaces (set vs i w) y

@@ -9,7 +9,7 @@ use Rattle.index_words.specs.declared.view.update.HeldNode.{HeldNode}
 use Rattle.index_words.specs.declared.word.Field.{Field}
 use Rattle.index_words.specs.declared.word.Field.TheVariants.{Key, Val, Lock, Mark, Head, Link, Tag}
 use Rattle.index_words.specs.declared.word.Part.TheVariants.{Stamp as Number}
-use Rattle.index_words.specs.declared.word.Word.TheVariants.{Stamp, Node, Entry}
+use Rattle.index_words.specs.declared.word.Word.TheVariants.{Node, Entry}
 use Rattle.index_words.specs.Words.{Memory, written}
 use Rattle.key_map.specs.Lists.{count, IsItem}
 use Rattle.index_words.proofs.Seats.{Beside, sum_kept, one_term, all_moved}
@@ -26,7 +26,6 @@ use Rattle.core_invariant.specs.BundleRule.{IsPendingAt, IsPending, pending_coun
 use Rattle.core_invariant.specs.SeatRule.{SeatRight}
 use Rattle.core_events.specs.LockMoves.{mark_known, with_mark, pair_known, pair_loaded}
 use Rattle.core_invariant.specs.Rule.{Rule}
-use Rattle.core_invariant.specs.LinkLaw.{Kept}
 use Rattle.core_invariant.proofs.Frames.{every_map, every_named, live_moved, pending_moved, bundle_weaker, every_mapped}
 use Rattle.core_invariant.proofs.OneView.{history_kept, seat_at}
 use Rattle.core_invariant.proofs.Owned.{once_node, free_not_live}
@@ -70,6 +69,7 @@ module _ (z : Layout) (m : Memory) (vs : List View) (g : Meaning) (rule : Rule z
     mark = ap (λ n. m (Node Mark n)) (eqb-true h.node k is) ∙ sym found;
     left = right.left;
     right = right.right;
+    plain = right.plain;
   }
 
   -- a load of a mark
@@ -108,12 +108,12 @@ pair_right : (m : Memory) (f : Field) (k x : ℕ) (h : HeldNode) → x ≡ m (No
 pair_right m Key k x h found right = key_by (eqb h.node k) refl
   where
     key_by : (b : Bool) → eqb h.node k ≡ b → IsNodeAt m (cond b (record h { key = Some x }) h)
-    key_by true is = record { key = ap (λ n. m (Node Key n)) (eqb-true h.node k is) ∙ sym found; val = right.val; mark = right.mark; left = right.left; right = right.right }
+    key_by true is = record { key = ap (λ n. m (Node Key n)) (eqb-true h.node k is) ∙ sym found; val = right.val; mark = right.mark; left = right.left; right = right.right; plain = right.plain }
     key_by false is = right
 pair_right m Val k x h found right = val_by (eqb h.node k) refl
   where
     val_by : (b : Bool) → eqb h.node k ≡ b → IsNodeAt m (cond b (record h { val = Some x }) h)
-    val_by true is = record { key = right.key; val = ap (λ n. m (Node Val n)) (eqb-true h.node k is) ∙ sym found; mark = right.mark; left = right.left; right = right.right }
+    val_by true is = record { key = right.key; val = ap (λ n. m (Node Val n)) (eqb-true h.node k is) ∙ sym found; mark = right.mark; left = right.left; right = right.right; plain = right.plain }
     val_by false is = right
 pair_right m Lock k x h found right = right
 pair_right m Mark k x h found right = right
@@ -183,13 +183,14 @@ module _ (z : Layout) (m : Memory) (vs : List View) (g : Meaning) (rule : Rule z
   node_now : (h : HeldNode) (b : Bool) → eqb h.node k ≡ b
       → IsNodeAt m h
       → IsNodeAt m' (cond b (record h { mark = Some 1 }) h)
-  node_now h true is right = record { key = right.key; val = right.val; mark = ap (λ b. cond b 1 (m (Node Mark h.node))) is; left = right.left; right = right.right }
+  node_now h true is right = record { key = right.key; val = right.val; mark = ap (λ b. cond b 1 (m (Node Mark h.node))) is; left = right.left; right = right.right; plain = right.plain }
   node_now h false is right = record {
     key = right.key;
     val = right.val;
     mark = IfSome_then h.mark right.mark (λ y known. ap (λ b. cond b 1 (m (Node Mark h.node))) is ∙ known);
     left = right.left;
     right = right.right;
+    plain = right.plain;
   }
 
   -- the node is not free
@@ -255,6 +256,7 @@ module _ (z : Layout) (m : Memory) (vs : List View) (g : Meaning) (rule : Rule z
             mark = IfSome_then h.mark is.mark (λ y known. node_other m Mark Mark k h.node 1 (holder_apart u h beside held) ∙ known);
             left = is.left;
             right = is.right;
+            plain = is.plain;
           }) of.loaded.nodes;
       nexts = of.loaded.nexts;
     };
@@ -273,30 +275,26 @@ module _ (z : Layout) (m : Memory) (vs : List View) (g : Meaning) (rule : Rule z
   }
 
   -- a mark of a node that the update took out
-  pub mark_kept : Kept z (m Stamp) vs g m' ws
+  pub mark_kept : Rule z m' ws g
   mark_kept = record {
-    meaning = g;
-    rule = record {
-      numbers = λ n. sum_kept (number_count n) vs i v w at refl ∙ rule.numbers n;
-      history = history_kept z _ g vs i v w at refl refl rule.history;
-      slots = quiet z (linked_by g) HoldsNode (HoldsEntry g.bundles) vs i v w at rule.slots refl refl refl
-          (record {
-            nodes = λ j holds. inl (holds_same z m vs g rule i v at v.counts nodes v.held.nexts v.reading.place v.reading.above v.reading.links locks_same j holds);
-            entries = λ x holds. inl (entry_same x holds);
-          }) (record { number = refl; section = inl refl })
-          (λ known. same_looks z (linked_by g) HoldsNode (HoldsEntry g.bundles) v w w refl refl known)
-          (λ u beside known. same_looks z (linked_by g) HoldsNode (HoldsEntry g.bundles) v w u refl refl known);
-      locks = λ j. sum_kept (lock_count j) vs i v w at (ap (count j) locks_same) ∙ rule.locks j;
-      tree = rule.tree;
-      marks = record {
-        root = node_other m Mark Mark k 0 1 root_apart ∙ rule.marks.root;
-        nodes = λ j some. node_other m Mark Mark k j 1 (λ is. omega (arith, unlinked, subst (λ n. 0 < count n (slots_of g.tree)) is some)) ∙ rule.marks.nodes j some;
-      };
-      bundles = λ j live side. bundle_weaker _ _ _ _ (IsPendingAt vs j) (IsPendingAt ws j) _ _
-          (λ d. pending_moved vs i j d v w at refl (λ works. subst (λ xs. 0 < count j xs) (sym works_same) works)) (rule.bundles j (live_moved z vs i j v w at (omega arith) live) side);
-      pairs = pairs_same vs i v w at refl rule.pairs;
-      single = λ d. omega (arith, sum_kept (pending_count d) vs i v w at refl, rule.single d);
-      seats = all_moved (SeatRight z m g) (SeatRight z m' g) vs i v w at rule.seats own_now other_now;
+    numbers = λ n. sum_kept (number_count n) vs i v w at refl ∙ rule.numbers n;
+    history = history_kept z _ g vs i v w at refl refl rule.history;
+    slots = quiet z (linked_by g) HoldsNode (HoldsEntry g.bundles) vs i v w at rule.slots refl refl refl
+        (record {
+          nodes = λ j holds. inl (holds_same z m vs g rule i v at v.counts nodes v.held.nexts v.reading.place v.reading.above v.reading.links locks_same j holds);
+          entries = λ x holds. inl (entry_same x holds);
+        }) (record { number = refl; section = inl refl })
+        (λ known. same_looks z (linked_by g) HoldsNode (HoldsEntry g.bundles) v w w refl refl known)
+        (λ u beside known. same_looks z (linked_by g) HoldsNode (HoldsEntry g.bundles) v w u refl refl known);
+    locks = λ j. sum_kept (lock_count j) vs i v w at (ap (count j) locks_same) ∙ rule.locks j;
+    tree = rule.tree;
+    marks = record {
+      root = node_other m Mark Mark k 0 1 root_apart ∙ rule.marks.root;
+      nodes = λ j some. node_other m Mark Mark k j 1 (λ is. omega (arith, unlinked, subst (λ n. 0 < count n (slots_of g.tree)) is some)) ∙ rule.marks.nodes j some;
     };
-    same = λ t j side past live live'. refl;
+    bundles = λ j live side. bundle_weaker _ _ _ _ (IsPendingAt vs j) (IsPendingAt ws j) _ _
+        (λ d. pending_moved vs i j d v w at refl (λ works. subst (λ xs. 0 < count j xs) (sym works_same) works)) (rule.bundles j (live_moved z vs i j v w at (omega arith) live) side);
+    pairs = pairs_same vs i v w at refl rule.pairs;
+    single = λ d. omega (arith, sum_kept (pending_count d) vs i v w at refl, rule.single d);
+    seats = all_moved (SeatRight z m g) (SeatRight z m' g) vs i v w at rule.seats own_now other_now;
   }

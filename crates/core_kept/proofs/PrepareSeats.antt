@@ -40,7 +40,7 @@ use Rattle.core_invariant.specs.SeatRule.{TreeRight, SeatRight}
 use Rattle.core_events.specs.UpdateMoves.{head_known, known_at, prepared}
 use Rattle.core_invariant.specs.MeaningMoves.{in_front, unnumbered, prepared_meaning}
 use Rattle.core_invariant.specs.Rule.{Rule}
-use Rattle.core_invariant.specs.LinkLaw.{Kept}
+use Rattle.core_invariant.specs.LinkLaw.{IsRead, Kept, SelectsSame}
 use Rattle.core_invariant.proofs.Frames.{every_map, every_listed, every_named, every_mapped}
 use Rattle.core_invariant.proofs.Filled.{node_other, every_filled, node_apart}
 use Rattle.core_invariant.proofs.Without.{count-without-le}
@@ -53,6 +53,9 @@ use Rattle.core_invariant.proofs.Needed.{Ready}
 use Rattle.core_kept.proofs.Prepare.{same_locks, same_work, prepared_slots}
 use Rattle.core_invariant.proofs.Sides.{same_side-refl}
 use Rattle.core_kept.proofs.PrepareBundles.{not_pending, pending_same, new_pending, bundle_now, selects, above_still, pending_head}
+use Rattle.core_grace.specs.Slots.{nodes_of, own_free}
+use Rattle.core_invariant.proofs.TreeNow.{stamp_low}
+use Rattle.core_kept.proofs.PlainKept.{quiet_work, plain_quiet, plain_same}
 
 -- the heads that are known of a locked node once one of them is stored
 node_now : (m : Memory) (side : Side) (k e : ℕ) (h : HeldNode) (c : Bool) → eqb h.node k ≡ c → IsNodeAt m h
@@ -63,6 +66,7 @@ node_now m Left k e h true is right = record {
   mark = right.mark;
   left = record { head = (ap (λ b. cond b e (m (Node (Head Left) h.node))) is, tt) };
   right = right.right;
+  plain = right.plain;
 }
 node_now m Right k e h true is right = record {
   key = right.key;
@@ -70,6 +74,7 @@ node_now m Right k e h true is right = record {
   mark = right.mark;
   left = right.left;
   right = record { head = (ap (λ b. cond b e (m (Node (Head Right) h.node))) is, tt) };
+  plain = right.plain;
 }
 node_now m Left k e h false is right = record {
   key = right.key;
@@ -77,6 +82,7 @@ node_now m Left k e h false is right = record {
   mark = right.mark;
   left = subst (λ x. SideRight x (λ d. m (Entry Number d)) h.left) (sym (ap (λ b. cond b e (m (Node (Head Left) h.node))) is)) right.left;
   right = right.right;
+  plain = right.plain;
 }
 node_now m Right k e h false is right = record {
   key = right.key;
@@ -84,6 +90,7 @@ node_now m Right k e h false is right = record {
   mark = right.mark;
   left = right.left;
   right = subst (λ x. SideRight x (λ d. m (Entry Number d)) h.right) (sym (ap (λ b. cond b e (m (Node (Head Right) h.node))) is)) right.right;
+  plain = right.plain;
 }
 
 module _ (z : Layout) (m : Memory) (vs : List View) (g : Meaning) (rule : Rule z m vs g) (i k e : ℕ) (side : Side) (v : View) (at : IsItem vs i v) (ready : Ready m v side k e) where
@@ -347,6 +354,7 @@ module _ (z : Layout) (m : Memory) (vs : List View) (g : Meaning) (rule : Rule z
             mark = is.mark;
             left = subst (λ x. SideRight x stamp h.left) (sym (node_other m (Head side) (Head Left) k h.node e (holder_apart u h beside held))) is.left;
             right = subst (λ x. SideRight x stamp h.right) (sym (node_other m (Head side) (Head Right) k h.node e (holder_apart u h beside held))) is.right;
+            plain = is.plain;
           }) of.loaded.nodes;
       nexts = nexts_now beside.place u beside.at u.held u.update u.free refl refl;
     };
@@ -364,7 +372,14 @@ module _ (z : Layout) (m : Memory) (vs : List View) (g : Meaning) (rule : Rule z
         | inr other ↦ omega (arith, sum_kept (pending_count d) vs i v v' at ((pending_same z m vs g rule i k e side v at ready) d other.1), rule.single d)
       ]
 
-  pub prepare_kept : Kept z (m Stamp) vs g m' ws
+  selects_same : SelectsSame z (IsRead (m Stamp) vs) vs g ws g'
+  selects_same t j s read live live' = sym ((selects z m vs g rule i k e side v at ready) t j s (read_past z m vs g rule t read) live)
+
+  number_by : (c : Bool) (n : ℕ) → n ≤ m Stamp → n ≤ cond c no_number n
+  number_by true n low = omega (arith, low, stamp_low z m vs g rule)
+  number_by false n low = omega arith
+
+  pub prepare_kept : Kept z m vs g m' ws
   prepare_kept = record {
     meaning = g';
     rule = record {
@@ -380,5 +395,7 @@ module _ (z : Layout) (m : Memory) (vs : List View) (g : Meaning) (rule : Rule z
       single = single_now;
       seats = all_moved (SeatRight z m g) (SeatRight z m' g') vs i v v' at rule.seats own_now other_now;
     };
-    same = λ t j s read live live'. sym ((selects z m vs g rule i k e side v at ready) t j s (read_past z m vs g rule t read) live);
+    same = selects_same;
+    plain = λ right. plain_same z m vs g rule g' ws selects_same (λ j live. (live.0, sum_kept (own_free nodes_of j) vs i v v' at refl ∙ live.1))
+        (λ d low. number_by (eqb d e) (g.bundles.number d) low) (plain_quiet m g vs i v v' at (quiet_work v v' refl refl refl locks_same) right);
   }

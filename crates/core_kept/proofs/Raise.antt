@@ -25,6 +25,7 @@ use Rattle.core_kept.proofs.RaiseHistory.{history_now}
 use Rattle.core_kept.proofs.RaiseNumbers.{selects}
 use Rattle.core_kept.proofs.RaiseBundles.{bundle_now}
 use Rattle.core_kept.proofs.RaiseNew.{single_after}
+use Rattle.core_kept.proofs.RaisePlain.{plain_raised}
 use Rattle.core_kept.proofs.RaiseSlots.{slots_after}
 use Rattle.core_kept.proofs.RaiseTrees.{unmarked_now}
 use Rattle.core_kept.proofs.RaiseSeats.{own_now, other_now}
@@ -42,22 +43,26 @@ module _ (z : Layout) (m : Memory) (vs : List View) (g : Meaning) (rule : Rule z
   abbrev ws : List View
   ws = set vs i v'
 
-  pub raise_kept : Kept z (m Stamp) vs g m' ws
+  pub raised_rule : Rule z m' ws g'
+  raised_rule = record {
+    numbers = λ n. sum_kept (number_count n) vs i v v' at refl ∙ rule.numbers n;
+    history = history_now z m vs g rule i v u known move at can all;
+    slots = slots_after z m vs g rule i v u known move tree at can.raised moves;
+    locks = λ k. sum_kept (lock_count k) vs i v v' at refl ∙ rule.locks k;
+    tree = moves.version;
+    marks = unmarked_now z m vs g rule i v u move tree at can moves;
+    bundles = bundle_now z m vs g rule i v u known move tree at can moves;
+    pairs = pairs_same vs i v v' at refl rule.pairs;
+    single = single_after z m vs g rule i v u move tree at moves known;
+    seats = all_moved (SeatRight z m g) (SeatRight z m' g') vs i v v' at rule.seats
+        (own_now z m vs g rule i v u known move tree at can all moves)
+        (other_now z m vs g rule i v u known move tree at can all moves);
+  }
+
+  pub raise_kept : Kept z m vs g m' ws
   raise_kept = record {
     meaning = g';
-    rule = record {
-      numbers = λ n. sum_kept (number_count n) vs i v v' at refl ∙ rule.numbers n;
-      history = history_now z m vs g rule i v u known move at can all;
-      slots = slots_after z m vs g rule i v u known move tree at can.raised moves;
-      locks = λ k. sum_kept (lock_count k) vs i v v' at refl ∙ rule.locks k;
-      tree = moves.version;
-      marks = unmarked_now z m vs g rule i v u move tree at can moves;
-      bundles = bundle_now z m vs g rule i v u known move tree at can moves;
-      pairs = pairs_same vs i v v' at refl rule.pairs;
-      single = single_after z m vs g rule i v u move tree at moves known;
-      seats = all_moved (SeatRight z m g) (SeatRight z m' g') vs i v v' at rule.seats
-          (own_now z m vs g rule i v u known move tree at can all moves)
-          (other_now z m vs g rule i v u known move tree at can all moves);
-    };
+    rule = raised_rule;
     same = λ t k w read live live'. selects z m vs g rule i v u move tree at can moves t k w (read_past z m vs g rule t read) live;
+    plain = plain_raised z m vs g rule i v u known move tree at can moves;
   }

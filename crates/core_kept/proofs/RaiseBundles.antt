@@ -186,7 +186,7 @@ module _ (z : Layout) (m : Memory) (vs : List View) (g : Meaning) (rule : Rule z
       not_zero : (x : ℕ) → eqb x 0 ≡ false → 0 < x
       not_zero x is = grind (arith, nat_tests)
 
-  new_head : (k : ℕ) (w : Side) → 0 < count k (listed move.added) → 0 < head w k → 0 < count (head w k) move.entries
+  pub new_head : (k : ℕ) (w : Side) → 0 < count k (listed move.added) → 0 < head w k → 0 < count (head w k) move.entries
   new_head k w here some =
       subst (λ es. 0 < count (head w k) es) (sym (moves.entries ∙ ap (new_entries m) (only_listed move.added k here))) (head_new m k w some)
 

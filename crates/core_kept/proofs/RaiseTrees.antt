@@ -76,7 +76,7 @@ module _ (z : Layout) (m : Memory) (vs : List View) (g : Meaning) (rule : Rule z
   bundle' = with_added g.bundles.bundle head move.added
 
   -- a node of the new tree is in the old one, or is the new node
-  in_tree : (k : ℕ) → occurs k tree ≤ occurs k g.tree + count k (listed move.added)
+  pub in_tree : (k : ℕ) → occurs k tree ≤ occurs k g.tree + count k (listed move.added)
   in_tree k = omega (arith, (moves.slots (one_at k)).0, listed_sum k move.added)
 
   unmarked_by : (k : ℕ) → 0 < count k (slots_of tree) → m (Node Mark k) ≡ 0

@@ -19,7 +19,7 @@ use Rattle.index_words.proofs.Seats.{at_item, all_moved, one_term, two_terms}
 use Rattle.core_grace.specs.Sections.{is_even, left_word}
 use Rattle.core_grace.specs.Batches.{is_number}
 use Rattle.core_events.specs.declared.event.Kind.{Kind}
-use Rattle.core_events.specs.declared.event.Kind.TheVariants.{MakeSeat, SplitSeat, JoinSeat, Enter, Leave, Fill, Prepare, Raise, Finalise, TryLock, Unlock, Mark as MarkNode, Announce, Cut}
+use Rattle.core_events.specs.declared.event.Kind.TheVariants.{MakeSeat, SplitSeat, JoinSeat, Enter, Leave, Fill, Prepare, Raise, Finalise, TryLock, Unlock, Mark as MarkNode, Announce, Cut, SetLink, SetTag}
 use Rattle.core_events.specs.Moves.{split_left, split_right, joined_with}
 use Rattle.core_events.specs.Needs.{is_outside, is_own_section, may_enter, may_leave, may_fill, nothing_pending}
 use Rattle.core_invariant.specs.Numbers.{number_count, IsSpare}
@@ -27,6 +27,7 @@ use Rattle.core_events.specs.Announcing.{is_own_announced, is_announcement}
 use Rattle.core_events.specs.CutNeeds.{may_cut}
 use Rattle.core_events.specs.UpdateNeeds.{may_prepare, may_raise, may_finalise}
 use Rattle.core_events.specs.LockNeeds.{may_try_lock, may_unlock, may_mark}
+use Rattle.core_events.specs.PlainNeeds.{may_set_link, may_set_tag}
 use Rattle.core_events.specs.Steps.{needs, view_after, views_after, words_after, join_found}
 use Rattle.core_invariant.specs.Rule.{InRule}
 use Rattle.core_events.proofs.Tests.{never, stamp_named}
@@ -86,6 +87,20 @@ unlock_apart m v Stamp x met = absurd (never met)
 unlock_apart m v (Section k) x met = absurd (never met)
 unlock_apart m v (Announced k) x met = absurd (never met)
 unlock_apart m v (Entry p e) x met = absurd (never met)
+
+set_link_apart : (m : Memory) (v : View) (w : Word) (x : ℕ) → may_set_link m v w x ≡ true → IsApart w
+set_link_apart m v (Node f k) x met = node_apart f k
+set_link_apart m v Stamp x met = absurd (never met)
+set_link_apart m v (Section k) x met = absurd (never met)
+set_link_apart m v (Announced k) x met = absurd (never met)
+set_link_apart m v (Entry p e) x met = absurd (never met)
+
+set_tag_apart : (m : Memory) (v : View) (w : Word) (x : ℕ) → may_set_tag m v w x ≡ true → IsApart w
+set_tag_apart m v (Node f k) x met = node_apart f k
+set_tag_apart m v Stamp x met = absurd (never met)
+set_tag_apart m v (Section k) x met = absurd (never met)
+set_tag_apart m v (Announced k) x met = absurd (never met)
+set_tag_apart m v (Entry p e) x met = absurd (never met)
 
 mark_apart : (v : View) (w : Word) (x : ℕ) → may_mark v w x ≡ true → IsApart w
 mark_apart v (Node f k) x met = node_apart f k
@@ -197,6 +212,8 @@ module _ (z : Layout) (words : List ℕ) (vs : List View) (i : ℕ) (v : View) (
   same_words MarkNode met = stored MarkNode value (mark_apart v w value met)
   same_words Announce met = announced_stored value (own_announced v.number w (and_parts (is_own_announced v.number w) (is_announcement v value) met).0)
   same_words Cut met = stored Cut value (cut_apart z m vs v w value met)
+  same_words SetLink met = stored SetLink value (set_link_apart m v w value met)
+  same_words SetTag met = stored SetTag value (set_tag_apart m v w value met)
   same_words kind met = unchanged kind
 
 -- what holds of each number of a list, under an implication at the numbers that stand in it

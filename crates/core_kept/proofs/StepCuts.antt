@@ -1,5 +1,5 @@
 -- A look at an announcement, or a cut, that is allowed keeps the rule.
-use Rattle.std.proofs.Common.{◌≡◌, ℕ, List, true, eqb, not, ◌&&◌, set, is_some, ap, ◌∙◌, sym, subst, Some, None}
+use Rattle.std.proofs.Common.{◌≡◌, ℕ, List, true, eqb, not, ◌&&◌, set, is_some, refl, ap, ◌∙◌, sym, subst, Some, None}
 use Rattle.std.proofs.lemmas.Bool.{and_parts}
 use Rattle.index_words.specs.declared.layout.Layout.{Layout}
 use Rattle.index_words.specs.declared.view.View.{View}
@@ -26,6 +26,7 @@ use Rattle.core_invariant.proofs.StepGives.{store_right, load_right}
 use Rattle.core_invariant.proofs.Cuts.{IsCutAt, cut_at}
 use Rattle.core_kept.proofs.LooksAtAnn.{look_ann_kept}
 use Rattle.core_kept.proofs.CutSeats.{cut_kept}
+use Rattle.core_kept.proofs.PlainKept.{quiet_work, plain_quiet}
 
 module _ (z : Layout) (words : List ℕ) (vs : List View) (right : InRule z words vs) (i : ℕ) (v : View) (at : IsItem vs i v) where
   abbrev m : Word → ℕ
@@ -41,18 +42,19 @@ module _ (z : Layout) (words : List ℕ) (vs : List View) (right : InRule z word
       let one = and_parts (is_some v.reading.section && not (is_number p v.number)) (eqb value 0) met in
       let reads = (and_parts (is_some v.reading.section) (not (is_number p v.number)) one.0).0 in
       load_right z words vs right (set vs i (ann_loaded v p (m (Announced p)))) (look_ann_kept z m vs right.meaning right.rule i v at p (reads_inside reads))
+      (plain_quiet m right.meaning vs i v (ann_loaded v p (m (Announced p))) at (quiet_work v _ refl refl refl refl))
   look_found Stamp value met = absurd (never met)
   look_found (Section k) value met = absurd (never met)
   look_found (Entry p e) value met = absurd (never met)
   look_found (Node f k) value met = absurd (never met)
 
   cut_word : (p : Part) (e value : ℕ) → may_cut z m vs v (Entry p e) value ≡ true
-      → Kept z (m Stamp) vs right.meaning (written m (Entry p e) value) (set vs i (cut_view v e (cut_off z m e)))
+      → Kept z m vs right.meaning (written m (Entry p e) value) (set vs i (cut_view v e (cut_off z m e)))
   cut_word Next e value met =
       let parts = cut_at z m vs right.meaning right.rule i v at e value met in
       let cut : IsCutAt z m vs right.meaning v e = parts.1 in
-      subst (λ x. Kept z (m Stamp) vs right.meaning (written m (Entry Next e) x) (set vs i (cut_view v e (cut_off z m e)))) (sym parts.0)
-      (subst (λ es. Kept z (m Stamp) vs right.meaning (written m (Entry Next e) 0) (set vs i (cut_view v e es))) (sym cut.off)
+      subst (λ x. Kept z m vs right.meaning (written m (Entry Next e) x) (set vs i (cut_view v e (cut_off z m e)))) (sym parts.0)
+      (subst (λ es. Kept z m vs right.meaning (written m (Entry Next e) 0) (set vs i (cut_view v e es))) (sym cut.off)
       (cut_kept z m vs right.meaning right.rule i v at e cut))
   cut_word Child e value met = absurd (never met)
   cut_word Number e value met = absurd (never met)

@@ -10,7 +10,7 @@ use Rattle.index_words.specs.Words.{Memory, memory, word_at}
 use Rattle.key_map.specs.Lists.{IsItem}
 use Rattle.core_events.specs.declared.event.Event.{Event}
 use Rattle.core_events.specs.declared.event.Kind.{Kind}
-use Rattle.core_events.specs.declared.event.Kind.TheVariants.{MakeSeat, SplitSeat, JoinSeat, Enter, Leave, LookSec, Fill, LoadStamp, LoadHead, LoadTs, LoadPtr, LoadNext, Prepare, Raise, Finalise, TryLock, Unlock, LoadMark, Mark as MarkNode, LoadKeyOrVal, Announce, LookAnn, Cut}
+use Rattle.core_events.specs.declared.event.Kind.TheVariants.{MakeSeat, SplitSeat, JoinSeat, Enter, Leave, LookSec, Fill, LoadStamp, LoadHead, LoadTs, LoadPtr, LoadNext, Prepare, Raise, Finalise, TryLock, Unlock, LoadMark, Mark as MarkNode, LoadKeyOrVal, Announce, LookAnn, Cut, LoadLink, SetLink, LoadTag, SetTag}
 use Rattle.core_events.specs.Tables.{Table, held_by}
 use Rattle.core_invariant.specs.Rule.{InRule, IsRight}
 use Rattle.core_invariant.specs.LinkLaw.{KeepsSelections}
@@ -35,6 +35,7 @@ use Rattle.core_kept.proofs.StepUpdates.{prepare_law, raise_law, finalise_law}
 use Rattle.core_kept.proofs.StepLocks.{lock_law, unlock_law, load_mark_law, mark_law, load_pair_law}
 use Rattle.core_kept.proofs.StepSeats.{split_law, join_law, enter_law, leave_law, look_law, fill_law, announce_law}
 use Rattle.core_kept.proofs.StepCuts.{look_ann_law, cut_law}
+use Rattle.core_kept.proofs.StepPlain.{load_link_law, set_link_law, load_tag_law, set_tag_law}
 
 module _ (z : Layout) (words : List ℕ) (vs : List View) (right : InRule z words vs) (i : ℕ) (v : View) (at : IsItem vs i v) (live : v.joined ≡ false) (n : ℕ) (w : Word) (found : word_at z n ≡ Some w) (value : ℕ) where
   abbrev m : Memory
@@ -68,6 +69,10 @@ module _ (z : Layout) (words : List ℕ) (vs : List View) (right : InRule z word
   kind_right Announce o own met = announce_law z words vs right i v at live n w found value o own met
   kind_right LookAnn o own met = look_ann_law z words vs right i v at live n w found value o own met
   kind_right Cut o own met = cut_law z words vs right i v at live n w found value o own met
+  kind_right LoadLink o own met = load_link_law z words vs right i v at live n w found value o own met
+  kind_right SetLink o own met = set_link_law z words vs right i v at live n w found value o own met
+  kind_right LoadTag o own met = load_tag_law z words vs right i v at live n w found value o own met
+  kind_right SetTag o own met = set_tag_law z words vs right i v at live n w found value o own met
 
 -- the table after an event, and the rule of it
 pub record AfterTable (t u : Table) : Type 0 where
@@ -77,7 +82,7 @@ pub record AfterTable (t u : Table) : Type 0 where
 after_of : (z : Layout) (words : List ℕ) (vs : List View) (right : InRule z words vs) (words' : List ℕ) (ws : List View) → After z words vs right words' ws → All IsSpent ws → All (IsSpare (memory z words')) ws → All KnowsPlaces ws → All WaitsRight ws → All (UnusedRight (memory z words')) ws
     → AfterTable (record { layout = z; words = words; views = vs }) (record { layout = z; words = words'; views = ws })
 after_of z words vs right words' ws gives spent spare places waits unused = record {
-  right = record { size = gives.size; meaning = gives.kept.meaning; rule = gives.kept.rule; spent = spent; spare = spare; places = places; waits = waits; unused = unused };
+  right = record { size = gives.size; meaning = gives.kept.meaning; rule = gives.kept.rule; plain = gives.kept.plain right.plain; spent = spent; spare = spare; places = places; waits = waits; unused = unused };
   same = selections_kept z (memory z words) (memory z words') vs ws right.meaning gives.kept.meaning right.rule gives.kept.rule gives.kept.same;
 }
 

@@ -15,7 +15,8 @@ use Rattle.core_events.specs.LockMoves.{locked_view, met_lock, tried, unlocked_v
 use Rattle.core_invariant.specs.Rule.{InRule}
 use Rattle.core_events.specs.Steps.{views_after, words_after}
 use Rattle.core_kept.proofs.LockSteps.{lock_by, met_by, unlock_by, load_mark_by, mark_by}
-use Rattle.core_kept.proofs.Marks.{load_pair_kept}
+use Rattle.core_kept.proofs.Marks.{slots_marked, slots_paired, load_pair_kept}
+use Rattle.core_kept.proofs.PlainKept.{quiet_work, plain_quiet}
 use Rattle.core_events.proofs.Tests.{never, not_true, node_there}
 use Rattle.core_invariant.specs.KeptRule.{After, KeepsRuleAt}
 use Rattle.core_invariant.proofs.StepGives.{store_right, load_right}
@@ -42,6 +43,7 @@ module _ (z : Layout) (words : List ℕ) (vs : List View) (right : InRule z word
           (lock_by z m vs right.meaning right.rule i v at f k value (node_there z n k f is) met (eqb-true (m (Node f k)) 0 free))
       tried_by false held =
           load_right z words vs right (set vs i (met_lock v value (m (Node f k)))) (met_by z m vs right.meaning right.rule i v at f k value (m (Node f k)) met)
+          (plain_quiet m right.meaning vs i v (met_lock v value (m (Node f k))) at (quiet_work v _ refl refl refl refl))
   try_lock_found Stamp is met = absurd (never met)
   try_lock_found (Section k) is met = absurd (never met)
   try_lock_found (Announced k) is met = absurd (never met)
@@ -58,6 +60,7 @@ module _ (z : Layout) (words : List ℕ) (vs : List View) (right : InRule z word
   pub load_mark_found : (u : Word) → may_load_mark v u value ≡ true → Gives words (views_after LoadMark z m vs i v u value None)
   load_mark_found (Node f k) met =
       load_right z words vs right (set vs i (mark_loaded v k (m (Node f k)))) (load_mark_by z m vs right.meaning right.rule i v at f k value met)
+      (plain_quiet m right.meaning vs i v (mark_loaded v k (m (Node f k))) at (quiet_work v _ refl refl refl (slots_marked k (m (Node f k)) v.held.nodes)))
   load_mark_found Stamp met = absurd (never met)
   load_mark_found (Section k) met = absurd (never met)
   load_mark_found (Announced k) met = absurd (never met)
@@ -77,6 +80,7 @@ module _ (z : Layout) (words : List ℕ) (vs : List View) (right : InRule z word
       let one = and_parts (is_pair f && b) (eqb value 0) met in
       load_right z words vs right (set vs i (pair_loaded v f k (m (Node f k))))
       (load_pair_kept z m vs right.meaning i k f v right.rule at (not_true (is_even v.section_word) (and_parts (is_pair f) b one.0).1))
+      (plain_quiet m right.meaning vs i v (pair_loaded v f k (m (Node f k))) at (quiet_work v _ refl refl refl (slots_paired f k (m (Node f k)) v.held.nodes)))
   load_pair_found Stamp met = absurd (never met)
   load_pair_found (Section k) met = absurd (never met)
   load_pair_found (Announced k) met = absurd (never met)

@@ -34,7 +34,9 @@ use Rattle.core_kept.proofs.EachKind.{enter_kept, leave_kept, look_kept}
 use Rattle.core_invariant.proofs.Idle.{nameless_idle}
 use Rattle.core_kept.proofs.Fills.{node_stored, entry_stored}
 use Rattle.core_kept.proofs.FillViews.{fill_kept, node_zeros, entry_zeros}
+use Rattle.core_kept.proofs.PlainKept.{quiet_work, entered_work, looked_work, plain_quiet, quiet_pushed, quiet_joined, plain_filled}
 use Rattle.core_kept.proofs.TwoViews.{split_kept, join_kept}
+use Rattle.core_invariant.specs.PlainRule.{PlainRight}
 use Rattle.core_invariant.specs.KeptRule.{After, KeepsRuleAt}
 use Rattle.core_invariant.proofs.StepGives.{kept_same, store_right, load_right}
 
@@ -45,8 +47,13 @@ module _ (z : Layout) (words : List ℕ) (vs : List View) (right : InRule z word
   abbrev Gives : List ℕ → List View → Type 0
   Gives = After z words vs right
 
-  one_kept : (m' : Memory) (ws : List View) → Rule z m' ws right.meaning → Kept z (m Stamp) vs right.meaning m' ws
-  one_kept m' ws rule = kept_same z (m Stamp) vs right.meaning m' ws rule
+  one_kept : (m' : Memory) (ws : List View) → Rule z m' ws right.meaning → (PlainRight m vs right.meaning → PlainRight m' ws right.meaning) → Kept z m vs right.meaning m' ws
+  one_kept m' ws rule plain = kept_same z m vs right.meaning m' ws rule plain
+
+  -- at the own word of a section or of an announcement
+  word_plain : (u : Word) (y : View) → w ≡ u → (PlainRight m vs right.meaning → PlainRight (written m u value) (set vs i y) right.meaning) → PlainRight m vs right.meaning
+      → PlainRight (written m w value) (set vs i y) right.meaning
+  word_plain u y is plain = subst (λ x. PlainRight m vs right.meaning → PlainRight (written m x value) (set vs i y) right.meaning) (sym is) plain
 
   pub enter_right : may_enter v w value ≡ true → Gives (set words n value) (set vs i (entered z.passes v value))
   enter_right met =
@@ -56,7 +63,8 @@ module _ (z : Layout) (words : List ℕ) (vs : List View) (right : InRule z word
       store_right z words vs n value w right (set vs i (entered z.passes v value)) found
       (one_kept (written m w value) (set vs i (entered z.passes v value))
       (subst (λ u. Rule z (written m u value) (set vs i (entered z.passes v value)) right.meaning) (sym own.word)
-      (enter_kept z m vs right.meaning i own.n value v at right.rule own.named first.1)))
+      (enter_kept z m vs right.meaning i own.n value v at right.rule own.named first.1))
+      (word_plain (Section own.n) (entered z.passes v value) own.word (plain_quiet m right.meaning vs i v (entered z.passes v value) at (entered_work z.passes value v))))
 
   pub leave_right : may_leave m v w value ≡ true → Gives (set words n value) (set vs i (left v value))
   leave_right met =
@@ -71,7 +79,8 @@ module _ (z : Layout) (words : List ℕ) (vs : List View) (right : InRule z word
       store_right z words vs n value w right (set vs i (left v value)) found
       (one_kept (written m w value) (set vs i (left v value))
       (subst (λ u. Rule z (written m u value) (set vs i (left v value)) right.meaning) (sym own.word)
-      (leave_kept z m vs right.meaning i own.n value v at right.rule own.named three.1)))
+      (leave_kept z m vs right.meaning i own.n value v at right.rule own.named three.1))
+      (word_plain (Section own.n) (left v value) own.word (plain_quiet m right.meaning vs i v (left v value) at (quiet_work v (left v value) refl refl refl refl))))
 
   announce_by : (even : Bool) → is_even v.section_word ≡ even → cond even (eqb value 0) (is_none v.reading.section && eqb value (length v.history.seen + 1)) ≡ true
       → (v.reading.section ≡ None) × (value ≤ m Stamp + 1)
@@ -91,7 +100,8 @@ module _ (z : Layout) (words : List ℕ) (vs : List View) (right : InRule z word
       store_right z words vs n value w right (set vs i (announced_view v value)) found
       (one_kept (written m w value) (set vs i (announced_view v value))
       (subst (λ u. Rule z (written m u value) (set vs i (announced_view v value)) right.meaning) (sym own.word)
-      (announce_kept z m vs right.meaning right.rule i own.n value v at own.named may.0 may.1)))
+      (announce_kept z m vs right.meaning right.rule i own.n value v at own.named may.0 may.1))
+      (word_plain (Announced own.n) (announced_view v value) own.word (plain_quiet m right.meaning vs i v (announced_view v value) at (quiet_work v (announced_view v value) refl refl refl refl))))
 
   pub look_found : (u : Word) → may_look v u value ≡ true → Gives words (views_after LookSec z m vs i v u value None)
   look_found (Section pass) met =
@@ -103,6 +113,7 @@ module _ (z : Layout) (words : List ℕ) (vs : List View) (right : InRule z word
       let three = and_parts a b two.0 in
       load_right z words vs right (set vs i (looked z.passes v pass (m (Section pass))))
       (look_kept z m vs right.meaning i pass v at right.rule (not_true (is_number pass v.number) three.0) three.1)
+      (plain_quiet m right.meaning vs i v (looked z.passes v pass (m (Section pass))) at (looked_work z.passes pass (m (Section pass)) v))
   look_found Stamp met = absurd (never met)
   look_found (Announced k) met = absurd (never met)
   look_found (Node f k) met = absurd (never met)
@@ -116,14 +127,16 @@ module _ (z : Layout) (words : List ℕ) (vs : List View) (right : InRule z word
       (one_kept (written m (Node f k) value) (set vs i (filled_view v (Node f k) value))
       (fill_kept z m right.meaning i (Node f k) value vs right.rule v at
       (λ us u rule here same fresh. node_stored z m us right.meaning rule i k u f value here (subst (λ (s : Slots). 0 < count k s.nodes) (sym same) free) (not_true (is_lock f) parts.0) fresh)
-      (node_zeros m v k f (at_item (UnusedRight m) vs i v at right.unused) free)))
+      (node_zeros m v k f (at_item (UnusedRight m) vs i v at right.unused) free))
+      (plain_filled z m vs right.meaning right.rule i v at value (Node f k) met))
   fill_found (Entry p e) is met =
       let free = has-count e v.free.entries met in
       store_right z words vs n value (Entry p e) right (set vs i (filled_view v (Entry p e) value)) is
       (one_kept (written m (Entry p e) value) (set vs i (filled_view v (Entry p e) value))
       (fill_kept z m right.meaning i (Entry p e) value vs right.rule v at
       (λ us u rule here same fresh. entry_stored z m us right.meaning rule i e u here (subst (λ (s : Slots). 0 < count e s.entries) (sym same) free) p value fresh)
-      (entry_zeros m v e p (at_item (UnusedRight m) vs i v at right.unused) free)))
+      (entry_zeros m v e p (at_item (UnusedRight m) vs i v at right.unused) free))
+      (plain_filled z m vs right.meaning right.rule i v at value (Entry p e) met))
   fill_found Stamp is met = absurd (never met)
   fill_found (Section k) is met = absurd (never met)
   fill_found (Announced k) is met = absurd (never met)
@@ -132,6 +145,7 @@ module _ (z : Layout) (words : List ℕ) (vs : List View) (right : InRule z word
   split_right' =
       load_right z words vs right (set vs i (split_left v value) ++ split_right v value ∷ [])
       (split_kept z m vs right.meaning i value v at right.rule live)
+      (quiet_pushed m right.meaning vs i v (split_left v value) (split_right v value) at (quiet_work v _ refl refl refl refl) refl)
 
   join_idle : (u : View) → IsItem vs value u → may_join_view v u ≡ true → IsIdle u
   join_idle u of met =
@@ -141,11 +155,13 @@ module _ (z : Layout) (words : List ℕ) (vs : List View) (right : InRule z word
       ]
 
   join_by : (o : Option View) → slice_get vs value ≡ o → (value ≡ i → ⊥) → may_join_found v o ≡ true → Gives words (join_found vs i v value o)
-  join_by None is other met = load_right z words vs right vs right.rule
+  join_by None is other met = load_right z words vs right vs right.rule (λ plain. plain)
   join_by (Some u) is other met =
       let of = item_from_get vs value u is in
+      let idle = join_idle u of met in
       load_right z words vs right (set (set vs i (joined_with v u)) value spent_view)
-      (join_kept z m vs right.meaning i value v u at of other (join_idle u of met) right.rule)
+      (join_kept z m vs right.meaning i value v u at of other idle right.rule)
+      (quiet_joined m right.meaning vs i value v (joined_with v u) u at of other (quiet_work v _ refl refl refl refl) idle.update)
 
   pub join_right : may_join vs i v w value ≡ true → Gives words (join_found vs i v value (slice_get vs value))
   join_right met =

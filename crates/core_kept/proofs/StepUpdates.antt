@@ -1,5 +1,5 @@
 -- An event of an update that is allowed keeps the rule.
-use Rattle.std.proofs.Common.{◌≡◌, ℕ, ◌+◌, List, true, false, ◌&&◌, set, subst, slice_index, Option, Some, None}
+use Rattle.std.proofs.Common.{◌≡◌, ℕ, ◌+◌, List, true, false, ◌&&◌, set, refl, subst, slice_index, Option, Some, None}
 use Rattle.std.proofs.lemmas.Bool.{and_parts}
 use Rattle.index_words.specs.declared.layout.Layout.{Layout}
 use Rattle.key_map.specs.declared.update.Update.{Update}
@@ -9,7 +9,7 @@ use Rattle.index_words.specs.declared.word.Field.TheVariants.{Key, Val, Lock, Ma
 use Rattle.index_words.specs.declared.word.Part.TheVariants.{Child, Stamp as Number, Next}
 use Rattle.index_words.specs.declared.word.Word.{Word}
 use Rattle.index_words.specs.declared.word.Word.TheVariants.{Stamp, Section, Announced, Node, Entry}
-use Rattle.index_words.specs.Words.{Memory, memory, word_at}
+use Rattle.index_words.specs.Words.{Memory, memory, written, word_at}
 use Rattle.key_map.specs.Lists.{has, IsItem}
 use Rattle.key_map.proofs.Counting.{has-count}
 use Rattle.index_words.proofs.Store.{word_there}
@@ -32,7 +32,8 @@ use Rattle.core_kept.proofs.Finalise.{finalise_kept}
 use Rattle.core_events.proofs.Tests.{never, number_of_is}
 use Rattle.core_invariant.proofs.Needed.{ready_is, can_raise}
 use Rattle.core_invariant.specs.KeptRule.{After, KeepsRuleAt}
-use Rattle.core_invariant.proofs.StepGives.{store_right}
+use Rattle.core_invariant.proofs.StepGives.{kept_same, store_right}
+use Rattle.core_kept.proofs.PlainKept.{quiet_work, plain_quiet}
 
 module _ (z : Layout) (words : List ℕ) (vs : List View) (right : InRule z words vs) (i : ℕ) (v : View) (at : IsItem vs i v) (live : v.joined ≡ false) (n : ℕ) (w : Word) (found : word_at z n ≡ Some w) (value : ℕ) where
   abbrev m : Memory
@@ -64,7 +65,9 @@ module _ (z : Layout) (words : List ℕ) (vs : List View) (right : InRule z word
       let one = and_parts (is_part Number Number && has e v.update.pending) (is_number value v.update.raised) met in
       let two = and_parts (is_part Number Number) (has e v.update.pending) one.0 in
       store_right z words vs n value (Entry Number e) right (set vs i (finalised v e)) is
+      (kept_same z m vs right.meaning (written m (Entry Number e) value) (set vs i (finalised v e))
       (finalise_kept z m vs right.meaning right.rule i e value v at (number_of_is value v.update.raised one.1) (has-count e v.update.pending two.1))
+      (plain_quiet m right.meaning vs i v (finalised v e) at (quiet_work v (finalised v e) refl refl refl refl)))
   finalise_found (Entry Child e) is met = absurd (never met)
   finalise_found (Entry Next e) is met = absurd (never met)
   finalise_found Stamp is met = absurd (never met)

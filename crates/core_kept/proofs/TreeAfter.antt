@@ -34,6 +34,7 @@ use Rattle.core_events.specs.Versions.{IsNullAtBoth}
 use Rattle.core_invariant.specs.Rule.{Rule}
 use Rattle.core_invariant.proofs.Frames.{every_at, one_counted}
 use Rattle.core_invariant.proofs.BundleFrames.{select_frame}
+use Rattle.core_invariant.proofs.LiveHeads.{chain_head}
 use Rattle.core_invariant.proofs.OneView.{seat_at}
 use Rattle.core_invariant.proofs.Owned.{free_node_alone, not_in_bundle, in_entries}
 use Rattle.core_invariant.proofs.TreeNodes.{count_slots}
@@ -194,8 +195,49 @@ module _ (z : Layout) (m : Memory) (vs : List View) (g : Meaning) (rule : Rule z
     child_by k side false is live = child_stays k (live refl) side
 
     -- the child of a link of a node that is new or live, after the raise
-    child_after : (k : ℕ) → (has k (listed added) ≡ false → IsLive z vs k) → (side : Side) → child_now m vs more side k ≡ child_of_entry child (select number' (s + 1) (bundle' side k))
+    pub child_after : (k : ℕ) → (has k (listed added) ≡ false → IsLive z vs k) → (side : Side) → child_now m vs more side k ≡ child_of_entry child (select number' (s + 1) (bundle' side k))
     child_after k live side = child_by k side (has k (listed added)) refl live
+
+    -- an entry of a live node's bundle is not new
+    bundle_old : (k : ℕ) (side : Side) (d : ℕ) → IsLive z vs k → 0 < count d (g.bundles.bundle side k) → count d (new_entries m added) ≡ 0
+    bundle_old k side d live here =
+        elim (cases_lt 0 (count d (new_entries m added))) as (λ _. count d (new_entries m added) ≡ 0) [
+          | inl some ↦ absurd (not_in_bundle z vs g rule.slots i k d v at (entries_new m v added new d some).0 live (in_entries g.bundles k d side here))
+          | inr none ↦ omega (arith, none)
+        ]
+
+    -- so the child of a live node's link is told by the pending entries
+    pub child_pending : (k : ℕ) (side : Side) → IsLive z vs k → child_now m vs more side k ≡ child_now m vs v.update.pending side k
+    child_pending k side live = by (eqb (head side k) 0) refl
+      where
+        either : (b c : Bool) → (b ≡ true → c ≡ true) → (c ≡ true → b ≡ true) → b ≡ c
+        either true true there back = refl
+        either false false there back = refl
+        either true false there back = sym (there refl)
+        either false true there back = back refl
+
+        has_same : (e : ℕ) → count e (new_entries m added) ≡ 0 → has e more ≡ has e v.update.pending
+        has_same e none =
+            either (has e more) (has e v.update.pending) (λ is. count-has e v.update.pending (omega (arith, has-count e more is, count-append e v.update.pending (new_entries m added), none)))
+            (λ is. count-has e more (omega (arith, has-count e v.update.pending is, count-append e v.update.pending (new_entries m added))))
+
+        apart : (x : ℕ) → eqb x 0 ≡ false → x ≡ 0 → ⊥
+        apart x is none = grind (arith, nat_tests)
+
+        head_there : eqb (head side k) 0 ≡ false → 0 < count (head side k) (g.bundles.bundle side k)
+        head_there some =
+            elim (chain_head (λ e. m (Entry Next e)) (head side k) (g.bundles.bundle side k) (rule.bundles k live side).chain) as (λ _. 0 < count (head side k) (g.bundles.bundle side k)) [
+              | inl none ↦ absurd (apart (head side k) some none)
+              | inr here ↦ here
+            ]
+
+        by : (c : Bool) → eqb (head side k) 0 ≡ c → child_now m vs more side k ≡ child_now m vs v.update.pending side k
+        by true none =
+            ap (child_of_entry child) (newest_none (has_number m vs more) (λ e. m (Entry Next e)) (head side k) (eqb-true (head side k) 0 none))
+            ∙ sym (ap (child_of_entry child) (newest_none (has_number m vs v.update.pending) (λ e. m (Entry Next e)) (head side k) (eqb-true (head side k) 0 none)))
+        by false some =
+            ap (λ b. child_of_entry child (cond (eqb (head side k) 0 || (not (eqb (m (Entry Number (head side k))) 0) || was_raised (head side k) vs || b)) (head side k) (m (Entry Next (head side k)))))
+            (has_same (head side k) (bundle_old k side (head side k) live (head_there some)))
 
     -- a tree is spelled at the next number, where its nodes are new or in the tree at the stamp
     pub spelled_after : (tree : NamedTree) → ((x : ℕ) → 0 < occurs x tree → has x (listed added) ≡ false → IsLive z vs x)

@@ -14,7 +14,7 @@ use Rattle.index_words.specs.declared.view.reading.LinkSource.TheVariants.{Bundl
 use Rattle.index_words.specs.declared.view.update.HeldNode.{HeldNode}
 use Rattle.index_words.specs.declared.word.Field.TheVariants.{Lock, Mark, Head}
 use Rattle.index_words.specs.declared.word.Part.TheVariants.{Child, Stamp as Number}
-use Rattle.index_words.specs.declared.word.Word.TheVariants.{Stamp, Node, Entry}
+use Rattle.index_words.specs.declared.word.Word.TheVariants.{Node, Entry}
 use Rattle.index_words.specs.Words.{Memory, written}
 use Rattle.key_map.specs.Lists.{count, IsItem}
 use Rattle.index_words.proofs.Seats.{Beside, sum_moved, sum_kept, one_term, at_item, all_moved}
@@ -32,7 +32,6 @@ use Rattle.core_invariant.specs.Readers.{IsReachable, IsLocked, IsWatched, IsPas
 use Rattle.core_invariant.specs.SeatRule.{SeatRight}
 use Rattle.core_events.specs.LockMoves.{just_locked, place_locked, locked_view}
 use Rattle.core_invariant.specs.Rule.{Rule}
-use Rattle.core_invariant.specs.LinkLaw.{Kept}
 use Rattle.core_invariant.proofs.Frames.{every_map, Term, term_of, live_moved, pending_moved, bundle_weaker}
 use Rattle.core_invariant.proofs.OneView.{history_kept, seat_at}
 use Rattle.core_invariant.proofs.Owned.{in_entries, not_in_bundle, reachable_live}
@@ -267,7 +266,7 @@ module _ (z : Layout) (m : Memory) (vs : List View) (g : Meaning) (rule : Rule z
     ];
     loaded = record {
       nodes = every_push (IsNodeAt m) v.held.nodes (just_locked k) own_seat.loaded.nodes
-          (record { key = tt; val = tt; mark = tt; left = record { head = tt }; right = record { head = tt } });
+          (record { key = tt; val = tt; mark = tt; left = record { head = tt }; right = record { head = tt }; plain = ((tt, tt), (tt, tt)) });
       nexts = every_map (IsNextAt m g.bundles v.held.nodes) (IsNextAt m g.bundles w.held.nodes) v.held.nexts
           (λ l old. record { is = old.is; locked = still_locked l.node old.locked; here = old.here; found = old.found }) own_seat.loaded.nexts;
     };
@@ -311,23 +310,19 @@ module _ (z : Layout) (m : Memory) (vs : List View) (g : Meaning) (rule : Rule z
   }
 
   -- a lock that is taken
-  pub lock_kept : Kept z (m Stamp) vs g m' ws
+  pub lock_kept : Rule z m' ws g
   lock_kept = record {
-    meaning = g;
-    rule = record {
-      numbers = λ x. sum_kept (number_count x) vs i v w at refl ∙ rule.numbers x;
-      history = history_kept z _ g vs i v w at refl refl rule.history;
-      slots = slots_now;
-      locks = locks_now;
-      tree = rule.tree;
-      marks = record { root = rule.marks.root; nodes = rule.marks.nodes };
-      bundles = λ j live' side. bundle_weaker _ _ _ _ (IsPendingAt vs j) (IsPendingAt ws j) _ _
-          (λ d. pending_moved vs i j d v w at refl (works j)) (rule.bundles j (live_moved z vs i j v w at (omega arith) live') side);
-      pairs = pairs_same vs i v w at refl rule.pairs;
-      single = λ d. omega (arith, sum_kept (pending_count d) vs i v w at refl, rule.single d);
-      seats = all_moved (SeatRight z m g) (SeatRight z m' g) vs i v w at rule.seats own_now other_now;
-    };
-    same = λ t j side past live' live''. refl;
+    numbers = λ x. sum_kept (number_count x) vs i v w at refl ∙ rule.numbers x;
+    history = history_kept z _ g vs i v w at refl refl rule.history;
+    slots = slots_now;
+    locks = locks_now;
+    tree = rule.tree;
+    marks = record { root = rule.marks.root; nodes = rule.marks.nodes };
+    bundles = λ j live' side. bundle_weaker _ _ _ _ (IsPendingAt vs j) (IsPendingAt ws j) _ _
+        (λ d. pending_moved vs i j d v w at refl (works j)) (rule.bundles j (live_moved z vs i j v w at (omega arith) live') side);
+    pairs = pairs_same vs i v w at refl rule.pairs;
+    single = λ d. omega (arith, sum_kept (pending_count d) vs i v w at refl, rule.single d);
+    seats = all_moved (SeatRight z m g) (SeatRight z m' g) vs i v w at rule.seats own_now other_now;
   }
 
 -- a lock that was found held

@@ -27,7 +27,6 @@ use Rattle.core_invariant.specs.SeatRule.{SeatRight}
 use Rattle.core_events.specs.UpdateMoves.{without}
 use Rattle.core_events.specs.LockMoves.{other_nodes, update_until, unlocked_view}
 use Rattle.core_invariant.specs.Rule.{Rule}
-use Rattle.core_invariant.specs.LinkLaw.{Kept}
 use Rattle.core_invariant.proofs.Frames.{live_moved, bundle_weaker}
 use Rattle.core_invariant.proofs.Without.{count-without_same, count-without_other, count-without-le}
 use Rattle.core_invariant.proofs.OneView.{history_kept, seat_at}
@@ -35,7 +34,7 @@ use Rattle.core_invariant.proofs.Filled.{node_other, every_filled, lock_apart}
 use Rattle.core_invariant.proofs.Locked.{locked_apart}
 
 -- what holds of each item that a test keeps
-every_filter : {X : Type 0} (P Q : X → Type 0) (f : X → Bool) (xs : List X) → ((x : X) → f x ≡ true → P x → Q x) → Every P xs → Every Q (filter f xs)
+pub every_filter : {X : Type 0} (P Q : X → Type 0) (f : X → Bool) (xs : List X) → ((x : X) → f x ≡ true → P x → Q x) → Every P xs → Every Q (filter f xs)
 every_filter P Q f [] step all = tt
 every_filter P Q f (x ∷ xs) step all = kept_by (f x) refl (every_filter P Q f xs step all.1)
   where
@@ -218,23 +217,19 @@ module _ (z : Layout) (m : Memory) (vs : List View) (g : Meaning) (rule : Rule z
     links = of.links;
   }
 
-  pub unlock_kept : Kept z (m Stamp) vs g m' ws
+  pub unlock_kept : Rule z m' ws g
   unlock_kept = record {
-    meaning = g;
-    rule = record {
-      numbers = λ x. sum_kept (number_count x) vs i v w at refl ∙ rule.numbers x;
-      history = history_kept z _ g vs i v w at refl refl rule.history;
-      slots = quiet z (linked_by g) HoldsNode (HoldsEntry g.bundles) vs i v w at rule.slots refl refl refl
-          (record { nodes = λ j holds. inl (holds_less j holds); entries = λ x holds. inl (entry_less x holds) }) (record { number = refl; section = inl refl })
-          (λ known. same_looks z (linked_by g) HoldsNode (HoldsEntry g.bundles) v w w refl refl known)
-          (λ u beside known. same_looks z (linked_by g) HoldsNode (HoldsEntry g.bundles) v w u refl refl known);
-      locks = locks_now;
-      tree = rule.tree;
-      marks = record { root = rule.marks.root; nodes = rule.marks.nodes };
-      bundles = λ j live side. bundle_weaker _ _ _ _ (IsPendingAt vs j) (IsPendingAt ws j) _ _ (pending_kept j) (rule.bundles j (live_moved z vs i j v w at (omega arith) live) side);
-      pairs = pairs_same vs i v w at refl rule.pairs;
-      single = λ d. omega (arith, sum_kept (pending_count d) vs i v w at (pending_same d), rule.single d);
-      seats = all_moved (SeatRight z m g) (SeatRight z m' g) vs i v w at rule.seats own_now other_now;
-    };
-    same = λ t j side past live live'. refl;
+    numbers = λ x. sum_kept (number_count x) vs i v w at refl ∙ rule.numbers x;
+    history = history_kept z _ g vs i v w at refl refl rule.history;
+    slots = quiet z (linked_by g) HoldsNode (HoldsEntry g.bundles) vs i v w at rule.slots refl refl refl
+        (record { nodes = λ j holds. inl (holds_less j holds); entries = λ x holds. inl (entry_less x holds) }) (record { number = refl; section = inl refl })
+        (λ known. same_looks z (linked_by g) HoldsNode (HoldsEntry g.bundles) v w w refl refl known)
+        (λ u beside known. same_looks z (linked_by g) HoldsNode (HoldsEntry g.bundles) v w u refl refl known);
+    locks = locks_now;
+    tree = rule.tree;
+    marks = record { root = rule.marks.root; nodes = rule.marks.nodes };
+    bundles = λ j live side. bundle_weaker _ _ _ _ (IsPendingAt vs j) (IsPendingAt ws j) _ _ (pending_kept j) (rule.bundles j (live_moved z vs i j v w at (omega arith) live) side);
+    pairs = pairs_same vs i v w at refl rule.pairs;
+    single = λ d. omega (arith, sum_kept (pending_count d) vs i v w at (pending_same d), rule.single d);
+    seats = all_moved (SeatRight z m g) (SeatRight z m' g) vs i v w at rule.seats own_now other_now;
   }

@@ -27,7 +27,7 @@ use Rattle.core_grace.specs.Holds.{ReadsNode, held_nodes, held_slots, tree_slots
 use Rattle.core_grace.specs.Slots.{own, nodes_of}
 use Rattle.core_grace.specs.Sections.{is_even}
 use Rattle.core_events.specs.declared.event.Kind.{Kind}
-use Rattle.core_events.specs.declared.event.Kind.TheVariants.{MakeSeat, SplitSeat, JoinSeat, Enter, Leave, LookSec, Fill, LoadStamp, LoadHead, LoadTs, LoadPtr, LoadNext, Prepare, Raise, Finalise, TryLock, Unlock, LoadMark, Mark as MarkNode, LoadKeyOrVal, Announce, LookAnn, Cut}
+use Rattle.core_events.specs.declared.event.Kind.TheVariants.{MakeSeat, SplitSeat, JoinSeat, Enter, Leave, LookSec, Fill, LoadStamp, LoadHead, LoadTs, LoadPtr, LoadNext, Prepare, Raise, Finalise, TryLock, Unlock, LoadMark, Mark as MarkNode, LoadKeyOrVal, Announce, LookAnn, Cut, LoadLink, SetLink, LoadTag, SetTag}
 use Rattle.core_events.specs.declared.tree_move.TreeMove.{TreeMove}
 use Rattle.core_events.specs.Announcing.{announced_view, has_announced}
 use Rattle.core_events.specs.CutNeeds.{may_cut, may_cut_by}
@@ -38,7 +38,7 @@ use Rattle.core_events.specs.LockNeeds.{may_try_lock, may_lock, names_pass}
 use Rattle.core_events.specs.Moves.{in_section, entered, left, split_left, split_right, joined_with, own_number}
 use Rattle.core_events.specs.Needs.{is_outside, is_lock, is_own_section, may_enter, may_look}
 use Rattle.core_events.specs.SpelledNow.{tree_now}
-use Rattle.core_events.specs.Steps.{needs, carries, is_own_update, views_after, join_found, look_from, head_at, head_from, ts_from, ptr_from, next_from, prepared_at, prepared_from, raised_from, finalised_from, tried_from, unlocked_from, mark_from, marked_from, pair_from, ann_from, cut_from}
+use Rattle.core_events.specs.Steps.{needs, carries, is_own_update, views_after, join_found, look_from, head_at, head_from, ts_from, ptr_from, next_from, prepared_at, prepared_from, raised_from, finalised_from, tried_from, unlocked_from, mark_from, marked_from, pair_from, ann_from, cut_from, link_at, link_from, tag_at, tag_from, set_at, set_from, raised_tag_at, raised_tag_from}
 use Rattle.core_events.specs.TreeMoves.{is_tree_step, tree_move}
 use Rattle.core_events.specs.UpdateMoves.{prepared, finalised, known_at, without}
 use Rattle.core_events.specs.UpdateNeeds.{may_raise, may_raise_number}
@@ -55,6 +55,9 @@ use Rattle.core_invariant.proofs.Owned.{once_node}
 use Rattle.core_invariant.proofs.TreeNow.{tree_is}
 use Rattle.core_kept.proofs.HeadLoads.{side_node}
 use Rattle.core_kept.proofs.Marks.{slots_marked, slots_paired}
+use Rattle.core_kept.proofs.LinkStores.{slots_link}
+use Rattle.core_kept.proofs.TagStores.{slots_tag}
+use Rattle.core_events.specs.PlainMoves.{link_known_at, tag_known_at, link_loaded, tag_loaded, link_set, tag_set}
 use Rattle.core_kept.proofs.RaiseNew.{waiting_old}
 use Rattle.core_kept.proofs.TreeNeeds.{moves_tree}
 use Rattle.core_kept.proofs.TryLocks.{slots_push}
@@ -386,6 +389,70 @@ module _ (z : Layout) (words : List ℕ) (vs : List View) (right : InRule z word
   pair_waits (Announced k) x = own_right
   pair_waits (Entry p e) x = own_right
 
+  load_link_field : (f : Field) (k x : ℕ) → WaitsRight (link_at v f k x)
+  load_link_field (Link side) k x = same (link_loaded v k side x) refl refl refl refl (held_with (held_slots (map (link_known_at k side x) v.held.nodes)) (slots_link k side x v.held.nodes))
+  load_link_field Key k x = own_right
+  load_link_field Val k x = own_right
+  load_link_field Lock k x = own_right
+  load_link_field Mark k x = own_right
+  load_link_field (Head side) k x = own_right
+  load_link_field (Tag side) k x = own_right
+
+  load_link_waits : (u : Word) (x : ℕ) → WaitsRight (link_from v u x)
+  load_link_waits (Node f k) x = load_link_field f k x
+  load_link_waits Stamp x = own_right
+  load_link_waits (Section k) x = own_right
+  load_link_waits (Announced k) x = own_right
+  load_link_waits (Entry p e) x = own_right
+
+  set_link_field : (f : Field) (k x : ℕ) → WaitsRight (set_at v f k x)
+  set_link_field (Link side) k x = same (link_set v k side x) refl refl refl refl (held_with (held_slots (map (link_known_at k side x) v.held.nodes)) (slots_link k side x v.held.nodes))
+  set_link_field Key k x = own_right
+  set_link_field Val k x = own_right
+  set_link_field Lock k x = own_right
+  set_link_field Mark k x = own_right
+  set_link_field (Head side) k x = own_right
+  set_link_field (Tag side) k x = own_right
+
+  set_link_waits : (u : Word) (x : ℕ) → WaitsRight (set_from v u x)
+  set_link_waits (Node f k) x = set_link_field f k x
+  set_link_waits Stamp x = own_right
+  set_link_waits (Section k) x = own_right
+  set_link_waits (Announced k) x = own_right
+  set_link_waits (Entry p e) x = own_right
+
+  load_tag_field : (f : Field) (k x : ℕ) → WaitsRight (tag_at v f k x)
+  load_tag_field (Tag side) k x = same (tag_loaded v k side x) refl refl refl refl (held_with (held_slots (map (tag_known_at k side x) v.held.nodes)) (slots_tag k side x v.held.nodes))
+  load_tag_field Key k x = own_right
+  load_tag_field Val k x = own_right
+  load_tag_field Lock k x = own_right
+  load_tag_field Mark k x = own_right
+  load_tag_field (Head side) k x = own_right
+  load_tag_field (Link side) k x = own_right
+
+  load_tag_waits : (u : Word) (x : ℕ) → WaitsRight (tag_from v u x)
+  load_tag_waits (Node f k) x = load_tag_field f k x
+  load_tag_waits Stamp x = own_right
+  load_tag_waits (Section k) x = own_right
+  load_tag_waits (Announced k) x = own_right
+  load_tag_waits (Entry p e) x = own_right
+
+  set_tag_field : (f : Field) (k x : ℕ) → WaitsRight (raised_tag_at v f k x)
+  set_tag_field (Tag side) k x = same (tag_set v k side x) refl refl refl refl (held_with (held_slots (map (tag_known_at k side x) v.held.nodes)) (slots_tag k side x v.held.nodes))
+  set_tag_field Key k x = own_right
+  set_tag_field Val k x = own_right
+  set_tag_field Lock k x = own_right
+  set_tag_field Mark k x = own_right
+  set_tag_field (Head side) k x = own_right
+  set_tag_field (Link side) k x = own_right
+
+  set_tag_waits : (u : Word) (x : ℕ) → WaitsRight (raised_tag_from v u x)
+  set_tag_waits (Node f k) x = set_tag_field f k x
+  set_tag_waits Stamp x = own_right
+  set_tag_waits (Section k) x = own_right
+  set_tag_waits (Announced k) x = own_right
+  set_tag_waits (Entry p e) x = own_right
+
   -- announcements and cuts
   look_ann_waits : (u : Word) (x : ℕ) → WaitsRight (ann_from v u x)
   look_ann_waits (Announced k) x = same (ann_from v (Announced k) x) refl refl refl refl refl
@@ -473,3 +540,7 @@ module _ (z : Layout) (words : List ℕ) (vs : List View) (right : InRule z word
   waits_after Announce o named met = moved (announced_view v value) (same (announced_view v value) refl refl refl refl refl)
   waits_after LookAnn o named met = moved (ann_from v w (m w)) (look_ann_waits w (m w))
   waits_after Cut o named met = moved (cut_from z m v w) (cut_waits w met)
+  waits_after LoadLink o named met = moved (link_from v w (m w)) (load_link_waits w (m w))
+  waits_after SetLink o named met = moved (set_from v w value) (set_link_waits w value)
+  waits_after LoadTag o named met = moved (tag_from v w (m w)) (load_tag_waits w (m w))
+  waits_after SetTag o named met = moved (raised_tag_from v w value) (set_tag_waits w value)

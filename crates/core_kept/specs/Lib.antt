@@ -3,3 +3,4 @@ pub mod SectionMoves
 pub mod ViewLaws
 pub mod SeatLaws
 pub mod KeepsRule
+pub mod RaiseOwes

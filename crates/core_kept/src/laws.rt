@@ -1,8 +1,9 @@
 // Why each event keeps the rule, by the kinds of events, and what each event keeps of a view. The calls do nothing:
 // their clauses are what is proved.
-ghost use Rattle.core_events.specs.declared.event.Kind.TheVariants.{SplitSeat, JoinSeat, Enter, Leave, LookSec, Fill, LoadStamp, LoadHead, LoadTs, LoadPtr, LoadNext, TryLock, Unlock, LoadMark, Mark, LoadKeyOrVal, Prepare, Raise, Finalise, Announce, LookAnn, Cut};
+ghost use Rattle.core_events.specs.declared.event.Kind.TheVariants.{SplitSeat, JoinSeat, Enter, Leave, LookSec, Fill, LoadStamp, LoadHead, LoadTs, LoadPtr, LoadNext, TryLock, Unlock, LoadMark, Mark, LoadKeyOrVal, Prepare, Raise, Finalise, Announce, LookAnn, Cut, LoadLink, SetLink, LoadTag, SetTag};
 ghost use Rattle.core_invariant.specs.KeptRule.{KeepsRuleAt};
 ghost use Rattle.core_kept.specs.KeepsRule.{KeepsLaw};
+ghost use Rattle.core_kept.specs.RaiseOwes.{OwesLaw};
 ghost use Rattle.core_kept.specs.SeatLaws.{FirstLaw, MakeLaw, MadeLaw, WholeLaw};
 ghost use Rattle.core_kept.specs.ViewLaws.{SpentLaw, SpareLaw, PlacesLaw, WaitsLaw, UnusedLaw, SeenLaw, SectionsLaw};
 
@@ -66,10 +67,12 @@ pub fn locks_keep_the_rule()
 {}
 
 /// An allowed prepare, raise or finalise keeps the rule, and what the stamp and each section number select. After a
-/// raise the stamp is a new number, at which the words spell the tree after the update.
+/// raise the stamp is a new number, at which the words spell the tree after the update; and the tag of each link that
+/// led to a node before, and leads to none then, is owed.
 pub fn updates_keep_the_rule()
     ensures prepare { KeepsRuleAt Prepare }
     ensures raise { KeepsRuleAt Raise }
+    ensures owes { OwesLaw }
     ensures finalise { KeepsRuleAt Finalise }
 {}
 
@@ -78,6 +81,15 @@ pub fn updates_keep_the_rule()
 pub fn cuts_keep_the_rule()
     ensures look_ann { KeepsRuleAt LookAnn }
     ensures cut { KeepsRuleAt Cut }
+{}
+
+/// An allowed load or store of a plain link, or of its tag, keeps the rule, and what the stamp and each section number
+/// select.
+pub fn plain_links_keep_the_rule()
+    ensures read_link { KeepsRuleAt LoadLink }
+    ensures set_link { KeepsRuleAt SetLink }
+    ensures read_tag { KeepsRuleAt LoadTag }
+    ensures set_tag { KeepsRuleAt SetTag }
 {}
 
 /// Every allowed event keeps the rule, from every table that meets it: what the laws above show of the kinds, joined.

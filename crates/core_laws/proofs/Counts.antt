@@ -17,7 +17,7 @@ use Rattle.key_map.specs.Lists.{count, has, IsItem}
 use Rattle.core_grace.specs.Sections.{is_even}
 use Rattle.core_events.specs.declared.event.Event.{Event}
 use Rattle.core_events.specs.declared.event.Kind.{Kind}
-use Rattle.core_events.specs.declared.event.Kind.TheVariants.{MakeSeat, SplitSeat, JoinSeat, Enter, Leave, LookSec, Fill, LoadStamp, LoadHead, LoadTs, LoadPtr, LoadNext, Prepare, Raise, Finalise, TryLock, Unlock, LoadMark, Mark as MarkNode, LoadKeyOrVal, Announce, LookAnn, Cut}
+use Rattle.core_events.specs.declared.event.Kind.TheVariants.{MakeSeat, SplitSeat, JoinSeat, Enter, Leave, LookSec, Fill, LoadStamp, LoadHead, LoadTs, LoadPtr, LoadNext, Prepare, Raise, Finalise, TryLock, Unlock, LoadMark, Mark as MarkNode, LoadKeyOrVal, Announce, LookAnn, Cut, LoadLink, SetLink, LoadTag, SetTag}
 use Rattle.core_laws.specs.Counts.{MeetsLock, FindsNoNumber, FindsOtherHead, FindsMark, FixesPlace, RisesWhere, CountsRise, CountsLaw}
 use Rattle.core_events.specs.Tables.{Table, held_by}
 use Rattle.core_invariant.specs.Locks.{lock_count}
@@ -35,7 +35,7 @@ use Rattle.core_invariant.proofs.HeldFacts.{count-locks}
 use Rattle.core_events.proofs.Tests.{never, not_true, not_equal}
 use Rattle.core_laws.proofs.Owners.{found_at}
 use Rattle.core_laws.proofs.ViewTests.{reaches}
-use Rattle.core_laws.proofs.Tallies.{Tally, same_tally, look_tally, enter_tally, ptr_tally, next_tally, prepared_tally, filled_tally, pair_tally, raised_tally, finalised_tally, unlocked_tally, marked_tally, ann_tally, cut_tally}
+use Rattle.core_laws.proofs.Tallies.{Tally, same_tally, look_tally, enter_tally, ptr_tally, next_tally, prepared_tally, filled_tally, pair_tally, raised_tally, finalised_tally, unlocked_tally, marked_tally, ann_tally, cut_tally, link_tally, set_tally, tag_tally, raised_tag_tally}
 use Rattle.core_laws.proofs.CountTests.{rises_by, stays_by, both, none_has, has_none, not_false, neither, not_either, moved_says, says_moved, reach_says, same_node, same_entry, same_head}
 use Rattle.core_laws.proofs.CountTests.{watching_says, says_watching}
 use Rattle.core_laws.proofs.SetViews.{set_is, same_is, split_is, join_is}
@@ -350,6 +350,10 @@ module _ (t : Table) (e : Event) (right : IsRight t) (v : View) (at : IsItem t.v
   moved_counts Announce is met = still Announce (Moved Announce) is (record { counts = refl; looks = refl }) (λ p. cc) (λ p. cc) (λ p. cc) (λ p. cc) (λ p. cc)
   moved_counts LookAnn is met = still LookAnn (Moved LookAnn) is (ann_tally v word (m word)) (λ p. cc) (λ p. cc) (λ p. cc) (λ p. cc) (λ p. cc)
   moved_counts Cut is met = still Cut (Moved Cut) is (cut_tally t.layout m v word) (λ p. cc) (λ p. cc) (λ p. cc) (λ p. cc) (λ p. cc)
+  moved_counts LoadLink is met = still LoadLink (Moved LoadLink) is (link_tally v word (m word)) (λ p. cc) (λ p. cc) (λ p. cc) (λ p. cc) (λ p. cc)
+  moved_counts SetLink is met = still SetLink (Moved SetLink) is (set_tally v word e.value) (λ p. cc) (λ p. cc) (λ p. cc) (λ p. cc) (λ p. cc)
+  moved_counts LoadTag is met = still LoadTag (Moved LoadTag) is (tag_tally v word (m word)) (λ p. cc) (λ p. cc) (λ p. cc) (λ p. cc) (λ p. cc)
+  moved_counts SetTag is met = still SetTag (Moved SetTag) is (raised_tag_tally v word e.value) (λ p. cc) (λ p. cc) (λ p. cc) (λ p. cc) (λ p. cc)
 
   module _ (w : View) where
     join_tally : (o : Option View) → slice_get t.views e.value ≡ o → e.value ≢ e.seat → slice_get (join_found t.views e.seat v e.value o) e.seat ≡ Some w → Tally v w

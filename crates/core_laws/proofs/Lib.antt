@@ -16,6 +16,8 @@ pub mod ViewNeeds
 pub mod AnnounceNeeds
 -- A seat whose view shows that it may cut, since it has walked along the bundle under its lock, may do so.
 pub mod CutNeeds
+-- A seat whose view shows that it may load or set a plain link, or its tag, may do so.
+pub mod PlainNeeds
 -- An allowed cut takes no entry that a section number selects, now or later.
 pub mod Unread
 -- A lock word that is found held by a seat that has not locked the node names another pass.
@@ -44,3 +46,5 @@ pub mod Found
 pub mod RaiseStamps
 -- Numbers fall along a bundle.
 pub mod Falls
+-- Where plain links lead, and that a tag that is to be raised has room for it.
+pub mod PlainTrees

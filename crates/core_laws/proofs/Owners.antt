@@ -22,7 +22,7 @@ use Rattle.core_grace.specs.Sections.{is_even, left_word}
 use Rattle.core_links.proofs.Chains.{chain-same}
 use Rattle.core_events.specs.declared.event.Event.{Event}
 use Rattle.core_events.specs.declared.event.Kind.{Kind}
-use Rattle.core_events.specs.declared.event.Kind.TheVariants.{Enter, Leave, Fill, Prepare, Raise, Finalise, TryLock, Unlock, Mark as MarkNode, Announce, Cut}
+use Rattle.core_events.specs.declared.event.Kind.TheVariants.{Enter, Leave, Fill, Prepare, Raise, Finalise, TryLock, Unlock, Mark as MarkNode, Announce, Cut, SetLink, SetTag}
 use Rattle.core_events.specs.Tables.{Table, held_by}
 use Rattle.core_invariant.specs.Meanings.{Meaning}
 use Rattle.core_invariant.specs.BundleRule.{IsPending, pending_count}
@@ -31,6 +31,7 @@ use Rattle.core_invariant.specs.Readers.{IsLocked, IsReachable}
 use Rattle.core_invariant.specs.Rule.{Rule, InRule, IsRight}
 use Rattle.core_events.specs.LoadMoves.{locks}
 use Rattle.core_events.specs.LoadNeeds.{is_part, is_reachable}
+use Rattle.core_events.specs.PlainNeeds.{is_done_at, sets_to, keeps_order, owes, may_set_field, may_set_link, may_raise_tag, may_set_tag}
 use Rattle.core_events.specs.LockNeeds.{is_mark, names_pass, may_try_lock, may_unlock, may_mark}
 use Rattle.core_events.specs.Needs.{is_lock, is_outside, is_own_section, nothing_pending, may_enter, may_leave, may_fill}
 use Rattle.core_events.specs.Announcing.{is_own_announced, is_announcement, may_announce}
@@ -62,8 +63,8 @@ module _ (z : Layout) (m : Memory) (vs : List View) (g : Meaning) (rule : Rule z
   WritesField Lock k = IsLocked v k ⊎ (IsReachable z v k × (m (Node Lock k) ≡ 0))
   WritesField Mark k = HasFreeNode v k ⊎ IsLocked v k
   WritesField (Head side) k = HasFreeNode v k ⊎ IsLocked v k
-  WritesField (Link side) k = HasFreeNode v k
-  WritesField (Tag side) k = HasFreeNode v k
+  WritesField (Link side) k = HasFreeNode v k ⊎ IsLocked v k
+  WritesField (Tag side) k = HasFreeNode v k ⊎ IsLocked v k
 
   abbrev WritesPart : Part → ℕ → Type 0
   WritesPart Child e = HasFreeEntry v e
@@ -117,8 +118,8 @@ module _ (z : Layout) (m : Memory) (vs : List View) (g : Meaning) (rule : Rule z
     field_apart Lock k writes steady = lock_apart k writes steady
     field_apart Mark k writes steady = node_apart k writes steady
     field_apart (Head side) k writes steady = node_apart k writes steady
-    field_apart (Link side) k writes steady = node_apart k (inl writes) steady
-    field_apart (Tag side) k writes steady = node_apart k (inl writes) steady
+    field_apart (Link side) k writes steady = node_apart k writes steady
+    field_apart (Tag side) k writes steady = node_apart k writes steady
 
     entry_apart : (e : ℕ) → HasFreeEntry v e → HasFreeEntry u e → ⊥
     entry_apart e mine also = omega (arith, once_entry z vs g rule.slots e, two_terms (own entries_in e) vs i v u at beside, mine, also)
@@ -229,8 +230,8 @@ module _ (z : Layout) (words : List ℕ) (vs : List View) (right : InRule z word
   fill_field Lock k is free = cc
   fill_field Mark k is free = inl free
   fill_field (Head side) k is free = inl free
-  fill_field (Link side) k is free = free
-  fill_field (Tag side) k is free = free
+  fill_field (Link side) k is free = inl free
+  fill_field (Tag side) k is free = inl free
 
   fill_part : (p : Part) (e : ℕ) → HasFreeEntry v e → W (Entry p e)
   fill_part Child e free = free
@@ -304,8 +305,9 @@ module _ (z : Layout) (words : List ℕ) (vs : List View) (right : InRule z word
 
   unlock_field : (f : Field) (k : ℕ) → may_unlock m v (Node f k) value ≡ true → W (Node f k)
   unlock_field Lock k met =
-      let one = and_parts (is_lock Lock && locks k v.held.nodes && nothing_pending m v) (eqb value 0) met in
-      let two = and_parts (is_lock Lock && locks k v.held.nodes) (nothing_pending m v) one.0 in
+      let c = is_done_at k v.update in
+      let one = and_parts (is_lock Lock && locks k v.held.nodes && nothing_pending m v && c) (eqb value 0) met in
+      let two = and_parts (is_lock Lock && locks k v.held.nodes) (nothing_pending m v) (and_parts (is_lock Lock && locks k v.held.nodes && nothing_pending m v) c one.0).0 in
       inl (locks-count k v.held.nodes (and_parts (is_lock Lock) (locks k v.held.nodes) two.0).1)
   unlock_field Key k met = absurd (never met)
   unlock_field Val k met = absurd (never met)
@@ -339,6 +341,48 @@ module _ (z : Layout) (words : List ℕ) (vs : List View) (right : InRule z word
   mark_writes (Section k) met = absurd (never met)
   mark_writes (Announced k) met = absurd (never met)
   mark_writes (Entry p e) met = absurd (never met)
+
+  set_link_at : (f : Field) (k : ℕ) → may_set_field m v f k value ≡ true → W (Node f k)
+  set_link_at (Link side) k met =
+      let a = locks k v.held.nodes in
+      let b = nothing_pending m v in
+      let c = sets_to k side value v.update.unset in
+      let one = and_parts (a && b && c) (keeps_order k side v.update) met in
+      let two = and_parts (a && b) c one.0 in
+      inr (locks-count k v.held.nodes (and_parts a b two.0).0)
+  set_link_at Key k met = absurd (never met)
+  set_link_at Val k met = absurd (never met)
+  set_link_at Lock k met = absurd (never met)
+  set_link_at Mark k met = absurd (never met)
+  set_link_at (Head side) k met = absurd (never met)
+  set_link_at (Tag side) k met = absurd (never met)
+
+  set_link_writes : (u : Word) → may_set_link m v u value ≡ true → W u
+  set_link_writes (Node f k) met = set_link_at f k met
+  set_link_writes Stamp met = absurd (never met)
+  set_link_writes (Section k) met = absurd (never met)
+  set_link_writes (Announced k) met = absurd (never met)
+  set_link_writes (Entry p e) met = absurd (never met)
+
+  set_tag_at : (f : Field) (k : ℕ) → may_raise_tag m v f k value ≡ true → W (Node f k)
+  set_tag_at (Tag side) k met =
+      let a = locks k v.held.nodes in
+      let b = owes k side v.update.owed in
+      let one = and_parts (a && b) (eqb value (m (Node (Tag side) k) + 1)) met in
+      inr (locks-count k v.held.nodes (and_parts a b one.0).0)
+  set_tag_at Key k met = absurd (never met)
+  set_tag_at Val k met = absurd (never met)
+  set_tag_at Lock k met = absurd (never met)
+  set_tag_at Mark k met = absurd (never met)
+  set_tag_at (Head side) k met = absurd (never met)
+  set_tag_at (Link side) k met = absurd (never met)
+
+  set_tag_writes : (u : Word) → may_set_tag m v u value ≡ true → W u
+  set_tag_writes (Node f k) met = set_tag_at f k met
+  set_tag_writes Stamp met = absurd (never met)
+  set_tag_writes (Section k) met = absurd (never met)
+  set_tag_writes (Announced k) met = absurd (never met)
+  set_tag_writes (Entry p e) met = absurd (never met)
 
   announce_writes : may_announce v w value ≡ true → W w
   announce_writes met =
@@ -379,6 +423,8 @@ module _ (z : Layout) (words : List ℕ) (vs : List View) (right : InRule z word
     words_kept MarkNode o met = stored value (mark_writes w met)
     words_kept Announce o met = stored value (announce_writes met)
     words_kept Cut o met = stored value (cut_writes w met)
+    words_kept SetLink o met = stored value (set_link_writes w met)
+    words_kept SetTag o met = stored value (set_tag_writes w met)
     words_kept kind o met = refl
 
 owners_at : (t : Table) (e : Event) (o : Option View) (w : Option Word) → slice_get t.views e.seat ≡ o → word_at t.layout e.word ≡ w → IsRight t → allowed_at t e o w ≡ true → KeepsOwners e.seat t (after_at t e o w)

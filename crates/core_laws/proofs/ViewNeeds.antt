@@ -38,6 +38,7 @@ use Rattle.core_events.specs.Announcing.{has_announced}
 use Rattle.core_events.specs.LoadMoves.{locks, is_above}
 use Rattle.core_events.specs.LoadNeeds.{is_reachable, stands_at, may_go_on, is_part}
 use Rattle.core_events.specs.LockNeeds.{is_pair, names_pass}
+use Rattle.core_events.specs.PlainNeeds.{is_done_at}
 use Rattle.core_events.specs.Needs.{is_lock, is_outside, is_marked_node, is_own_section, is_stamp, nothing_pending, may_join_found}
 use Rattle.core_laws.specs.Owners.{HasFreeNode, HasFreeEntry}
 use Rattle.core_events.specs.Steps.{needs, allowed, allowed_at, carries}
@@ -90,7 +91,7 @@ module _ (z : Layout) (words : List ℕ) (vs : List View) (right : InRule z word
   node_high k (inr (inl tree)) = seat.version.there k tree
   node_high k (inr (inr locked)) = (seat.locks k locked).0
 
-  reach_there : (f : Field) (k : ℕ) → IsInReach v k → is_there z (Node f k) ≡ true
+  pub reach_there : (f : Field) (k : ℕ) → IsInReach v k → is_there z (Node f k) ≡ true
   reach_there f k reach = at_most k z.nodes (node_high k reach)
 
   section_there : (n : ℕ) → n < v.layout.passes → v.joined ≡ false → is_there z (Section n) ≡ true
@@ -127,7 +128,7 @@ module _ (z : Layout) (words : List ℕ) (vs : List View) (right : InRule z word
           loaded_marks : Every Loaded v.held.nodes
           loaded_marks = every_map (IsNodeAt m) Loaded v.held.nodes (λ h known. known.mark) seat.loaded.nodes
 
-  done_by : v.update.pending ≡ [] → Every (λ (h : HeldNode). 0 < count h.node v.update.taken → h.mark ≡ Some 1) v.held.nodes → nothing_pending m v ≡ true
+  pub done_by : v.update.pending ≡ [] → Every (λ (h : HeldNode). 0 < count h.node v.update.taken → h.mark ≡ Some 1) v.held.nodes → nothing_pending m v ≡ true
   done_by none marked =
       both (eqb (length v.update.pending) 0) (list_all (is_marked_node m) v.update.taken) (empty_length v.update.pending none)
       (all_tested (is_marked_node m) v.update.taken (taken_marked marked))
@@ -291,8 +292,10 @@ module _ (z : Layout) (words : List ℕ) (vs : List View) (right : InRule z word
   pub unlock_may : (k : ℕ) → MayUnlock v k → allowed t (event_at z i Unlock (Node Lock k) 0) ≡ true
   unlock_may k may =
       allowed_by Unlock (Node Lock k) 0 (locked_alive k may.locked) (reach_there Lock k (inr (inr may.locked))) refl
-      (both (is_lock Lock && locks k v.held.nodes && nothing_pending m v) (eqb 0 0)
-      (both (is_lock Lock && locks k v.held.nodes) (nothing_pending m v) (both (is_lock Lock) (locks k v.held.nodes) refl (count-locks k v.held.nodes may.locked)) (done_by may.done may.marked)) refl)
+      (both (is_lock Lock && locks k v.held.nodes && nothing_pending m v && is_done_at k v.update) (eqb 0 0)
+      (both (is_lock Lock && locks k v.held.nodes && nothing_pending m v) (is_done_at k v.update)
+      (both (is_lock Lock && locks k v.held.nodes) (nothing_pending m v) (both (is_lock Lock) (locks k v.held.nodes) refl (count-locks k v.held.nodes may.locked)) (done_by may.done may.marked))
+      may.set) refl)
 
   node_there : (f : Field) (k : ℕ) → IsInside v → k ≤ v.layout.nodes → is_there z (Node f k) ≡ true
   node_there f k inside high = at_most k z.nodes (subst (λ (y : Layout). k ≤ y.nodes) (seat.layout (inside_alive inside)) high)

@@ -3,6 +3,8 @@ pub mod Remembered
 pub mod Owners
 pub mod ViewNeeds
 pub mod Cuts
+pub mod PlainNeeds
+pub mod PlainTrees
 pub mod Counts
 pub mod Alone
 pub mod SlotSums

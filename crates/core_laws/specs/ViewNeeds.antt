@@ -22,6 +22,7 @@ use Rattle.core_events.specs.declared.event.Kind.{Kind}
 use Rattle.core_events.specs.declared.event.Kind.TheVariants.{SplitSeat, JoinSeat, Enter, Leave, LookSec, Fill, LoadStamp, LoadHead, LoadTs, LoadPtr, LoadNext, Prepare, Finalise, TryLock, Unlock, LoadMark, Mark as MarkNode, LoadKeyOrVal, Announce, LookAnn}
 use Rattle.core_events.specs.Needs.{is_lock}
 use Rattle.core_events.specs.LoadMoves.{is_above}
+use Rattle.core_events.specs.PlainNeeds.{is_done_at}
 use Rattle.core_laws.specs.Owners.{HasFreeNode, HasFreeEntry}
 use Rattle.core_invariant.specs.Readers.{IsLocked}
 use Rattle.core_invariant.specs.Rule.{InRule}
@@ -159,12 +160,13 @@ pub record MayLock (v : View) (n k : ℕ) : Type 0 where
   pub reach : IsInReach v k
   pub unlocked : ¬ IsLocked v k
 
--- unlock: a node that it has locked, where nothing is pending, and each locked node that its update took out is known
--- to be marked
+-- unlock: a node that it has locked, where nothing is pending, each locked node that its update took out is known to be
+-- marked, and each plain link of the node is set, and its tag raised, that its update has to
 pub record MayUnlock (v : View) (k : ℕ) : Type 0 where
   pub locked : IsLocked v k
   pub done : v.update.pending ≡ []
   pub marked : Every (λ (h : HeldNode). 0 < count h.node v.update.taken → h.mark ≡ Some 1) v.held.nodes
+  pub set : is_done_at k v.update ≡ true
 
 -- loads of a mark, and of a key or a value: inside a section. That they are inside one is used by no law; a test
 -- alone pins it

@@ -5,6 +5,8 @@ ghost use Rattle.core_laws.specs.Cuts.{CutNeedLaw, UnreadLaw};
 ghost use Rattle.core_laws.specs.Falls.{FallsLaw};
 ghost use Rattle.core_laws.specs.Found.{ReadLaw, StampLaw, OneTreeLaw, BundleLengthLaw};
 ghost use Rattle.core_laws.specs.Owners.{OwnersLaw};
+ghost use Rattle.core_laws.specs.PlainNeeds.{ReadLinkLaw, SetLinkLaw, ReadTagLaw, SetTagLaw};
+ghost use Rattle.core_laws.specs.PlainTrees.{PlainTreeLaw, PlainLinkLaw, PlainTagLaw, TagRoomLaw};
 ghost use Rattle.core_laws.specs.SlotSums.{SlotSumLaw};
 ghost use Rattle.core_laws.specs.ViewNeeds.{EnterLaw, LeaveLaw, LookLaw, FillLaw, LoadStampLaw, FixLaw, AnnounceLaw, TakeBackLaw, LookAnnLaw, ReadHeadLaw, ReadNumberLaw, ReadChildLaw, ReadNextLaw, PrepareLaw, FinaliseLaw, LockLaw, UnlockLaw, ReadMarkLaw, MarkLaw, ReadKeyLaw, ReadValLaw, SplitLaw, JoinLaw};
 
@@ -39,6 +41,10 @@ pub fn needs_of_views()
     ensures read_mark { ReadMarkLaw }
     ensures mark { MarkLaw }
     ensures cut { CutNeedLaw }
+    ensures read_link { ReadLinkLaw }
+    ensures set_link { SetLinkLaw }
+    ensures read_tag { ReadTagLaw }
+    ensures set_tag { SetTagLaw }
     ensures read_key { ReadKeyLaw }
     ensures read_val { ReadValLaw }
     ensures split { SplitLaw }
@@ -96,4 +102,14 @@ pub fn who_raises_counts()
 /// and of the tree's nodes.
 pub fn slots_add_up()
     ensures sums { SlotSumLaw }
+{}
+
+/// Where plain links lead. Where no update has one still to set, the plain links spell the tree at the stamp, word for
+/// word. Also before, a link of that tree that no update has still to set leads where the tree does. The tag of a link
+/// of the tree is at most the greatest number of the link's bundle, and one that is still to be raised has room for it.
+pub fn where_plain_links_lead()
+    ensures tree { PlainTreeLaw }
+    ensures link { PlainLinkLaw }
+    ensures tag { PlainTagLaw }
+    ensures room { TagRoomLaw }
 {}

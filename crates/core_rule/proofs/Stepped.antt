@@ -113,3 +113,10 @@ pub refused_selections : {T E : Type 0} (t : Table) (changed : List View) (bad :
 refused_selections t changed bad (Ok x) is held same = cc
 refused_selections t changed bad (Err x) is held same =
     subst (λ (vs : List View). KeepsSelections t (record { layout = t.layout; words = t.words; views = vs })) (sym same) (same_selections t)
+
+-- and it meets the rule as before
+pub refused_right : {T E : Type 0} (t : Table) (changed : List View) (bad : Bool) (r : Result T E) → IsRight t → bad ≡ is_err r → bad ≡ true → OnErr r (changed ≡ t.views)
+    → IsRight (record { layout = t.layout; words = t.words; views = changed })
+refused_right t changed bad (Ok x) right is held same = cc
+refused_right t changed bad (Err x) right is held same =
+    subst (λ (vs : List View). IsRight (record { layout = t.layout; words = t.words; views = vs })) (sym same) right

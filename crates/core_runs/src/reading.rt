@@ -7,7 +7,7 @@ use std::alloc::Global;
 use std::str::Split;
 
 /// The kinds by their names.
-const KINDS: [(&str, Kind); 23] = [
+const KINDS: [(&str, Kind); 27] = [
     ("MakeSeat", Kind::MakeSeat),
     ("SplitSeat", Kind::SplitSeat),
     ("JoinSeat", Kind::JoinSeat),
@@ -31,6 +31,10 @@ const KINDS: [(&str, Kind); 23] = [
     ("Announce", Kind::Announce),
     ("LookAnn", Kind::LookAnn),
     ("Cut", Kind::Cut),
+    ("LoadLink", Kind::LoadLink),
+    ("SetLink", Kind::SetLink),
+    ("LoadTag", Kind::LoadTag),
+    ("SetTag", Kind::SetTag),
 ];
 
 /// A run that was read.

@@ -22,6 +22,8 @@ pub(crate) enum Act {
     Prepare(Turn),
     Finalise(u32),
     Mark(u32),
+    SetLink { link: LinkName, child: u64 },
+    RaiseTag(LinkName),
     Put { at: Turn, key: u64, val: u64 },
     Remove { at: Turn, old: u32, key: u64 },
 }
@@ -121,6 +123,11 @@ fn act_of(name: &str, words: &mut Split<'_, char>) -> Option<Act> {
         "unlock" => Act::Unlock(next_u32(words)?),
         "finalise" => Act::Finalise(next_u32(words)?),
         "mark" => Act::Mark(next_u32(words)?),
+        "link" => Act::SetLink {
+            link: link_named(words.next()?)?,
+            child: next_u64(words)?,
+        },
+        "tag" => Act::RaiseTag(link_named(words.next()?)?),
         "head" => Act::LoadHead(link_named(words.next()?)?),
         "entry" => Act::FillEntry {
             entry: next_u32(words)?,

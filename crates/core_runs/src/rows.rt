@@ -8,7 +8,8 @@
 //     SEAT end                            leave, and the announcement is taken back
 //     SEAT enter | leave | lock NODE | unlock NODE | head LINK | entry ENTRY CHILD NEXT
 //     SEAT fill NODE KEY VAL LEFT RIGHT | prepare LINK ENTRY CHILD | raise KEY Put VAL | raise KEY Remove
-//     SEAT finalise ENTRY | mark NODE | put LINK ENTRY CHILD KEY VAL | remove LINK ENTRY CHILD NODE KEY
+//     SEAT finalise ENTRY | mark NODE | link LINK CHILD | tag LINK
+//     SEAT put LINK ENTRY CHILD KEY VAL | remove LINK ENTRY CHILD NODE KEY
 //     refused SEAT ...                    an event or a raise, which must be refused, with all as it was
 //     word WORD VALUE                     what the word must hold
 //     view SEAT PART TEXT                 what the part of the seat's view must be
@@ -105,6 +106,8 @@ fn acts(table: &mut Table, seat: u32, act: Act) -> bool {
         Act::Prepare(at) => table.prepares(seat, at),
         Act::Finalise(entry) => table.finalises(seat, entry),
         Act::Mark(node) => table.marks(seat, node),
+        Act::SetLink { link, child } => table.sets_link(seat, link, child),
+        Act::RaiseTag(link) => table.raises_tag(seat, link),
         Act::Put { at, key, val } => table.puts(seat, at, key, val),
         Act::Remove { at, old, key } => table.removes(seat, at, old, key),
     }

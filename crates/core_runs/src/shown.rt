@@ -4,7 +4,7 @@ use std::alloc::{AllocError, Global};
 use std::fmt::Debug;
 
 /// The names of all parts.
-const PARTS: [&str; 39] = [
+const PARTS: [&str; 42] = [
     "number",
     "joined",
     "to_give",
@@ -34,6 +34,9 @@ const PARTS: [&str; 39] = [
     "added",
     "taken",
     "pending",
+    "unset",
+    "owed",
+    "unlinking",
     "free_nodes",
     "free_entries",
     "retired_nodes",
@@ -140,6 +143,9 @@ fn other_part(alloc: Global, view: &View, name: &str) -> Result<Option<String>, 
         "filled" => text_of(alloc, &view.reading.filled.as_slice()),
         "held_nodes" => text_of(alloc, &view.held.nodes.as_slice()),
         "held_nexts" => text_of(alloc, &view.held.nexts.as_slice()),
+        "unset" => text_of(alloc, &view.update.unset.as_slice()),
+        "owed" => text_of(alloc, &view.update.owed.as_slice()),
+        "unlinking" => text_of(alloc, &view.update.unlinking),
         "found_sections" => text_of(alloc, &view.grace.found.as_slice()),
         _ => return Ok(None),
     };

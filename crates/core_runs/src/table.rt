@@ -185,7 +185,7 @@ impl Table {
         self.does(seat, Kind::Fill, Word::Node(field, node), value)
     }
 
-    fn fills_side(&mut self, seat: u32, node: u32, side: Side, link: Option<NewLink>) -> bool {
+    fn fills_head(&mut self, seat: u32, node: u32, side: Side, link: Option<NewLink>) -> bool {
         match link {
             None => self.fills_field(seat, Field::Head(side), node, 0),
             Some(link) => {
@@ -195,7 +195,14 @@ impl Table {
         }
     }
 
-    /// Fills a new node, with its bundles.
+    fn fills_side(&mut self, seat: u32, node: u32, side: Side, link: Option<NewLink>) -> bool {
+        let child = link.map_or(0, |link| u64::from(link.child));
+        self.fills_head(seat, node, side, link)
+            && self.fills_field(seat, Field::Link(side), node, child)
+            && self.fills_field(seat, Field::Tag(side), node, 0)
+    }
+
+    /// Fills a new node, with its bundles and its plain links.
     pub(crate) fn fills(&mut self, seat: u32, node: NewNode) -> bool {
         self.fills_field(seat, Field::Key, node.slot, node.key)
             && self.fills_field(seat, Field::Val, node.slot, node.val)
@@ -250,6 +257,19 @@ impl Table {
         self.does(seat, Kind::Mark, Word::Node(Field::Mark, node), 1)
     }
 
+    /// Sets a plain link.
+    pub(crate) fn sets_link(&mut self, seat: u32, link: LinkName, child: u64) -> bool {
+        let word = Word::Node(Field::Link(link.side), link.node);
+        self.does(seat, Kind::SetLink, word, child)
+    }
+
+    /// Loads a plain link's tag, and raises it.
+    pub(crate) fn raises_tag(&mut self, seat: u32, link: LinkName) -> bool {
+        let word = Word::Node(Field::Tag(link.side), link.node);
+        let tag = self.holds(word).wrapping_add(1);
+        self.does(seat, Kind::LoadTag, word, 0) && self.does(seat, Kind::SetTag, word, tag)
+    }
+
     /// A whole put of an absent key. The new node's slot is the child of the turn.
     pub(crate) fn puts(&mut self, seat: u32, at: Turn, key: u64, val: u64) -> bool {
         let node = NewNode {
@@ -265,6 +285,7 @@ impl Table {
             && self.prepares(seat, at)
             && self.raises(seat, key, Change::Put(val))
             && self.finalises(seat, at.entry)
+            && self.sets_link(seat, at.link, u64::from(at.child))
             && self.unlocks(seat, at.link.node)
             && self.ends(seat)
     }
@@ -278,6 +299,8 @@ impl Table {
             && self.raises(seat, key, Change::Remove)
             && self.finalises(seat, at.entry)
             && self.marks(seat, old)
+            && self.sets_link(seat, at.link, u64::from(at.child))
+            && (at.child != 0 || self.raises_tag(seat, at.link))
             && self.unlocks(seat, old)
             && self.unlocks(seat, at.link.node)
             && self.ends(seat)

@@ -1,5 +1,6 @@
 // Words of the table and links of its tree, by name: `stamp`, `section:0`, `announced:0`; of node 3 `key:3`, `val:3`,
-// `lock:3`, `mark:3`, `left:3` and `right:3` (the heads of its bundles); of entry 2 `child:2`, `number:2`, `next:2`.
+// `lock:3`, `mark:3`, `left:3` and `right:3` (the heads of its bundles), `left_link:3` and `right_link:3` (its plain links),
+// `left_tag:3` and `right_tag:3` (their tags); of entry 2 `child:2`, `number:2`, `next:2`.
 // A word may also be given by its number.
 use index_words::{Field, Layout, Part, Side, Word};
 
@@ -26,6 +27,10 @@ fn word_named(name: &str) -> Option<Word> {
         "mark" => Word::Node(Field::Mark, number),
         "left" => Word::Node(Field::Head(Side::Left), number),
         "right" => Word::Node(Field::Head(Side::Right), number),
+        "left_link" => Word::Node(Field::Link(Side::Left), number),
+        "right_link" => Word::Node(Field::Link(Side::Right), number),
+        "left_tag" => Word::Node(Field::Tag(Side::Left), number),
+        "right_tag" => Word::Node(Field::Tag(Side::Right), number),
         "child" => Word::Entry(Part::Child, number),
         "number" => Word::Entry(Part::Stamp, number),
         "next" => Word::Entry(Part::Next, number),

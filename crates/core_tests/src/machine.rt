@@ -96,6 +96,7 @@ fn put_events(alloc: Global, left_out: Option<usize>) -> Result<Vec<Event>, Allo
         event(Kind::Prepare, 8, 1),
         raise,
         event(Kind::Finalise, 24, 1),
+        event(Kind::SetLink, 10, 1),
         event(Kind::Unlock, 5, 0),
         leave(),
         event(Kind::Announce, 2, 0),
@@ -115,11 +116,19 @@ fn a_put_without_the_child_of_its_entry_is_refused_at_the_raise(
 ) -> Result<(), Fail> {
     let alloc = rt.alloc();
     let put = put_events(alloc, None)?;
-    for (word, value) in [(0, 1), (1, 2), (2, 0), (5, 0), (8, 1), (24, 1)] {
+    for (word, value) in [(0, 1), (1, 2), (2, 0), (5, 0), (8, 1), (10, 1), (24, 1)] {
         assert_eq!(rt; answer_of(alloc, &put, word), Answer::Word(value));
     }
     let without = put_events(alloc, Some(7))?;
     assert_eq!(rt; answer_of(alloc, &without, 0), Answer::NotAllowed(11));
+    Ok(())
+}
+
+#[test]
+fn a_put_without_its_plain_link_is_refused_at_the_unlock(rt: HostRuntime) -> Result<(), Fail> {
+    let alloc = rt.alloc();
+    let without = put_events(alloc, Some(14))?;
+    assert_eq!(rt; answer_of(alloc, &without, 0), Answer::NotAllowed(14));
     Ok(())
 }
 

@@ -11,7 +11,8 @@ use Rattle.key_map.specs.declared.update.Update.{Update}
 use Rattle.key_map.specs.declared.update.Change.TheVariants.{Put, Remove}
 use Rattle.index_words.specs.declared.view.View.{View}
 use Rattle.index_words.specs.declared.view.update.HeldNode.{HeldNode}
-use Rattle.index_words.specs.declared.word.Field.TheVariants.{Key, Val, Lock, Mark, Head}
+use Rattle.index_words.specs.declared.view.update.Unlinking.{Unlinking}
+use Rattle.index_words.specs.declared.word.Field.TheVariants.{Key, Val, Lock, Mark, Head, Link, Tag}
 use Rattle.index_words.specs.declared.word.Part.TheVariants.{Child, Stamp as Number, Next}
 use Rattle.index_words.specs.declared.word.Word.{Word}
 use Rattle.index_words.specs.declared.word.Word.TheVariants.{Stamp, Node, Entry}
@@ -34,13 +35,15 @@ use Rattle.core_events.specs.Versions.{tree_nodes}
 use Rattle.core_events.specs.UpdateNeeds.{side_of, may_raise_number}
 use Rattle.core_events.specs.Steps.{allowed_at}
 use Rattle.core_invariant.proofs.OneView.{item_from_get}
+use Rattle.core_events.specs.LoadMoves.{locks}
 use Rattle.core_invariant.proofs.HeldFacts.{count-locks}
 use Rattle.core_invariant.proofs.OneView.{seat_at}
 use Rattle.core_laws.proofs.Remembered.{every_item, remembered_right}
 use Rattle.core_trees.specs.LinkSteps.{IsLinkIn}
 use Rattle.core_updates.specs.Ready.{LeadsNow, IsPrepared, IsFreshTo, IsNewLink, IsNewNode, FindsKey, FindsSuccessor, IsReadyToGrow, IsReadyToReplace, IsReadyToLift, IsReadyToJoin, IsNear, IsDeep, update_of, MayStep}
+use Rattle.core_updates.specs.SetLinks.{SetLink, set_to}
 use Rattle.core_laws.specs.ViewNeeds.{HasFilled}
-use Rattle.core_updates.specs.Held.{HoldsHead, HoldsLink, HoldsPrepared, HoldsFresh, HoldsNewLink, HoldsNew, HasLoaded, HoldsKey, HoldsSuccessor, HoldsGrow, HoldsReplace, HoldsLift, HoldsJoin, CanRaise, raise_of, MayRaise, GrowFromViewLaw, ReplaceFromViewLaw, LiftFromViewLaw, JoinFromViewLaw}
+use Rattle.core_updates.specs.Held.{HoldsHead, HoldsLink, HoldsPrepared, HoldsFresh, HoldsNewLink, HoldsNew, HasLoaded, HoldsKey, HoldsSuccessor, HoldsGrow, HoldsReplace, HoldsLift, HoldsJoin, sets_joined, unlinks_joined, CanRaise, raise_of, MayRaise, GrowFromViewLaw, ReplaceFromViewLaw, LiftFromViewLaw, JoinFromViewLaw}
 use Rattle.core_updates.proofs.MayRaise.{may_grow, may_replace, may_lift, may_join}
 
 some_is : {X : Type 0} (P : X → Type 0) (o : Option X) (x : X) → o ≡ Some x → IfSome o P → P x
@@ -171,6 +174,10 @@ module _ (z : Layout) (words : List ℕ) (vs : List View) (right : InRule z word
         val_is = filled (Node Val slot) val h.val_is (refl, h.free);
         left_link = new_link slot Left h.left_head left h.free h.left_link;
         right_link = new_link slot Right h.right_head high h.free h.right_link;
+        left_child = filled (Node (Link Left) slot) left h.left_child (refl, h.free);
+        right_child = filled (Node (Link Right) slot) high h.right_child (refl, h.free);
+        left_tag = filled (Node (Tag Left) slot) 0 h.left_tag (refl, h.free);
+        right_tag = filled (Node (Tag Right) slot) 0 h.right_tag (refl, h.free);
         apart = λ same. left_is ∙ h.apart (sym left_is ∙ same ∙ right_is);
       }
 
@@ -180,6 +187,10 @@ module _ (z : Layout) (words : List ℕ) (vs : List View) (right : InRule z word
   val_word : (node x : ℕ) → HasLoaded v node (λ (h : HeldNode). h.val) x → m (Node Val node) ≡ x
   val_word node x h = ap (λ k. m (Node Val k)) (sym h.node_is) ∙ some_is (λ y. m (Node Val h.held.node) ≡ y) h.held.val x h.is (node_right h.place h.held h.at).val
 
+  -- the node of a link that was looked at is locked
+  link_locked : (node : ℕ) (side : Side) (child : ℕ) → HoldsLink v node side child → locks node v.held.nodes ≡ true
+  link_locked node side child h = count-locks node v.held.nodes (locked_here node side h.now h.head)
+
   abbrev found : (key : ℕ) (h : HoldsKey v key) → FindsKey z m vs v key
   found key h = record {
     parent = h.parent;
@@ -187,6 +198,7 @@ module _ (z : Layout) (words : List ℕ) (vs : List View) (right : InRule z word
     node = h.node;
     some = h.some;
     at = leads h.parent h.side h.node h.at;
+    held = link_locked h.parent h.side h.node h.at;
     key_is = key_word h.node key h.key_is;
     locked = count-locks h.node v.held.nodes (locked_here h.node Left h.left_link.now h.left_link.head);
     left = h.left;
@@ -204,6 +216,7 @@ module _ (z : Layout) (words : List ℕ) (vs : List View) (right : InRule z word
         node = h.node;
         some = h.some;
         at = leads h.parent h.side h.node h.at;
+        held = link_locked h.parent h.side h.node h.at;
         above = subst (λ k. key < k) (sym key_is) h.above;
         locked = count-locks h.node v.held.nodes (locked_here h.node Left h.left_link.now h.left_link.head);
         gap = λ x low high. gap_now h.node Left h.left_link h.tree h.read x (h.gap x low (subst (λ k. x < k) key_is high));
@@ -216,6 +229,7 @@ module _ (z : Layout) (words : List ℕ) (vs : List View) (right : InRule z word
     node = h.node;
     side = h.side;
     link = (leads h.node h.side 0 h.at).link;
+    held = link_locked h.node h.side 0 h.at;
     gap = gap_now h.node h.side h.at h.tree h.read key h.gap;
     small = h.small;
     slot = h.slot;
@@ -266,6 +280,10 @@ module _ (z : Layout) (words : List ℕ) (vs : List View) (right : InRule z word
           val_is = node.val_is ∙ sym (val_word n.node n.val_of n.val_is);
           left_link = node.left_link;
           right_link = node.right_link;
+          left_child = node.left_child;
+          right_child = node.right_child;
+          left_tag = node.left_tag;
+          right_tag = node.right_tag;
           apart = node.apart;
         };
         entry = h.entry;
@@ -291,10 +309,10 @@ longer : (xs ys : List ℕ) (x : ℕ) → xs ≡ x ∷ ys → eqb (length xs) 0 
 longer xs ys x is = ap (λ l. eqb (length l) 0) is ∙ ne_eqb (length (x ∷ ys)) 0 (λ zero'. omega (arith, zero'))
 
 -- the need of a raise, from its parts
-may_raise_by : (z : Layout) (v : View) (u : Update) (added : Option ℕ) (out : List ℕ) (client entry : ℕ) (rest : List ℕ) → CanRaise v client → u.client ≡ client
+may_raise_by : (z : Layout) (v : View) (u : Update) (added : Option ℕ) (out : List ℕ) (sets : List SetLink) (last : Option Unlinking) (client entry : ℕ) (rest : List ℕ) → CanRaise v client → u.client ≡ client
     → v.update.pending ≡ entry ∷ rest
-    → ((words : List ℕ) (vs : List View) (i : ℕ) → InRule z words vs → IsItem vs i v → MayStep z (memory z words) vs v u added out) → MayRaise z v u added out
-may_raise_by z v u added out client entry rest can own pending steps = record {
+    → ((words : List ℕ) (vs : List View) (i : ℕ) → InRule z words vs → IsItem vs i v → MayStep z (memory z words) vs v u added out sets last) → MayRaise z v u added out sets last
+may_raise_by z v u added out sets last client entry rest can own pending steps = record {
   may = λ words vs seat right at.
       let step = (steps words vs seat right (item_from_get vs seat v at)).step in
       let mine : is_number u.client v.number ≡ true = ap (λ c. is_number c v.number) own ∙ number_is client v.number can.own in
@@ -312,17 +330,17 @@ may_raise_by z v u added out client entry rest can own pending steps = record {
 
 pub grow_from_view : GrowFromViewLaw
 grow_from_view z v client line key val can h =
-    may_raise_by z v (update_of client line key (Put val)) (Some h.slot) [] client h.entry [] can refl h.pending
+    may_raise_by z v (update_of client line key (Put val)) (Some h.slot) [] (set_to h.node h.side h.slot ∷ []) None client h.entry [] can refl h.pending
     (λ words vs i right at. may_grow z (memory z words) vs right.meaning i v client line key val right.rule at (to_grow z words vs right i v at can.unraised key val h))
 
 pub replace_from_view : ReplaceFromViewLaw
 replace_from_view z v client line key val can h =
-    may_raise_by z v (update_of client line key (Put val)) (Some h.slot) (h.found.node ∷ []) client h.entry [] can refl h.pending
+    may_raise_by z v (update_of client line key (Put val)) (Some h.slot) (h.found.node ∷ []) (set_to h.found.parent h.found.side h.slot ∷ []) None client h.entry [] can refl h.pending
     (λ words vs i right at. may_replace z (memory z words) vs right.meaning i v client line key val right.rule at (to_replace z words vs right i v at can.unraised key val h))
 
 pub lift_from_view : LiftFromViewLaw
 lift_from_view z v client line key can h =
-    may_raise_by z v (update_of client line key Remove) None (h.found.node ∷ []) client h.entry [] can refl h.pending
+    may_raise_by z v (update_of client line key Remove) None (h.found.node ∷ []) (set_to h.found.parent h.found.side h.child ∷ []) None client h.entry [] can refl h.pending
     (λ words vs i right at. may_lift z (memory z words) vs right.meaning i v client line key right.rule at (to_lift z words vs right i v at can.unraised key h))
 
 -- one entry is pending, or two
@@ -332,5 +350,5 @@ first_pending v key h = elim h.by as (λ _. (rest : List ℕ) × (v.update.pendi
 pub join_from_view : JoinFromViewLaw
 join_from_view z v client line key can h =
     let first = first_pending v key h in
-    may_raise_by z v (update_of client line key Remove) (Some h.slot) (h.found.node ∷ h.next.node ∷ []) client h.entry first.0 can refl first.1
+    may_raise_by z v (update_of client line key Remove) (Some h.slot) (h.found.node ∷ h.next.node ∷ []) (sets_joined v key h) (unlinks_joined v key h) client h.entry first.0 can refl first.1
     (λ words vs i right at. may_join z (memory z words) vs right.meaning i v client line key right.rule at (to_join z words vs right i v at can.unraised key h))

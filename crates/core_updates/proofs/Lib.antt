@@ -1,5 +1,6 @@
 pub mod NewChildren
 pub mod RaiseTests
+pub mod LinksLeft
 pub mod MayRaise
 pub mod HeldReady
 pub mod SearchEnds

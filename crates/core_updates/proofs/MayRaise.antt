@@ -9,7 +9,8 @@ use Rattle.index_words.specs.declared.side.Side.TheVariants.{Left, Right}
 use Rattle.key_map.specs.declared.update.Change.{Change}
 use Rattle.key_map.specs.declared.update.Change.TheVariants.{Put, Remove}
 use Rattle.index_words.specs.declared.view.View.{View}
-use Rattle.index_words.specs.declared.word.Field.TheVariants.{Key, Val, Mark, Head}
+use Rattle.index_words.specs.declared.view.update.Unlinking.{Unlinking}
+use Rattle.index_words.specs.declared.word.Field.TheVariants.{Key, Val, Mark, Head, Link, Tag}
 use Rattle.index_words.specs.declared.word.Part.TheVariants.{Child, Stamp as Number, Next}
 use Rattle.index_words.specs.declared.word.Word.TheVariants.{Stamp, Node, Entry}
 use Rattle.index_words.specs.Words.{Memory}
@@ -27,19 +28,23 @@ use Rattle.core_events.specs.LoadMoves.{locks}
 use Rattle.core_invariant.specs.Meanings.{Meaning}
 use Rattle.core_events.specs.UpdateMoves.{listed_entry}
 use Rattle.core_events.specs.SpelledNow.{tree_now, child_now, graph_now}
-use Rattle.core_events.specs.TreeMoves.{tree_after, takes, brings, has_key, first_slot, new_entries, node_entries, new_slot, move_at, is_fresh, is_new, is_step}
+use Rattle.core_events.specs.PlainWork.{unset_at, removed_links, removed_successor, plain_move}
+use Rattle.core_events.specs.TreeMoves.{tree_after, takes, brings, has_key, first_slot, new_entries, node_entries, new_slot, move_at, is_fresh, is_new, is_plain_at, is_plain_new, sets_locked, is_plain_step, is_step}
 use Rattle.core_invariant.specs.Rule.{Rule}
 use Rattle.core_invariant.proofs.Owned.{free_entry_some, free_node_alone}
 use Rattle.core_invariant.proofs.TreeNow.{child_is, node_lives, root_lives, tree_is}
 use Rattle.core_invariant.proofs.TreeSteps.{in_listed, listed_is}
 use Rattle.core_trees.specs.LinkSteps.{IsLinkIn, IsTreeAt, IsChildLink, KeepsLinks, IsLink, IsOtherChild, IsNext}
-use Rattle.core_updates.specs.Ready.{LeadsNow, IsPrepared, IsNewLink, IsNewNode, FindsKey, FindsSuccessor, IsReadyToGrow, IsReadyToReplace, IsReadyToLift, IsReadyToJoin, IsNear, IsDeep, update_of, MayStep, MayGrowLaw, MayReplaceLaw, MayLiftLaw, MayJoinLaw}
-use Rattle.core_trees.proofs.Links.Parts.{gap_ends, end_is}
+use Rattle.core_updates.specs.Ready.{LeadsNow, IsPrepared, IsNewLink, IsNewNode, FindsKey, FindsSuccessor, IsReadyToGrow, IsReadyToReplace, IsReadyToLift, IsReadyToJoin, IsNear, IsDeep, join_sets, join_last, update_of, MayStep, MayGrowLaw, MayReplaceLaw, MayLiftLaw, MayJoinLaw}
+use Rattle.core_links.specs.Bundle.{child_of_entry}
+use Rattle.core_updates.specs.SetLinks.{SetLink, LeavesPlain, set_to}
+use Rattle.core_trees.proofs.Links.Parts.{gap_ends, end_is, at_link}
 use Rattle.core_trees.proofs.Links.Steps.{grow_by_link, replace_by_link, lift_by_link}
 use Rattle.core_trees.proofs.Links.JoinNear.{join_near}
 use Rattle.core_trees.proofs.Links.JoinDeep.{IsEither, join_deep}
 use Rattle.core_trees.proofs.Links.Moves.{grow_takes, replace_takes, lift_moves, join_moves}
 use Rattle.core_trees.proofs.SpelledTests.{spelled_tests}
+use Rattle.core_updates.proofs.LinksLeft.{IsLeft, left_put, left_removal, lift_far, near_far, deep_far}
 use Rattle.core_updates.proofs.RaiseTests.{entry_is, no_entry, of_two, heads_apart, found_there}
 use Rattle.core_updates.proofs.NewChildren.{InTree, child_new, child_none, names_once, only_link, free_apart, keeps_links}
 
@@ -144,6 +149,25 @@ module _ (z : Layout) (m : Memory) (vs : List View) (g : Meaning) (rule : Rule z
         nothing_more [] = refl
         nothing_more (x ∷ xs) = ap (λ ys. x ∷ ys) (nothing_more xs)
 
+    -- its plain links lead to its children
+    plain_side : (side : Side) (child : ℕ) → IsNewLink m v slot side child → m (Node (Link side) slot) ≡ child → m (Node (Tag side) slot) ≡ 0 → is_plain_at m slot side ≡ true
+    plain_side side child new_link link tag =
+        and_from (eqb (m (Node (Link side) slot)) (child_of_entry (λ e. m (Entry Child e)) (m (Node (Head side) slot)))) (eqb (m (Node (Tag side) slot)) 0)
+        (eq-eqb (m (Node (Link side) slot)) (child_of_entry (λ e. m (Entry Child e)) (m (Node (Head side) slot))) (link ∙ sym (by_link new_link)))
+        (eq-eqb (m (Node (Tag side) slot)) 0 tag)
+      where
+        by_link : IsNewLink m v slot side child → child_of_entry (λ e. m (Entry Child e)) (m (Node (Head side) slot)) ≡ child
+        by_link (inl none) = ap (child_of_entry (λ e. m (Entry Child e))) none.0 ∙ sym none.1
+        by_link (inr fresh) =
+            let e : ℕ = m (Node (Head side) slot) in
+            let apart : eqb e 0 ≡ false = ne_eqb e 0 (λ zero. omega (arith, zero, free_entry_some z vs g rule.slots i e v at fresh.free)) in
+            ap (λ b. cond b 0 (m (Entry Child e))) apart ∙ fresh.leads
+
+    tests_plain : is_plain_new m (Some slot) ≡ true
+    tests_plain =
+        and_from (is_plain_at m slot Left) (is_plain_at m slot Right) (plain_side Left left new.left_link new.left_child new.left_tag)
+        (plain_side Right right new.right_link new.right_child new.right_tag)
+
   -- the child of a link at which an entry was prepared
   prepared_child : (more : List ℕ) (node entry child : ℕ) (side : Side) → IsPrepared m node side entry child → 0 < count entry more → child_now m vs more side node ≡ child
   prepared_child more node entry child side ready listed =
@@ -177,20 +201,23 @@ module _ (z : Layout) (m : Memory) (vs : List View) (g : Meaning) (rule : Rule z
       counted e n = grind (arith, nat_tests)
 
   -- the test of the tree step, from its parts
-  step_of : (c : Change) (client line key slot : ℕ) (added : Option ℕ) (out : List ℕ) → key < 2 ^ 64 → new_slot m vs v key g.tree ≡ slot → has_key c key g.tree ≡ true
+  step_of : (c : Change) (client line key slot : ℕ) (added : Option ℕ) (out : List ℕ) (sets : List SetLink) (last : Option Unlinking) → key < 2 ^ 64 → new_slot m vs v key g.tree ≡ slot → has_key c key g.tree ≡ true
       → first_slot (brings c slot key g.tree) ≡ added → takes c key g.tree ≡ out → list_all (λ k. locks k v.held.nodes) out ≡ true → is_new m v added ≡ true
       → IsSpelled (graph_now m vs (v.update.pending ++ new_entries m added)) (child_now m vs (v.update.pending ++ new_entries m added) Right 0) (tree_after c slot key g.tree)
-      → MayStep z m vs v (update_of client line key c) added out
-  step_of c client line key slot added out small slots there adds takes_is locked new spelled =
+      → is_plain_new m added ≡ true → IsLeft m v c key slot g.tree sets last
+      → MayStep z m vs v (update_of client line key c) added out sets last
+  step_of c client line key slot added out sets last small slots there adds takes_is locked new spelled plain left =
       let u = update_of client line key c in
       let now_is = tree_is z m vs g rule in
       let here : is_step m vs v u slot (move_at z m u slot g.tree) g.tree ≡ true
       = and_all (ltb key 18446744073709551616) (has_key c key g.tree) (list_all (λ k. locks k v.held.nodes) (takes c key g.tree)) (is_new m v (first_slot (brings c slot key g.tree)))
-      (spelled_by (first_slot (brings c slot key g.tree))) (lt-ltb key 18446744073709551616 small) there
+      (spelled_by (first_slot (brings c slot key g.tree))) (is_plain_step m v (move_at z m u slot g.tree)) (lt-ltb key 18446744073709551616 small) there
       (subst (λ ks. list_all (λ k. locks k v.held.nodes) ks ≡ true) (sym takes_is) locked)
       (subst (λ o. is_new m v o ≡ true) (sym adds) new)
       (subst (λ o. spelled_by o ≡ true) (sym adds)
-      (spelled_tests (graph_now m vs (v.update.pending ++ new_entries m added)) (child_now m vs (v.update.pending ++ new_entries m added) Right 0) (tree_after c slot key g.tree) spelled)) in
+      (spelled_tests (graph_now m vs (v.update.pending ++ new_entries m added)) (child_now m vs (v.update.pending ++ new_entries m added) Right 0) (tree_after c slot key g.tree) spelled))
+      (and_from (list_all (sets_locked v) (plain_move m c key slot g.tree).unset) (is_plain_new m (first_slot (brings c slot key g.tree))) left.locked
+      (subst (λ o. is_plain_new m o ≡ true) (sym adds) plain)) in
       let at_slot : is_step m vs v u (new_slot m vs v key g.tree) (move_at z m u (new_slot m vs v key g.tree) g.tree) g.tree ≡ true
       = subst (λ (x : ℕ). is_step m vs v u x (move_at z m u x g.tree) g.tree ≡ true) (sym slots) here in
       let adds_now : first_slot (brings c (new_slot m vs v key (tree_now z m vs)) key (tree_now z m vs)) ≡ added
@@ -202,13 +229,16 @@ module _ (z : Layout) (m : Memory) (vs : List View) (g : Meaning) (rule : Rule z
         entries_are = ap (new_entries m) adds_now;
         taken_is = takes_now;
         taken_entries_are = ap (node_entries z m) takes_now;
+        leaves = subst (λ (t : NamedTree). LeavesPlain c sets last (plain_move m c key (new_slot m vs v key t) t)) (sym now_is)
+            (subst (λ (x : ℕ). LeavesPlain c sets last (plain_move m c key x g.tree)) (sym slots) left.leaves);
       }
     where
       spelled_by : Option ℕ → Bool
       spelled_by o = spells (graph_now m vs (v.update.pending ++ new_entries m o)) (child_now m vs (v.update.pending ++ new_entries m o) Right 0) (tree_after c slot key g.tree)
 
-      and_all : (a b c d e : Bool) → a ≡ true → b ≡ true → c ≡ true → d ≡ true → e ≡ true → (a && b && c && d && e) ≡ true
-      and_all a b c d e one two three four five = and_from (a && b && c && d) e (and_from (a && b && c) d (and_from (a && b) c (and_from a b one two) three) four) five
+      and_all : (a b c d e f : Bool) → a ≡ true → b ≡ true → c ≡ true → d ≡ true → e ≡ true → f ≡ true → (a && b && c && d && e && f) ≡ true
+      and_all a b c d e f one two three four five six =
+          and_from (a && b && c && d && e) f (and_from (a && b && c && d) e (and_from (a && b && c) d (and_from (a && b) c (and_from a b one two) three) four) five) six
 
   -- with two pending entries, which were prepared at two links of the tree, those alone change
   two_changed : (parent entry child below second other : ℕ) (side turn : Side) → InTree z m vs g rule parent → InTree z m vs g rule below → IsPrepared m parent side entry child
@@ -220,7 +250,7 @@ module _ (z : Layout) (m : Memory) (vs : List View) (g : Meaning) (rule : Rule z
         | inr two ↦ inr (only_link z m vs g rule below x second turn w too there then.some then.head (sym two))
       ]
 
-  grow : (client line key val : ℕ) (h : IsReadyToGrow z m vs v key val) → MayStep z m vs v (update_of client line key (Put val)) (Some h.slot) []
+  grow : (client line key val : ℕ) (h : IsReadyToGrow z m vs v key val) → MayStep z m vs v (update_of client line key (Put val)) (Some h.slot) [] (set_to h.node h.side h.slot ∷ []) None
   grow client line key val h =
       let gap : IsGapLink key h.node h.side 0 Right g.tree = subst (λ t. IsGapLink key h.node h.side 0 Right t) (tree_is z m vs g rule) h.gap in
       let ends = (gap_ends key h.node 0 (2 ^ 64) 0 h.side Right g.tree rule.tree.lawful gap).0 in
@@ -230,12 +260,13 @@ module _ (z : Layout) (m : Memory) (vs : List View) (g : Meaning) (rule : Rule z
       = keeps_links z m vs g rule i v at all (IsLink h.node h.side)
       (changed_by v.update.pending fresh (IsLink h.node h.side) (entries_free h.slot key val 0 0 h.new)
       (one_changed h.node h.entry h.slot h.side (in_tree h.node h.side h.link) h.prepared h.pending)) in
-      step_of (Put val) client line key h.slot (Some h.slot) [] h.small
+      step_of (Put val) client line key h.slot (Some h.slot) [] (set_to h.node h.side h.slot ∷ []) None h.small
       (ap (λ n. child_now m vs v.update.pending (end_side key Right g.tree) n) ends.0 ∙ ap (λ w. child_now m vs v.update.pending w h.node) ends.1
       ∙ prepared_child v.update.pending h.node h.entry h.slot h.side h.prepared (subst (λ xs. 0 < count h.entry xs) (sym h.pending) (here_counted h.entry [])))
       refl refl (grow_takes key h.node 0 h.side Right g.tree rule.tree.lawful gap) refl (tests_new h.slot key val 0 0 h.new)
       (grow_by_link now (graph_now m vs all) 0 h.slot key val h.node Right h.side g.tree tree_at gap keeps (node_of h.slot key val 0 0 h.new)
       (prepared_child all h.node h.entry h.slot h.side h.prepared (pending_listed h.entry [] fresh h.pending)))
+      (tests_plain h.slot key val 0 0 h.new) (left_put m v val key h.slot h.node h.side g.tree ends h.held)
     where
       here_counted : (e : ℕ) (es : List ℕ) → 0 < count e (e ∷ es)
       here_counted e es = grind (arith, nat_tests)
@@ -260,7 +291,8 @@ module _ (z : Layout) (m : Memory) (vs : List View) (g : Meaning) (rule : Rule z
   two_locked : (k n : ℕ) → locks k v.held.nodes ≡ true → locks n v.held.nodes ≡ true → list_all (λ x. locks x v.held.nodes) (k ∷ n ∷ []) ≡ true
   two_locked k n one two = and_from (locks k v.held.nodes) (locks n v.held.nodes && true) one (and_from (locks n v.held.nodes) true two refl)
 
-  replace : (client line key val : ℕ) (h : IsReadyToReplace z m vs v key val) → MayStep z m vs v (update_of client line key (Put val)) (Some h.slot) (h.found.node ∷ [])
+  replace : (client line key val : ℕ) (h : IsReadyToReplace z m vs v key val)
+      → MayStep z m vs v (update_of client line key (Put val)) (Some h.slot) (h.found.node ∷ []) (set_to h.found.parent h.found.side h.slot ∷ []) None
   replace client line key val h =
       let f = h.found in
       let leads = found_at key f in
@@ -273,14 +305,18 @@ module _ (z : Layout) (m : Memory) (vs : List View) (g : Meaning) (rule : Rule z
       let node = node_of h.slot key val f.left f.right h.new in
       let new : IsNodeOf (graph_now m vs all) h.slot (m (Node Key f.node)) val (child_now m vs [] Left f.node) (child_now m vs [] Right f.node)
       = record { taken = node.taken; key = node.key ∙ sym f.key_is; val = node.val; left = node.left ∙ sym f.left_is; right = node.right ∙ sym f.right_is } in
-      subst (λ (k : ℕ). MayStep z m vs v (update_of client line k (Put val)) (Some h.slot) (f.node ∷ [])) f.key_is
-      (step_of (Put val) client line (m (Node Key f.node)) h.slot (Some h.slot) (f.node ∷ []) (subst (λ k. k < 2 ^ 64) (sym f.key_is) h.small)
+      let sets : List SetLink = set_to f.parent f.side h.slot ∷ [] in
+      subst (λ (k : ℕ). MayStep z m vs v (update_of client line k (Put val)) (Some h.slot) (f.node ∷ []) sets None) f.key_is
+      (step_of (Put val) client line (m (Node Key f.node)) h.slot (Some h.slot) (f.node ∷ []) sets None (subst (λ k. k < 2 ^ 64) (sym f.key_is) h.small)
       (end_found key h.entry h.slot f [] h.prepared h.pending) refl refl
       (replace_takes now 0 f.parent f.node Right f.side g.tree tree_at leads) (one_locked f.node f.locked) (tests_new h.slot key val f.left f.right h.new)
       (replace_by_link now (graph_now m vs all) 0 h.slot val f.parent f.node Right f.side g.tree tree_at leads keeps new
-      (prepared_child all f.parent h.entry h.slot f.side h.prepared (pending_listed h.entry [] fresh h.pending))))
+      (prepared_child all f.parent h.entry h.slot f.side h.prepared (pending_listed h.entry [] fresh h.pending)))
+      (tests_plain h.slot key val f.left f.right h.new)
+      (left_put m v val (m (Node Key f.node)) h.slot f.parent f.side g.tree (at_link now 0 f.parent f.node Right f.side g.tree tree_at leads).ends f.held))
 
-  lift : (client line key : ℕ) (h : IsReadyToLift z m vs v key) → MayStep z m vs v (update_of client line key Remove) None (h.found.node ∷ [])
+  lift : (client line key : ℕ) (h : IsReadyToLift z m vs v key)
+      → MayStep z m vs v (update_of client line key Remove) None (h.found.node ∷ []) (set_to h.found.parent h.found.side h.child ∷ []) None
   lift client line key h =
       let f = h.found in
       let leads = found_at key f in
@@ -295,12 +331,16 @@ module _ (z : Layout) (m : Memory) (vs : List View) (g : Meaning) (rule : Rule z
         | inr no_right ↦ inr (f.right_is ∙ no_right.0, no_right.1 ∙ sym f.left_is)
       ] in
       let moves = lift_moves now 0 f.parent f.node Right f.side g.tree tree_at leads h.child h.child one in
-      subst (λ (k : ℕ). MayStep z m vs v (update_of client line k Remove) None (f.node ∷ [])) f.key_is
-      (step_of Remove client line (m (Node Key f.node)) h.child None (f.node ∷ []) (subst (λ k. k < 2 ^ 64) (sym f.key_is) h.small)
+      let hangs = at_link now 0 f.parent f.node Right f.side g.tree tree_at leads in
+      let far = lift_far m now 0 f.parent f.node Right f.side g.tree tree_at leads h.child one in
+      let sets : List SetLink = set_to f.parent f.side h.child ∷ [] in
+      subst (λ (k : ℕ). MayStep z m vs v (update_of client line k Remove) None (f.node ∷ []) sets None) f.key_is
+      (step_of Remove client line (m (Node Key f.node)) h.child None (f.node ∷ []) sets None (subst (λ k. k < 2 ^ 64) (sym f.key_is) h.small)
       (end_found key h.entry h.child f [] h.prepared h.pending) (found_there now 0 f.parent f.node Right f.side g.tree tree_at leads) (ap first_slot moves.1)
       moves.0 (one_locked f.node f.locked) refl
       (lift_by_link now (graph_now m vs all) 0 h.child f.parent f.node h.child Right f.side g.tree tree_at leads one keeps
-      (prepared_child all f.parent h.entry h.child f.side h.prepared (pending_listed h.entry [] [] h.pending))))
+      (prepared_child all f.parent h.entry h.child f.side h.prepared (pending_listed h.entry [] [] h.pending))) refl
+      (left_removal m v (m (Node Key f.node)) h.child f.parent f.side g.tree [] None hangs.ends (ap (removed_links m) hangs.sub ∙ far.0) (ap removed_successor hangs.sub ∙ far.1) f.held refl))
 
   module _ (client line key : ℕ) (h : IsReadyToJoin z m vs v key) where
     abbrev f : FindsKey z m vs v key
@@ -371,14 +411,46 @@ module _ (z : Layout) (m : Memory) (vs : List View) (g : Meaning) (rule : Rule z
     pending_first (inl near) = ([], near.pending)
     pending_first (inr deep) = (deep.second ∷ [], deep.pending)
 
-    join : MayStep z m vs v (update_of client line key Remove) (Some h.slot) (f.node ∷ n.node ∷ [])
+    abbrev sets : List SetLink
+    sets = join_sets z m vs v key h
+
+    abbrev last : Option Unlinking
+    last = join_last z m vs v key h
+
+    abbrev far_last : Option Unlinking
+    far_last = Some (record { successor = n.node; parent = n.parent; side = n.side; replaced = f.node })
+
+    -- what is left is told by whether the next node is the right child
+    by_parent : (b : Bool) → eqb n.parent f.node ≡ b
+        → IsLeft m v Remove (m (Node Key f.node)) h.slot g.tree (set_to f.parent f.side h.slot ∷ cond b [] (set_to n.parent n.side n.right ∷ [])) (cond b None far_last)
+        → IsLeft m v Remove (m (Node Key f.node)) h.slot g.tree sets last
+    by_parent b is left =
+        subst (λ (c : Bool). IsLeft m v Remove (m (Node Key f.node)) h.slot g.tree (set_to f.parent f.side h.slot ∷ cond c [] (set_to n.parent n.side n.right ∷ [])) (cond c None far_last)) (sym is) left
+
+    join_left : IsNear v f.node n.parent n.side n.right h.entry h.new_right ⊎ IsDeep m v f.node f.right n.parent n.side n.right h.entry h.new_right
+        → IsLeft m v Remove (m (Node Key f.node)) h.slot g.tree sets last
+    join_left (inl near) =
+        let hangs = at_link now 0 f.parent f.node Right f.side g.tree tree_at leads in
+        let far = near_far m now 0 f.parent f.node Right f.side g.tree tree_at leads n.parent n.node n.side left_some right_some goes near.side_is in
+        by_parent true (eq-eqb n.parent f.node near.parent_is)
+        (left_removal m v (m (Node Key f.node)) h.slot f.parent f.side g.tree [] None hangs.ends (ap (removed_links m) hangs.sub ∙ far.0) (ap removed_successor hangs.sub ∙ far.1) f.held refl)
+    join_left (inr deep) =
+        let hangs = at_link now 0 f.parent f.node Right f.side g.tree tree_at leads in
+        let far = deep_far m now 0 f.parent f.node Right f.side g.tree tree_at leads n.parent n.node n.side left_some right_some goes deep.apart in
+        by_parent false (ne_eqb n.parent f.node deep.apart)
+        (left_removal m v (m (Node Key f.node)) h.slot f.parent f.side g.tree (unset_at m n.parent n.side n.right ∷ []) far_last hangs.ends
+        (ap (removed_links m) hangs.sub ∙ far.0 ∙ ap (λ (x : ℕ). unset_at m n.parent n.side x ∷ []) n.right_is) (ap removed_successor hangs.sub ∙ far.1) f.held
+        (and_from (locks n.parent v.held.nodes) true n.held refl))
+
+    join : MayStep z m vs v (update_of client line key Remove) (Some h.slot) (f.node ∷ n.node ∷ []) sets last
     join =
         let moves = join_moves now 0 f.parent f.node Right f.side g.tree tree_at leads h.slot n.parent n.node n.side left_some right_some goes in
         let first = pending_first h.by in
-        subst (λ (k : ℕ). MayStep z m vs v (update_of client line k Remove) (Some h.slot) (f.node ∷ n.node ∷ [])) f.key_is
-        (step_of Remove client line (m (Node Key f.node)) h.slot (Some h.slot) (f.node ∷ n.node ∷ []) (subst (λ k. k < 2 ^ 64) (sym f.key_is) h.small)
+        subst (λ (k : ℕ). MayStep z m vs v (update_of client line k Remove) (Some h.slot) (f.node ∷ n.node ∷ []) sets last) f.key_is
+        (step_of Remove client line (m (Node Key f.node)) h.slot (Some h.slot) (f.node ∷ n.node ∷ []) sets last (subst (λ k. k < 2 ^ 64) (sym f.key_is) h.small)
         (end_found key h.entry h.slot f first.0 h.prepared first.1) (found_there now 0 f.parent f.node Right f.side g.tree tree_at leads) (ap first_slot moves.1)
-        moves.0 (two_locked f.node n.node f.locked n.locked) (tests_new h.slot (m (Node Key n.node)) (m (Node Val n.node)) f.left h.new_right h.new) (spelled_join h.by))
+        moves.0 (two_locked f.node n.node f.locked n.locked) (tests_new h.slot (m (Node Key n.node)) (m (Node Val n.node)) f.left h.new_right h.new) (spelled_join h.by)
+        (tests_plain h.slot (m (Node Key n.node)) (m (Node Val n.node)) f.left h.new_right h.new) (join_left h.by))
 
 pub may_grow : MayGrowLaw
 may_grow z m vs g i v client line key val rule at h = grow z m vs g rule i v at client line key val h

@@ -4,7 +4,7 @@ use Rattle.std.specs.Prelude.{◌==◌, IfSome}
 use Rattle.index_words.specs.declared.layout.Layout.{Layout}
 use Rattle.index_words.specs.declared.side.Side.TheVariants.{Left, Right}
 use Rattle.index_words.specs.declared.view.View.{View}
-use Rattle.index_words.specs.declared.word.Field.TheVariants.{Key, Val, Mark, Head}
+use Rattle.index_words.specs.declared.word.Field.TheVariants.{Key, Val, Mark, Head, Link, Tag}
 use Rattle.index_words.specs.declared.word.Part.TheVariants.{Child, Stamp as Number, Next}
 use Rattle.index_words.specs.declared.word.Word.TheVariants.{Node, Entry}
 use Rattle.key_map.specs.Lists.{count, Every}
@@ -22,7 +22,7 @@ use Rattle.core_updates.specs.declared.plan.JoinPlan.{JoinPlan}
 use Rattle.core_updates.specs.declared.plan.PlanSlots.{PlanSlots}
 use Rattle.core_updates.specs.declared.plan.Front.{Front}
 use Rattle.core_updates.specs.declared.plan.NewNode.{NewNode}
-use Rattle.core_updates.specs.Plans.{locks_of, fronts_of, new_node_of, node_fills, entry_fills, head_of, fresh_to}
+use Rattle.core_updates.specs.Plans.{locks_of, fronts_of, new_node_of, node_fills, entry_fills, head_of, fresh_to, child_of}
 use Rattle.core_updates.specs.PlanEvents.{HasSlots, IsDue, MayFillAll, EventsLaw, MeetsLaw, FailuresLaw}
 use Rattle.core_invariant.specs.Rule.{InRule}
 use Rattle.index_words.specs.declared.view.update.HeldNode.{HeldNode}
@@ -46,7 +46,16 @@ module _ (z : Layout) (v : View) (seat : ℕ) where
         may_fill_law z v seat (Node Val n.slot) n.pair.val (refl, free),
         (
           may_fill_law z v seat (Node (Head Left) n.slot) (head_of n.left) (refl, free),
-          (may_fill_law z v seat (Node (Head Right) n.slot) (head_of n.right) (refl, free), tt),
+          (
+            may_fill_law z v seat (Node (Head Right) n.slot) (head_of n.right) (refl, free),
+            (
+              may_fill_law z v seat (Node (Link Left) n.slot) (child_of n.left) (refl, free),
+              (
+                may_fill_law z v seat (Node (Link Right) n.slot) (child_of n.right) (refl, free),
+                (may_fill_law z v seat (Node (Tag Left) n.slot) 0 (refl, free), (may_fill_law z v seat (Node (Tag Right) n.slot) 0 (refl, free), tt)),
+              ),
+            ),
+          ),
         ),
       ),
     ),
@@ -135,9 +144,10 @@ events_law z v seat n plan slots r = record {
   prepare = λ f child d. prepares z v seat f child d;
   finalise = λ e place pending raised. may_finalise_law z v seat e place (record { pending = pending; raised = raised });
   mark = λ k taken out locked. may_mark_law z v seat k (record { locked = locked; taken = subst (λ ks. 0 < count k ks) (sym taken) out });
-  unlock = λ k taken done marked locked. may_unlock_law z v seat k (record {
+  unlock = λ k taken done marked set locked. may_unlock_law z v seat k (record {
     locked = locked;
     done = done;
+    set = set;
     marked = subst (λ ks. Every (λ (h : HeldNode). 0 < count h.node ks → h.mark ≡ Some 1) v.held.nodes) (sym taken) marked;
   });
   leave = λ unlocked. may_leave_law z v seat n (record { own = r.own; inside = r.inside; unlocked = unlocked });

@@ -1,5 +1,5 @@
 -- A view that is ready for a plan has the record of its case.
-use Rattle.std.proofs.Common.{◌≡◌, ℕ, ◌<◌, ◌^◌, ◌⊎◌, inl, inr, [], ◌∷◌, Bool, true, false, cond, refl, sym, ◌∙◌, subst, Some, None}
+use Rattle.std.proofs.Common.{◌≡◌, ℕ, ◌<◌, ◌^◌, ◌⊎◌, inl, inr, List, [], ◌∷◌, map, Bool, true, false, cond, refl, sym, ◌∙◌, subst, Option, Some, None}
 use Rattle.std.specs.Prelude.{◌==◌, IfSome}
 use Rattle.std.proofs.lemmas.Bool.{false≢true}
 use Rattle.std.proofs.lemmas.Bool.Decides.{eqb_tells}
@@ -10,7 +10,8 @@ use Rattle.key_map.specs.declared.pair.Pair.{Pair}
 use Rattle.key_map.specs.declared.update.Change.TheVariants.{Remove}
 use Rattle.index_words.specs.declared.view.View.{View}
 use Rattle.index_words.specs.declared.view.update.HeldNode.{HeldNode}
-use Rattle.index_words.specs.declared.word.Field.TheVariants.{Head}
+use Rattle.index_words.specs.declared.view.update.Unlinking.{Unlinking}
+use Rattle.index_words.specs.declared.word.Field.TheVariants.{Head, Link as LinkField}
 use Rattle.index_words.specs.declared.word.Word.TheVariants.{Node}
 use Rattle.key_map.specs.Lists.{Every}
 use Rattle.core_trees.specs.declared.link.Link.{Link}
@@ -20,10 +21,22 @@ use Rattle.core_updates.specs.declared.plan.PlanSlots.{PlanSlots}
 use Rattle.core_updates.specs.declared.plan.Look.TheVariants.{Link as LinkLook}
 use Rattle.core_laws.specs.ViewNeeds.{HasFilled}
 use Rattle.core_updates.specs.Held.{HasLoaded, HoldsFresh, HoldsNew, HoldsNewLink, HoldsLink, HoldsKey, HoldsSuccessor, CanRaise, MayRaise}
-use Rattle.core_updates.specs.Plans.{head_of, fresh_to, other_side, entries_of}
+use Rattle.core_updates.specs.Plans.{head_of, child_of, fresh_to, other_side, entries_of, set_by}
 use Rattle.core_updates.specs.PlanReady.{HoldsLook, HoldsFreshEntry, HoldsNewNode, HoldsFront, IsReadyFor, PlanMayRaiseLaw}
 use Rattle.core_updates.specs.Ready.{update_of}
+use Rattle.core_updates.specs.SetLinks.{SetLink, set_to}
 use Rattle.core_updates.proofs.HeldReady.{grow_from_view, replace_from_view, lift_from_view, join_from_view}
+
+-- the child of a link of a new node
+child-of : (entry child : ℕ) → child_of (fresh_to entry child) ≡ child
+child-of entry child = by (child == 0) (told child)
+  where
+    told : (x : ℕ) → (x == 0) ≡ true → x ≡ 0
+    told x e = elim (eqb_tells x 0) as (λ _. x ≡ 0) [ inl is ↦ is.1 | inr apart ↦ absurd (false≢true (sym apart.0 ∙ e)) ]
+
+    by : (b : Bool) → (b ≡ true → child ≡ 0) → child_of (cond b None (Some (record { entry = entry; child = child }))) ≡ child
+    by true none = sym (none refl)
+    by false none = refl
 
 module _ (v : View) where
   -- the link of a new node to a child
@@ -61,6 +74,10 @@ module _ (v : View) where
     left_link = new-link slots.node slots.left left Left h.filled.1.1.1.0 h.left;
     right_head = head_of (fresh_to slots.right right);
     right_link = new-link slots.node slots.right right Right h.filled.1.1.1.1.0 h.right;
+    left_child = subst (HasFilled v (Node (LinkField Left) slots.node)) (child-of slots.left left) h.filled.1.1.1.1.1.0;
+    right_child = subst (HasFilled v (Node (LinkField Right) slots.node)) (child-of slots.right right) h.filled.1.1.1.1.1.1.0;
+    left_tag = h.filled.1.1.1.1.1.1.1.0;
+    right_tag = h.filled.1.1.1.1.1.1.1.1.0;
     apart = apart-heads slots.left slots.right left right apart;
   }
 
@@ -84,7 +101,7 @@ module _ (v : View) where
     lift-raises : (key node child entry : ℕ) (at : Link) (bare : Side) → key < 2 ^ 64 → 0 < node → HoldsLink v at.node at.side node
         → HoldsLink v node bare 0 → HoldsLink v node (other_side bare) child → HasLoaded v node (λ (h : HeldNode). h.key) key
         → HoldsFront v (record { at = at; entry = entry; child = child }) → v.update.pending ≡ entry ∷ []
-        → MayRaise z v (update_of client line key Remove) None (node ∷ [])
+        → MayRaise z v (update_of client line key Remove) None (node ∷ []) (set_to at.node at.side child ∷ []) None
     lift-raises key node child entry at Left small some link bare full key_is front pending =
         lift_from_view z v client line key can (record {
           found = holds-key key node 0 child at some link key_is bare full;
@@ -140,14 +157,26 @@ module _ (v : View) where
           (subst (λ w. HoldsLink v p.node w p.next.node) (sym (h.planned.next.side near)) (subst (HoldsLink v p.node Right) right h.looks.1.1.0))
 
       -- by whether the successor is the right child
-      join-raises : (near : Bool) → (near ≡ true → p.next.at.node ≡ p.node) → (near ≡ false → ¬ (p.next.at.node ≡ p.node))
+      -- the links to be set, by the same
+      abbrev far-set : SetLink
+      far-set = set_to p.next.at.node p.next.at.side p.next.right
+
+      abbrev far-last : Unlinking
+      far-last = record { successor = p.next.node; parent = p.next.at.node; side = p.next.at.side; replaced = p.node }
+
+      abbrev joins : (List SetLink → Option Unlinking → Type 0)
+      joins = MayRaise z v (update_of client line p.key Remove) (Some slots.node) (p.node ∷ p.next.node ∷ [])
+
+      join-raises : (near : Bool) → (p.next.at.node == p.node) ≡ near → (near ≡ true → p.next.at.node ≡ p.node) → (near ≡ false → ¬ (p.next.at.node ≡ p.node))
           → Every (HoldsLook v) (cond near [] (LinkLook p.next.at p.next.node ∷ []))
           → HoldsNewNode v (record { slot = slots.node; pair = p.next.pair; left = fresh_to slots.left p.left; right = fresh_to slots.right (cond near p.next.right p.right) })
           → Every (HoldsFront v) (record { at = p.at; entry = slots.at; child = slots.node } ∷ cond near [] (record { at = p.next.at; entry = slots.next; child = p.next.right } ∷ []))
           → v.update.pending ≡ entries_of (record { at = p.at; entry = slots.at; child = slots.node } ∷ cond near [] (record { at = p.next.at; entry = slots.next; child = p.next.right } ∷ []))
-          → MayRaise z v (update_of client line p.key Remove) (Some slots.node) (p.node ∷ p.next.node ∷ [])
-      join-raises true is apart at new fronts pending =
-          join_from_view z v client line p.key can (record {
+          → joins (map set_by (record { at = p.at; entry = slots.at; child = slots.node } ∷ cond near [] (record { at = p.next.at; entry = slots.next; child = p.next.right } ∷ [])))
+          (cond near None (Some far-last))
+      join-raises true same is apart at new fronts pending =
+          subst (λ b. joins (set_to p.at.node p.at.side slots.node ∷ cond b [] (far-set ∷ [])) (cond b None (Some far-last))) same
+          (join_from_view z v client line p.key can (record {
             found = found;
             small = h.small;
             left = h.planned.left;
@@ -159,9 +188,10 @@ module _ (v : View) where
             entry = slots.at;
             prepared = fronts.0;
             by = inl (record { parent_is = is refl; side_is = h.planned.next.side (is refl); pending = pending; child = refl });
-          })
-      join-raises false is apart at new fronts pending =
-          join_from_view z v client line p.key can (record {
+          }))
+      join-raises false same is apart at new fronts pending =
+          subst (λ b. joins (set_to p.at.node p.at.side slots.node ∷ cond b [] (far-set ∷ [])) (cond b None (Some far-last))) same
+          (join_from_view z v client line p.key can (record {
             found = found;
             small = h.small;
             left = h.planned.left;
@@ -173,7 +203,7 @@ module _ (v : View) where
             entry = slots.at;
             prepared = fronts.0;
             by = inr (record { apart = apart refl; second = slots.next; pending = pending; prepared = fronts.1.0; child = refl });
-          })
+          }))
 
 is_same : (a b : ℕ) → (a == b) ≡ true → a ≡ b
 is_same a b e = elim (eqb_tells a b) as (λ _. a ≡ b) [ inl is ↦ is.1 | inr apart ↦ absurd (false≢true (sym apart.0 ∙ e)) ]
@@ -210,4 +240,4 @@ plan_may_raise z v client line (Replace p) slots can h =
 plan_may_raise z v client line (Lift p) slots can h =
     lift-raises v z client line can p.key p.node p.child slots.at p.at p.bare h.small h.planned.1.some h.looks.0 h.looks.1.0 h.looks.1.1.0 h.looks.1.1.1.0 h.fronts.0 h.pending
 plan_may_raise z v client line (Join p) slots can h =
-    join-raises v z client line can p slots h (p.next.at.node == p.node) (is_same p.next.at.node p.node) (is_apart p.next.at.node p.node) h.looks.1.1.1.1.1.1.1.1 h.new h.fronts h.pending
+    join-raises v z client line can p slots h (p.next.at.node == p.node) refl (is_same p.next.at.node p.node) (is_apart p.next.at.node p.node) h.looks.1.1.1.1.1.1.1.1 h.new h.fronts h.pending

@@ -1,6 +1,6 @@
 -- What a view shows of an update that is ready: remembered links that were found again under their locks, what the seat
 -- has put into its own slots, and the entries that it has prepared. Nothing of the words and of the other views is told.
-use Rattle.std.specs.Prelude.{◌≡◌, ℕ, ◌<◌, ◌^◌, ◌⊎◌, List, [], ◌∷◌, true, false, Option, Some, None}
+use Rattle.std.specs.Prelude.{◌≡◌, ℕ, ◌<◌, ◌^◌, ◌⊎◌, List, [], ◌∷◌, ◌==◌, cond, true, false, Option, Some, None}
 use Rattle.std.specs.List.{slice_get}
 use Rattle.index_words.specs.declared.layout.Layout.{Layout}
 use Rattle.index_words.specs.declared.side.Side.{Side}
@@ -11,7 +11,8 @@ use Rattle.index_words.specs.declared.view.View.{View}
 use Rattle.index_words.specs.declared.view.reading.Link.{Link}
 use Rattle.index_words.specs.declared.view.update.HeldNode.{HeldNode}
 use Rattle.index_words.specs.declared.view.update.LoadedHead.{LoadedHead}
-use Rattle.index_words.specs.declared.word.Field.TheVariants.{Key, Val, Mark, Head}
+use Rattle.index_words.specs.declared.view.update.Unlinking.{Unlinking}
+use Rattle.index_words.specs.declared.word.Field.TheVariants.{Key, Val, Mark, Head, Link as LinkField, Tag}
 use Rattle.index_words.specs.declared.word.Part.TheVariants.{Child, Stamp as Number, Next}
 use Rattle.index_words.specs.declared.word.Word.TheVariants.{Stamp, Node, Entry}
 use Rattle.index_words.specs.Words.{address, memory}
@@ -27,6 +28,7 @@ use Rattle.core_events.specs.Steps.{allowed}
 use Rattle.core_events.specs.UpdateNeeds.{side_of}
 use Rattle.core_events.specs.Versions.{tree_nodes}
 use Rattle.core_updates.specs.Ready.{update_of, MayStep}
+use Rattle.core_updates.specs.SetLinks.{SetLink, set_to}
 
 -- the seat has locked the node, and the head of the link was loaded, or stored, as this entry since
 pub record HoldsHead (v : View) (node : ℕ) (side : Side) (entry : ℕ) : Type 0 where
@@ -82,6 +84,10 @@ pub record HoldsNew (v : View) (slot key val left right : ℕ) : Type 0 where
   pub left_link : HoldsNewLink v slot Left left_head left
   pub right_head : ℕ
   pub right_link : HoldsNewLink v slot Right right_head right
+  pub left_child : HasFilled v (Node (LinkField Left) slot) left
+  pub right_child : HasFilled v (Node (LinkField Right) slot) right
+  pub left_tag : HasFilled v (Node (Tag Left) slot) 0
+  pub right_tag : HasFilled v (Node (Tag Right) slot) 0
   pub apart : left_head ≡ right_head → left_head ≡ 0
 
 -- under the lock of the node this part of it was loaded as `x`
@@ -190,6 +196,18 @@ pub record HoldsJoin (v : View) (key : ℕ) : Type 0 where
   pub by : HoldsNear v found.node next.parent next.side next.right entry new_right
       ⊎ HoldsDeep v found.node found.right next.parent next.side next.right entry new_right
 
+-- the plain links that such a removal leaves to be set, the copy's first
+abbrev pub sets_joined : (v : View) (key : ℕ) → HoldsJoin v key → List SetLink
+sets_joined v key h =
+    set_to h.found.parent h.found.side h.slot
+    ∷ cond (h.next.parent == h.found.node) [] (set_to h.next.parent h.next.side h.next.right ∷ [])
+
+-- the successor that it leaves to be unlinked
+abbrev pub unlinks_joined : (v : View) (key : ℕ) → HoldsJoin v key → Option Unlinking
+unlinks_joined v key h =
+    cond (h.next.parent == h.found.node) None
+    (Some (record { successor = h.next.node; parent = h.next.parent; side = h.next.side; replaced = h.found.node }))
+
 -- the seat may raise by its own parts: it is a pass that has not raised, with calls left
 pub record CanRaise (v : View) (client : ℕ) : Type 0 where
   pub live : v.joined ≡ false
@@ -202,29 +220,29 @@ abbrev pub raise_of : Layout → ℕ → Update → Event
 raise_of z seat u = record { seat = seat; kind = Raise; word = address z Stamp; value = 0; update = Some u }
 
 -- in every table of this layout that meets the rule, a seat with this view may raise the update, which then brings in and takes
--- out these nodes
-pub record MayRaise (z : Layout) (v : View) (u : Update) (added : Option ℕ) (out : List ℕ) : Type 0 where
+-- out these nodes, and leaves these plain links to be set, and this successor to be unlinked, or none
+pub record MayRaise (z : Layout) (v : View) (u : Update) (added : Option ℕ) (out : List ℕ) (sets : List SetLink) (unlinking : Option Unlinking) : Type 0 where
   pub may : (words : List ℕ) (vs : List View) (seat : ℕ) → InRule z words vs → slice_get vs seat ≡ Some v
       → allowed (record { layout = z; words = words; views = vs }) (raise_of z seat u) ≡ true
   pub moves : (words : List ℕ) (vs : List View) (seat : ℕ) → InRule z words vs → slice_get vs seat ≡ Some v
-      → MayStep z (memory z words) vs v u added out
+      → MayStep z (memory z words) vs v u added out sets unlinking
 
 abbrev pub GrowFromViewLaw : Type 0
 GrowFromViewLaw =
     (z : Layout) (v : View) (client line key val : ℕ) → CanRaise v client → (h : HoldsGrow v key val)
-    → MayRaise z v (update_of client line key (Put val)) (Some h.slot) []
+    → MayRaise z v (update_of client line key (Put val)) (Some h.slot) [] (set_to h.node h.side h.slot ∷ []) None
 
 abbrev pub ReplaceFromViewLaw : Type 0
 ReplaceFromViewLaw =
     (z : Layout) (v : View) (client line key val : ℕ) → CanRaise v client → (h : HoldsReplace v key val)
-    → MayRaise z v (update_of client line key (Put val)) (Some h.slot) (h.found.node ∷ [])
+    → MayRaise z v (update_of client line key (Put val)) (Some h.slot) (h.found.node ∷ []) (set_to h.found.parent h.found.side h.slot ∷ []) None
 
 abbrev pub LiftFromViewLaw : Type 0
 LiftFromViewLaw =
     (z : Layout) (v : View) (client line key : ℕ) → CanRaise v client → (h : HoldsLift v key)
-    → MayRaise z v (update_of client line key Remove) None (h.found.node ∷ [])
+    → MayRaise z v (update_of client line key Remove) None (h.found.node ∷ []) (set_to h.found.parent h.found.side h.child ∷ []) None
 
 abbrev pub JoinFromViewLaw : Type 0
 JoinFromViewLaw =
     (z : Layout) (v : View) (client line key : ℕ) → CanRaise v client → (h : HoldsJoin v key)
-    → MayRaise z v (update_of client line key Remove) (Some h.slot) (h.found.node ∷ h.next.node ∷ [])
+    → MayRaise z v (update_of client line key Remove) (Some h.slot) (h.found.node ∷ h.next.node ∷ []) (sets_joined v key h) (unlinks_joined v key h)

@@ -1,3 +1,4 @@
+pub mod SetLinks
 pub mod Ready
 pub mod Held
 pub mod Plans

@@ -19,6 +19,7 @@ use Rattle.core_events.specs.declared.event.Event.{Event}
 use Rattle.core_events.specs.declared.event.Kind.TheVariants.{Leave, Fill, LoadHead, LoadTs, Prepare, Finalise, TryLock, Unlock, LoadMark, Mark as MarkNode, LoadKeyOrVal}
 use Rattle.core_laws.specs.Counts.{MeetsLock, FindsNoNumber, FindsOtherHead, FindsMark, RemembersOther}
 use Rattle.core_events.specs.LoadMoves.{risen}
+use Rattle.core_events.specs.PlainNeeds.{is_done_at}
 use Rattle.core_invariant.specs.Readers.{IsLocked}
 use Rattle.core_invariant.specs.Rule.{IsRight}
 use Rattle.core_events.specs.Steps.{allowed, after}
@@ -109,7 +110,7 @@ pub record AllowsPlan (z : Layout) (v : View) (seat n : ℕ) (plan : Plan) (slot
   pub prepare : (f : Front) (child : ℕ) → IsDue v f child → May z v (event_at z seat Prepare (Node (Head f.at.side) f.at.node) f.entry)
   pub finalise : (e place : ℕ) → 0 < count e v.update.pending → v.update.raised ≡ Some place → May z v (event_at z seat Finalise (Entry Number e) place)
   pub mark : (k : ℕ) → v.update.taken ≡ out_of plan → 0 < count k (out_of plan) → IsLocked v k → May z v (event_at z seat MarkNode (Node Mark k) 1)
-  pub unlock : (k : ℕ) → v.update.taken ≡ out_of plan → v.update.pending ≡ [] → KnowsMarked v plan → IsLocked v k → May z v (event_at z seat Unlock (Node Lock k) 0)
+  pub unlock : (k : ℕ) → v.update.taken ≡ out_of plan → v.update.pending ≡ [] → KnowsMarked v plan → is_done_at k v.update ≡ true → IsLocked v k → May z v (event_at z seat Unlock (Node Lock k) 0)
   pub leave : v.held.nodes ≡ [] → May z v (event_at z seat Leave (Section n) (left_word v.section_word))
 
 abbrev pub EventsLaw : Type 0

@@ -18,7 +18,7 @@ use Rattle.core_updates.specs.declared.plan.Fresh.{Fresh}
 use Rattle.core_updates.specs.declared.plan.NewNode.{NewNode}
 use Rattle.core_laws.specs.ViewNeeds.{HasFilled}
 use Rattle.core_updates.specs.Held.{HasLoaded, HoldsLink, HoldsPrepared, CanRaise, MayRaise}
-use Rattle.core_updates.specs.Plans.{key_of, change_of, looks_of, new_node_of, fronts_of, out_of, node_fills, entry_fills, slot_of, entries_of}
+use Rattle.core_updates.specs.Plans.{key_of, change_of, looks_of, new_node_of, fronts_of, out_of, node_fills, entry_fills, slot_of, entries_of, sets_of, unlinks_of}
 use Rattle.core_updates.specs.PlanOf.{IsPlanIn}
 use Rattle.core_updates.specs.Ready.{update_of}
 
@@ -61,4 +61,4 @@ pub record IsReadyFor (v : View) (plan : Plan) (slots : PlanSlots) : Type 0 wher
 abbrev pub PlanMayRaiseLaw : Type 0
 PlanMayRaiseLaw =
     (z : Layout) (v : View) (client line : ℕ) (plan : Plan) (slots : PlanSlots) → CanRaise v client → IsReadyFor v plan slots
-    → MayRaise z v (update_of client line (key_of plan) (change_of plan)) (slot_of (new_node_of plan slots)) (out_of plan)
+    → MayRaise z v (update_of client line (key_of plan) (change_of plan)) (slot_of (new_node_of plan slots)) (out_of plan) (sets_of plan slots) (unlinks_of plan)

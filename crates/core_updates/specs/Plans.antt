@@ -1,14 +1,15 @@
 -- What a plan says, as lists in the order in which the update does it: which nodes are locked, what is looked at under the
 -- locks, which words are filled, which entries are put in front of bundles, and which nodes go out.
-use Rattle.std.specs.Prelude.{ℕ, List, [], ◌∷◌, ◌++◌, ◌==◌, Option, Some, None, if◌then◌else◌}
+use Rattle.std.specs.Prelude.{ℕ, List, [], ◌∷◌, ◌++◌, ◌==◌, map, Option, Some, None, if◌then◌else◌}
 use Rattle.index_words.specs.declared.side.Side.{Side}
 use Rattle.index_words.specs.declared.side.Side.TheVariants.{Left, Right}
 use Rattle.key_map.specs.declared.update.Change.{Change}
 use Rattle.key_map.specs.declared.update.Change.TheVariants.{Put, Remove}
 use Rattle.index_words.specs.declared.view.reading.Filled.{Filled}
+use Rattle.index_words.specs.declared.view.update.Unlinking.{Unlinking}
 use Rattle.index_words.specs.declared.word.Word.{Word}
 use Rattle.index_words.specs.declared.word.Word.TheVariants.{Node, Entry}
-use Rattle.index_words.specs.declared.word.Field.TheVariants.{Key as KeyField, Val as ValField, Mark, Head}
+use Rattle.index_words.specs.declared.word.Field.TheVariants.{Key as KeyField, Val as ValField, Mark, Head, Link as LinkField, Tag}
 use Rattle.index_words.specs.declared.word.Part.TheVariants.{Child, Stamp as Number, Next}
 use Rattle.core_trees.specs.declared.link.Link.{Link}
 use Rattle.core_updates.specs.declared.plan.Plan.{Plan}
@@ -20,6 +21,7 @@ use Rattle.core_updates.specs.declared.plan.Look.TheVariants.{Link as LinkLook, 
 use Rattle.core_updates.specs.declared.plan.Front.{Front}
 use Rattle.core_updates.specs.declared.plan.Fresh.{Fresh}
 use Rattle.core_updates.specs.declared.plan.NewNode.{NewNode}
+use Rattle.core_updates.specs.SetLinks.{SetLink}
 
 abbrev pub link_of : ℕ → Side → Link
 link_of node side = record { node = node; side = side }
@@ -101,6 +103,26 @@ fronts_of (Replace p) s = record { at = p.at; entry = s.at; child = s.node } ∷
 fronts_of (Lift p) s = record { at = p.at; entry = s.at; child = p.child } ∷ []
 fronts_of (Join p) s = record { at = p.at; entry = s.at; child = s.node } ∷ next_fronts p s
 
+-- the plain links that are set behind the raise: those in front of whose bundles entries are put, in the same order, to the
+-- same children
+abbrev pub set_by : Front → SetLink
+set_by f = record { at = f.at; child = f.child }
+
+abbrev pub sets_of : Plan → PlanSlots → List SetLink
+sets_of plan slots = map set_by (fronts_of plan slots)
+
+-- the successor that is unlinked behind the raise, where its link is not one of the removed node
+abbrev pub far_next : JoinPlan → Option Unlinking
+far_next p =
+    if p.next.at.node == p.node then None
+    else Some (record { successor = p.next.node; parent = p.next.at.node; side = p.next.at.side; replaced = p.node })
+
+abbrev pub unlinks_of : Plan → Option Unlinking
+unlinks_of (Grow p) = None
+unlinks_of (Replace p) = None
+unlinks_of (Lift p) = None
+unlinks_of (Join p) = far_next p
+
 -- the nodes that go out with the raise, and are marked behind it
 abbrev pub out_of : Plan → List ℕ
 out_of (Grow p) = []
@@ -112,6 +134,10 @@ abbrev pub head_of : Option Fresh → ℕ
 head_of None = 0
 head_of (Some fresh) = fresh.entry
 
+abbrev pub child_of : Option Fresh → ℕ
+child_of None = 0
+child_of (Some fresh) = fresh.child
+
 abbrev pub fill : Word → ℕ → Filled
 fill w x = record { word = w; value = x }
 
@@ -119,7 +145,9 @@ fill w x = record { word = w; value = x }
 abbrev pub node_fills : NewNode → List Filled
 node_fills n =
     fill (Node Mark n.slot) 0 ∷ fill (Node KeyField n.slot) n.pair.key ∷ fill (Node ValField n.slot) n.pair.val
-    ∷ fill (Node (Head Left) n.slot) (head_of n.left) ∷ fill (Node (Head Right) n.slot) (head_of n.right) ∷ []
+    ∷ fill (Node (Head Left) n.slot) (head_of n.left) ∷ fill (Node (Head Right) n.slot) (head_of n.right)
+    ∷ fill (Node (LinkField Left) n.slot) (child_of n.left) ∷ fill (Node (LinkField Right) n.slot) (child_of n.right)
+    ∷ fill (Node (Tag Left) n.slot) 0 ∷ fill (Node (Tag Right) n.slot) 0 ∷ []
 
 abbrev pub entry_fills : ℕ → ℕ → ℕ → List Filled
 entry_fills entry child behind =

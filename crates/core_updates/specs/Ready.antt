@@ -1,6 +1,6 @@
 -- What an update has made ready before its raise, over the words: the links of the tree at the stamp on which it
 -- rests, the new node with its bundles, and the entries that it has put in front of bundles.
-use Rattle.std.specs.Prelude.{◌≡◌, ℕ, ◌<◌, ◌^◌, ◌⊎◌, List, [], ◌∷◌, true, Option, Some, None}
+use Rattle.std.specs.Prelude.{◌≡◌, ℕ, ◌<◌, ◌^◌, ◌⊎◌, List, [], ◌∷◌, ◌==◌, cond, true, Option, Some, None}
 use Rattle.index_words.specs.declared.layout.Layout.{Layout}
 use Rattle.index_words.specs.declared.side.Side.{Side}
 use Rattle.index_words.specs.declared.side.Side.TheVariants.{Left, Right}
@@ -8,7 +8,8 @@ use Rattle.key_map.specs.declared.update.Update.{Update}
 use Rattle.key_map.specs.declared.update.Change.{Change}
 use Rattle.key_map.specs.declared.update.Change.TheVariants.{Put, Remove}
 use Rattle.index_words.specs.declared.view.View.{View}
-use Rattle.index_words.specs.declared.word.Field.TheVariants.{Key, Val, Mark, Head}
+use Rattle.index_words.specs.declared.view.update.Unlinking.{Unlinking}
+use Rattle.index_words.specs.declared.word.Field.TheVariants.{Key, Val, Mark, Head, Link, Tag}
 use Rattle.index_words.specs.declared.word.Part.TheVariants.{Child, Stamp as Number, Next}
 use Rattle.index_words.specs.declared.word.Word.TheVariants.{Node, Entry}
 use Rattle.index_words.specs.Words.{Memory}
@@ -20,6 +21,7 @@ use Rattle.core_invariant.specs.Rule.{Rule}
 use Rattle.core_events.specs.SpelledNow.{tree_now, child_now}
 use Rattle.core_events.specs.TreeMoves.{new_entries, node_entries, is_tree_step, tree_move}
 use Rattle.core_trees.specs.LinkSteps.{IsLinkIn}
+use Rattle.core_updates.specs.SetLinks.{SetLink, LeavesPlain, set_to}
 
 -- the link is one of the tree at the stamp, and leads there to the child, where 0 is none
 pub record LeadsNow (z : Layout) (m : Memory) (vs : List View) (node : ℕ) (side : Side) (child : ℕ) : Type 0 where
@@ -48,7 +50,7 @@ abbrev pub IsNewLink : Memory → View → ℕ → Side → ℕ → Type 0
 IsNewLink m v slot side child =
     ((m (Node (Head side) slot) ≡ 0) × (child ≡ 0)) ⊎ IsFreshTo m v (m (Node (Head side) slot)) child
 
--- the slot is a free one of the seat, and has this pair and these children, by different entries
+-- the slot is a free one of the seat, and has this pair and these children, by different entries and in its plain links
 pub record IsNewNode (m : Memory) (v : View) (slot key val left right : ℕ) : Type 0 where
   pub free : 0 < count slot v.free.nodes
   pub unmarked : m (Node Mark slot) ≡ 0
@@ -56,15 +58,20 @@ pub record IsNewNode (m : Memory) (v : View) (slot key val left right : ℕ) : T
   pub val_is : m (Node Val slot) ≡ val
   pub left_link : IsNewLink m v slot Left left
   pub right_link : IsNewLink m v slot Right right
+  pub left_child : m (Node (Link Left) slot) ≡ left
+  pub right_child : m (Node (Link Right) slot) ≡ right
+  pub left_tag : m (Node (Tag Left) slot) ≡ 0
+  pub right_tag : m (Node (Tag Right) slot) ≡ 0
   pub apart : m (Node (Head Left) slot) ≡ m (Node (Head Right) slot) → m (Node (Head Left) slot) ≡ 0
 
--- the key's node hangs at this link and is locked, and its children are known
+-- the key's node hangs at this link, both nodes are locked, and its children are known
 pub record FindsKey (z : Layout) (m : Memory) (vs : List View) (v : View) (key : ℕ) : Type 0 where
   pub parent : ℕ
   pub side : Side
   pub node : ℕ
   pub some : 0 < node
   pub at : LeadsNow z m vs parent side node
+  pub held : locks parent v.held.nodes ≡ true
   pub key_is : m (Node Key node) ≡ key
   pub locked : locks node v.held.nodes ≡ true
   pub left : ℕ
@@ -72,11 +79,12 @@ pub record FindsKey (z : Layout) (m : Memory) (vs : List View) (v : View) (key :
   pub right : ℕ
   pub right_is : child_now m vs [] Right node ≡ right
 
--- a put of an absent key: the one pending entry leads its gap's link to a new node without children
+-- a put of an absent key: the one pending entry leads its gap's link, whose node is locked, to a new node without children
 pub record IsReadyToGrow (z : Layout) (m : Memory) (vs : List View) (v : View) (key val : ℕ) : Type 0 where
   pub node : ℕ
   pub side : Side
   pub link : IsLinkIn 0 Right (tree_now z m vs) node side
+  pub held : locks node v.held.nodes ≡ true
   pub gap : IsGapLink key node side 0 Right (tree_now z m vs)
   pub small : key < 2 ^ 64
   pub slot : ℕ
@@ -105,7 +113,7 @@ pub record IsReadyToLift (z : Layout) (m : Memory) (vs : List View) (v : View) (
   pub pending : v.update.pending ≡ entry ∷ []
   pub prepared : IsPrepared m found.parent found.side entry child
 
--- the next node hangs at this link and is locked; its key is greater, and each key between is in the gap of its left
+-- the next node hangs at this link, and both nodes are locked; its key is greater, and each key between is in the gap of its left
 -- link; its right child is known
 pub record FindsSuccessor (z : Layout) (m : Memory) (vs : List View) (v : View) (key : ℕ) : Type 0 where
   pub parent : ℕ
@@ -113,6 +121,7 @@ pub record FindsSuccessor (z : Layout) (m : Memory) (vs : List View) (v : View) 
   pub node : ℕ
   pub some : 0 < node
   pub at : LeadsNow z m vs parent side node
+  pub held : locks parent v.held.nodes ≡ true
   pub above : key < m (Node Key node)
   pub locked : locks node v.held.nodes ≡ true
   pub gap : GapNow z m vs node Left key (m (Node Key node))
@@ -151,36 +160,53 @@ pub record IsReadyToJoin (z : Layout) (m : Memory) (vs : List View) (v : View) (
   pub by : IsNear v found.node next.parent next.side next.right entry new_right
       ⊎ IsDeep m v found.node found.right next.parent next.side next.right entry new_right
 
+-- the plain links that such a removal leaves to be set, the copy's first
+abbrev pub join_sets : (z : Layout) (m : Memory) (vs : List View) (v : View) (key : ℕ) → IsReadyToJoin z m vs v key → List SetLink
+join_sets z m vs v key h =
+    set_to h.found.parent h.found.side h.slot
+    ∷ cond (h.next.parent == h.found.node) [] (set_to h.next.parent h.next.side h.next.right ∷ [])
+
+-- the successor that it leaves to be unlinked
+abbrev pub join_last : (z : Layout) (m : Memory) (vs : List View) (v : View) (key : ℕ) → IsReadyToJoin z m vs v key → Option Unlinking
+join_last z m vs v key h =
+    cond (h.next.parent == h.found.node) None
+    (Some (record { successor = h.next.node; parent = h.next.parent; side = h.next.side; replaced = h.found.node }))
+
 -- an update of a pass
 abbrev pub update_of : ℕ → ℕ → ℕ → Change → Update
 update_of client line key change = record { client = client; line = line; key = key; change = change }
 
 -- the pending entries spell the tree after the update: the raise's need on trees is met. It brings in this node, or none, and
--- takes out these
-pub record MayStep (z : Layout) (m : Memory) (vs : List View) (v : View) (u : Update) (added : Option ℕ) (out : List ℕ) : Type 0 where
+-- takes out these, and leaves these plain links to be set, and this successor to be unlinked, or none
+pub record MayStep (z : Layout) (m : Memory) (vs : List View) (v : View) (u : Update) (added : Option ℕ) (out : List ℕ) (sets : List SetLink)
+    (unlinking : Option Unlinking) : Type 0 where
   pub step : is_tree_step z m vs v u ≡ true
   pub added_is : (tree_move z m vs v u).added ≡ added
   pub entries_are : (tree_move z m vs v u).entries ≡ new_entries m added
   pub taken_is : (tree_move z m vs v u).taken ≡ out
   pub taken_entries_are : (tree_move z m vs v u).taken_entries ≡ node_entries z m out
+  pub leaves : LeavesPlain u.change sets unlinking (tree_move z m vs v u).plain
 
 -- the laws: in every table that meets the rule, a seat that is ready may raise
 abbrev pub MayGrowLaw : Type 0
 MayGrowLaw =
     (z : Layout) (m : Memory) (vs : List View) (g : Meaning) (i : ℕ) (v : View) (client line key val : ℕ) → Rule z m vs g → IsItem vs i v
-    → (h : IsReadyToGrow z m vs v key val) → MayStep z m vs v (update_of client line key (Put val)) (Some h.slot) []
+    → (h : IsReadyToGrow z m vs v key val) → MayStep z m vs v (update_of client line key (Put val)) (Some h.slot) [] (set_to h.node h.side h.slot ∷ []) None
 
 abbrev pub MayReplaceLaw : Type 0
 MayReplaceLaw =
     (z : Layout) (m : Memory) (vs : List View) (g : Meaning) (i : ℕ) (v : View) (client line key val : ℕ) → Rule z m vs g → IsItem vs i v
     → (h : IsReadyToReplace z m vs v key val) → MayStep z m vs v (update_of client line key (Put val)) (Some h.slot) (h.found.node ∷ [])
+    (set_to h.found.parent h.found.side h.slot ∷ []) None
 
 abbrev pub MayLiftLaw : Type 0
 MayLiftLaw =
     (z : Layout) (m : Memory) (vs : List View) (g : Meaning) (i : ℕ) (v : View) (client line key : ℕ) → Rule z m vs g → IsItem vs i v
     → (h : IsReadyToLift z m vs v key) → MayStep z m vs v (update_of client line key Remove) None (h.found.node ∷ [])
+    (set_to h.found.parent h.found.side h.child ∷ []) None
 
 abbrev pub MayJoinLaw : Type 0
 MayJoinLaw =
     (z : Layout) (m : Memory) (vs : List View) (g : Meaning) (i : ℕ) (v : View) (client line key : ℕ) → Rule z m vs g → IsItem vs i v
     → (h : IsReadyToJoin z m vs v key) → MayStep z m vs v (update_of client line key Remove) (Some h.slot) (h.found.node ∷ h.next.node ∷ [])
+    (join_sets z m vs v key h) (join_last z m vs v key h)

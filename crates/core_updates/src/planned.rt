@@ -1,7 +1,7 @@
 // What a plan says, item by item in the order in which the update does it.
 ghost use Rattle.std.specs.Prelude.{◌≡◌, ◌==◌};
 ghost use Rattle.std.specs.List.{slice_get};
-ghost use Rattle.core_updates.specs.Plans.{key_of, change_of, locks_of, looks_of, new_node_of, fronts_of, out_of, node_fills, entry_fills, fresh_to, head_of, other_side};
+ghost use Rattle.core_updates.specs.Plans.{key_of, change_of, locks_of, looks_of, new_node_of, fronts_of, out_of, node_fills, entry_fills, fresh_to, head_of, child_of, other_side};
 
 use crate::plan::{Fresh, Front, JoinPlan, LiftPlan, Look, NewNode, Plan, PlanSlots, ReplacePlan};
 use core_trees::Link;
@@ -235,6 +235,13 @@ impl NewNode {
             filled(Word::Node(Field::Val, slot), self.pair.val),
             filled(Word::Node(Field::Head(Side::Left), slot), head(self.left)),
             filled(Word::Node(Field::Head(Side::Right), slot), head(self.right)),
+            filled(Word::Node(Field::Link(Side::Left), slot), child(self.left)),
+            filled(
+                Word::Node(Field::Link(Side::Right), slot),
+                child(self.right),
+            ),
+            filled(Word::Node(Field::Tag(Side::Left), slot), 0),
+            filled(Word::Node(Field::Tag(Side::Right), slot), 0),
         ]
         .get(place)
         .copied()
@@ -284,6 +291,15 @@ fn head(fresh: Option<Fresh>) -> u64
     match fresh {
         None => 0,
         Some(fresh) => u64::from(fresh.entry),
+    }
+}
+
+fn child(fresh: Option<Fresh>) -> u64
+    ensures { result ≡ child_of fresh }
+{
+    match fresh {
+        None => 0,
+        Some(fresh) => u64::from(fresh.child),
     }
 }
 

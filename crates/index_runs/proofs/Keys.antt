@@ -26,5 +26,5 @@ same_numbers (k ∷ keys) (w ∷ left) long each =
 pub all_laid_down : (index : Home) (keys : List Pass) (left : List Worked) → AreAllKeys index keys → LaidDown index keys left → AreAllKeys index (map key_of left)
 all_laid_down index keys left all laid =
     all_kept index keys (map key_of left) all
-    (every_key index left (λ i d lt. (laid.each i (key_of d) d (omega (arith, laid.one_each))).0))
-    (same_numbers keys left laid.one_each (λ i k d lt. (laid.each i k d lt).1))
+    (every_key index left (λ i d lt. (laid.each i (key_of d) d (omega (arith, laid.one_each))).of))
+    (same_numbers keys left laid.one_each (λ i k d lt. (laid.each i k d lt).number))

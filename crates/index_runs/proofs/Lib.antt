@@ -1,4 +1,3 @@
 -- The keys of a run, and the keys of passes over the table.
 pub mod Keys
-pub mod Backs
 pub mod Seats

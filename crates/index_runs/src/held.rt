@@ -1,8 +1,5 @@
 // One pass makes updates while all others are held inside snapshots.
-ghost use Rattle.std.specs.Prelude.{◌≡◌, None};
-ghost use Rattle.shared_index.specs.Keys.{home_of_pass};
-ghost use Rattle.shared_index.specs.Shown.{shown};
-ghost use Rattle.index_runs.specs.Runs.{GoesOn};
+ghost use Rattle.index_runs.specs.Runs.{GoesOn, IsClosed};
 
 use crate::gate::Gates;
 use crate::plan::Run;
@@ -20,9 +17,8 @@ pub(crate) fn work_or_be_held<R: Wait>(
     run: &Run,
     gates: &Gates,
 ) -> Result<Vec<Event>, AllocError>
-    requires closed { (shown pass.old).opened ≡ None }
-    ensures goes { GoesOn (shown pass.old) (shown pass.new) }
-    ensures home { home_of_pass pass.new ≡ home_of_pass pass.old }
+    requires { IsClosed pass.old }
+    ensures { GoesOn pass.old pass.new }
 {
     if pass.client() == 0 {
         work_meanwhile(rt, alloc, pass, run, gates)
@@ -39,9 +35,8 @@ fn be_held<R: Wait>(
     run: &Run,
     gates: &Gates,
 ) -> Result<Vec<Event>, AllocError>
-    requires closed { (shown pass.old).opened ≡ None }
-    ensures goes { GoesOn (shown pass.old) (shown pass.new) }
-    ensures home { home_of_pass pass.new ≡ home_of_pass pass.old }
+    requires { IsClosed pass.old }
+    ensures { GoesOn pass.old pass.new }
 {
     let page = run.page as usize;
     let mut events = Vec::with_capacity(alloc, 1)?;
@@ -66,9 +61,8 @@ fn work_meanwhile<R: Wait>(
     run: &Run,
     gates: &Gates,
 ) -> Result<Vec<Event>, AllocError>
-    requires closed { (shown pass.old).opened ≡ None }
-    ensures goes { GoesOn (shown pass.old) (shown pass.new) }
-    ensures home { home_of_pass pass.new ≡ home_of_pass pass.old }
+    requires { IsClosed pass.old }
+    ensures { GoesOn pass.old pass.new }
 {
     let readers = u64::from(run.readers);
     let mut events = work(rt, alloc, pass, run, gates)?;
@@ -89,9 +83,8 @@ fn update_and_settle<R: Wait>(
     gates: &Gates,
     events: &mut Vec<Event>,
 ) -> Result<(), AllocError>
-    requires closed { (shown pass.old).opened ≡ None }
-    ensures goes { GoesOn (shown pass.old) (shown pass.new) }
-    ensures home { home_of_pass pass.new ≡ home_of_pass pass.old }
+    requires { IsClosed pass.old }
+    ensures { GoesOn pass.old pass.new }
 {
     let mut random = run.random(0);
     'updates: for step in 0..run.meanwhile {

@@ -8,7 +8,7 @@
 //     puts      as `held`, and all updates are puts
 //     tries     each request is a single try of a put
 //     visits    passes put and remove by turns, while `readers` come and go, and stay `turns` turns
-//     few       passes with few slots update over the table, beside such readers, and tell their free slots at the end
+//     few       passes with few slots update beside such readers, empty the map, and tell their free slots at the end
 //     sections  four passes over the table enter, leave, fill words and look at each other, `turns` turns between two
 //               meetings, and take in each other's notes
 //     waits     a pass over the table stops in the middle of an update for `turns` turns, while the others wait for it
@@ -16,7 +16,7 @@
 // The names are those of the fields of `Run`. Without words a small run is made.
 #![tactic(auto)]
 
-mod few;
+mod free;
 mod gate;
 mod held;
 mod plan;
@@ -30,7 +30,6 @@ mod visits;
 mod waits;
 mod work;
 
-use few::make_few;
 use plan::{Run, SMALL, Task};
 use report::{Outcome, print_outcome};
 use run::{Stopped, make_run};
@@ -77,7 +76,6 @@ fn run_of(mut words: env::Args) -> Option<Run> {
 /// Makes the run.
 fn make<R: Threads + Wait + Sync>(rt: &R, alloc: Global, run: &Run) -> Result<Outcome, Stopped> {
     Ok(match run.task {
-        Task::Few => Outcome::Ran(make_few(rt, alloc, run)?),
         Task::Sections => Outcome::Sectioned(make_sections(rt, alloc, run.turns)?),
         Task::Waits => Outcome::Waited(make_waits(rt, alloc, run.turns)?),
         Task::Timed => {

@@ -16,9 +16,9 @@ pub(crate) enum Task {
     HeldPuts,
     /// Each request is a single try of a put.
     Tries,
-    /// One puts and removes by turns, while the others come and go.
+    /// One puts and removes by turns, while readers come and go.
     Visits,
-    /// They have few slots, over the table itself, and tell which of them are free at the end.
+    /// They have few slots, empty the map when all is done, and tell which of their slots are free.
     Few,
     /// Four of them enter and leave sections of the table, and look at each other.
     Sections,
@@ -135,6 +135,14 @@ impl Run {
             })?;
         }
         Ok(sizes)
+    }
+
+    /// Of a hundred requests so many are updates: all of them where slots are few.
+    pub(crate) fn updates_of_hundred(&self) -> u64 {
+        match self.task {
+            Task::Few => 100,
+            _ => u64::from(self.updates),
+        }
     }
 
     /// The random numbers of a pass.

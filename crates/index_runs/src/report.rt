@@ -122,8 +122,8 @@ fn listed(rt: &HostRuntime, slots: &[u32]) -> Result<String, std::fmt::Error> {
     Ok(text)
 }
 
-/// What a pass over the table has found: its meetings, its looks and those that found a word fallen, and of each pass the
-/// first and the last word.
+/// What a pass over the table has found: its meetings, its looks and those that found a word fallen, and of each pass
+/// the first and the last word.
 fn print_found(rt: &HostRuntime, number: usize, found: &Found) -> io::Result<()> {
     print!(rt;
         "S {number} {} {} {}",

@@ -1,9 +1,9 @@
 // A run: passes at work at once, each on a thread of its own, over one index, to the index's end.
 ghost use Rattle.std.specs.Prelude.{◌≡◌, map, IfOk};
-ghost use Rattle.table_steps.specs.Closes.{number_of};
 ghost use Rattle.shared_index.specs.Keys.{AreAllKeys, IsKeyOf};
-ghost use Rattle.index_runs.specs.Runs.{LaidDown, key_of};
+ghost use Rattle.index_runs.specs.Runs.{GoesOn, IsClosed, IsLaidDown, LaidDown, key_of};
 
+use crate::free::tell_free;
 use crate::gate::Gates;
 use crate::held::work_or_be_held;
 use crate::plan::{Run, Task};
@@ -11,7 +11,7 @@ use crate::tries::try_puts;
 use crate::visits::work_or_visit;
 use crate::work::{Event, work};
 use index_words::Update;
-use shared_index::{OpenError, PassKey, SharedIndex};
+use shared_index::{IndexPass, OpenError, PassKey, SharedIndex};
 use std::alloc::{AllocError, Global};
 use std::sync::Wait;
 use std::thread::{Threads, map_vec};
@@ -56,6 +56,25 @@ fn opened(alloc: Global, run: &Run) -> Result<(SharedIndex, Vec<PassKey>), Stopp
     }
 }
 
+/// What a pass does in a run of this task.
+fn do_task<R: Wait>(
+    rt: &R,
+    alloc: Global,
+    pass: &mut IndexPass<'_>,
+    run: &Run,
+    gates: &Gates,
+) -> Result<Vec<Event>, AllocError>
+    requires { IsClosed pass.old }
+    ensures { GoesOn pass.old pass.new }
+{
+    match run.task {
+        Task::Held | Task::HeldPuts => work_or_be_held(rt, alloc, pass, run, gates),
+        Task::Visits | Task::Few => work_or_visit(rt, alloc, pass, run, gates),
+        Task::Tries => try_puts(alloc, pass, run),
+        _ => work(rt, alloc, pass, run, gates),
+    }
+}
+
 /// Takes up the pass of a key, and does what it is to do.
 fn work_on<R: Wait>(
     rt: &R,
@@ -66,19 +85,15 @@ fn work_on<R: Wait>(
     gates: &Gates,
 ) -> Worked
     requires of { IsKeyOf index.now key }
-    ensures of { IsKeyOf index.now result.key }
-    ensures number { number_of result.key ≡ number_of key }
+    ensures laid { IsLaidDown index.now key result.key }
 {
     let mut pass = index.attach(key);
-    let events = match run.task {
-        Task::Held | Task::HeldPuts => work_or_be_held(rt, alloc, &mut pass, run, gates),
-        Task::Visits => work_or_visit(rt, alloc, &mut pass, run, gates),
-        Task::Tries => try_puts(alloc, &mut pass, run),
-        _ => work(rt, alloc, &mut pass, run, gates),
-    };
-    Worked {
-        key: pass.detach(),
-        events,
+    let events = do_task(rt, alloc, &mut pass, run, gates);
+    let key = pass.detach();
+    let worked = Worked { key, events };
+    match run.task {
+        Task::Few => tell_free(alloc, index.table(), worked),
+        _ => worked,
     }
 }
 
@@ -96,13 +111,13 @@ fn work_on_each<R: Threads + Wait + Sync>(
     let gates = Gates::new();
     let work = |key: PassKey| -> Worked
         requires { IsKeyOf index.now key }
-        ensures { IsKeyOf index.entry.now result.key × (number_of result.key ≡ number_of key) }
+        ensures { IsLaidDown index.entry.now key result.key }
     { work_on(rt, alloc, index, key, run, &gates) };
     map_vec(rt, keys, &work)
 }
 
 /// What the passes leave, kept apart: their keys in one list, what they were answered in another.
-pub(crate) fn take_apart(
+fn take_apart(
     alloc: Global,
     mut left: Vec<Worked>,
 ) -> Result<(Vec<PassKey>, Vec<Vec<Event>>), AllocError>

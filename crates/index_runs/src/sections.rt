@@ -1,5 +1,5 @@
-// Four passes at work at once on threads over the table itself, which take in each other's notes. A fifth pass stays inside
-// its section: so the slots that the four have taken out wait, and there is something to look for.
+// Four passes at work at once on threads over the table itself, which take in each other's notes. A fifth pass stays
+// inside its section: so the slots that the four have taken out wait, and there is something to look for.
 ghost use Rattle.std.specs.Prelude.{◌≡◌, IfSome};
 ghost use Rattle.std.specs.Thread.{IsSync};
 ghost use Rattle.table_steps.specs.Closes.{AreAllKeys};

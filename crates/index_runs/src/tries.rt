@@ -1,8 +1,5 @@
 // Passes that put by single tries, which wait for nobody, and count what they meet.
-ghost use Rattle.std.specs.Prelude.{◌≡◌, None};
-ghost use Rattle.shared_index.specs.Keys.{home_of_pass};
-ghost use Rattle.shared_index.specs.Shown.{shown};
-ghost use Rattle.index_runs.specs.Runs.{GoesOn};
+ghost use Rattle.index_runs.specs.Runs.{GoesOn, IsClosed};
 
 use crate::plan::{Asked, Run};
 use crate::work::Event;
@@ -37,9 +34,8 @@ pub(crate) fn try_puts(
     pass: &mut IndexPass<'_>,
     run: &Run,
 ) -> Result<Vec<Event>, AllocError>
-    requires closed { (shown pass.old).opened ≡ None }
-    ensures goes { GoesOn (shown pass.old) (shown pass.new) }
-    ensures home { home_of_pass pass.new ≡ home_of_pass pass.old }
+    requires { IsClosed pass.old }
+    ensures { GoesOn pass.old pass.new }
 {
     let mut events = Vec::new(alloc);
     let mut met = Met::default();
@@ -66,9 +62,8 @@ pub(crate) fn try_puts(
 
 /// One try of a put, which leaves no snapshot open.
 fn try_put(pass: &mut IndexPass<'_>, line: u32, key: u64, val: u64) -> Result<Try, PassError>
-    requires closed { (shown pass.old).opened ≡ None }
-    ensures goes { GoesOn (shown pass.old) (shown pass.new) }
-    ensures home { home_of_pass pass.new ≡ home_of_pass pass.old }
+    requires { IsClosed pass.old }
+    ensures { GoesOn pass.old pass.new }
 {
     match pass.try_put(line, key, val) {
         Ok(Try::Done(done)) => Ok(Try::Done(done)),

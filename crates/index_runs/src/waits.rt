@@ -1,4 +1,5 @@
-// A pass stops in the middle of an update, and the others wait for it: some look for a pair, and the rest put the same key.
+// A pass stops in the middle of an update, and the others wait for it: some look for a pair, and the rest put the same
+// key.
 ghost use Rattle.std.specs.Prelude.{◌≡◌, ◌<◌, ℕ, All, IfOk, Some};
 ghost use Rattle.core_updates.specs.PlanEvents.{HasSlots};
 ghost use Rattle.plan_laws.specs.Fills.{AreApart};
@@ -20,7 +21,7 @@ use tree_update::put;
 use update_search::{Found, begin_search, find_plan};
 use update_try::{
     finalise_all, leave_section, make_ready, mark_all, plan_slots, prune_all, raise_plan,
-    unlock_all, validate,
+    raise_tags, set_links, unlock_all, validate,
 };
 
 const SIZE: PassSize = PassSize {
@@ -69,12 +70,14 @@ fn end_update(pass: &mut TablePass<'_>, number: u64, plan: &Plan, slots: &PlanSl
     finalise_all(pass, plan, slots);
     prune_all(pass, plan, slots, number);
     mark_all(pass, plan);
+    set_links(pass, plan, slots);
+    raise_tags(pass, plan, slots);
     unlock_all(pass, plan);
     leave_section(pass);
 }
 
-/// Carries a plan out, and stays at its stage before the raise. Whether the locks were free and the looks found all as it
-/// was.
+/// Carries a plan out, and stays at its stage before the raise. Whether the locks were free and the looks found all as
+/// it was.
 fn carry_slowly(
     pass: &mut TablePass<'_>,
     meeting: &Meeting,

@@ -1,6 +1,8 @@
 // What one pass does, and what it was answered.
-ghost use Rattle.std.specs.Prelude.{◌≡◌, IsSome, None};
-ghost use Rattle.index_runs.specs.Runs.{GoesOn};
+ghost use Rattle.std.specs.Prelude.{◌≡◌, IsSome};
+ghost use Rattle.shared_index.specs.Shown.{shown};
+ghost use Rattle.shared_index.specs.Keys.{home_of_pass};
+ghost use Rattle.index_runs.specs.Runs.{GoesOn, IsClosed};
 
 use crate::gate::Gates;
 use crate::plan::{Asked, Run, Task};
@@ -9,7 +11,7 @@ use crate::tries::Met;
 use bucket_terms::KeyPass;
 use index_words::Pair;
 use key_map::{Done, New, PassError};
-use shared_index::Settling;
+use shared_index::{IndexPass, Settling};
 use std::alloc::{AllocError, Global};
 use std::sync::Wait;
 
@@ -86,16 +88,15 @@ pub(crate) fn done_of(new: New) -> Done {
 }
 
 /// Makes all requests of a run, and answers what they were answered, as far as that is kept.
-pub(crate) fn work<P: KeyPass, R: Wait>(
+pub(crate) fn work<R: Wait>(
     rt: &R,
     alloc: Global,
-    pass: &mut P,
+    pass: &mut IndexPass<'_>,
     run: &Run,
     gates: &Gates,
 ) -> Result<Vec<Event>, AllocError>
-    requires closed { (P.view pass.old).opened ≡ None }
-    ensures goes { GoesOn (P.view pass.old) (P.view pass.new) }
-    ensures home { P.home pass.new ≡ P.home pass.old }
+    requires { IsClosed pass.old }
+    ensures { GoesOn pass.old pass.new }
 {
     let mut events = Vec::new(alloc);
     let mut random = run.random(pass.client());
@@ -109,21 +110,20 @@ pub(crate) fn work<P: KeyPass, R: Wait>(
 }
 
 /// A random request.
-fn request<P: KeyPass, R: Wait>(
+fn request<R: Wait>(
     rt: &R,
     alloc: Global,
-    pass: &mut P,
+    pass: &mut IndexPass<'_>,
     run: &Run,
     gates: &Gates,
     random: &mut Random,
     line: u32,
 ) -> Result<Event, AllocError>
-    requires closed { (P.view pass.old).opened ≡ None }
-    ensures goes { GoesOn (P.view pass.old) (P.view pass.new) }
-    ensures home { P.home pass.new ≡ P.home pass.old }
+    requires { IsClosed pass.old }
+    ensures { GoesOn pass.old pass.new }
 {
     let kind = random.below(100);
-    let (updates, listings) = (u64::from(run.updates), u64::from(run.listings));
+    let (updates, listings) = (run.updates_of_hundred(), u64::from(run.listings));
     if kind < updates {
         let asked = run.asked(pass.client(), line, random);
         return Ok(update(rt, pass, asked, line, gates));
@@ -138,31 +138,29 @@ fn request<P: KeyPass, R: Wait>(
 }
 
 /// Makes an update.
-pub(crate) fn update<P: KeyPass, R: Wait>(
+pub(crate) fn update<R: Wait>(
     rt: &R,
-    pass: &mut P,
+    pass: &mut IndexPass<'_>,
     asked: Asked,
     line: u32,
     gates: &Gates,
 ) -> Event
-    requires closed { (P.view pass.old).opened ≡ None }
-    ensures goes { GoesOn (P.view pass.old) (P.view pass.new) }
-    ensures home { P.home pass.new ≡ P.home pass.old }
+    requires { IsClosed pass.old }
+    ensures { GoesOn pass.old pass.new }
 {
     let gone = gates.gone.raised();
     let answer = answer(rt, pass, asked, line);
     Event::of(line, asked, answer, gone, gates)
 }
 
-fn answer<P: KeyPass, R: Wait>(
+fn answer<R: Wait>(
     rt: &R,
-    pass: &mut P,
+    pass: &mut IndexPass<'_>,
     asked: Asked,
     line: u32,
 ) -> Result<Done, PassError>
-    requires closed { (P.view pass.old).opened ≡ None }
-    ensures goes { GoesOn (P.view pass.old) (P.view pass.new) }
-    ensures home { P.home pass.new ≡ P.home pass.old }
+    requires { IsClosed pass.old }
+    ensures { GoesOn pass.old pass.new }
 {
     match asked {
         Asked::Put { key, val } => pass.put(rt, line, key, val),
@@ -174,16 +172,15 @@ fn answer<P: KeyPass, R: Wait>(
     }
 }
 
-fn listing<P: KeyPass, R: Wait>(
+fn listing<R: Wait>(
     rt: &R,
     alloc: Global,
-    pass: &mut P,
+    pass: &mut IndexPass<'_>,
     from: u64,
     page: usize,
 ) -> Result<Event, AllocError>
-    requires closed { (P.view pass.old).opened ≡ None }
-    ensures goes { GoesOn (P.view pass.old) (P.view pass.new) }
-    ensures home { P.home pass.new ≡ P.home pass.old }
+    requires { IsClosed pass.old }
+    ensures { GoesOn pass.old pass.new }
 {
     let mut pairs = Vec::with_capacity(alloc, page)?;
     let at = pass.begin();
@@ -198,16 +195,16 @@ fn listing<P: KeyPass, R: Wait>(
 }
 
 // Reads so many pairs of the open snapshot, as far as there are so many.
-pub(crate) fn read<P: KeyPass, R: Wait>(
+pub(crate) fn read<R: Wait>(
     rt: &R,
-    pass: &mut P,
+    pass: &mut IndexPass<'_>,
     from: u64,
     page: usize,
     pairs: &mut Vec<Pair>,
 )
-    requires open_at { IsSome (P.view pass.old).opened }
-    ensures same { P.view pass.new ≡ P.view pass.old }
-    ensures home { P.home pass.new ≡ P.home pass.old }
+    requires open_at { IsSome (shown pass.old).opened }
+    ensures same { shown pass.new ≡ shown pass.old }
+    ensures home { home_of_pass pass.new ≡ home_of_pass pass.old }
 {
     let mut next = Some(from);
     'pairs: for _ in 0..page {

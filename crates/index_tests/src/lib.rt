@@ -7,3 +7,5 @@ mod passes;
 mod rows;
 #[cfg(test)]
 mod set_up;
+#[cfg(test)]
+mod trades;

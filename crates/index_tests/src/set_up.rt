@@ -21,12 +21,12 @@ pub(crate) const fn done(at: u64, was: bool) -> Result<Done, PassError> {
     Ok(Done { at, was })
 }
 
-/// The keys of an index of two passes.
-fn both(keys: Vec<PassKey>) -> Option<(PassKey, PassKey)>
-    ensures { IfSome result (λ two. keys.items ≡ two.0 ∷ two.1 ∷ []) }
+/// The items of a list of two, as the keys of an index of two passes.
+pub(crate) fn both<T: Drop>(items: Vec<T>) -> Option<(T, T)>
+    ensures { IfSome result (λ two. items.items ≡ two.0 ∷ two.1 ∷ []) }
 {
-    let mut keys = keys;
-    let (Some(second), Some(first), None) = (keys.pop(), keys.pop(), keys.pop()) else {
+    let mut items = items;
+    let (Some(second), Some(first), None) = (items.pop(), items.pop(), items.pop()) else {
         return None;
     };
     Some((first, second))

@@ -12,8 +12,8 @@ use Rattle.bucket_terms.specs.V1Listing.{plain, marker_point, v1_page, last_text
 abbrev pub from_marker : V1Query → List ℕ → V1Query
 from_marker query marker = record query { marker = marker }
 
--- a truncated page has a last entry; the page's entries, followed by those from the marker that is that entry's text, are
--- the entries of the query
+-- a truncated page has a last entry; the page's entries, followed by those from the marker that is that entry's text,
+-- are the entries of the query
 abbrev pub LeavesTheRest : List (List ℕ) → V1Query → List Pair → Page → Type 0
 LeavesTheRest dir query m page =
     page.truncated ≡ true → MatchOption (last_text dir page) ⊥

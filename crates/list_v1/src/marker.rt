@@ -25,8 +25,9 @@ pub fn plain_query(alloc: Global, query: &V1Query) -> Result<ListQuery, NoMemory
     })
 }
 
-/// Where the listing begins (Amazon S3 API reference, ListObjects: `Marker`): behind all keys of the marker where it is a
-/// common prefix of the query, and else behind the key. None exactly where there is no marker. An error is want of memory.
+/// Where the listing begins (Amazon S3 API reference, ListObjects: `Marker`): behind all keys of the marker where it is
+/// a common prefix of the query, and else behind the key. None exactly where there is no marker. An error is want of
+/// memory.
 pub fn point_of(alloc: Global, query: &V1Query) -> Result<Option<TokenPoint>, NoMemory>
     ensures point { IfOk result (λ point. point ≡ marker_point query.now) }
 {

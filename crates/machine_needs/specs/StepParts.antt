@@ -1,7 +1,7 @@
 -- What a step is as an event: its kind, the name of its word, its value and its update.
 use Rattle.std.specs.Prelude.{◌≡◌, ℕ, cond, Option, Some, None}
 use Rattle.key_map.specs.declared.update.Update.{Update}
-use Rattle.index_words.specs.declared.word.Field.TheVariants.{Key, Val, Lock, Mark, Head}
+use Rattle.index_words.specs.declared.word.Field.TheVariants.{Key, Val, Lock, Mark, Head, Link, Tag}
 use Rattle.index_words.specs.declared.word.Part.TheVariants.{Child, Stamp as Number, Next}
 use Rattle.index_words.specs.declared.word.Word.{Word}
 use Rattle.index_words.specs.declared.word.Word.TheVariants.{Stamp, Section, Announced, Node, Entry}
@@ -33,6 +33,8 @@ load_parts (load.Next entry) = plain kind.LoadNext (Entry Next entry) 0
 load_parts (load.Mark node) = plain kind.LoadMark (Node Mark node) 0
 load_parts (load.Key node) = plain kind.LoadKeyOrVal (Node Key node) 0
 load_parts (load.Val node) = plain kind.LoadKeyOrVal (Node Val node) 0
+load_parts (load.Link node side) = plain kind.LoadLink (Node (Link side) node) 0
+load_parts (load.Tag node side) = plain kind.LoadTag (Node (Tag side) node) 0
 
 abbrev pub store_parts : Store → Parts
 store_parts (store.Enter pass value) = plain kind.Enter (Section pass) value
@@ -43,6 +45,8 @@ store_parts (store.Prepare node side entry) = plain kind.Prepare (Node (Head sid
 store_parts (store.Finalise entry number) = plain kind.Finalise (Entry Number entry) number
 store_parts (store.Unlock node) = plain kind.Unlock (Node Lock node) 0
 store_parts (store.Mark node) = plain kind.Mark (Node Mark node) 1
+store_parts (store.Link node side child) = plain kind.SetLink (Node (Link side) node) child
+store_parts (store.Tag node side tag) = plain kind.SetTag (Node (Tag side) node) tag
 
 abbrev pub parts_of : Step → Parts
 parts_of (step.Split nodes) = plain kind.SplitSeat Stamp nodes

@@ -7,6 +7,7 @@ mod cut_needs;
 mod load_needs;
 mod lock_needs;
 pub mod needs;
+mod plain_needs;
 mod seat_needs;
 pub mod step;
 mod update_needs;

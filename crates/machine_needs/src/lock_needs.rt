@@ -5,6 +5,7 @@ ghost use Rattle.core_events.specs.declared.event.Kind.TheVariants.{TryLock, Unl
 ghost use Rattle.core_events.specs.LockNeeds.{names_pass as pass_named, may_try_lock as try_lock_needs, may_unlock as unlock_needs, may_load_mark as load_mark_needs, may_mark as mark_needs, may_load_pair as load_pair_needs};
 ghost use Rattle.machine_needs.specs.StepParts.{IsStep};
 
+use crate::plain_needs::is_done_at;
 use crate::seat_needs::is_pending_free;
 use crate::step::{Load, Step, Store};
 use core_events::reads::{is_in, is_locked, is_reachable};
@@ -51,6 +52,7 @@ pub(crate) fn unlock(
     };
     if is_locked(view.held.nodes.as_slice(), node)
         && is_pending_free(layout, words, view)
+        && is_done_at(&view.update, node)
         && value == 0
     {
         return Some(Step::Store(Store::Unlock { node }));

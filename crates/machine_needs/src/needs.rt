@@ -10,6 +10,7 @@ use crate::announcing_needs::{announce, look_at_announcement};
 use crate::cut_needs::cut;
 use crate::load_needs::{load_child, load_head, load_next, load_number, load_stamp};
 use crate::lock_needs::{load_mark, load_pair, mark, try_lock, unlock};
+use crate::plain_needs::{load_link, load_tag, set_link, set_tag};
 use crate::seat_needs::{enter, fill, join, leave, look, split};
 use crate::step::Step;
 use crate::update_needs::{finalise, prepare, raise};
@@ -53,6 +54,10 @@ fn plain_step(
         Kind::Announce => announce(view, word, value),
         Kind::LookAnn => look_at_announcement(view, word, value),
         Kind::Cut => cut(layout, words, views, view, word, value),
+        Kind::LoadLink => load_link(view, word, value),
+        Kind::SetLink => set_link(layout, words, view, word, value),
+        Kind::LoadTag => load_tag(view, word, value),
+        Kind::SetTag => set_tag(layout, words, view, word, value),
     }
 }
 

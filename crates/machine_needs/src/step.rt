@@ -40,6 +40,10 @@ pub enum Load {
     Mark { node: u32 },
     Key { node: u32 },
     Val { node: u32 },
+    /// A plain link.
+    Link { node: u32, side: Side },
+    /// A plain link's tag.
+    Tag { node: u32, side: Side },
 }
 
 /// The words that are stored, but for locks that are tried.
@@ -61,6 +65,10 @@ pub enum Store {
     Unlock { node: u32 },
     /// The mark of a node: 1.
     Mark { node: u32 },
+    /// A plain link: the child that the update has left it to be set to.
+    Link { node: u32, side: Side, child: u64 },
+    /// A plain link's tag: one more than before.
+    Tag { node: u32, side: Side, tag: u64 },
 }
 
 impl Store {
@@ -75,6 +83,8 @@ impl Store {
             Store::Finalise { number, .. } => number,
             Store::Unlock { .. } => 0,
             Store::Mark { .. } => 1,
+            Store::Link { child, .. } => child,
+            Store::Tag { tag, .. } => tag,
         }
     }
 }

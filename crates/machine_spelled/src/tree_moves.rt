@@ -8,6 +8,7 @@ ghost use Rattle.core_events.specs.TreeMoves.{node_entries, tree_move as move_by
 ghost use Rattle.machine_spelled.specs.Sights.{memory_of};
 
 use crate::bundles_now::push_entries;
+use crate::link_plans::plain_move;
 use crate::spelled_now::{Sight, field_of};
 use crate::tree_steps::{Heads, Taken, plan_of, whole};
 use core_events::TreeMove;
@@ -131,5 +132,6 @@ pub fn tree_move(
         entries,
         taken,
         taken_entries,
+        plain: plain_move(alloc, update.change, plan.links)?,
     })
 }

@@ -12,9 +12,12 @@ ghost use Rattle.core_events.specs.UpdateMoves.{listed_entry};
 ghost use Rattle.core_trees.specs.SpelledTree.{spells};
 ghost use Rattle.core_events.specs.SpelledNow.{child_now, tree_now};
 ghost use Rattle.core_events.specs.LoadMoves.{locks};
+ghost use Rattle.core_events.specs.PlainWork.{plain_move};
 ghost use Rattle.core_events.specs.TreeMoves.{takes, brings, has_key, first_slot, new_entries, is_fresh as fresh, is_new as new_node, tree_after, is_tree_step as makes_step, is_key as fits_key};
+ghost use Rattle.machine_spelled.specs.LinkPlans.{planned_move};
 ghost use Rattle.machine_spelled.specs.Sights.{memory_of, more_of, graph_seen, seen};
 
+use crate::link_plans::{LinkPlan, is_plain_step, link_plan};
 use crate::spelled_now::{Sight, child_of, field_of, is_listed, old_child, part_of};
 use crate::spelling::{spells_put, spells_removal};
 use crate::subtrees::{Subtree, top};
@@ -37,7 +40,7 @@ pub(crate) struct Heads {
 }
 
 /// The link at which the search for a key ends, in a tree that hangs at the link `at`.
-fn end_link(sight: &Sight<'_>, tree: Subtree, key: u64, at: Link) -> Link
+pub(crate) fn end_link(sight: &Sight<'_>, tree: Subtree, key: u64, at: Link) -> Link
     ensures node { result.node ≡ end_node key at.node (seen sight.now tree) }
     ensures side { result.side ≡ end_side key at.side (seen sight.now tree) }
 {
@@ -62,7 +65,7 @@ fn end_link(sight: &Sight<'_>, tree: Subtree, key: u64, at: Link) -> Link
 }
 
 /// The subtree at which the search for a key ends.
-fn found(sight: &Sight<'_>, tree: Subtree, key: u64) -> Subtree
+pub(crate) fn found(sight: &Sight<'_>, tree: Subtree, key: u64) -> Subtree
     ensures { seen sight.now result ≡ subtree_at key (seen sight.now tree) }
 {
     let Some(node) = top(sight, tree) else {
@@ -247,6 +250,8 @@ pub(crate) struct Plan {
     pub added: Option<u64>,
     pub taken: Taken,
     pub heads: Heads,
+    /// The plain links that are to be set.
+    pub links: LinkPlan,
 }
 
 /// What the update moves in this tree.
@@ -255,6 +260,7 @@ pub(crate) fn plan_of(sight: &Sight<'_>, tree: Subtree, update: Update) -> Plan
     ensures added { result.added ≡ first_slot (brings update.change result.slot update.key (seen sight.now tree)) }
     ensures taken { listed result.taken.replaced ++ listed result.taken.successor ≡ takes update.change update.key (seen sight.now tree) }
     ensures heads { listed_entry result.heads.left ++ listed_entry result.heads.right ≡ new_entries (memory_of sight.now) result.added }
+    ensures plain { planned_move update.change result.links ≡ plain_move (memory_of sight.now) update.change update.key result.slot (seen sight.now tree) }
 {
     let slot = slot_after(sight, tree, update.key);
     let added = added_of(sight, tree, update.change, update.key, slot);
@@ -263,6 +269,7 @@ pub(crate) fn plan_of(sight: &Sight<'_>, tree: Subtree, update: Update) -> Plan
         added,
         taken: taken_of(sight, tree, update.change, update.key),
         heads: new_heads(sight, added),
+        links: link_plan(sight, tree, update, slot),
     }
 }
 
@@ -274,7 +281,8 @@ fn is_key(key: u64) -> bool
 }
 
 /// Whether the pending entries of the view and those of a new node, with the next number, spell the tree after the
-/// update, and the seat has locked each node that is taken out.
+/// update, the seat has locked each node that is taken out and that of each plain link that is to be set, and a new node
+/// has its children in its plain links.
 #[tactic(auto, using(crate::proofs::TreeTests::step_is))]
 pub fn is_tree_step(
     layout: &Layout,
@@ -308,5 +316,6 @@ pub fn is_tree_step(
     let locked = are_locked(view.held.nodes.as_slice(), plan.taken);
     let ready = is_new(&before, view, plan.added);
     let spelled = spells_after(&after, tree, plan.slot, update);
-    is_key(update.key) && there && locked && ready && spelled
+    let plain = is_plain_step(&before, view, plan.links, plan.added);
+    is_key(update.key) && there && locked && ready && spelled && plain
 }

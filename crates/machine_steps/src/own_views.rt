@@ -12,6 +12,7 @@ use machine_views::fill_words::fill;
 use machine_views::loads::{load_child, load_head, load_next, load_number};
 use machine_views::locks::{load_key, load_mark, load_val, mark, unlock};
 use machine_views::moves::{enter, leave, look};
+use machine_views::plain_links::{load_link, load_tag, set_link, set_tag};
 use machine_views::updates::{finalise, prepare};
 use std::alloc::Global;
 
@@ -78,6 +79,14 @@ pub(crate) fn after_load(
             let found = held(layout, words, Word::Node(Field::Val, node));
             load_val(alloc, view, node, found);
         }
+        Load::Link { node, side } => {
+            let found = held(layout, words, Word::Node(Field::Link(side), node));
+            load_link(alloc, view, node, side, found);
+        }
+        Load::Tag { node, side } => {
+            let found = held(layout, words, Word::Node(Field::Tag(side), node));
+            load_tag(alloc, view, node, side, found);
+        }
     }
     Ok(())
 }
@@ -101,6 +110,8 @@ pub(crate) fn after_store(
         Store::Finalise { entry, .. } => finalise(alloc, view, entry),
         Store::Unlock { node } => unlock(alloc, view, node),
         Store::Mark { node } => mark(alloc, view, node),
+        Store::Link { node, side, child } => set_link(alloc, view, node, side, child),
+        Store::Tag { node, side, tag } => set_tag(alloc, view, node, side, tag),
     }
     Ok(())
 }

@@ -8,5 +8,6 @@ pub mod fill_words;
 pub mod loads;
 pub mod locks;
 pub mod moves;
+pub mod plain_links;
 pub mod stamp_loads;
 pub mod updates;

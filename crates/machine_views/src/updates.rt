@@ -140,6 +140,9 @@ pub fn raise(
     drop_numbers(alloc, &mut view.free.entries, moved.entries.as_slice());
     view.retired = retired;
     view.update.taken = moved.taken;
+    view.update.unset = moved.plain.unset;
+    view.update.owed = moved.plain.owed;
+    view.update.unlinking = moved.plain.unlinking;
     Ok(())
 }
 

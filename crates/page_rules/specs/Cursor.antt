@@ -70,7 +70,8 @@ pub record Took (old new : CursorView) (pair : Pair) : Type 0 where
   pub entries : new.entries ≡ (if adds old pair then old.entries ++ entry_of old.dir old.query pair ∷ [] else old.entries)
   -- a listed pair that has no room is left
   pub truncated : new.truncated ≡ (is_under old.dir old.query pair && not (adds old pair))
-  -- behind a new entry the listing goes on past its key, or past all keys of its common prefix; else the page is settled
+  -- behind a new entry the listing goes on past its key, or past all keys of its common prefix; else the page is
+  -- settled
   pub next : MatchOption new.next (adds old pair ≡ false)
       (λ rank. (adds old pair ≡ true) × (pair.key < rank) × GoesOnAt old.dir old.query (Some (entry_point old.dir (entry_of old.dir old.query pair))) rank)
   -- each look-up leaves fewer

@@ -17,8 +17,8 @@ use key_names::{MAX_NAME_BYTES, Text};
 use std::alloc::Global;
 
 /// The token whose text it is. Padding, bits left over at the end, another letter, lengths that do not fit and a text
-/// that is no key are refused, so that no token has two texts; and no text is that of two tokens. Tokens without a bound
-/// are read too.
+/// that is no key are refused, so that no token has two texts; and no text is that of two tokens. Tokens without a
+/// bound are read too.
 ///
 /// ```
 /// assert!(rt; read(alloc, b"MlAwMDAwMDAwMS9hLw")?.bound.is_some());

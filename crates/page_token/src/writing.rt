@@ -11,8 +11,8 @@ use std::alloc::Global;
 const USUAL_BYTES: usize = 96;
 
 /// The text of the token of a point, bound to a prefix and a delimiter: the URL-safe base64 without padding (RFC 4648,
-/// `base64url`) of `2`, of the letter `K` or `P`, of the prefix and the delimiter, each behind its length as four decimal
-/// digits, and of the key or the common prefix.
+/// `base64url`) of `2`, of the letter `K` or `P`, of the prefix and the delimiter, each behind its length as four
+/// decimal digits, and of the key or the common prefix.
 ///
 /// ```
 /// let point = TokenPoint::Group(Text::of(alloc, "a/")?);

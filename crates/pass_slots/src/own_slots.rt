@@ -78,6 +78,17 @@ impl OwnSlots {
         self.free.push_reserved(slot);
     }
 
+    /// Adds a free slot, behind the others.
+    pub fn regain(&mut self, slot: u32)
+        requires { slot_count self.old < self.old.room }
+        ensures free { self.new.free ≡ self.old.free ++ slot ∷ [] }
+        ensures batch { self.new.batch ≡ self.old.batch }
+        ensures retired { self.new.retired ≡ self.old.retired }
+        ensures room { self.new.room ≡ self.old.room }
+    {
+        self.free.push_reserved(slot);
+    }
+
     /// Takes a slot out of the free ones. It is looked for from the end of the list, so the slots that are taken
     /// should be the last ones.
     pub fn take(&mut self, slot: u32)

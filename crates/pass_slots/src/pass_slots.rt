@@ -107,6 +107,14 @@ impl PassSlots {
         self.lists.nodes.take(node);
     }
 
+    /// Adds a free node.
+    pub fn regain_node(&mut self, node: u32)
+        requires { node_count self.old < self.old.node_room }
+        ensures { self.new ≡ record self.old { free = record self.old.free { nodes = self.old.free.nodes ++ node ∷ [] } } }
+    {
+        self.lists.nodes.regain(node);
+    }
+
     /// Takes a node out of the free ones, where it is not 0.
     fn take_given_node(&mut self, node: u32)
         requires { (node ≡ 0) ⊎ (count node self.old.free.nodes ≡ 1) }

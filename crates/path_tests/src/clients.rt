@@ -7,11 +7,11 @@ ghost use Rattle.request_lines.specs.SessionLaws.{Rise, IsAskable};
 ghost use Rattle.bucket_terms.specs.declared.reply.Placed.{Placed as PlacedReply};
 ghost use Rattle.client_run.specs.Listing.{HasPageInRange};
 
-use bucket_terms::{KeyPass, ListQuery, Placed, PlainPass, Reply};
+use bucket_terms::{Homed, KeyPass, ListQuery, Placed, PlainPass, Reply};
 use client_run::{Gate, OpenGate, next_query, run_client};
 use key_map::{Done, New, Pair, PassError, PassSize};
 use key_names::Directory;
-use request_lines::{ClientPart, MAX_INPUT_BYTES, Session, read_session};
+use request_lines::{ClientPart, MAX_INPUT_BYTES, read_session};
 use std::alloc::Global;
 use std::sync::Wait;
 use std::test::Fail;
@@ -41,9 +41,13 @@ struct Watched<'a, W> {
     watch: &'a W,
 }
 
-impl<W: Watch> KeyPass for Watched<'_, W> {
-    ghost home = { λ _. [] };
+impl<W: Watch> Homed for Watched<'_, W> {
+    ghost use Rattle.std.specs.Prelude.{[]};
 
+    ghost home = { λ _. [] };
+}
+
+impl<W: Watch> KeyPass for Watched<'_, W> {
     ghost view = { λ w. w.pass };
 
     fn put<Rt: Wait>(&mut self, rt: &Rt, line: u32, key: u64, val: u64) -> Result<Done, PassError> {
@@ -105,13 +109,9 @@ fn run<G: Gate + Watch, Rt: Wait>(
     if text.len() > MAX_INPUT_BYTES {
         return Err("the text is too long".into());
     }
-    let Session {
-        clients,
-        names,
-        records: _,
-    } = read_session(alloc, text.as_bytes())?;
-    let dir = names.into_directory(alloc)?;
-    let Some(part) = clients.as_slice().first() else {
+    let session = read_session(alloc, text.as_bytes())?;
+    let dir = session.names.directory(alloc)?;
+    let Some(part) = session.clients.as_slice().first() else {
         return Err("no client".into());
     };
     let replies = run_part(rt, alloc, part, &dir, nodes, gate)?;

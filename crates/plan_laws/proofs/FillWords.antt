@@ -8,7 +8,7 @@ use Rattle.index_words.specs.declared.layout.Layout.{Layout}
 use Rattle.index_words.specs.declared.view.View.{View}
 use Rattle.index_words.specs.declared.view.reading.Filled.{Filled}
 use Rattle.index_words.specs.declared.word.Field.{Field}
-use Rattle.index_words.specs.declared.word.Field.TheVariants.{Key, Val, Mark, Head}
+use Rattle.index_words.specs.declared.word.Field.TheVariants.{Key, Val, Mark, Head, Link, Tag}
 use Rattle.index_words.specs.declared.word.Part.{Part}
 use Rattle.index_words.specs.declared.word.Part.TheVariants.{Child, Stamp as Number, Next}
 use Rattle.index_words.specs.declared.word.Word.TheVariants.{Node, Entry}
@@ -22,7 +22,7 @@ use Rattle.core_updates.specs.declared.plan.JoinPlan.{JoinPlan}
 use Rattle.core_updates.specs.declared.plan.PlanSlots.{PlanSlots}
 use Rattle.core_updates.specs.declared.plan.NewNode.{NewNode}
 use Rattle.core_updates.specs.PlanEvents.{HasSlots, MayFillAll}
-use Rattle.core_updates.specs.Plans.{node_fills, entry_fills, fresh_to}
+use Rattle.core_updates.specs.Plans.{node_fills, entry_fills, fresh_to, head_of, child_of}
 use Rattle.plan_laws.specs.Fills.{AreApart, fresh_fills, front_fills, fills_of}
 use Rattle.plan_laws.proofs.Items.{got-every, every-both, every-to}
 
@@ -109,19 +109,55 @@ record NodeGroup (k : ℕ) (fs : List Filled) : Type 0 where
 no-node : (k : ℕ) → NodeGroup k []
 no-node k = record { of = tt; apart = tt }
 
+own-word : (k : ℕ) (field : Field) (x : ℕ) → is_lock field ≡ false → OfNode k (record { word = Node field k; value = x })
+own-word k field x open' = record { field = field; is = refl; open' = open' }
+
 node-group : (n : NewNode) → NodeGroup n.slot (node_fills n)
 node-group n = record {
   of = (
-    record { field = Mark; is = refl; open' = refl },
+    own-word n.slot Mark 0 refl,
     (
-      record { field = Key; is = refl; open' = refl },
+      own-word n.slot Key n.pair.key refl,
       (
-        record { field = Val; is = refl; open' = refl },
-        (record { field = Head Left; is = refl; open' = refl }, (record { field = Head Right; is = refl; open' = refl }, tt)),
+        own-word n.slot Val n.pair.val refl,
+        (
+          own-word n.slot (Head Left) (head_of n.left) refl,
+          (
+            own-word n.slot (Head Right) (head_of n.right) refl,
+            (
+              own-word n.slot (Link Left) (child_of n.left) refl,
+              (
+                own-word n.slot (Link Right) (child_of n.right) refl,
+                (
+                  own-word n.slot (Tag Left) 0 refl,
+                  (own-word n.slot (Tag Right) 0 refl, tt),
+                ),
+              ),
+            ),
+          ),
+        ),
       ),
     ),
   );
-  apart = ((refl, (refl, (refl, (refl, tt)))), ((refl, (refl, (refl, tt))), ((refl, (refl, tt)), ((refl, tt), (tt, tt)))));
+  apart = (
+    (refl, (refl, (refl, (refl, (refl, (refl, (refl, (refl, tt)))))))),
+    (
+      (refl, (refl, (refl, (refl, (refl, (refl, (refl, tt))))))),
+      (
+        (refl, (refl, (refl, (refl, (refl, (refl, tt)))))),
+        (
+          (refl, (refl, (refl, (refl, (refl, tt))))),
+          (
+            (refl, (refl, (refl, (refl, tt)))),
+            (
+              (refl, (refl, (refl, tt))),
+              ((refl, (refl, tt)), ((refl, tt), (tt, tt))),
+            ),
+          ),
+        ),
+      ),
+    ),
+  );
 }
 
 -- the groups of all that is filled, in their order

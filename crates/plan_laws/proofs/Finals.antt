@@ -148,6 +148,7 @@ finalise_step z v seat n plan slots place done entry h apart is =
         taken = h.taken;
         pending = ap (without entry) here ∙ without-first entry (drop (done + 1) xs) once;
         reads = h.reads;
+        links = h.links;
         unmarked = λ place front at. record {
           place = (h.unmarked place front at).place;
           held = (h.unmarked place front at).held;
@@ -170,6 +171,7 @@ finalise_end v n plan slots place done h none' = record {
   idle = h.pending ∙ drop_all done (raised_entries plan slots) (got-none (raised_entries plan slots) done none');
   reads = h.reads;
   unmarked = h.unmarked;
+  links = h.links;
 }
 
 pub mark_start : MarkStartLaw
@@ -182,6 +184,7 @@ mark_start v n plan slots h = record {
   taken = h.taken;
   idle = h.idle;
   marked = none-taken v.held.nodes;
+  links = h.links;
 }
 
 -- one node more is marked
@@ -201,7 +204,7 @@ marks-more k out more is (h ∷ hs) all = (by (eqb h.node k) refl, marks-more k 
     by false e some = all.0 (other h.node e (subst (λ ys. 0 < count h.node ys) is some))
 
 pub mark_step : MarkStepLaw
-mark_step z v seat n plan done node h is =
+mark_step z v seat n plan slots done node h is =
     let own : IsLockOf plan node = got-every (IsLockOf plan) (out_of plan) done node (locks_law plan no_slots).out is in
     record {
       may = may_mark_law z v seat node (record {
@@ -217,26 +220,20 @@ mark_step z v seat n plan done node h is =
         taken = h.taken;
         idle = h.idle;
         marked = marks-more node (take done (out_of plan)) (take (done + 1) (out_of plan)) (take-got (out_of plan) done node is) v.held.nodes h.marked;
+        links = h.links;
       };
       keeps = record { layout = refl; joined = refl; number = refl; history = refl; counts = refl; free = refl; retired = refl; batch = refl };
     }
 
--- a plan locks a node at least
-some-lock : (plan : Plan) → locks_of plan ≡ [] → ⊥
-some-lock (Grow p) e = cc
-some-lock (Replace p) e = cc
-some-lock (Lift p) e = cc
-some-lock (Join p) e = cc
-
 pub mark_end : MarkEndLaw
-mark_end v n plan done h none' = record {
+mark_end v n plan slots done h none' = record {
   live = h.live;
   own = h.own;
   inside = h.inside;
   once = h.once;
   locked = h.locked;
-  done = h.idle;
+  idle = h.idle;
   marked = every-by (λ (x : HeldNode). 0 < count x.node (take done (out_of plan)) → x.mark ≡ Some 1) (λ (x : HeldNode). 0 < count x.node v.update.taken → x.mark ≡ Some 1) v.held.nodes
       (λ x marked some. marked (subst (λ ks. 0 < count x.node ks) (h.taken ∙ sym (take-past (out_of plan) done none')) some)) h.marked;
-  ended = λ e. absurd (some-lock plan e);
+  links = h.links;
 }

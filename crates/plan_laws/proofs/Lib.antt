@@ -23,6 +23,8 @@ pub mod Releases
 -- The raise of a plan.
 pub mod Raises
 pub mod Prunes
+-- The plain links are set.
+pub mod PlainLinks
 -- What follows the raise.
 pub mod Finals
 -- The tree that a seat reads names each of its nodes once.

@@ -1,5 +1,5 @@
 -- What the loads, the looks and the cuts between the numbers and the marks of an update leave as it was.
-use Rattle.std.proofs.Common.{◌≡◌, ℕ, ◌+◌, ◌≤◌, List, [], ◌∷◌, ◌++◌, length, map, Bool, true, false, not, ◌&&◌, refl, ap, ◌∙◌, subst, arith}
+use Rattle.std.proofs.Common.{◌≡◌, ℕ, ◌+◌, ◌≤◌, List, [], ◌∷◌, ◌++◌, length, map, Bool, true, false, not, ◌&&◌, refl, ap, sym, ◌∙◌, subst, arith}
 use Rattle.std.specs.Prelude.{◌==◌, is_some}
 use Rattle.std.proofs.lemmas.List.{length-append}
 use Rattle.index_words.specs.declared.side.Side.{Side}
@@ -14,6 +14,8 @@ use Rattle.core_events.specs.CutMoves.{cut_view}
 use Rattle.core_events.specs.LoadMoves.{head_loaded, ts_loaded, meets_pending, next_loaded, next_at, found_at, node_known, has_moved, stored_by}
 use Rattle.core_updates.specs.declared.plan.Plan.{Plan}
 use Rattle.core_updates.specs.declared.plan.PlanSlots.{PlanSlots}
+use Rattle.core_updates.specs.Plans.{sets_of}
+use Rattle.plan_laws.specs.PlainLinks.{LeavesLinks}
 use Rattle.plan_laws.specs.Prunes.{HasNumbered, KeepsPruned, StaysNumbered, PruneStepLaw, KeepsPrunedLaw, OwnedIsPrunedLaw}
 use Rattle.plan_laws.proofs.Frames.{same-counts, moves-grow, waits-grow}
 use Rattle.plan_laws.proofs.HeldMaps.{found-node, found-mark}
@@ -39,6 +41,7 @@ numbered-kept f v w n plan slots maps mark keeps h = record {
   idle = ap (λ (u : Updating). u.pending) keeps.update ∙ h.idle;
   reads = ap is_some keeps.section ∙ h.reads;
   unmarked = λ place front is. loaded-kept f v w front.at.node 0 (λ (x : HeldNode). x.mark) maps (λ x here found. mark x ∙ found) (h.unmarked place front is);
+  links = subst (λ (u : Updating). LeavesLinks u.unset u.owed u.unlinking plan (sets_of plan slots) (sets_of plan slots)) (sym keeps.update) h.links;
 }
 
 -- the locked nodes are as they were

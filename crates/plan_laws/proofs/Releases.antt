@@ -1,17 +1,20 @@
 -- A pass gives its locks back, leaves its section, and takes its announcement back.
-use Rattle.std.specs.List.{slice_get}
+use Rattle.std.specs.List.{slice_get, list_any}
 use Rattle.std.proofs.lemmas.List.{drop_all}
-use Rattle.std.proofs.Common.{◌≡◌, ℕ, zero, suc, ◌+◌, ◌<◌, ◌≤◌, List, [], ◌∷◌, length, take, drop, Bool, true, false, not, cond, eqb, refl, ap, sym, ◌∙◌, subst, arith, Some, None}
+use Rattle.std.proofs.Common.{◌≡◌, ℕ, zero, suc, ◌+◌, ◌<◌, ◌≤◌, List, [], ◌∷◌, length, take, drop, Bool, true, false, not, cond, eqb, ◌&&◌, refl, ap, sym, ◌∙◌, subst, arith, Some, None}
 use Rattle.std.specs.Prelude.{◌==◌}
 use Rattle.std.proofs.lemmas.Bool.Decides.{nat_tests}
 use Rattle.index_words.specs.declared.view.View.{View}
 use Rattle.index_words.specs.declared.view.update.HeldNode.{HeldNode}
+use Rattle.index_words.specs.declared.view.update.OwedTag.{OwedTag}
+use Rattle.index_words.specs.declared.view.update.UnsetLink.{UnsetLink}
 use Rattle.index_words.specs.declared.view.update.Updating.{Updating}
 use Rattle.index_words.specs.Views.{no_update}
 use Rattle.key_map.specs.Lists.{count, Every}
 use Rattle.core_grace.specs.Holds.{held_slots}
 use Rattle.core_grace.specs.Sections.{is_even, left_word}
 use Rattle.core_events.specs.LockMoves.{unlocked_view, other_nodes, update_until}
+use Rattle.core_events.specs.PlainNeeds.{is_done_at}
 use Rattle.core_laws.proofs.AnnounceNeeds.{may_take_back_law}
 use Rattle.core_laws.proofs.ViewNeeds.{may_leave_law, may_unlock_law}
 use Rattle.core_updates.specs.declared.plan.Plan.{Plan}
@@ -41,6 +44,7 @@ gives-up v n plan entries nodes once t = record {
   locked = t.locked;
   done = ap (λ (u : Updating). u.pending) t.idle;
   marked = subst (λ (u : Updating). Every (λ (h : HeldNode). 0 < count h.node u.taken → h.mark ≡ Some 1) v.held.nodes) (sym t.idle) (none-taken v.held.nodes);
+  set = (ap (λ (u : Updating). u.unset) t.idle, ap (λ (u : Updating). u.owed) t.idle);
   ended = λ none'. t.idle;
 }
 
@@ -69,7 +73,7 @@ none-gone k (h ∷ hs) none' =
     ap (λ b. cond (not b) (h ∷ other_nodes k hs) (other_nodes k hs)) parts.0 ∙ ap (λ xs. h ∷ xs) (none-gone k hs parts.1)
 
 -- the first one goes
-first-gone : (node : ℕ) (rest : List ℕ) (hs : List HeldNode) → held_slots hs ≡ node ∷ rest → count node rest ≡ 0 → held_slots (other_nodes node hs) ≡ rest
+pub first-gone : (node : ℕ) (rest : List ℕ) (hs : List HeldNode) → held_slots hs ≡ node ∷ rest → count node rest ≡ 0 → held_slots (other_nodes node hs) ≡ rest
 first-gone node rest [] is none' = cc
 first-gone node rest (h ∷ hs) is none' =
     let here : h.node ≡ node = cc in
@@ -96,11 +100,21 @@ until-taken : (b : Bool) (u : Updating) (k : ℕ) → 0 < count k (cond b no_upd
 until-taken true u k some = absurd (omega (arith, some))
 until-taken false u k some = some
 
+until-set : (b : Bool) (u : Updating) → (u.unset ≡ []) × (u.owed ≡ []) → ((cond b no_update u).unset ≡ []) × ((cond b no_update u).owed ≡ [])
+until-set true u set = (refl, refl)
+until-set false u set = set
+
+-- with nothing to be set and no tag to be raised a node is done with
+pub all-done : (k : ℕ) (u : Updating) → (u.unset ≡ []) × (u.owed ≡ []) → is_done_at k u ≡ true
+all-done k u set =
+    ap (λ (xs : List UnsetLink). not (list_any (λ (x : UnsetLink). eqb x.node k) xs) && not (list_any (λ (o : OwedTag). eqb o.node k) u.owed)) set.0
+    ∙ ap (λ (os : List OwedTag). true && not (list_any (λ (o : OwedTag). eqb o.node k) os)) set.1
+
 pub every-by : (P Q : HeldNode → Type 0) (hs : List HeldNode) → ((h : HeldNode) → P h → Q h) → Every P hs → Every Q hs
 every-by P Q [] f all = tt
 every-by P Q (h ∷ hs) f all = (f h all.0, every-by P Q hs f all.1)
 
-no-node : (hs : List HeldNode) → held_slots hs ≡ [] → hs ≡ []
+pub no-node : (hs : List HeldNode) → held_slots hs ≡ [] → hs ≡ []
 no-node [] is = refl
 no-node (h ∷ hs) is = cc
 
@@ -114,6 +128,7 @@ unlock_step z v seat n node rest r =
         locked = subst (λ ks. 0 < count node ks) (sym r.locked) (first node (count node rest));
         done = r.done;
         marked = r.marked;
+        set = all-done node v.update r.set;
       });
       released = record {
         live = r.live;
@@ -125,6 +140,7 @@ unlock_step z v seat n node rest r =
         marked = every-by (λ (h : HeldNode). 0 < count h.node v.update.taken → h.mark ≡ Some 1) (λ (h : HeldNode). 0 < count h.node w.update.taken → h.mark ≡ Some 1)
             (other_nodes node v.held.nodes) (λ h marked some. marked (until-taken (length (other_nodes node v.held.nodes) == 0) v.update h.node some))
             (others-every (λ (h : HeldNode). 0 < count h.node v.update.taken → h.mark ≡ Some 1) node v.held.nodes r.marked);
+        set = until-set (length (other_nodes node v.held.nodes) == 0) v.update r.set;
         ended = λ none'. ap (λ (hs : List HeldNode). update_until hs v.update) (no-node (other_nodes node v.held.nodes) (left_over ∙ none'));
       };
       keeps = record { layout = refl; joined = refl; number = refl; history = refl; counts = refl; free = refl; retired = refl; batch = refl };
@@ -174,6 +190,7 @@ nothing_locked v n live own inside bare idle = record {
   locked = ap held_slots bare;
   done = ap (λ (u : Updating). u.pending) idle;
   marked = subst (λ (hs : List HeldNode). Every (λ (h : HeldNode). 0 < count h.node v.update.taken → h.mark ≡ Some 1) hs) (sym bare) tt;
+  set = (ap (λ (u : Updating). u.unset) idle, ap (λ (u : Updating). u.owed) idle);
   ended = λ none'. idle;
 }
 

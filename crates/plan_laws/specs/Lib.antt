@@ -8,6 +8,7 @@ pub mod Looks
 pub mod Fills
 pub mod Fronts
 pub mod Releases
+pub mod PlainLinks
 pub mod Prunes
 pub mod Raises
 pub mod Answers

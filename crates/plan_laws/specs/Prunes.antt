@@ -13,17 +13,18 @@ use Rattle.core_laws.specs.ViewNeeds.{IsInside}
 use Rattle.core_updates.specs.declared.plan.Front.{Front}
 use Rattle.core_updates.specs.declared.plan.Plan.{Plan}
 use Rattle.core_updates.specs.declared.plan.PlanSlots.{PlanSlots}
-use Rattle.core_updates.specs.Plans.{locks_of, out_of, fronts_of}
+use Rattle.core_updates.specs.Plans.{locks_of, out_of, fronts_of, sets_of}
 use Rattle.plan_laws.specs.Frames.{CountsGrow, KeepsOwned}
 use Rattle.plan_laws.specs.Looks.{IsUnmarked}
 use Rattle.plan_laws.specs.Places.{LocksOnce}
+use Rattle.plan_laws.specs.PlainLinks.{LeavesLinks}
 
 -- of each node at which the plan puts an entry in front, the mark was found 0 under its lock
 abbrev pub AreUnmarked : View → Plan → PlanSlots → Type 0
 AreUnmarked v plan slots = (place : ℕ) (f : Front) → slice_get (fronts_of plan slots) place ≡ Some f → IsUnmarked v f.at.node
 
 -- each entry of the update has its number, and no node is marked yet: all nodes of the plan are locked, and the seat
--- still has a section number
+-- still has a section number; no plain link is set yet
 pub record HasNumbered (v : View) (n : ℕ) (plan : Plan) (slots : PlanSlots) : Type 0 where
   pub live : v.joined ≡ false
   pub own : v.number ≡ Some n
@@ -34,6 +35,7 @@ pub record HasNumbered (v : View) (n : ℕ) (plan : Plan) (slots : PlanSlots) : 
   pub idle : v.update.pending ≡ []
   pub reads : is_some v.reading.section ≡ true
   pub unmarked : AreUnmarked v plan slots
+  pub links : LeavesLinks v.update.unset v.update.owed v.update.unlinking plan (sets_of plan slots) (sets_of plan slots)
 
 -- what pruning leaves as it was: what the pass knows of the history, and its slots, but for entries that it retires. No
 -- count falls

@@ -1,5 +1,5 @@
 -- The raise of a plan, and what follows it: the numbers of its entries are written, one after another, and then, behind
--- the pruning, the nodes that went out are marked. Until both are done no lock is given back.
+-- the pruning, the nodes that went out are marked. Until both are done, and the plain links are set, no lock is given back.
 use Rattle.std.specs.Prelude.{◌≡◌, ℕ, ◌+◌, ◌<◌, List, [], ◌∷◌, ◌++◌, take, drop, true, false, Option, Some, None, is_some}
 use Rattle.std.specs.List.{slice_get}
 use Rattle.index_words.specs.declared.layout.Layout.{Layout}
@@ -25,14 +25,14 @@ use Rattle.core_updates.specs.declared.plan.PlanSlots.{PlanSlots}
 use Rattle.core_updates.specs.declared.plan.Fresh.{Fresh}
 use Rattle.core_updates.specs.declared.plan.NewNode.{NewNode}
 use Rattle.core_updates.specs.Held.{CanRaise, raise_of}
-use Rattle.core_updates.specs.Plans.{key_of, change_of, locks_of, out_of, new_node_of, fronts_of, entries_of}
+use Rattle.core_updates.specs.Plans.{key_of, change_of, locks_of, out_of, new_node_of, fronts_of, entries_of, sets_of}
 use Rattle.core_updates.specs.Ready.{update_of}
 use Rattle.plan_laws.specs.Frames.{KeepsOwned}
 use Rattle.plan_laws.specs.Places.{LocksOnce}
+use Rattle.plan_laws.specs.PlainLinks.{IsSetting, LeavesLinks}
 use Rattle.plan_laws.specs.Fills.{AreApart}
 use Rattle.plan_laws.specs.Fronts.{IsReadyToRaise}
 use Rattle.plan_laws.specs.Prunes.{AreUnmarked, HasNumbered}
-use Rattle.plan_laws.specs.Releases.{IsReleasing}
 
 abbrev pub fresh_entry : Option Fresh → List ℕ
 fresh_entry None = []
@@ -59,6 +59,7 @@ pub record HasFinalised (v : View) (n : ℕ) (plan : Plan) (slots : PlanSlots) (
   pub pending : v.update.pending ≡ drop done (raised_entries plan slots)
   pub reads : is_some v.reading.section ≡ true
   pub unmarked : AreUnmarked v plan slots
+  pub links : LeavesLinks v.update.unset v.update.owed v.update.unlinking plan (sets_of plan slots) (sets_of plan slots)
 
 -- the update of a plan
 abbrev pub update_by : ℕ → ℕ → Plan → Update
@@ -90,7 +91,7 @@ FinaliseStepLaw =
     → slice_get (raised_entries plan slots) done ≡ Some entry → FinalisesNext z v seat n plan slots place done entry
 
 -- each entry has its number, and the first of the nodes that went out are marked
-pub record HasMarked (v : View) (n : ℕ) (plan : Plan) (done : ℕ) : Type 0 where
+pub record HasMarked (v : View) (n : ℕ) (plan : Plan) (slots : PlanSlots) (done : ℕ) : Type 0 where
   pub live : v.joined ≡ false
   pub own : v.number ≡ Some n
   pub inside : IsInside v
@@ -99,6 +100,7 @@ pub record HasMarked (v : View) (n : ℕ) (plan : Plan) (done : ℕ) : Type 0 wh
   pub taken : v.update.taken ≡ out_of plan
   pub idle : v.update.pending ≡ []
   pub marked : Every (λ (h : HeldNode). 0 < count h.node (take done (out_of plan)) → h.mark ≡ Some 1) v.held.nodes
+  pub links : LeavesLinks v.update.unset v.update.owed v.update.unlinking plan (sets_of plan slots) (sets_of plan slots)
 
 abbrev pub FinaliseEndLaw : Type 0
 FinaliseEndLaw =
@@ -107,20 +109,21 @@ FinaliseEndLaw =
 
 -- behind the pruning the nodes may be marked
 abbrev pub MarkStartLaw : Type 0
-MarkStartLaw = (v : View) (n : ℕ) (plan : Plan) (slots : PlanSlots) → HasNumbered v n plan slots → HasMarked v n plan 0
+MarkStartLaw = (v : View) (n : ℕ) (plan : Plan) (slots : PlanSlots) → HasNumbered v n plan slots → HasMarked v n plan slots 0
 
 -- the next node may be marked, and then one more is
-pub record MarksNext (z : Layout) (v : View) (seat n : ℕ) (plan : Plan) (done node : ℕ) : Type 0 where
+pub record MarksNext (z : Layout) (v : View) (seat n : ℕ) (plan : Plan) (slots : PlanSlots) (done node : ℕ) : Type 0 where
   pub may : May z v (event_at z seat MarkNode (Node Mark node) 1)
-  pub marked : HasMarked (with_mark v node 1) n plan (done + 1)
+  pub marked : HasMarked (with_mark v node 1) n plan slots (done + 1)
   pub keeps : KeepsOwned v (with_mark v node 1)
 
 abbrev pub MarkStepLaw : Type 0
 MarkStepLaw =
-    (z : Layout) (v : View) (seat n : ℕ) (plan : Plan) (done node : ℕ) → HasMarked v n plan done → slice_get (out_of plan) done ≡ Some node
-    → MarksNext z v seat n plan done node
+    (z : Layout) (v : View) (seat n : ℕ) (plan : Plan) (slots : PlanSlots) (done node : ℕ) → HasMarked v n plan slots done
+    → slice_get (out_of plan) done ≡ Some node → MarksNext z v seat n plan slots done node
 
--- behind the last one the locks may be given back
+-- behind the last one the plain links may be set
 abbrev pub MarkEndLaw : Type 0
 MarkEndLaw =
-    (v : View) (n : ℕ) (plan : Plan) (done : ℕ) → HasMarked v n plan done → slice_get (out_of plan) done ≡ None → IsReleasing v n (locks_of plan)
+    (v : View) (n : ℕ) (plan : Plan) (slots : PlanSlots) (done : ℕ) → HasMarked v n plan slots done → slice_get (out_of plan) done ≡ None
+    → IsSetting v n plan (sets_of plan slots) (sets_of plan slots)

@@ -22,7 +22,8 @@ use Rattle.plan_laws.specs.Frames.{KeepsOwned}
 use Rattle.plan_laws.specs.Tries.{HasLocked, HasLockedAll}
 
 -- a pass inside a section still has these nodes locked, in this order, and no others. Nothing is pending, and of these nodes those that
--- its update took out are known to be marked. With the last lock the update has ended
+-- its update took out are known to be marked; no plain link is to be set any more, and no tag to be raised. With the last lock the
+-- update has ended
 pub record IsReleasing (v : View) (n : ℕ) (nodes : List ℕ) : Type 0 where
   pub live : v.joined ≡ false
   pub own : v.number ≡ Some n
@@ -31,6 +32,7 @@ pub record IsReleasing (v : View) (n : ℕ) (nodes : List ℕ) : Type 0 where
   pub locked : held_slots v.held.nodes ≡ nodes
   pub done : v.update.pending ≡ []
   pub marked : Every (λ (h : HeldNode). 0 < count h.node v.update.taken → h.mark ≡ Some 1) v.held.nodes
+  pub set : (v.update.unset ≡ []) × (v.update.owed ≡ [])
   pub ended : nodes ≡ [] → v.update ≡ no_update
 
 -- a try may give up at each of its steps before it fills its slots

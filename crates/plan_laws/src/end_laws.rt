@@ -2,6 +2,7 @@
 // what is proved.
 ghost use Rattle.plan_laws.specs.Answers.{AnswerLaw, PreparedOwnsLaw, FourEntriesLaw};
 ghost use Rattle.plan_laws.specs.Frames.{StepsKeepLaw, KeepsPassLaw, KeepsTryLaw, KeepsOwnedLaw};
+ghost use Rattle.plan_laws.specs.PlainLinks.{SetStepLaw, SetEndLaw, TagStepLaw, TagPassLaw, TagEndLaw};
 ghost use Rattle.plan_laws.specs.Prunes.{PruneStepLaw, KeepsPrunedLaw, OwnedIsPrunedLaw};
 ghost use Rattle.plan_laws.specs.Raises.{RaiseStepLaw, FinaliseStepLaw, FinaliseEndLaw, MarkStartLaw, MarkStepLaw, MarkEndLaw};
 ghost use Rattle.plan_laws.specs.Releases.{GiveUpLaw, GiveAllUpLaw, NothingLockedLaw, UnlockStepLaw, UnlockPlaceLaw, UnlockEndLaw, TakesFirstLaw, LeaveStepLaw, TakeBackStepLaw};
@@ -15,6 +16,16 @@ pub fn updates_raise()
     ensures mark_start { MarkStartLaw }
     ensures mark { MarkStepLaw }
     ensures marked { MarkEndLaw }
+{}
+
+/// Behind the marks the plain links are set at which the tree has another child since the raise, and the tags of those are
+/// raised that a removal has made null. Then the locks may be given back.
+pub fn plain_links_are_set()
+    ensures set { SetStepLaw }
+    ensures all_set { SetEndLaw }
+    ensures raise_tag { TagStepLaw }
+    ensures pass { TagPassLaw }
+    ensures done { TagEndLaw }
 {}
 
 /// Between the numbers and the marks the bundles that the update changed may be cut. No step of that takes anything

@@ -5,6 +5,7 @@
 
 mod input;
 mod machine;
+mod plain;
 mod prune;
 mod seat;
 mod turn;

@@ -34,6 +34,7 @@ pub(crate) enum Step {
     Walk(WalkStep),
     Update(UpdateStep),
     Prune(PruneStep),
+    Plain(PlainStep),
     /// Tells how a try has ended.
     Tell(Outcome),
 }
@@ -83,6 +84,17 @@ pub(crate) enum PruneStep {
     Number,
     Next,
     Cut(u32),
+}
+
+/// A step of an update that has marked what it took out, at a place of the plan's links.
+#[derive(Clone, Copy)]
+pub(crate) enum PlainStep {
+    /// Sets the plain link, and those behind it.
+    Link(usize),
+    /// Loads its tag where a removal has made it null, and the tags of those behind it.
+    Tag(usize),
+    /// Raises the tag that was loaded.
+    Raise(Link),
 }
 
 /// How a try has ended.

@@ -1,5 +1,6 @@
 // One turn of a pass: its next step, or the beginning of its next request.
 use crate::machine::{Machine, Stop};
+use crate::plain::plain_step;
 use crate::prune::prune_step;
 use crate::seat::{Outcome, Report, Request, Seat, Step, UpdateStep, WalkStep};
 use crate::update::{make_plan, update_step};
@@ -130,6 +131,7 @@ fn one_step(
         Step::Plan => make_plan(machine, seat),
         Step::Walk(step) => return walk_step(alloc, machine, seat, step),
         Step::Update(step) => return update_step(alloc, machine, seat, step),
+        Step::Plain(step) => plain_step(alloc, machine, seat, step),
         Step::Prune(step) => return prune_step(alloc, machine, seat, step),
         Step::Tell(outcome) => return tell(machine, seat, outcome),
     };

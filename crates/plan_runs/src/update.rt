@@ -1,6 +1,6 @@
 // The steps of an update, by its plan.
 use crate::machine::{Machine, Stop};
-use crate::seat::{Outcome, PruneStep, Report, Seat, Step, UpdateStep, WalkStep};
+use crate::seat::{Outcome, PlainStep, PruneStep, Report, Seat, Step, UpdateStep, WalkStep};
 use crate::walk::remembered_link;
 use core_rule::Kind;
 use core_trees::Link;
@@ -315,6 +315,8 @@ fn raise(
         Step::Prune(PruneStep::Look(0)),
         Step::Prune(PruneStep::Bundle(0)),
         Step::Update(UpdateStep::Mark(0)),
+        Step::Plain(PlainStep::Link(0)),
+        Step::Plain(PlainStep::Tag(0)),
         Step::Update(UpdateStep::Unlock),
         Step::Tell(Outcome::Done),
         Step::Leave,

@@ -16,7 +16,6 @@ pub mod BasisJournals
 pub mod Verdicts
 pub mod NextReplies
 pub mod Coming
-pub mod TextLines
 pub mod DigitRuns
 pub mod Starting
 pub mod ClientLines

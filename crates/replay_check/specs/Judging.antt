@@ -1,7 +1,8 @@
 -- Helper: the headline does not rest on this file.
 -- What a verdict says of the lines of a text.
 use Rattle.std.specs.Prelude.{ℕ, List}
-use Rattle.text_laws.specs.WrongLine.{Checked, AreRight, IsWrongLine}
+use Rattle.text_laws.specs.TextLaws.{AreRight}
+use Rattle.text_laws.specs.WrongLine.{Checked, IsWrongLine}
 use Rattle.replay_check.specs.declared.verdict.Verdict.{Verdict}
 use Rattle.replay_check.specs.declared.verdict.Verdict.TheVariants.{Legal, Wrong}
 

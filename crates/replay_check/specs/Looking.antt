@@ -55,8 +55,8 @@ abbrev pub IsLookedAt : Checked → List Update → ℕ → List Answered → Re
 IsLookedAt c updates client earlier asked text found =
     MatchOption found ((placed : Placed) → ¬ (IsReplyLine c updates client earlier asked text placed)) (IsReplyLine c updates client earlier asked text)
 
--- where the text is the line of a right reply, the line is due at the place of the reply, and one without a place where the
--- lines before it have come to
+-- where the text is the line of a right reply, the line is due at the place of the reply, and one without a place where
+-- the lines before it have come to
 abbrev pub IsDue : Checked → List Update → ℕ → List Answered → RequestLine → List ℕ → Client → Type 0
 IsDue c updates number earlier asked text client =
     (placed : Placed) → IsReplyLine c updates number earlier asked text placed → client.due ≡ unwrap_or placed.at client.seen

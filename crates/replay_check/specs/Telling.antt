@@ -25,7 +25,8 @@ pub record IsRead (session : Session) (dir : List (List ℕ)) : Type 0 where
   pub small : IsSmall session
   pub directory : HoldsEachOnce session.names dir
 
--- what a text is checked against: each client has the node slots that are named, or without a number what its lines ask for
+-- what a text is checked against: each client has the node slots that are named, or without a number what its lines ask
+-- for
 abbrev pub checked : Session → List (List ℕ) → Option ℕ → Checked
 checked session dir named = record {
   dir = dir;

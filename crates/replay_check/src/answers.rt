@@ -17,17 +17,15 @@ ghost use Rattle.client_run.specs.Listing.{HasPageInRange};
 ghost use Rattle.replay_check.specs.Answering.{own_reply, kept_by, absent_by, slot_reply, start_reply, next_page, IsListedFrom, IsLook, IsRefusal};
 
 use crate::replay_map::ReplayMap;
-use bucket_terms::{
-    BoxedQuery, BoxedV1Query, ListQuery, Page, Reply, Request, TokenPoint, V1Query,
-};
+use bucket_terms::{Boxed, ListQuery, Page, Reply, Request, TokenPoint, V1Query};
 use client_run::{Resumption, Start, resume, start_of};
 use key_names::{Directory, NoMemory, Text};
 use list_v1::{plain_query, point_of};
 use page_rules::PageCursor;
 use std::alloc::Global;
 
-/// The reply of a request that was refused, and so has no place: `used` are the updates of its client's earlier lines. None
-/// where it can't have been refused.
+/// The reply of a request that was refused, and so has no place: `used` are the updates of its client's earlier lines.
+/// None where it can't have been refused.
 pub(crate) fn refused(
     alloc: Global,
     dir: &Directory,
@@ -95,8 +93,8 @@ fn refused_next(
     }
 }
 
-/// The reply of a request whose own update stands at the place: `was` tells whether the key was there just before it. None
-/// where the request can't have made it.
+/// The reply of a request whose own update stands at the place: `was` tells whether the key was there just before it.
+/// None where the request can't have made it.
 pub(crate) fn of_update(request: &Request, was: bool) -> Option<Reply>
     ensures { result ≡ own_reply request.now was }
 {
@@ -108,7 +106,8 @@ pub(crate) fn of_update(request: &Request, was: bool) -> Option<Reply>
     }
 }
 
-/// The reply of a request that made no update, where the map is that at its place. None where it can't have looked there.
+/// The reply of a request that made no update, where the map is that at its place. None where it can't have looked
+/// there.
 pub(crate) fn of_look(
     alloc: Global,
     map: &ReplayMap,
@@ -206,7 +205,7 @@ fn listed(
     ensures page { IfOk result (λ reply. reply ≡ Listed query (page_of dir.now query point map.now)) }
     ensures in_range { IfOk result (HasPageInRange dir.now) }
 {
-    let query = BoxedQuery::new(alloc, query)?;
+    let query = Boxed::new(alloc, query)?;
     let page = page_from(alloc, dir, map, query.get(), point.as_ref())?;
     Ok(Reply::Listed { query, page })
 }
@@ -222,7 +221,7 @@ fn of_v1(
 {
     let plain = plain_query(alloc, query)?;
     let point = point_of(alloc, query)?;
-    let query = BoxedV1Query::new(alloc, query.copy(alloc)?)?;
+    let query = Boxed::new(alloc, query.copy(alloc)?)?;
     let page = page_from(alloc, dir, map, &plain, point.as_ref())?;
     Ok(Reply::ListedV1 { query, page })
 }

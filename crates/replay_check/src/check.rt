@@ -21,8 +21,8 @@ use key_names::{Directory, NoMemory};
 use request_lines::Session;
 use std::alloc::Global;
 
-/// Whether the text is that of a legal run of the session, or which of its lines is the first wrong one. Each client has
-/// `slots` node slots, or where none are given one more than it has lines that may make an update.
+/// Whether the text is that of a legal run of the session, or which of its lines is the first wrong one. Each client
+/// has `slots` node slots, or where none are given one more than it has lines that may make an update.
 pub fn check_text(
     alloc: Global,
     session: &Session,

@@ -1,5 +1,5 @@
-// The reply lines of a written text, looked at in the order of their places: each client's lines one after the other, while
-// one map goes along the history.
+// The reply lines of a written text, looked at in the order of their places: each client's lines one after the other,
+// while one map goes along the history.
 ghost use Rattle.std.specs.Prelude.{◌≡◌, ◌+◌, ◌<◌, ◌^◌, List, length, Option, IfOk, OnOk};
 ghost use Rattle.std.specs.Option.{ForSome};
 ghost use Rattle.bucket_terms.specs.LegalRun as run;

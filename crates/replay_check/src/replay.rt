@@ -7,7 +7,8 @@ use key_map::Update;
 use key_names::NoMemory;
 use std::alloc::Global;
 
-/// The map after the first updates of a history, how many these are, and whether the key of the last one was there before.
+/// The map after the first updates of a history, how many these are, and whether the key of the last one was there
+/// before.
 #[derive(Drop)]
 pub(crate) struct Replay {
     pub(crate) at: usize,

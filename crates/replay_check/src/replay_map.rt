@@ -9,8 +9,8 @@ use std::alloc::Global;
 use std::collections::BTreeMap;
 use std::marker::Model;
 
-/// A map from keys to values. An update, a look and a step of a listing cost one way down a tree each, however many keys
-/// there are.
+/// A map from keys to values. An update, a look and a step of a listing cost one way down a tree each, however many
+/// keys there are.
 #[derive(Drop)]
 pub(crate) struct ReplayMap {
     values: BTreeMap<u64, u64>,

@@ -1,10 +1,10 @@
 // The lines of a text, each with its end.
-ghost use Rattle.std.specs.Prelude.{◌≡◌, ◌<◌, ◌≤◌, ◌∷◌, ℕ, List, length, map, take, drop, IfOk};
+ghost use Rattle.std.specs.Prelude.{◌≡◌, ℕ, List, map, IfOk};
 ghost use Rattle.std.specs.Borrow.{Bor};
 ghost use Rattle.text_laws.specs.WrongLine.{text_lines};
 
 use key_names::NoMemory;
-use memchr::memchr;
+use request_lines::line_len;
 use std::alloc::Global;
 
 /// The lines of the text, each with its line feed. A last piece without one is a line too.
@@ -19,17 +19,4 @@ pub(crate) fn cut(alloc: Global, text: &[u8]) -> Result<Vec<&[u8]>, NoMemory>
         left = rest;
     }
     Ok(lines)
-}
-
-// The length of the first line, with its end.
-fn line_len(text: &[u8]) -> usize
-    requires { 0 < length text.now }
-    ensures some { 0 < result }
-    ensures most { result ≤ length text.now }
-    ensures cut { text_lines text.now ≡ take result text.now ∷ text_lines (drop result text.now) }
-{
-    match memchr(b'\n', text) {
-        Some(end) => end + 1,
-        None => text.len(),
-    }
 }

@@ -37,7 +37,8 @@ pub(crate) struct Client {
     pub(crate) last: Option<Reply>,
 }
 
-/// The reply that the request can have at the place that its line shows, or without one. None where there is no such reply.
+/// The reply that the request can have at the place that its line shows, or without one. None where there is no such
+/// reply.
 pub(crate) fn reply_at(
     alloc: Global,
     dir: &Directory,

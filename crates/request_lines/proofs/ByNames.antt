@@ -4,7 +4,7 @@ use Rattle.std.proofs.lemmas.Bool.{cases_Bool}
 use Rattle.std.proofs.lemmas.Slice.Eq.{bytes_eq-Decides}
 use Rattle.std.specs.Prelude.{◌==◌, if◌then◌else◌, length, nat_lt}
 use Rattle.std.specs.List.{list_any, find, before_first, after_first}
-use Rattle.std.specs.Option.{is_none, option_map_or}
+use Rattle.std.specs.Option.{option_map_or}
 use Rattle.std.specs.Str.{bytes_eq}
 use Rattle.key_names.specs.Names.{most_name_bytes}
 use Rattle.request_lines.specs.declared.cause.Cause.{Cause}

@@ -24,7 +24,7 @@ use Rattle.request_lines.specs.Texts.{◌>>=◌, unescaped, escapes_are_whole, k
 use Rattle.request_lines.specs.ReadAnswers.{Reads}
 use Rattle.request_lines.specs.Causes.{earliest, place_of}
 use Rattle.request_lines.specs.declared.cause.Cause.TheVariants.{EmptyKey, KeyTooLong, UnknownVerb, UnknownParameter}
-use Rattle.request_lines.specs.Queries.{query_read, no_values, list_query, v1_query, is_max_keys, most_entries, most_keys}
+use Rattle.request_lines.specs.Queries.{query_read, no_values, is_max_keys, most_keys}
 use Rattle.request_lines.specs.NamedQueries as q
 use Rattle.std.specs.Str.Parse.{digits_value}
 use Rattle.request_lines.specs.Asking as k
@@ -33,7 +33,7 @@ use Rattle.request_lines.specs.Asking.{asking_with, with_parameter, name_cause, 
 use Rattle.request_lines.specs.NamedQueries.{parameter_read, parameters_read}
 use Rattle.request_lines.proofs.QueryLaws.{query_read_by}
 use Rattle.request_lines.specs.Input.{listing_of, put_read, read_fields, verb_of, read_line, reading_of}
-use Rattle.request_lines.specs.Fine.{IsFineQuery, IsFineV1Query, IsFineCommand}
+use Rattle.request_lines.specs.Fine.{IsFineCommand}
 
 -- what is read has this property
 abbrev Gives : {A : Type 0} → (A → Type 0) → Result A Cause → Type 0

@@ -1,20 +1,16 @@
 -- Names that are kept once: what a name more changes, and what holds behind the sort.
-use Rattle.std.proofs.Common.{◌≡◌, ◌≢◌, ℕ, ◌+◌, ◌<◌, ◌≤◌, List, [], ◌∷◌, ◌++◌, length, map, get_or, set, replicate, refl, sym, ap, ap₂, ◌∙◌, subst, arith, inl, inr, get_or-set_same, get_or-set_other, length-set}
-use Rattle.std.specs.Prelude.{◌⊎◌, Bool, true, false, if◌then◌else◌, All, Contains, Option, None, Some, position, slice_get, slice_index}
+use Rattle.std.proofs.Common.{◌≡◌, ◌≢◌, ℕ, ◌+◌, ◌<◌, ◌≤◌, List, [], ◌∷◌, ◌++◌, length, map, get_or, set, replicate, take, ext_get_or, refl, sym, ap, ap₂, ◌∙◌, subst, arith, inl, inr, get_or-set_same, get_or-set_other, length-set}
+use Rattle.std.specs.Prelude.{All, Contains, Option, None, Some, slice_index}
 use Rattle.std.specs.List.{range_with_len}
 use Rattle.std.specs.List.Sorted.{IsPermutation}
-use Rattle.std.specs.Str.{bytes_eq}
-use Rattle.std.specs.Cmp.Lexicographic.{bytes_decides}
-use Rattle.std.proofs.lemmas.Option.{get_or_from_slice_get}
-use Rattle.std.proofs.lemmas.List.Quantifiers.{position-Some}
-use Rattle.std.proofs.lemmas.List.{get_or-map, length-map, length_push, get_or_append_left, get_or_default, get_or-replicate, length-replicate, map-append, map-id}
+use Rattle.std.proofs.lemmas.List.{get_or-map, length-map, length_push, get_or_append_left, get_or_default, get_or_push, take_more, get_or-replicate, length-replicate, map-append, map-id}
 use Rattle.std.proofs.lemmas.List.FromFn.{get_or-range_with_len, length-range_with_len, map-range_with_len_more}
 use Rattle.std.proofs.lemmas.List.Elements.{All-head, All-tail, All-push, All-weaker, All-map, Contains-get_or, Contains-push, Contains-push_cases, Contains-append_left}
 use Rattle.std.proofs.lemmas.List.Sorted.{All-permutation, Contains-permutation, IsPermutation-map, length_permutation}
 use Rattle.std.proofs.lemmas.Bool.Decides.{eqb_tells}
-use Rattle.key_names.specs.Names.{HoldsEachOnce, name_at}
+use Rattle.key_names.specs.Names.{HoldsEachOnce, IsFine, name_at}
 use Rattle.request_lines.specs.declared.leads.Numbered.{Numbered}
-use Rattle.request_lines.specs.Interned.{named, names_kept, AreKept, IsInterned, IsKnownAs, HaveNumbers, AreNumbered, AreRanks, number_in, name_of}
+use Rattle.request_lines.specs.Interned.{named, names_kept, AreKept, IsInterned, IsKnownAs, AreGroups, HaveNumbers, AreNumbered, AreRanks, number_in, name_of}
 
 -- ---- one name more
 
@@ -60,28 +56,18 @@ interned_more ks new order name number interned is_known = record {
       ]
     ]
 
--- ---- the number of a name
+-- ---- the group of a name
 
-pub known_at : (keys : List (List ℕ)) (name : List ℕ) (number : ℕ) → position (bytes_eq name) keys ≡ Some number → IsKnownAs keys keys name number
-known_at keys name number is =
-    let found = position-Some (bytes_eq name) keys number [] is in
-    record {
-      known = inl refl;
-      below = found.0;
-      is = sym ((bytes_decides name (get_or keys number [])).0 found.1);
-    }
+-- the last of the distinct names
+pub last_group : (keys : List (List ℕ)) (name : List ℕ) (place : ℕ) → place < length keys → name_at keys place ≡ name → IsKnownAs keys keys name place
+last_group keys name place within is = record { known = inl refl; below = within; is = is }
 
-joined : (had : Bool) (keys new : List (List ℕ)) (text name : List ℕ) → new ≡ (if had then keys else keys ++ text ∷ []) → text ≡ name
-    → (new ≡ keys) ⊎ (new ≡ keys ++ name ∷ [])
-joined true keys new text name is same = inl is
-joined false keys new text name is same = inr (is ∙ ap (λ (n : List ℕ). keys ++ n ∷ []) same)
-
-pub joined_at : (had : Bool) (keys new : List (List ℕ)) (text stored name : List ℕ) (number : ℕ) → new ≡ (if had then keys else keys ++ text ∷ [])
-    → text ≡ name → number < length new → slice_get new number ≡ Some stored → bytes_eq text stored ≡ true → IsKnownAs keys new name number
-joined_at had keys new text stored name number is same within at equal = record {
-  known = joined had keys new text name is same;
-  below = within;
-  is = get_or_from_slice_get new number stored [] at ∙ sym ((bytes_decides text stored).0 equal) ∙ same;
+-- a name that joins them
+pub new_group : (keys new : List (List ℕ)) (text name : List ℕ) → new ≡ keys ++ text ∷ [] → text ≡ name → IsKnownAs keys new name (length keys)
+new_group keys new text name longer same = record {
+  known = inr (longer ∙ ap (λ (n : List ℕ). keys ++ n ∷ []) same);
+  below = omega (arith, ap length longer, length_push keys text);
+  is = ap (λ (ns : List (List ℕ)). name_at ns (length keys)) longer ∙ get_or_push keys text [] (length keys) refl ∙ same;
 }
 
 -- ---- the names of the list
@@ -101,6 +87,13 @@ held_once ks order held interned holds = record {
 pub kept_once : (names : List (List ℕ)) (order : Option (List ℕ)) (held : List (List ℕ)) → AreKept names order → HoldsEachOnce names held → HoldsEachOnce (names_kept names order) held
 kept_once names None held kept holds = holds
 kept_once names (Some order) held kept holds = held_once names order held kept holds
+
+-- what holds of each name of the lines holds of each distinct one
+pub kept_fine : (names : List (List ℕ)) (order : Option (List ℕ)) → AreKept names order → All IsFine (names_kept names order) → All IsFine names
+kept_fine names None kept fine = fine
+kept_fine names (Some order) kept fine = λ k d within.
+    let has = kept.used (get_or names k d) (Contains-get_or names k d within) in
+    subst IsFine has.2 (fine has.0 (get_or names k d) has.1)
 
 -- ---- the numbers
 
@@ -148,41 +141,70 @@ have_numbers ks entries are = record {
 abbrev none : Numbered
 none = record { lead = 0; number = 0 }
 
--- the names of the lines, by ranks
-named_agree : (ks sorted : List (List ℕ)) (rank : ℕ → ℕ) (order : List ℕ) → All (λ i. i < length ks) order
-    → ((i : ℕ) → i < length ks → name_at sorted (rank i) ≡ name_at ks i) → named sorted (map rank order) ≡ named ks order
-named_agree ks sorted rank [] below same = refl
-named_agree ks sorted rank (i ∷ order) below same =
-    ap₂ (λ (n : List ℕ) (ns : List (List ℕ)). n ∷ ns)
-    (same i (All-head (λ (j : ℕ). j < length ks) i order below))
-    (named_agree ks sorted rank order (All-tail (λ (j : ℕ). j < length ks) i order below) same)
+-- the groups of no entries
+pub no_groups : (ks : List (List ℕ)) → AreGroups ks [] [] []
+no_groups ks = record {
+  interned = record { below = λ k d within. absurd (omega (arith, within)); used = λ name has. has };
+  are = refl;
+}
 
-module _ (ks : List (List ℕ)) (order : List ℕ) (entries : List Numbered) (ranks : List ℕ) (interned : IsInterned ks order) (are : AreNumbered ks entries) (ranked : AreRanks entries ranks) where
-  pub all_have_ranks : All (λ (i : ℕ). i < length ranks) order
-  all_have_ranks = All-weaker (λ (i : ℕ). i < length ks) (λ (i : ℕ). i < length ranks)
-      (λ i below. omega (arith, below, same_count ks entries are, ranked.same_length)) order interned.below
+-- one entry more
+pub one_group_more : (ks : List (List ℕ)) (entries : List Numbered) (distinct new : List (List ℕ)) (groups : List ℕ) (place group : ℕ) → AreGroups ks (take place entries) distinct groups
+    → place < length entries → IsKnownAs distinct new (name_of ks (get_or entries place none)) group → AreGroups ks (take (place + 1) entries) new (groups ++ group ∷ [])
+one_group_more ks entries distinct new groups place group before within known = record {
+  interned = interned_more distinct new groups (name_of ks e) group before.interned known;
+  are =
+      named_more distinct new groups (name_of ks e) group before.interned known
+      ∙ ap (λ (ns : List (List ℕ)). ns ++ name_of ks e ∷ []) before.are
+      ∙ sym (map-append (name_of ks) (take place entries) (e ∷ []))
+      ∙ ap (map (name_of ks)) (sym (take_more entries place none within));
+}
+  where
+    e : Numbered
+    e = get_or entries place none
 
-  at_rank : (i : ℕ) → i < length ks → name_at (map (name_of ks) entries) (slice_index ranks i) ≡ name_at ks i
+module _ (ks : List (List ℕ)) (entries : List Numbered) (places : List ℕ) (distinct : List (List ℕ)) (groups : List ℕ) (are : AreNumbered ks entries) (ranked : AreRanks entries places) (grouped : AreGroups ks entries distinct groups) where
+  group_count : length groups ≡ length entries
+  group_count = sym (length-map groups (name_at distinct)) ∙ ap length grouped.are ∙ length-map entries (name_of ks)
+
+  low : (i : ℕ) → i < length places → slice_index places i < length groups
+  low i within = omega (arith, ranked.below i (omega (arith, within, ranked.same_length)), group_count)
+
+  pub all_have_groups : All (λ (i : ℕ). i < length groups) places
+  all_have_groups = λ k d within. subst (λ (i : ℕ). i < length groups) (get_or_default places k 0 d within) (low k within)
+
+  at_rank : (i : ℕ) → i < length places → name_at distinct (slice_index groups (slice_index places i)) ≡ name_at ks i
   at_rank i within =
-      let low : i < length entries = omega (arith, within, same_count ks entries are) in
-      let rank = slice_index ranks i in
-      let there : rank < length entries = ranked.below i low in
-      let number : (get_or entries rank none).number ≡ i = sym (get_or-map number_in entries rank none 0 there) ∙ ranked.is i low in
-      get_or-map (name_of ks) entries rank none [] there ∙ ap (name_at ks) number
+      let place = slice_index places i in
+      let before : i < length entries = omega (arith, within, ranked.same_length) in
+      let there : place < length entries = ranked.below i before in
+      let number : (get_or entries place none).number ≡ i = sym (get_or-map number_in entries place none 0 there) ∙ ranked.is i before in
+      sym (get_or-map (name_at distinct) groups place 0 [] (low i within))
+      ∙ ap (λ (ns : List (List ℕ)). get_or ns place []) grouped.are
+      ∙ get_or-map (name_of ks) entries place none [] there
+      ∙ ap (name_at ks) number
 
-  pub same_named : named (map (name_of ks) entries) (map (slice_index ranks) order) ≡ named ks order
-  same_named = named_agree ks (map (name_of ks) entries) (slice_index ranks) order interned.below at_rank
+  -- the names of the lines, by ranks
+  pub same_named : named distinct (map (slice_index groups) places) ≡ ks
+  same_named =
+      ext_get_or [] (named distinct (map (slice_index groups) places)) ks
+      (length-map (map (slice_index groups) places) (name_at distinct) ∙ length-map places (slice_index groups) ∙ ranked.same_length ∙ sym (same_count ks entries are))
+      (λ i within.
+      let here : i < length places = omega (arith, within, length-map (map (slice_index groups) places) (name_at distinct), length-map places (slice_index groups)) in
+      get_or-map (name_at distinct) (map (slice_index groups) places) i 0 [] (omega (arith, here, length-map places (slice_index groups)))
+      ∙ ap (name_at distinct) (get_or-map (slice_index groups) places i 0 0 here)
+      ∙ at_rank i here)
 
-  pub interned_sorted : IsInterned (map (name_of ks) entries) (map (slice_index ranks) order)
+  pub interned_sorted : IsInterned distinct (map (slice_index groups) places)
   interned_sorted = record {
-    below = All-map (λ (j : ℕ). j < length (map (name_of ks) entries)) (slice_index ranks) order
-        (All-weaker (λ (i : ℕ). i < length ks) (λ (i : ℕ). slice_index ranks i < length (map (name_of ks) entries))
-        (λ i below. omega (arith, ranked.below i (omega (arith, below, same_count ks entries are)), length-map entries (name_of ks))) order interned.below);
+    below = All-map (λ (j : ℕ). j < length distinct) (slice_index groups) places
+        (All-weaker (λ (i : ℕ). i < length groups) (λ (i : ℕ). slice_index groups i < length distinct) (λ i below. grouped.interned.below i 0 below) places all_have_groups);
     used = λ other has. subst (λ (ns : List (List ℕ)). Contains ns other) (sym same_named)
-        (let k : ℕ = has.0 in
-        let within : k < length entries = omega (arith, has.1, length-map entries (name_of ks)) in
-        let is : name_of ks (get_or entries k none) ≡ other = sym (get_or-map (name_of ks) entries k none other within) ∙ has.2 in
-        interned.used other (subst (Contains ks) is (Contains-get_or ks (get_or entries k none).number [] (numbers_below ks entries are k none within))));
+        (let listed : Contains (map (name_of ks) entries) other = subst (λ (ns : List (List ℕ)). Contains ns other) grouped.are (grouped.interned.used other has) in
+        let k : ℕ = listed.0 in
+        let within : k < length entries = omega (arith, listed.1, length-map entries (name_of ks)) in
+        let is : name_of ks (get_or entries k none) ≡ other = sym (get_or-map (name_of ks) entries k none other within) ∙ listed.2 in
+        subst (Contains ks) is (Contains-get_or ks (get_or entries k none).number [] (numbers_below ks entries are k none within)));
   }
 
 -- ---- the ranks, one after another

@@ -1,6 +1,6 @@
 -- Helper: the headline does not rest on this file.
 -- How a reader of a query keeps the parameters so far.
-use Rattle.std.specs.Prelude.{ℕ, ◌==◌, ◌&&◌, not, nat_lt, Bool, false, List, [], ◌∷◌, ◌++◌, length, Option, Some, None, if◌then◌else◌}
+use Rattle.std.specs.Prelude.{ℕ, ◌==◌, ◌&&◌, not, nat_lt, Bool, List, [], ◌∷◌, ◌++◌, length, Option, Some, None, if◌then◌else◌}
 use Rattle.std.specs.List.{list_any}
 use Rattle.std.specs.Option.{option_or}
 use Rattle.key_names.specs.Names.{most_name_bytes}
@@ -58,7 +58,8 @@ with_parameter values (Some MaxKeys) value = record values { max_keys = most_ent
 with_parameter values (Some EncodingType) value = record values { url = is_url value }
 with_parameter values name value = values
 
--- what the parameters so far ask of a listing of this version: their values, their names, and the earliest of their causes
+-- what the parameters so far ask of a listing of this version: their values, their names, and the earliest of their
+-- causes
 pub record Asking : Type 0 where
   pub version : Version
   pub values : Values

@@ -73,8 +73,8 @@ unfoldable pub read_line : List (List ℕ) → Result Command Cause
 read_line [] = Err UnknownVerb
 read_line (verb ∷ fields) = option_map_or (λ (v : Verb). read_fields v fields) (verb_of verb) (Err UnknownVerb)
 
--- what a line says, or the first cause that it has alone, whatever came before it. It is cut into fields at each space, so
--- two spaces in a row have an empty field between them.
+-- what a line says, or the first cause that it has alone, whatever came before it. It is cut into fields at each space,
+-- so two spaces in a row have an empty field between them.
 unfoldable pub reading_of : List ℕ → Result Command Cause
 reading_of text = if is_utf8 text then read_line (slice_split (λ b. b == 32) text) else Err NotUtf8
 
@@ -128,8 +128,8 @@ lines_from number before (text ∷ texts) =
     else record { number = number; reading = reading_of text; before = before }
     ∷ lines_from (number + 1) (before ++ said (reading_of text)) texts
 
--- the input is cut at each line feed, and one carriage return at the end of a line is dropped. What stands behind the last
--- line feed is a line too, perhaps an empty one.
+-- the input is cut at each line feed, and one carriage return at the end of a line is dropped. What stands behind the
+-- last line feed is a line too, perhaps an empty one.
 unfoldable pub input_lines : List ℕ → List Line
 input_lines bytes = lines_from 1 [] (map strip_carriage_return (slice_split (λ b. b == 10) bytes))
 

@@ -42,6 +42,11 @@ pub record HaveNumbers (entries : List Numbered) : Type 0 where
   pub below : All (λ (e : Numbered). e.number < length entries) entries
   pub all : (number : ℕ) → number < length entries → Contains (map number_in entries) number
 
+-- equal names stand together: for each entry the place of its name among the distinct ones
+pub record AreGroups (names : List (List ℕ)) (entries : List Numbered) (distinct : List (List ℕ)) (groups : List ℕ) : Type 0 where
+  pub interned : IsInterned distinct groups
+  pub are : named distinct groups ≡ map (name_of names) entries
+
 -- each number of a name stands here once
 abbrev pub AreNumbered : List (List ℕ) → List Numbered → Type 0
 AreNumbered names entries = IsPermutation (range_with_len 0 (length names)) (map number_in entries)

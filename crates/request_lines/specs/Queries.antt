@@ -23,8 +23,8 @@ pub record Parameter : Type 0 where
   pub name : List ℕ
   pub value : List ℕ
 
--- the parameters of the pieces of a query. Empty pieces are skipped; any other is cut at its first `=` into a name and a
--- value, and without one its value is empty.
+-- the parameters of the pieces of a query. Empty pieces are skipped; any other is cut at its first `=` into a name and
+-- a value, and without one its value is empty.
 unfoldable pub parameters_read : List (List ℕ) → Result (List Parameter) Cause
 parameters_read [] = Ok []
 parameters_read (piece ∷ pieces) =
@@ -111,7 +111,8 @@ list_query v = record { prefix = v.prefix; delimiter = v.delimiter; start_after 
 abbrev pub v1_query : Values → V1Query
 v1_query v = record { prefix = v.prefix; delimiter = v.delimiter; marker = v.marker; max_keys = v.max_keys; url = v.url }
 
--- a query, which may begin with one `?` and is cut at each `&`: what it says, or the first cause that its parameters have
+-- a query, which may begin with one `?` and is cut at each `&`: what it says, or the first cause that its parameters
+-- have
 unfoldable pub without_mark : List ℕ → List ℕ
 without_mark [] = []
 without_mark (b ∷ bytes) = if b == 63 then bytes else b ∷ bytes

@@ -37,7 +37,8 @@ asked_name asked = requested_name asked.request
 abbrev pub asked_place : Asked → Option ℕ
 asked_place asked = record_place asked.request
 
--- the names are those of the PUT, PUTNEW, DELETE and HEAD requests, in the order of the lines, and an object may have each
+-- the names are those of the PUT, PUTNEW, DELETE and HEAD requests, in the order of the lines, and an object may have
+-- each
 pub record HasNames (session : Session) : Type 0 where
   pub in_order : session.names ≡ filter_map asked_name (all_requests session.clients)
   pub fine : All IsFine session.names

@@ -18,8 +18,8 @@ pub enum Cause {
     BadEscape,
     /// The key is empty.
     EmptyKey,
-    /// The unescaped key, or the value of `prefix`, `delimiter`, `start-after`, or of `marker` on a LISTV1 line, has more
-    /// than 1,024 bytes, the most that Amazon S3 takes for an object key.
+    /// The unescaped key, or the value of `prefix`, `delimiter`, `start-after`, or of `marker` on a LISTV1 line, has
+    /// more than 1,024 bytes, the most that Amazon S3 takes for an object key.
     KeyTooLong,
     /// Size or modified is not one or more ASCII digits.
     BadNumber,

@@ -20,9 +20,9 @@ pub struct CheckInput<'a> {
     pub text: &'a [u8],
 }
 
-/// The session that stands before the first line `----` of an input, and the text behind this line; or the first line of
-/// the session that has a cause, with its first cause. Where the whole input has no cause and no such line, the line behind
-/// its last one has the cause `NoText`.
+/// The session that stands before the first line `----` of an input, and the text behind this line; or the first line
+/// of the session that has a cause, with its first cause. Where the whole input has no cause and no such line, the line
+/// behind its last one has the cause `NoText`.
 ///
 /// ```
 /// let read = read_check_input(alloc, b"CLIENT\nHEAD a\n----\n{\"Updates\":0}\n")?;
@@ -86,8 +86,8 @@ fn line_count(bytes: &[u8]) -> u32
     count
 }
 
-// The length of the first line, with its end.
-fn line_len(text: &[u8]) -> usize
+/// The length of a text's first line, with its line feed. A last piece without one is a line too.
+pub fn line_len(text: &[u8]) -> usize
     requires { 0 < length text.now }
     ensures some { 0 < result }
     ensures most { result ≤ length text.now }

@@ -1,44 +1,39 @@
-// Names as they are read: each is kept once, and has a number from its first line on.
-ghost use Rattle.std.specs.Prelude.{◌≡◌, ◌<◌, ◌++◌, ◌∷◌, [], length, map, All, IfOk, OnOk, OnErr, IsOkUnless, replicate, slice_index};
+// Names as they are read: one for each line, of which each distinct one is kept once behind the last line.
+ghost use Rattle.std.specs.Prelude.{◌≡◌, ◌<◌, ◌++◌, ◌∷◌, [], length, map, All, IfOk, OnOk, IsOkUnless, replicate, slice_index};
 ghost use Rattle.request_lines.specs.declared.line_error.LineError.TheVariants.{NoMemory as OutOfMemory};
-ghost use Rattle.request_lines.specs.Interned.{AreRanks, HaveNumbers, IsKnownAs, name_of};
+ghost use Rattle.request_lines.specs.Interned.{AreGroups, AreRanks, HaveNumbers, IsKnownAs};
 
-use crate::keyed::BehindInput;
 use crate::leads::{Numbered, sorted};
 use crate::line_error::LineError;
 use crate::names::Names;
-use indexmap::IndexSet;
 use key_names::{NoMemory, Text};
 use std::alloc::{AllocError, Global};
 use std::marker::Model;
 
-/// The names of the lines so far. A name's number is its place among the distinct names, in the order in which they came.
+/// The names of the lines so far. A name's number is its place among them.
+///
+/// They are sorted once, behind the last line, and equal names then stand together. No name is looked up before, so no
+/// choice of names makes the reading slow.
 #[derive(Debug, Drop)]
 pub(crate) struct Interner {
-    known: IndexSet<Text, BehindInput>,
-    // For each line the number of its name.
-    order: Vec<usize>,
+    names: Vec<Text>,
 }
 
 impl Model for Interner {
     ghost use Rattle.std.specs.Prelude.{List, ℕ};
-    ghost use Rattle.request_lines.specs.Interned.{IsInterned, named};
 
     ghost Value = { List (List ℕ) };
 
-    ghost view = { λ i. named i.known.keys i.order.items };
-
-    ghost invariant = { λ i. IsInterned i.known.keys i.order.items };
+    ghost view = { λ i. i.names.items };
 }
 
 impl Interner {
-    /// Before the first line of this input.
-    pub(crate) fn new(alloc: Global, input: &[u8]) -> Interner
+    /// Before the first line.
+    pub(crate) fn new(alloc: Global) -> Interner
         ensures { result ≡ [] }
     {
         Interner {
-            known: IndexSet::with_hasher(alloc, BehindInput::of(input)),
-            order: Vec::new(alloc),
+            names: Vec::new(alloc),
         }
     }
 
@@ -47,9 +42,8 @@ impl Interner {
         ensures pushed { OnOk result (self.new ≡ self.old ++ name.now ∷ []) }
         ensures memory { IsOkUnless result OutOfMemory }
     {
-        self.order.reserve(1)?;
-        let number = number_of(alloc, &mut self.known, name)?;
-        self.order.push_reserved(number);
+        let number = self.names.len();
+        self.names.push(name.copy(alloc)?)?;
         Ok(number)
     }
 
@@ -57,73 +51,76 @@ impl Interner {
     pub(crate) fn ranked(self, alloc: Global) -> Result<(Names, Vec<usize>), NoMemory>
         ensures { IfOk result (λ names. names.0 ≡ self) }
     {
-        let Interner { known, order } = self;
-        let names = known.as_slice();
+        let names = self.names.as_slice();
         let entries = sorted(alloc, names)?;
-        let ranks = ranks_of(alloc, &entries)?;
-        let order = at_ranks(alloc, &order, &ranks)?;
-        let distinct = names_of(alloc, names, &entries)?;
+        let places = places_of(alloc, &entries)?;
+        let (distinct, groups) = grouped(alloc, names, &entries)?;
+        let ranks = at_places(alloc, &places, &groups)?;
+        let order = Vec::from_slice(alloc, &ranks)?;
         Ok((Names::of(distinct, order), ranks))
     }
 }
 
-// The number of a name among the known ones, which it joins where it is new.
-fn number_of(
+// The distinct names of the entries, in their order, and for each entry the place of its name among them.
+fn grouped(
     alloc: Global,
-    known: &mut IndexSet<Text, BehindInput>,
-    name: &Text,
-) -> Result<usize, LineError>
-    ensures number { IfOk result (λ number. IsKnownAs known.old.keys known.new.keys name.now number) }
-    ensures kept { OnErr result (known.new.keys ≡ known.old.keys) }
-    ensures memory { IsOkUnless result OutOfMemory }
+    names: &[Text],
+    entries: &[Numbered],
+) -> Result<(Vec<Text>, Vec<usize>), NoMemory>
+    requires { All (λ (e : Numbered). e.number < length names.now) entries.now }
+    ensures { IfOk result (λ found. AreGroups names.now entries.now found.0.items found.1.items) }
 {
-    if let Some(number) = known.get_index_of(name) {
-        return Ok(number);
+    let mut distinct = Vec::new(alloc);
+    let mut groups = Vec::with_capacity(alloc, entries.len())?;
+    for entry in entries {
+        let group = group_of(alloc, &mut distinct, &names[entry.number])?;
+        groups.push(group)?;
     }
-    let (number, _) = known.insert_full(name.copy(alloc)?)?;
-    Ok(number)
+    Ok((distinct, groups))
+}
+
+// The place of a name among the distinct ones, which it joins where it is not the last one.
+fn group_of(alloc: Global, distinct: &mut Vec<Text>, name: &Text) -> Result<usize, NoMemory>
+    ensures { IfOk result (IsKnownAs distinct.old.items distinct.new.items name.now) }
+{
+    let count = distinct.len();
+    if 0 < count {
+        if distinct[count - 1].bytes() == name.bytes() {
+            return Ok(count - 1);
+        }
+    }
+    distinct.push(name.copy(alloc)?)?;
+    Ok(count)
 }
 
 // For each number the place at which it stands.
-fn ranks_of(alloc: Global, entries: &[Numbered]) -> Result<Vec<usize>, AllocError>
+fn places_of(alloc: Global, entries: &[Numbered]) -> Result<Vec<usize>, AllocError>
     requires { HaveNumbers entries.now }
-    ensures { IfOk result (λ ranks. AreRanks entries.now ranks.items) }
+    ensures { IfOk result (λ places. AreRanks entries.now places.items) }
 {
     let count = entries.len();
-    let mut ranks = no_ranks(alloc, count)?;
-    for (rank, entry) in entries.iter().enumerate() {
-        ranks[entry.number] = rank;
+    let mut places = no_places(alloc, count)?;
+    for (place, entry) in entries.iter().enumerate() {
+        places[entry.number] = place;
     }
-    Ok(ranks)
+    Ok(places)
 }
 
-// So many numbers without a rank: the count is no rank.
-fn no_ranks(alloc: Global, count: usize) -> Result<Vec<usize>, AllocError>
-    ensures { IfOk result (λ ranks. ranks.items ≡ replicate count count) }
+// So many numbers without a place: the count is no place.
+fn no_places(alloc: Global, count: usize) -> Result<Vec<usize>, AllocError>
+    ensures { IfOk result (λ places. places.items ≡ replicate count count) }
 {
     vec![in alloc; count; count]
 }
 
-// The ranks of these numbers.
-fn at_ranks(alloc: Global, numbers: &[usize], ranks: &[usize]) -> Result<Vec<usize>, AllocError>
-    requires { All (λ number. number < length ranks.now) numbers.now }
-    ensures { IfOk result (λ order. order.items ≡ map (slice_index ranks.now) numbers.now) }
+// The groups at these places.
+fn at_places(alloc: Global, places: &[usize], groups: &[usize]) -> Result<Vec<usize>, AllocError>
+    requires { All (λ place. place < length groups.now) places.now }
+    ensures { IfOk result (λ ranks. ranks.items ≡ map (slice_index groups.now) places.now) }
 {
-    let mut order = Vec::with_capacity(alloc, numbers.len())?;
-    for number in numbers {
-        order.push(ranks[*number])?;
+    let mut ranks = Vec::with_capacity(alloc, places.len())?;
+    for place in places {
+        ranks.push(groups[*place])?;
     }
-    Ok(order)
-}
-
-// The names of these numbers.
-fn names_of(alloc: Global, names: &[Text], entries: &[Numbered]) -> Result<Vec<Text>, NoMemory>
-    requires { All (λ (e : Numbered). e.number < length names.now) entries.now }
-    ensures { IfOk result (λ sorted. sorted.items ≡ map (name_of names.now) entries.now) }
-{
-    let mut sorted = Vec::with_capacity(alloc, entries.len())?;
-    for entry in entries {
-        sorted.push(names[entry.number].copy(alloc)?)?;
-    }
-    Ok(sorted)
+    Ok(ranks)
 }

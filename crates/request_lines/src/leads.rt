@@ -4,8 +4,8 @@ ghost use Rattle.std.specs.Prelude.{◌≡◌, length, map, IfOk};
 ghost use Rattle.std.specs.List.{range_with_len};
 ghost use Rattle.request_lines.specs.Interned.{AreNumbered, number_in};
 
-use key_names::Text;
-use std::alloc::{AllocError, Global};
+use key_names::{NoMemory, Text};
+use std::alloc::Global;
 use std::cmp::Ordering;
 
 // How many bytes are compared as one number.
@@ -19,7 +19,7 @@ pub(crate) struct Numbered {
 }
 
 /// The names' numbers, in the byte order of the names.
-pub(crate) fn sorted(alloc: Global, names: &[Text]) -> Result<Vec<Numbered>, AllocError>
+pub(crate) fn sorted(alloc: Global, names: &[Text]) -> Result<Vec<Numbered>, NoMemory>
     ensures { IfOk result (λ entries. AreNumbered names.now entries.items) }
 {
     let mut entries = with_numbers(alloc, names)?;
@@ -28,7 +28,7 @@ pub(crate) fn sorted(alloc: Global, names: &[Text]) -> Result<Vec<Numbered>, All
 }
 
 // The names' numbers, in the order of the names.
-fn with_numbers(alloc: Global, names: &[Text]) -> Result<Vec<Numbered>, AllocError>
+fn with_numbers(alloc: Global, names: &[Text]) -> Result<Vec<Numbered>, NoMemory>
     ensures { IfOk result (λ entries. map number_in entries.items ≡ range_with_len 0 (length names.now)) }
 {
     let begin = common_len(names);

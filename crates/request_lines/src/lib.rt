@@ -1,6 +1,6 @@
 //! A session's text, read line by line: which clients there are, what each of them asks, and the first fault.
 //! The layers above use `read_session`, what `specs/SessionLaws.antt` says of every session, and the grammar of
-//! `specs/Input.antt`; and `read_check_input`, for a session with a written text behind it.
+//! `specs/Input.antt`; and, for a session with a written text behind it, `read_check_input` and `line_len`.
 #![tactic(auto)]
 
 mod cause;
@@ -8,7 +8,6 @@ mod check_input;
 mod command;
 mod counts;
 mod interner;
-mod keyed;
 mod leads;
 mod limits;
 mod line_error;
@@ -28,11 +27,11 @@ mod values;
 mod verb;
 
 pub use cause::Cause;
-pub use check_input::{CheckInput, read_check_input};
+pub use check_input::{CheckInput, line_len, read_check_input};
 pub use limits::MAX_INPUT_BYTES;
 pub use names::Names;
 pub use read::read_session;
 pub use requests::Requests;
 pub use sample::sample_input;
-pub use session::{Asked, ClientPart, Session};
+pub use session::{Asked, ClientPart, Session, is_update};
 pub use session_error::{InputError, SessionError};

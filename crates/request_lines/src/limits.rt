@@ -1,4 +1,5 @@
-// The limits of a session and of a page. The definitions of `specs/Input.antt` and `specs/Queries.antt` have the same numbers.
+// The limits of a session and of a page. The definitions of `specs/Input.antt` and `specs/Queries.antt` have the same
+// numbers.
 
 /// The most bytes that an input may have: 64 MiB.
 pub const MAX_INPUT_BYTES: usize = 67_108_864;

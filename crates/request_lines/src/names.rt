@@ -7,6 +7,7 @@ use key_map::Items;
 use key_names::{Directory, NoMemory, Text};
 use std::alloc::Global;
 use std::marker::Model;
+use std::mem;
 
 /// Names in the order of the lines, where a name may stand more than once. Contracts see the list of them.
 #[derive(Debug, Drop)]
@@ -43,8 +44,8 @@ impl Names {
         Names { names, order: None }
     }
 
-    /// A name for each line. Where they came as a vector it is that one, and no memory is taken; where a session was read
-    /// each line gets a copy of its own.
+    /// A name for each line. Where they came as a vector it is that one, and no memory is taken; where a session was
+    /// read each line gets a copy of its own.
     pub fn into_vec(self, alloc: Global) -> Result<Vec<Text>, NoMemory>
         ensures { IfOk result (λ names. names.items ≡ self) }
     {
@@ -87,16 +88,23 @@ impl Names {
         }
     }
 
-    /// The directory of the names. `Directory::new` refuses no fine name, so an error does not come.
-    pub fn into_directory(self, alloc: Global) -> Result<Directory, NoMemory>
+    /// The names, which do not stand here any more.
+    pub(crate) fn take(&mut self) -> Names
+        ensures taken { result ≡ self.old }
+        ensures none { self.new ≡ [] }
+    {
+        let none = Names::new(*self.names.allocator());
+        mem::replace(self, none)
+    }
+
+    /// The directory of the names. They are sorted in place, so no memory is asked for, and `Directory::new` refuses no
+    /// fine name.
+    pub fn into_directory(self) -> Directory
         requires { All IsFine self }
-        ensures { IfOk result (HoldsEachOnce self) }
+        ensures { HoldsEachOnce self result }
     {
         let Names { names, order: _ } = self;
-        match Directory::new(alloc, names) {
-            Ok(dir) => Ok(dir),
-            Err(_) => Err(NoMemory),
-        }
+        directory_of(names)
     }
 
     /// The same, and the names stay: each distinct one is copied.
@@ -104,10 +112,19 @@ impl Names {
         requires { All IsFine self.now }
         ensures { IfOk result (HoldsEachOnce self.now) }
     {
-        match Directory::new(alloc, copies(alloc, &self.names)?) {
-            Ok(dir) => Ok(dir),
-            Err(_) => Err(NoMemory),
-        }
+        let names = copies(alloc, &self.names)?;
+        Ok(directory_of(names))
+    }
+}
+
+// The directory of names that it may have.
+fn directory_of(names: Vec<Text>) -> Directory
+    requires { All IsFine names.items }
+    ensures { HoldsEachOnce names.items result }
+{
+    match Directory::new(*names.allocator(), names) {
+        Ok(dir) => dir,
+        Err(_) => unreachable!(),
     }
 }
 

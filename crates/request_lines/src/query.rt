@@ -17,8 +17,8 @@ use crate::values::Values;
 use key_names::{MAX_NAME_BYTES, Text};
 use std::alloc::Global;
 
-/// What the parameters so far ask of a listing of this version: their values, their names, each once, and the earliest of
-/// their causes.
+/// What the parameters so far ask of a listing of this version: their values, their names, each once, and the earliest
+/// of their causes.
 #[derive(Drop)]
 pub(crate) struct Asking {
     pub(crate) version: Version,

@@ -31,7 +31,7 @@ pub fn read_session(alloc: Global, bytes: &[u8]) -> Result<Session, SessionError
     ensures lines { IfOk result HasLines }
     ensures small { IfOk result IsSmall }
 {
-    let mut reader = Reader::new(alloc, bytes);
+    let mut reader = Reader::new(alloc);
     let mut number: u32 = 0;
     let mut left = Some(bytes);
     while let Some(lines) = left {

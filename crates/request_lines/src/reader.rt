@@ -31,8 +31,8 @@ pub(crate) struct Reader {
 }
 
 impl Reader {
-    /// Before the first line of this input.
-    pub(crate) fn new(alloc: Global, input: &[u8]) -> Reader
+    /// Before the first line.
+    pub(crate) fn new(alloc: Global) -> Reader
         ensures start { progress result ≡ no_progress }
         ensures within { IsWithin result.counts }
     {
@@ -40,7 +40,7 @@ impl Reader {
             counts: Counts::none(),
             ended: Vec::new(alloc),
             current: Requests::new(alloc),
-            names: Interner::new(alloc, input),
+            names: Interner::new(alloc),
             records: Vec::new(alloc),
         }
     }

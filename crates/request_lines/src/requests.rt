@@ -64,8 +64,8 @@ impl Requests {
         self.asked.as_slice()
     }
 
-    /// Where to look for the name of the request at this place: its rank in a directory of the session's names and of no
-    /// others. Another directory may have another name there, so that a caller has to compare.
+    /// Where to look for the name of the request at this place: its rank in a directory of the session's names and of
+    /// no others. Another directory may have another name there, so that a caller has to compare.
     pub fn rank(&self, place: usize) -> usize {
         self.ranks.get(place).copied().unwrap_or(0)
     }

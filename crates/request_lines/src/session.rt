@@ -5,6 +5,7 @@ ghost use Rattle.bucket_terms.specs.LegalRun as spec;
 use crate::{Names, Requests};
 use bucket_terms::{Record, Request};
 use key_map::Items;
+use key_names::Directory;
 
 /// One request and the number of its line, counted from 1.
 #[derive(Debug, Drop)]
@@ -31,6 +32,26 @@ pub struct Session {
     pub records: Items<Record>,
 }
 
+impl Session {
+    ghost use Rattle.std.specs.Prelude.{[], All};
+    ghost use Rattle.key_names.specs.Names.{IsFine, HoldsEachOnce};
+
+    /// Takes the names out, and answers the directory that has them.
+    ///
+    /// ```
+    /// let mut session = read_session(alloc, b"CLIENT\nPUT a 1 e1 10\nHEAD a\n")?;
+    /// let dir = session.take_directory();
+    /// assert_eq!(rt; (dir.len(), session.names.len()), (1, 0));
+    /// ```
+    pub fn take_directory(&mut self) -> Directory
+        requires { All IsFine self.old.names }
+        ensures directory { HoldsEachOnce self.old.names result }
+        ensures session { self.new ≡ record self.old { names = [] } }
+    {
+        self.names.take().into_directory()
+    }
+}
+
 impl ClientPart {
     ghost use Rattle.bucket_terms.specs.RunParts.{updates_in};
     ghost use Rattle.request_lines.specs.Session.{request_lines};
@@ -48,8 +69,8 @@ impl ClientPart {
     }
 }
 
-// Whether the request is a PUT, a PUTNEW or a DELETE.
-fn is_update(request: &Request) -> bool
+/// Whether the request is a PUT, a PUTNEW or a DELETE, which may make an update.
+pub fn is_update(request: &Request) -> bool
     ensures { result ≡ spec.is_update request.now }
 {
     matches!(

@@ -1,5 +1,5 @@
--- What a client alone is answered, one request after the other, also to a token and to NEXT: each reply with its place, and
--- the updates that stand behind it.
+-- What a client alone is answered, one request after the other, also to a token and to NEXT: each reply with its place,
+-- and the updates that stand behind it.
 use Rattle.std.specs.Prelude.{◌≡◌, ℕ, ◌+◌, false, if◌then◌else◌, List, [], ◌∷◌, ◌++◌, length, Option, Some, None}
 use Rattle.key_map.specs.declared.update.Update.{Update}
 use Rattle.key_map.specs.declared.update.Change.{Change}
@@ -19,7 +19,8 @@ use Rattle.bucket_terms.specs.RunParts.{head_answer}
 use Rattle.sample_laws.specs.Alone.{rank_of}
 use Rattle.sample_laws.specs.Finds.{map_of}
 
--- where the listing of a request begins: a LIST at the point of its token, or nowhere where that is the token of no point
+-- where the listing of a request begins: a LIST at the point of its token, or nowhere where that is the token of no
+-- point
 abbrev pub IsResolved : Request → Option (Option TokenPoint) → Type 0
 IsResolved (ListRequest query) (Some point) = IsPointOf query point
 IsResolved (ListRequest query) None = (point : Option TokenPoint) → ¬ (IsPointOf query point)
@@ -72,8 +73,8 @@ placed_as client line o = record { client = client; line = line; at = o.at; repl
 abbrev pub later_listing : Request → Reply → Option Reply → Option Reply
 later_listing request reply last = if is_listing request then Some reply else last
 
--- the lines are answered so in order, behind these updates and this reply of the last listing, and `end` are the updates
--- behind all of them
+-- the lines are answered so in order, behind these updates and this reply of the last listing, and `end` are the
+-- updates behind all of them
 abbrev pub AreAlone : List (List ℕ) → ℕ → List Update → Option Reply → List RequestLine → List Placed → List Update → Type 0
 AreAlone dir client us last [] [] end = end ≡ us
 AreAlone dir client us last (l ∷ lines) (r ∷ replies) end =

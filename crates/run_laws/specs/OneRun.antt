@@ -5,7 +5,8 @@ use Rattle.bucket_terms.specs.LegalRun.{RequestLine, Run, IsLegal, replies_of}
 use Rattle.bucket_terms.specs.RunParts.{updates_in}
 use Rattle.run_laws.specs.Alone.{AreAlone}
 
--- in each legal run of one client that has more node slots than requests that may make an update, it is answered as alone
+-- in each legal run of one client that has more node slots than requests that may make an update, it is answered as
+-- alone
 abbrev pub AloneLaw : Type 0
 AloneLaw =
     (dir : List (List ℕ)) (lines : List RequestLine) (slots : ℕ → ℕ) (run : Run) → Rises dir → updates_in lines < slots 0

@@ -20,7 +20,8 @@ pub record EndsWithFirst (query : ListQuery) (name : List ℕ) (len : ℕ) : Typ
   pub there : delimiter_at query name between ≡ true
   pub first : (k : ℕ) → k < between → delimiter_at query name k ≡ false
 
--- a name's common prefix ends with the first delimiter at or behind the prefix's length; a name without one has none there
+-- a name's common prefix ends with the first delimiter at or behind the prefix's length; a name without one has none
+-- there
 abbrev pub GroupLaw : Type 0
 GroupLaw = (query : ListQuery) (name : List ℕ) (len : ℕ) → group_len query name ≡ Some len → EndsWithFirst query name len
 
@@ -29,7 +30,8 @@ NoGroupLaw =
     (query : ListQuery) (name : List ℕ) → group_len query name ≡ None → 0 < length query.delimiter
     → (k : ℕ) → k < length (drop (length query.prefix) name) → delimiter_at query name k ≡ false
 
--- without a point, a listing that has a `start_after` is the one from this key on; with one, `start_after` has no effect
+-- without a point, a listing that has a `start_after` is the one from this key on; with one, `start_after` has no
+-- effect
 abbrev pub StartAfterLaw : Type 0
 StartAfterLaw =
     (dir : List (List ℕ)) (query : ListQuery) (m : List Pair) → 0 < length query.start_after

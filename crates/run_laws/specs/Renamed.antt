@@ -1,5 +1,5 @@
--- The clients of a session change their numbers: two of them change places, for one. Nothing else of a run depends on the
--- numbers.
+-- The clients of a session change their numbers: two of them change places, for one. Nothing else of a run depends on
+-- the numbers.
 use Rattle.std.specs.Prelude.{◌≡◌, ℕ, ◌<◌, List, length, map}
 use Rattle.key_map.specs.declared.update.Update.{Update}
 use Rattle.bucket_terms.specs.declared.reply.Placed.{Placed}

@@ -138,7 +138,8 @@ pub record RunRowsLaw : Type 0 where
   pub new_slot_used_up : Legal 1 (put_new_twice ∷ []) (only_replies (put_a ∷ []) (reply_at 0 2 1 (PutReply false) ∷ no_slot 0 3 ∷ []))
   pub new_one_update_early : ¬ (Legal 2 (put_new_twice ∷ []) (only_replies (put_a ∷ []) (reply_at 0 2 1 (PutReply false) ∷ no_slot 0 3 ∷ [])))
   pub new_counts : slots_of (put_new_twice ∷ []) 0 ≡ 3
-  -- what another client changed before the place, this client's first: a page, a put, a removal and a HEAD are of one moment
+  -- what another client changed before the place, this client's first: a page, a put, a removal and a HEAD are of one
+  -- moment
   pub stale_page_beside : ¬ (Legal 9 (beside list_all) (answered_beside [] (reply_at 1 4 1 (page []))))
   pub page_of_two_moments : ¬ (Legal 9 (three_changes list_all) (after_three (reply_at 1 6 3 (page (Key 0 7 ∷ Key 1 8 ∷ [])))))
   pub stale_put : ¬ (Legal 9 (beside (Put (codes "a") 8)) (answered_beside (update 1 4 0 (PutVal 8) ∷ []) (reply_at 1 4 2 (PutReply false))))
@@ -151,7 +152,8 @@ pub record RunRowsLaw : Type 0 where
   pub in_the_name_of_another : ¬ (Legal 9 (beside (Delete (codes "a"))) (answered_beside (update 0 4 0 Remove ∷ []) (reply_at 1 4 2 Deleted)))
   pub place_falls_behind_a_page : ¬ (Legal 9 (writer ∷ (line 4 list_all ∷ line 5 (Head (codes "a")) ∷ []) ∷ [])
       (run (put_a ∷ []) ((reply_at 0 2 1 (PutReply false) ∷ []) ∷ (reply_at 1 4 1 (page (Key 0 7 ∷ [])) ∷ reply_at 1 5 0 Missing ∷ []) ∷ [])))
-  -- a page of version 1 is of one moment; it answers no LIST, nor does a page of version 2 a LISTV1, and NEXT passes over it
+  -- a page of version 1 is of one moment; it answers no LIST, nor does a page of version 2 a LISTV1, and NEXT passes
+  -- over it
   pub stale_v1_page : ¬ (Legal 9 (beside list_v1) (answered_beside [] (reply_at 1 4 1 (v1_reply []))))
   pub v1_page_for_a_list : ¬ (Legal 9 (beside list_all) (answered_beside [] (reply_at 1 4 1 (v1_reply (Key 0 7 ∷ [])))))
   pub page_for_a_v1_list : ¬ (Legal 9 (beside list_v1) (answered_beside [] (reply_at 1 4 1 (page (Key 0 7 ∷ [])))))

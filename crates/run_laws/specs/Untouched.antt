@@ -36,13 +36,15 @@ pub record IsUntouched (dir : List (List ℕ)) (own : ℕ → Bool) (parts : Lis
   pub left : (other : ℕ) → other < length parts → other ≢ client
       → All (λ (l : RequestLine). LeavesAlone dir own l.request) (lines_of parts other)
 
--- the client's updates are those that it makes alone, and its replies are, but for their places, those that it gets alone
+-- the client's updates are those that it makes alone, and its replies are, but for their places, those that it gets
+-- alone
 pub record IsAsIfAlone (dir : List (List ℕ)) (run : Run) (client : ℕ) (lines : List RequestLine) : Type 0 where
   pub placed : List Placed
   pub alone : AreAlone dir client [] None lines placed (updates_of client run.updates)
   pub replies : map (λ (p : Placed). p.reply) (replies_of run client) ≡ map (λ (p : Placed). p.reply) placed
 
--- in each legal run, whatever the other clients do, where the client has more node slots than requests that may make an update
+-- in each legal run, whatever the other clients do, where the client has more node slots than requests that may make an
+-- update
 abbrev pub UntouchedLaw : Type 0
 UntouchedLaw =
     (dir : List (List ℕ)) (own : ℕ → Bool) (parts : List (List RequestLine)) (slots : ℕ → ℕ) (run : Run) (client : ℕ) → Rises dir

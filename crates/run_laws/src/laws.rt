@@ -13,19 +13,20 @@ pub fn one_client()
     ensures one_run { OneRunLaw }
 {}
 
-/// A client that keeps to names which no other client changes is answered as if it were alone, whatever the others do: its
-/// updates are those that it makes alone, and its replies those that it gets alone, but for their places.
+/// A client that keeps to names which no other client changes is answered as if it were alone, whatever the others do:
+/// its updates are those that it makes alone, and its replies those that it gets alone, but for their places.
 pub fn untouched_names()
     ensures untouched { UntouchedLaw }
 {}
 
-/// Clients that change their numbers, as two that change places: a legal run is then one of theirs, with their new numbers.
+/// Clients that change their numbers, as two that change places: a legal run is then one of theirs, with their new
+/// numbers.
 pub fn clients_renamed()
     ensures renamed { RenamedLaw }
 {}
 
-/// One input has one session at most, and none where it is refused; names have one directory. What a source gave and what
-/// a sink took is one list of bytes, where they tell it.
+/// One input has one session at most, and none where it is refused; names have one directory. What a source gave and
+/// what a sink took is one list of bytes, where they tell it.
 pub fn one_input()
     ensures input { OneInputLaw }
     ensures reading { OneReadingLaw }
@@ -41,8 +42,8 @@ pub fn run_rows()
     ensures rows { RunRowsLaw }
 {}
 
-/// A common prefix ends with the first delimiter at or behind the prefix's length. A listing with `start_after` is the one
-/// from that key on, and with a point `start_after` has no effect. Behind a truncated page there is an entry.
+/// A common prefix ends with the first delimiter at or behind the prefix's length. A listing with `start_after` is the
+/// one from that key on, and with a point `start_after` has no effect. Behind a truncated page there is an entry.
 pub fn page_laws()
     ensures group { GroupLaw }
     ensures no_group { NoGroupLaw }

@@ -1,5 +1,5 @@
-//! Laws on the definitions that the program's promise is made of: what a legal run, an input and a directory determine. The
-//! calls do nothing: their clauses are what is proved.
+//! Laws on the definitions that the program's promise is made of: what a legal run, an input and a directory determine.
+//! The calls do nothing: their clauses are what is proved.
 #![tactic(auto)]
 
 mod laws;

@@ -8,8 +8,8 @@ use key_map::Update;
 use key_names::{Directory, NoMemory};
 
 // The bytes of a line without names: of a reply about one key, of a listing without its entries, of an entry, of an
-// update. They are rather too many than too few, with tags of 32 bytes: a buffer that is too short is copied as it grows,
-// and of one that is too long the rest is never touched.
+// update. They are rather too many than too few, with tags of 32 bytes: a buffer that is too short is copied as it
+// grows, and of one that is too long the rest is never touched.
 const REPLY_BYTES: usize = 160;
 
 const LISTING_BYTES: usize = 400;

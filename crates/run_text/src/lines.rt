@@ -4,7 +4,8 @@ ghost use Rattle.outside_io.specs.Streams.{one_more, IsTaken, TakesStart};
 
 use outside_io::{Sink, WriteFault, write_all};
 
-/// Writes the text, one write a line: `ends` has the place behind each line. What stands behind the last one is written too.
+/// Writes the text, one write a line: `ends` has the place behind each line. What stands behind the last one is written
+/// too.
 pub(crate) fn write_lines<K: Sink>(
     sink: &mut K,
     text: &[u8],

@@ -17,8 +17,8 @@ use std::thread::Threads;
 
 impl<'a> Pieces<'a> {
     /// Writes the text of the pieces, one write a line. As many pieces are put together at once as the machine runs
-    /// threads, and are written before the next ones, which take their buffers; a text of no more bytes than a piece has
-    /// starts no thread.
+    /// threads, and are written before the next ones, which take their buffers; a text of no more bytes than a piece
+    /// has starts no thread.
     pub fn write<K: Sink, Rt: Threads + Sync>(
         &self,
         rt: &Rt,

@@ -1,5 +1,5 @@
--- One answer more: its request has made one update of the client, or none; and so the client has at most as many updates
--- as requests that may make one.
+-- One answer more: its request has made one update of the client, or none; and so the client has at most as many
+-- updates as requests that may make one.
 use Rattle.std.proofs.Common.{◌≡◌, ℕ, zero, suc, ◌+◌, ◌≤◌, ◌⊎◌, Bool, true, false, cond, List, [], ◌∷◌, ◌++◌, length, take, eqb, refl, sym, ap, ◌∙◌, subst, arith, inl, inr, Option, Some, None}
 use Rattle.std.specs.List.{slice_get}
 use Rattle.std.proofs.lemmas.Bool.{cases_lt, eqb-true, eq-eqb, false≢true}

@@ -1,5 +1,5 @@
 -- The run of the generated session.
-use Rattle.std.proofs.Common.{◌≡◌, ℕ, zero, suc, ◌*◌, ◌%◌, ◌<◌, ◌≤◌, ◌^◌, List, length, ap, subst, inl, inr, arith}
+use Rattle.std.proofs.Common.{◌≡◌, ℕ, zero, suc, ◌*◌, ◌%◌, ◌<◌, ◌≤◌, ◌^◌, List, [], length, ap, subst, ◌∙◌, inl, inr, arith}
 use Rattle.std.specs.Prelude.{◌==◌}
 use Rattle.std.specs.List.{sum_by}
 use Rattle.std.proofs.lemmas.Bool.{cases_Bool}
@@ -29,12 +29,12 @@ pub record RanSample (n : ℕ) (dir : List (List ℕ)) (run : Run) : Type 0 wher
   pub names : HoldsEachOnce (sample_session n).names dir
   pub legal : IsLegal dir (sample_parts n) (slots_of (sample_parts n)) run
 
-pub ran_sample : (n : ℕ) (session : Session) (dir : List (List ℕ)) (run : Run) → session ≡ sample_session n → HoldsEachOnce session.names dir
-    → RanEach dir (parts_of session.clients) (slots_of (parts_of session.clients)) run → RanSample n dir run
-ran_sample n session dir run is names ran = record {
+pub ran_sample : (n : ℕ) (session taken : Session) (dir : List (List ℕ)) (run : Run) → taken ≡ record session { names = [] } → session ≡ sample_session n
+    → HoldsEachOnce session.names dir → RanEach dir (parts_of taken.clients) (slots_of (parts_of taken.clients)) run → RanSample n dir run
+ran_sample n session taken dir run without is names ran = record {
   names = subst (λ (s : Session). HoldsEachOnce s.names dir) is names;
-  legal = subst (λ (s : Session). IsLegal dir (parts_of s.clients) (slots_of (parts_of s.clients)) run) is
-      (each_legal dir (parts_of session.clients) (slots_of (parts_of session.clients)) run ran);
+  legal = subst (λ (s : Session). IsLegal dir (parts_of s.clients) (slots_of (parts_of s.clients)) run) (without ∙ ap (λ (s : Session). record s { names = [] }) is)
+      (each_legal dir (parts_of taken.clients) (slots_of (parts_of taken.clients)) run ran);
 }
 
 pub four_clients : (n : ℕ) (session : Session) → session ≡ sample_session n → 0 < length session.clients

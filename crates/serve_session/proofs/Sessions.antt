@@ -21,9 +21,14 @@ use Rattle.client_threads.proofs.Clients.{each_legal}
 
 -- ---- the run of the session
 
-pub run_holds : (named : Option ℕ) (session : Session) (dir names : List (List ℕ)) (P : Run → List ℕ → Type 0) → HoldsEachOnce session.names dir
-    → HoldsOfRun named dir session.records session.clients P → HoldsOfSession named session P
-run_holds named session dir names P holds text = record { dir = dir; names = holds; text = text }
+-- what holds of a run of the session without its names holds of one of the session
+pub run_holds : (named : Option ℕ) (session taken : Session) (dir : List (List ℕ)) (P : Run → List ℕ → Type 0) → taken ≡ record session { names = [] } → HoldsEachOnce session.names dir
+    → HoldsOfRun named dir taken.records taken.clients P → HoldsOfSession named session P
+run_holds named session taken dir P is holds text = record {
+  dir = dir;
+  names = holds;
+  text = subst (λ (s : Session). HoldsOfRun named dir s.records s.clients P) is text;
+}
 
 -- a run of the clients, with the parts of what is written as a call was given them
 pub written : (named : Option ℕ) (dir : List (List ℕ)) (records given : List Record) (clients : List ClientPart) (updates shown : List Update) (replies : List (List Placed)) (P : Run → List ℕ → Type 0)

@@ -22,8 +22,8 @@ abbrev pub checked_by : Option ℕ → List (List ℕ) → Session → Checked
 checked_by named dir session =
     record { dir = dir; records = session.records; parts = client_lines session.clients; slots = slots_under named (client_lines session.clients) }
 
--- the verdict on a text: it is legal exactly where it is that of a legal run, and a line is wrong exactly where it is the
--- first wrong one
+-- the verdict on a text: it is legal exactly where it is that of a legal run, and a line is wrong exactly where it is
+-- the first wrong one
 pub record IsVerdictOn (named : Option ℕ) (dir : List (List ℕ)) (session : Session) (text : List ℕ) (verdict : Verdict) : Type 0 where
   pub legal : (verdict ≡ Legal) ↔ IsTextOfRun named dir session text
   pub wrong : (line : ℕ) → (verdict ≡ Wrong line) ↔ IsWrongLine (checked_by named dir session) (text_lines text) line

@@ -9,8 +9,8 @@ use Rattle.replay_check.specs.declared.verdict.Verdict.{Verdict}
 use Rattle.serve_session.specs.Served.{HoldsOfInput, IsRunOf, RefusedInput}
 use Rattle.serve_session.specs.Checks.{HasVerdict, RefusedCheck}
 
--- from one input, where it has one client, whose node slots are not named, and behind one text that was taken before, one
--- text is taken
+-- from one input, where it has one client, whose node slots are not named, and behind one text that was taken before,
+-- one text is taken
 abbrev pub OneTextLaw : Type 0
 OneTextLaw =
     (input taken x y : List ℕ) (after after' : Option (List ℕ))

@@ -23,8 +23,8 @@ pub record HasRead (before after : Option (List ℕ)) (input : List ℕ) : Type 
 abbrev pub client_lines : List ClientPart → List (List RequestLine)
 client_lines clients = map (λ (part : ClientPart). map (λ (asked : Asked). record { line = asked.line; request = asked.request }) part.requests) clients
 
--- this is true of one legal run of these clients, and of its text. Each client has the node slots that are named, or that
--- its lines ask for.
+-- this is true of one legal run of these clients, and of its text. Each client has the node slots that are named, or
+-- that its lines ask for.
 pub record HoldsOfRun (named : Option ℕ) (dir : List (List ℕ)) (records : List Record) (clients : List ClientPart) (P : Run → List ℕ → Type 0) : Type 0 where
   pub run : Run
   pub legal : IsLegal dir (client_lines clients) (slots_under named (client_lines clients)) run

@@ -18,8 +18,8 @@ use request_lines::{CheckInput, MAX_INPUT_BYTES, SessionError, read_check_input}
 use run_text::Stop;
 use std::alloc::Global;
 
-/// Reads a session and a text, and writes whether the text is that of a legal run of the session, or which of its lines is
-/// the first wrong one.
+/// Reads a session and a text, and writes whether the text is that of a legal run of the session, or which of its lines
+/// is the first wrong one.
 pub(crate) fn serve_check<S: Source, K: Sink>(
     alloc: Global,
     slots: Option<u32>,

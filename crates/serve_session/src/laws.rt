@@ -2,8 +2,8 @@
 ghost use Rattle.serve_session.specs.OneText.{OneTextLaw, OneRefusalLaw, RefusedOrServedLaw, RunnersRunLaw, OneVerdictLaw, RefusedOrCheckedLaw};
 
 /// The text of an input of one client is determined: whatever ran, and in whatever schedule, from one input one text is
-/// taken. An input has one refusal at most, and one that is refused is not served. A run that has replies has those of the
-/// runner.
+/// taken. An input has one refusal at most, and one that is refused is not served. A run that has replies has those of
+/// the runner.
 pub fn one_text()
     ensures text { OneTextLaw }
     ensures refusal { OneRefusalLaw }

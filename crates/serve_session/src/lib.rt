@@ -1,7 +1,8 @@
 //! The whole of the program but for the real input and output: reads the words and the input, has the clients of the
 //! session run over one shared index, and writes the answers, the journal of updates and their number as lines of JSON;
 //! or runs a generated session, and writes a line of numbers; or checks a written text. The call is `serve`, and its
-//! clauses say what a run has read and written. The layer above hands it the input, the output and what runs the clients.
+//! clauses say what a run has read and written. The layer above hands it the input, the output and what runs the
+//! clients.
 #![tactic(auto)]
 
 mod checking;

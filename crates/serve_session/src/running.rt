@@ -9,10 +9,10 @@ ghost use Rattle.client_threads.specs.Sizes.{CanServe};
 
 use crate::writing::{write_last, write_run};
 use client_run::Gate;
-use client_threads::{Runner, directory_of, history_of};
+use client_threads::{Runner, history_of};
 use key_names::Directory;
 use outside_io::Sink;
-use request_lines::{Names, Session};
+use request_lines::Session;
 use run_text::Stop;
 use std::alloc::Global;
 use std::sync::Wait;
@@ -23,7 +23,7 @@ pub(crate) fn run_session<K: Sink, G: Gate + Sync, R: Runner<G>, Rt: Threads + W
     rt: &Rt,
     alloc: Global,
     slots: Option<u32>,
-    session: Session,
+    mut session: Session,
     sink: &mut K,
     gate: &G,
     runner: &mut R,
@@ -39,21 +39,10 @@ pub(crate) fn run_session<K: Sink, G: Gate + Sync, R: Runner<G>, Rt: Threads + W
     ensures fault { IsErrOf result Stop.Fault → K.faults sink.new ≡ one_more (K.faults sink.old) }
     ensures quiet { ¬ (IsErrOf result Stop.Fault) → K.faults sink.new ≡ K.faults sink.old }
 {
-    let Session {
-        clients,
-        names,
-        records,
-    } = session;
-    let dir = directory_of(alloc, names)?;
-    if clients.is_empty() {
+    let dir = session.take_directory();
+    if session.clients.is_empty() {
         return write_last(alloc, sink, 0);
     }
-    // The names are the directory's from here on.
-    let session = Session {
-        clients,
-        names: Names::new(alloc),
-        records,
-    };
     run_clients(rt, alloc, slots, &session, &dir, sink, gate, runner)
 }
 

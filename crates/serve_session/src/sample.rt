@@ -16,10 +16,10 @@ use crate::Status;
 use crate::summary::summary_line;
 use bucket_terms::Summary;
 use client_run::Gate;
-use client_threads::{Runner, directory_of, history_of, summary_of};
+use client_threads::{Runner, history_of, summary_of};
 use key_names::NoMemory;
 use outside_io::{Sink, write_all};
-use request_lines::{Names, Session, SessionError, read_session, sample_input};
+use request_lines::{Session, SessionError, read_session, sample_input};
 use run_text::Stop;
 use std::alloc::Global;
 use std::sync::Wait;
@@ -82,7 +82,7 @@ fn run_summed<G: Gate + Sync, R: Runner<G>, Rt: Threads + Wait + Sync>(
     rt: &Rt,
     alloc: Global,
     n: u32,
-    session: Session,
+    mut session: Session,
     gate: &G,
     runner: &mut R,
 ) -> Result<Summary, NoMemory>
@@ -96,18 +96,7 @@ fn run_summed<G: Gate + Sync, R: Runner<G>, Rt: Threads + Wait + Sync>(
     ensures summary { IfOk result (λ summary. summary ≡ sample_summary n) }
     ensures ran { OnOk result (HoldsOfSampleRun n (IsRunOf (R.runs runner.old) (R.runs runner.new) (R.replied runner.new))) }
 {
-    let Session {
-        clients,
-        names,
-        records,
-    } = session;
-    let dir = directory_of(alloc, names)?;
-    // The names are the directory's from here on.
-    let session = Session {
-        clients,
-        names: Names::new(alloc),
-        records,
-    };
+    let dir = session.take_directory();
     let updates = history_of(rt, alloc, None, &session, &dir, gate, runner)?;
     // The summary is the same in every schedule.
     sample_laws::sample_session();

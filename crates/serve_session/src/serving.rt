@@ -29,12 +29,12 @@ use std::sync::Wait;
 use std::thread::Threads;
 
 /// Does what the words ask, which are those behind the program's name. The forms `run` read a session, run its clients
-/// over one shared index and write its text; the form `sample` runs the generated session and writes its summary. The forms
-/// `check` read a session and a written text, and write whether the text is that of a legal run of the session. With
-/// `--slots N` each client of the session has N node slots, else one more than it has PUT, PUTNEW and DELETE lines. The
-/// runner runs the clients. The gate is told of each request before and after it is answered.
-/// After `Done` the text of one legal run of the input's session was written, or the line of the summary, or of the verdict
-/// that a text is legal, and after `Illegal` that of the verdict which names its first wrong line; after `WriteFault` a start
+/// over one shared index and write its text; the form `sample` runs the generated session and writes its summary. The
+/// forms `check` read a session and a written text, and write whether the text is that of a legal run of the session.
+/// With `--slots N` each client of the session has N node slots, else one more than it has PUT, PUTNEW and DELETE
+/// lines. The runner runs the clients. The gate is told of each request before and after it is answered. After `Done`
+/// the text of one legal run of the input's session was written, or the line of the summary, or of the verdict that a
+/// text is legal, and after `Illegal` that of the verdict which names its first wrong line; after `WriteFault` a start
 /// of such a text or line; after `NoMemory` nothing or a start of one. Each other end comes before anything is written.
 ///
 /// ```

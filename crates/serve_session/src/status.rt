@@ -19,8 +19,8 @@ pub enum Status {
     Done,
     /// The words are no form of the program. Nothing was read or written.
     BadWords,
-    /// The input is refused at this line: by the grammar, or because the text that is to be checked is missing. Nothing was
-    /// written.
+    /// The input is refused at this line: by the grammar, or because the text that is to be checked is missing. Nothing
+    /// was written.
     BadInput(InputError),
     /// The input has more than 67,108,864 bytes. Nothing was written.
     TooLong,
@@ -30,7 +30,8 @@ pub enum Status {
     WriteFault,
     /// Memory was wanted. Nothing or a start of the text was written.
     NoMemory,
-    /// The checked text is that of no legal run: this is its first wrong line. The whole line of the verdict was written.
+    /// The checked text is that of no legal run: this is its first wrong line. The whole line of the verdict was
+    /// written.
     Illegal(u32),
 }
 

@@ -1,5 +1,5 @@
-//! Tests of the top call, `serve_session`, and of what runs the clients of a session, `client_threads`: of what no run of
-//! the built program shows. So both are proved once, and not a second time with their tests. What the whole program
+//! Tests of the top call, `serve_session`, and of what runs the clients of a session, `client_threads`: of what no run
+//! of the built program shows. So both are proved once, and not a second time with their tests. What the whole program
 //! writes is compared by rows that the built program is run on.
 #![tactic(auto)]
 

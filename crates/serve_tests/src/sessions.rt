@@ -3,9 +3,8 @@ ghost use Rattle.std.specs.Prelude.{IfOk};
 ghost use Rattle.request_lines.specs.SessionLaws.{HasNames, HasRequests, HasLines, IsSmall};
 ghost use Rattle.client_threads.specs.Sizes.{CanServe};
 
-use client_threads::directory_of;
 use key_names::Directory;
-use request_lines::{MAX_INPUT_BYTES, Names, Session, read_session};
+use request_lines::{MAX_INPUT_BYTES, Session, read_session};
 use std::alloc::Global;
 use std::test::Fail;
 
@@ -19,33 +18,20 @@ pub(super) fn session_of(alloc: Global, text: &[u8]) -> Result<(Session, Directo
     let Ok(session) = read_session(alloc, text) else {
         return Err("no session")?;
     };
-    with_directory(alloc, session)
+    with_directory(session)
 }
 
 // The session without its names, and the directory that has them.
-fn with_directory(alloc: Global, session: Session) -> Result<(Session, Directory), Fail>
+fn with_directory(mut session: Session) -> Result<(Session, Directory), Fail>
     requires names { HasNames session }
     requires requests { HasRequests session }
     requires lines { HasLines session }
     requires small { IsSmall session }
     ensures { IfOk result (λ s. CanServe s.1 s.0) }
 {
-    let Session {
-        clients,
-        names,
-        records,
-    } = session;
-    let dir = directory_of(alloc, names)?;
-    if clients.is_empty() {
+    let dir = session.take_directory();
+    if session.clients.is_empty() {
         return Err("no client")?;
     }
-    let names = Names::new(alloc);
-    Ok((
-        Session {
-            clients,
-            names,
-            records,
-        },
-        dir,
-    ))
+    Ok((session, dir))
 }

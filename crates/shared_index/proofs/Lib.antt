@@ -6,3 +6,5 @@ pub mod KeyHomes
 pub mod Begun
 -- An update that was made, and a key that was not found, to its caller.
 pub mod Made
+-- A node that was adopted, to the caller.
+pub mod Adopted

@@ -62,6 +62,13 @@ impl SharedIndex {
         }
     }
 
+    /// The table that the index is kept in. A key of the index is one of the table, and may be taken up there.
+    pub fn table(&self) -> &SharedTable
+        ensures { result.now ≡ self.now }
+    {
+        &self.table
+    }
+
     /// Takes up the work of a pass. No snapshot is open, and all else is the key's.
     ///
     /// ```

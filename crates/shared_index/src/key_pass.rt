@@ -9,16 +9,20 @@ ghost use Rattle.shared_index.specs.Shown.{shown};
 
 use crate::facts::own_facts;
 use crate::pass::IndexPass;
-use bucket_terms::KeyPass;
+use bucket_terms::{Homed, KeyPass};
 use index_words::Pair;
 use key_map::{Done, New, PassError};
 use std::sync::Wait;
 
-impl<'t> KeyPass for IndexPass<'t> {
-    ghost use Rattle.shared_index.specs.Shown.{shown};
+impl<'t> Homed for IndexPass<'t> {
     ghost use Rattle.shared_index.specs.Keys.{home_of_pass};
 
     ghost home = { home_of_pass };
+}
+
+impl<'t> KeyPass for IndexPass<'t> {
+    ghost use Rattle.shared_index.specs.Shown.{shown};
+    ghost use Rattle.shared_index.specs.Keys.{home_of_pass};
 
     ghost view = { shown };
 

@@ -7,10 +7,12 @@ mod facts;
 mod finish;
 mod index;
 mod key_pass;
+mod parcel;
 mod pass;
 
 pub use finish::FinishError;
 pub use index::{OpenError, SharedIndex};
+pub use parcel::Parcel;
 pub use pass::IndexPass;
 pub use snapshot_read::Look;
 pub use table_steps::{Note, PassKey};

@@ -12,7 +12,7 @@ use Rattle.key_map.specs.declared.update.Update.{Update}
 use Rattle.atomic_table.specs.Table.{State, Me, Allows, keeps as nothing}
 use Rattle.core_events.specs.declared.event.Event.{Event}
 use Rattle.core_events.specs.declared.event.Kind.{Kind}
-use Rattle.core_events.specs.declared.event.Kind.TheVariants.{MakeSeat, SplitSeat, JoinSeat, Enter, Leave, LookSec, Fill, LoadStamp, LoadHead, LoadTs, LoadPtr, LoadNext, Prepare, Raise, Finalise, TryLock, Unlock, LoadMark, Mark as MarkNode, LoadKeyOrVal, Announce, LookAnn, Cut}
+use Rattle.core_events.specs.declared.event.Kind.TheVariants.{MakeSeat, SplitSeat, JoinSeat, Enter, Leave, LookSec, Fill, LoadStamp, LoadHead, LoadTs, LoadPtr, LoadNext, Prepare, Raise, Finalise, TryLock, Unlock, LoadMark, Mark as MarkNode, LoadKeyOrVal, Announce, LookAnn, Cut, LoadLink, SetLink, LoadTag, SetTag}
 use Rattle.core_invariant.specs.Rule.{InRule}
 use Rattle.core_events.specs.Steps.{allowed, after, after_at, words_after, views_after, view_after}
 use Rattle.core_events.specs.Tables.{Table}
@@ -55,6 +55,10 @@ load_moves MarkNode is = tt
 load_moves Announce is = tt
 load_moves LookAnn is = tt
 load_moves Cut is = tt
+load_moves LoadLink is = tt
+load_moves SetLink is = tt
+load_moves LoadTag is = tt
+load_moves SetTag is = tt
 
 pub store_moves : (kind : Kind) → IsStore kind → IsMove kind
 store_moves Enter is = tt
@@ -80,6 +84,10 @@ store_moves TryLock is = tt
 store_moves Announce is = tt
 store_moves LookAnn is = tt
 store_moves Cut is = tt
+store_moves LoadLink is = tt
+store_moves SetLink is = tt
+store_moves LoadTag is = tt
+store_moves SetTag is = tt
 
 -- the word after an event with this value, of the word found
 abbrev pub word_of : Kind → ℕ → ℕ → ℕ
@@ -94,6 +102,8 @@ word_of Unlock value n = value
 word_of MarkNode value n = value
 word_of Announce value n = value
 word_of Cut value n = value
+word_of SetLink value n = value
+word_of SetTag value n = value
 word_of _ value n = n
 
 pub load_word : (kind : Kind) (value n : ℕ) → IsLoad kind → word_of kind value n ≡ n
@@ -120,6 +130,10 @@ load_word MarkNode value n is = absurd is
 load_word LookAnn value n is = refl
 load_word Announce value n is = absurd is
 load_word Cut value n is = absurd is
+load_word LoadLink value n is = refl
+load_word SetLink value n is = absurd is
+load_word LoadTag value n is = refl
+load_word SetTag value n is = absurd is
 
 pub store_word : (kind : Kind) (value n : ℕ) → IsStore kind → word_of kind value n ≡ value
 store_word Enter value n is = refl
@@ -145,6 +159,10 @@ store_word TryLock value n is = absurd is
 store_word Announce value n is = refl
 store_word Cut value n is = refl
 store_word LookAnn value n is = absurd is
+store_word LoadLink value n is = absurd is
+store_word SetLink value n is = refl
+store_word LoadTag value n is = absurd is
+store_word SetTag value n is = refl
 
 -- the words after an event of such a kind are those before with this word anew
 same_words : (words : List ℕ) (at : ℕ) → words ≡ set words at (slice_index words at)
@@ -166,6 +184,10 @@ words_moved Unlock words at value is = refl
 words_moved MarkNode words at value is = refl
 words_moved Announce words at value is = refl
 words_moved Cut words at value is = refl
+words_moved LoadLink words at value is = same_words words at
+words_moved SetLink words at value is = refl
+words_moved LoadTag words at value is = same_words words at
+words_moved SetTag words at value is = refl
 words_moved LookAnn words at value is = same_words words at
 words_moved LookSec words at value is = same_words words at
 words_moved LoadStamp words at value is = same_words words at
@@ -193,6 +215,10 @@ views_moved MarkNode z m vs i v w value o is = refl
 views_moved Announce z m vs i v w value o is = refl
 views_moved LookAnn z m vs i v w value o is = refl
 views_moved Cut z m vs i v w value o is = refl
+views_moved LoadLink z m vs i v w value o is = refl
+views_moved SetLink z m vs i v w value o is = refl
+views_moved LoadTag z m vs i v w value o is = refl
+views_moved SetTag z m vs i v w value o is = refl
 views_moved LookSec z m vs i v w value o is = refl
 views_moved LoadStamp z m vs i v w value o is = refl
 views_moved LoadHead z m vs i v w value o is = refl

@@ -1,5 +1,5 @@
 -- Making, splitting and joining seats keeps the rule.
-use Rattle.std.proofs.Common.{◌≡◌, ◌≢◌, ℕ, ◌<◌, ◌^◌, List, [], ◌∷◌, ◌++◌, length, set, replicate, false, refl, ap, ◌∙◌, sym, subst, Some, inl, slice_index}
+use Rattle.std.proofs.Common.{◌≡◌, ◌≢◌, ℕ, ◌<◌, ◌^◌, List, [], ◌∷◌, ◌++◌, length, set, replicate, refl, ap, ◌∙◌, sym, subst, Some, slice_index}
 use Rattle.std.specs.List.{slice_get}
 use Rattle.std.proofs.lemmas.List.{length-set, set-get_or}
 use mathlib.Core.Option.{some}
@@ -12,14 +12,13 @@ use Rattle.index_words.specs.Words.{word_count}
 use Rattle.key_map.specs.declared.pass.PassSize.{PassSize}
 use Rattle.atomic_table.specs.Table.{Me, Splits, Joins, Allows, keeps as nothing}
 use Rattle.atomic_table.proofs.Lists.{set_again, set_else}
-use Rattle.core_events.specs.declared.event.Event.{Event}
 use Rattle.core_events.specs.declared.event.Kind.TheVariants.{SplitSeat, JoinSeat}
 use Rattle.core_events.specs.Moves.{split_left, split_right, joined_with}
 use Rattle.core_events.specs.Openings.{made_left, made_right, MayMake, first_view}
 use Rattle.core_invariant.specs.Rule.{InRule}
 use Rattle.core_events.specs.Steps.{after, join_found}
 use Rattle.core_events.specs.Tables.{Table}
-use Rattle.core_laws.specs.ViewNeeds.{event_at, May, MayJoin}
+use Rattle.core_laws.specs.ViewNeeds.{event_at, May, MaySplit, MayJoin}
 use Rattle.core_kept.proofs.SeatLaws.{make_law, first_law}
 use Rattle.core_kept.proofs.StepLaw.{keeps}
 use Rattle.core_laws.proofs.ViewNeeds.{may_split_law, may_join_law}
@@ -68,23 +67,23 @@ module _ (v : View) (n : ℕ) (size : PassSize) (may : MayMake v n size) where
           };
         }
 
--- a seat that is split, without a free node
-module _ (v : View) (live : v.joined ≡ false) where
-  split_may : (z : Layout) (seat : ℕ) → May z v (event_at z seat SplitSeat Stamp 0)
-  split_may z seat = may_split_law z v seat 0 (record { live = live; few = inl refl })
+-- a seat that is split, without a free node or with the first one
+module _ (v : View) (n : ℕ) (may : MaySplit v n) where
+  split_may : (z : Layout) (seat : ℕ) → May z v (event_at z seat SplitSeat Stamp n)
+  split_may z seat = may_split_law z v seat n may
 
-  split_after : (z : Layout) (words : List ℕ) (vs : List View) (seat : ℕ) → slice_get vs seat ≡ Some v → after (table z words vs) (event_at z seat SplitSeat Stamp 0) ≡ table z words (set vs seat (split_left v 0) ++ split_right v 0 ∷ [])
-  split_after z words vs seat at = after_known (table z words vs) (event_at z seat SplitSeat Stamp 0) v Stamp at refl
+  split_after : (z : Layout) (words : List ℕ) (vs : List View) (seat : ℕ) → slice_get vs seat ≡ Some v → after (table z words vs) (event_at z seat SplitSeat Stamp n) ≡ table z words (set vs seat (split_left v n) ++ split_right v n ∷ [])
+  split_after z words vs seat at = after_known (table z words vs) (event_at z seat SplitSeat Stamp n) v Stamp at refl
 
-  split_rule : (z : Layout) (words : List ℕ) (vs : List View) (seat : ℕ) → slice_get vs seat ≡ Some v → InRule z words vs → InRule z words (set vs seat (split_left v 0) ++ split_right v 0 ∷ [])
+  split_rule : (z : Layout) (words : List ℕ) (vs : List View) (seat : ℕ) → slice_get vs seat ≡ Some v → InRule z words vs → InRule z words (set vs seat (split_left v n) ++ split_right v n ∷ [])
   split_rule z words vs seat at rule =
       subst (λ (t : Table). InRule t.layout t.words t.views) (split_after z words vs seat at)
-      (keeps (table z words vs) (event_at z seat SplitSeat Stamp 0) rule (split_may z seat words vs rule at))
+      (keeps (table z words vs) (event_at z seat SplitSeat Stamp n) rule (split_may z seat words vs rule at))
 
-  pub split_splits : (z : Layout) (id : ℕ) → Splits (holds z) id v (split_left v 0) (split_right v 0)
+  pub split_splits : (z : Layout) (id : ℕ) → Splits (holds z) id v (split_left v n) (split_right v n)
   split_splits z id s rule found = split_rule z s.words s.views id (get_from_found s.views id v found) rule
 
-  pub split_happened : (z : Layout) → Stands z v → Split z v 0 (split_left v 0) (split_right v 0)
+  pub split_happened : (z : Layout) → Stands z v → Split z v n (split_left v n) (split_right v n)
   split_happened z s =
       let is = split_after z s.words s.views s.seat s.at in
       record {
@@ -95,20 +94,33 @@ module _ (v : View) (live : v.joined ≡ false) where
         at = s.at;
         met = split_may z s.seat s.words s.views s.rule s.at;
         left = ap (λ (t : Table). slice_get t.views s.seat) is
-            ∙ get_left (set s.views s.seat (split_left v 0)) (split_right v 0 ∷ []) s.seat (split_left v 0) (get_set s.views s.seat v (split_left v 0) s.at);
+            ∙ get_left (set s.views s.seat (split_left v n)) (split_right v n ∷ []) s.seat (split_left v n) (get_set s.views s.seat v (split_left v n) s.at);
         right = ap (λ (t : Table). slice_get t.views (length s.views)) is
-            ∙ get_last (set s.views s.seat (split_left v 0)) (split_right v 0) (length s.views) (length-set s.views s.seat (split_left v 0));
+            ∙ get_last (set s.views s.seat (split_left v n)) (split_right v n) (length s.views) (length-set s.views s.seat (split_left v n));
       }
 
-  pub split_live : Stands v.layout v → IsLiveView (split_right v 0)
+  pub split_live : Stands v.layout v → IsLiveView (split_right v n)
   split_live s = record {
     live = refl;
     stands = record {
       words = s.words;
-      views = set s.views s.seat (split_left v 0) ++ split_right v 0 ∷ [];
+      views = set s.views s.seat (split_left v n) ++ split_right v n ∷ [];
       rule = split_rule v.layout s.words s.views s.seat s.at s.rule;
       seat = length s.views;
-      at = get_last (set s.views s.seat (split_left v 0)) (split_right v 0) (length s.views) (length-set s.views s.seat (split_left v 0));
+      at = get_last (set s.views s.seat (split_left v n)) (split_right v n) (length s.views) (length-set s.views s.seat (split_left v n));
+    };
+  }
+
+  -- what is left of the seat
+  pub split_leaves : Stands v.layout v → IsLiveView (split_left v n)
+  split_leaves s = record {
+    live = may.live;
+    stands = record {
+      words = s.words;
+      views = set s.views s.seat (split_left v n) ++ split_right v n ∷ [];
+      rule = split_rule v.layout s.words s.views s.seat s.at s.rule;
+      seat = s.seat;
+      at = get_left (set s.views s.seat (split_left v n)) (split_right v n ∷ []) s.seat (split_left v n) (get_set s.views s.seat v (split_left v n) s.at);
     };
   }
 

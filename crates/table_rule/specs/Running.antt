@@ -6,7 +6,7 @@ use Rattle.index_words.specs.declared.layout.Layout.{Layout}
 use Rattle.index_words.specs.declared.view.View.{View}
 use Rattle.core_events.specs.declared.event.Event.{Event}
 use Rattle.core_events.specs.declared.event.Kind.{Kind}
-use Rattle.core_events.specs.declared.event.Kind.TheVariants.{Enter, Leave, LookSec, Fill, LoadStamp, LoadHead, LoadTs, LoadPtr, LoadNext, Prepare, Finalise, Unlock, LoadMark, Mark, LoadKeyOrVal, Announce, LookAnn, Cut}
+use Rattle.core_events.specs.declared.event.Kind.TheVariants.{Enter, Leave, LookSec, Fill, LoadStamp, LoadHead, LoadTs, LoadPtr, LoadNext, Prepare, Finalise, Unlock, LoadMark, Mark, LoadKeyOrVal, Announce, LookAnn, Cut, LoadLink, SetLink, LoadTag, SetTag}
 use Rattle.core_invariant.specs.Rule.{InRule}
 use Rattle.core_events.specs.Steps.{allowed, after}
 use Rattle.core_events.specs.Tables.{Table}
@@ -48,6 +48,8 @@ IsLoad LoadNext = ⊤
 IsLoad LoadMark = ⊤
 IsLoad LoadKeyOrVal = ⊤
 IsLoad LookAnn = ⊤
+IsLoad LoadLink = ⊤
+IsLoad LoadTag = ⊤
 IsLoad _ = ⊥
 
 -- the kinds that store their value
@@ -61,4 +63,6 @@ IsStore Unlock = ⊤
 IsStore Mark = ⊤
 IsStore Announce = ⊤
 IsStore Cut = ⊤
+IsStore SetLink = ⊤
+IsStore SetTag = ⊤
 IsStore _ = ⊥

@@ -3,6 +3,7 @@
 #![tactic(auto)]
 
 mod moves;
+mod node_split;
 mod ruled;
 mod seats;
 

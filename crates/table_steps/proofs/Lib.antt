@@ -20,3 +20,5 @@ pub mod LockSteps
 pub mod StampSteps
 pub mod ReadSections
 pub mod Places
+pub mod LinkSteps
+pub mod ParcelSteps

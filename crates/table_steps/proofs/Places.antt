@@ -10,7 +10,7 @@ use Rattle.core_updates.specs.Held.{raise_of}
 use Rattle.table_rule.specs.Running.{Happened}
 use Rattle.table_steps.specs.Passes.{Pass, IsSamePass}
 use Rattle.table_steps.specs.Raises.{raising, IsRaisedSince}
-use Rattle.table_steps.specs.Stamps.{loading_stamp, IsFoundSince}
+use Rattle.table_steps.specs.Stamps.{IsFoundSince}
 
 pub raised_here : (p : Pass) (u : Update) (at found : ℕ) (w : View) → at ≡ found + 1 → Happened p.view.layout (raising p u) p.view found w → IsRaisedSince p u at w
 raised_here p u at found w place event = record { before = p.view; found = found; behind = w; event = event; place = place; since = refl; last = refl }

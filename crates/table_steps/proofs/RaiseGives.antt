@@ -1,5 +1,5 @@
 -- What a raise leaves in the view of its seat.
-use Rattle.std.proofs.Common.{◌≡◌, ℕ, ◌+◌, List, ◌++◌, length, drop, arith, refl, ap, ◌∙◌, sym, Option}
+use Rattle.std.proofs.Common.{◌≡◌, ℕ, ◌+◌, List, ◌++◌, length, drop, arith, refl, ap, ◌∙◌, sym, subst, Option}
 use Rattle.std.proofs.lemmas.List.{take-append-drop}
 use Rattle.index_words.specs.declared.layout.Layout.{Layout}
 use Rattle.index_words.specs.declared.view.View.{View}
@@ -19,11 +19,11 @@ use Rattle.core_updates.specs.Ready.{MayStep}
 use Rattle.table_rule.specs.Running.{Happened, table}
 use Rattle.table_rule.proofs.Happens.{happened_view, happened_word}
 use Rattle.table_rule.proofs.Lists.{item_at}
-use Rattle.table_steps.specs.Raises.{new_slot, slot_given, new_entries_of, nodes_out, HasNew, HoldsEntries, HasRaised}
+use Rattle.table_steps.specs.Raises.{new_slot, slot_given, new_entries_of, nodes_out, HasNew, HoldsEntries, HasRaised, MayRaiseBy}
 use Rattle.table_steps.proofs.RaiseFacts.{entries_known, new_known}
 
-module _ (z : Layout) (seat : ℕ) (u : Update) (v w : View) (n : ℕ) (h : Happened z (raise_of z seat u) v n w) (new out entries : List ℕ)
-    (may : MayRaise z v u (slot_given (new_slot new)) (nodes_out out)) (ready : HasNew v new) (holds : HoldsEntries v (nodes_out out) entries) where
+module _ (z : Layout) (seat : ℕ) (u : Update) (v w : View) (laid : v.layout ≡ z) (n : ℕ) (h : Happened z (raise_of z seat u) v n w) (new out entries : List ℕ)
+    (may : MayRaiseBy z v u new out) (ready : HasNew v new) (holds : HoldsEntries v (nodes_out out) entries) where
   abbrev m : Memory
   m = memory z h.words
 
@@ -36,16 +36,16 @@ module _ (z : Layout) (seat : ℕ) (u : Update) (v w : View) (n : ℕ) (h : Happ
   long : length (longest h.views) ≡ n
   long = found.whole ∙ stamp_is
 
-  steps : MayStep z m h.views v u (slot_given (new_slot new)) (nodes_out out)
-  steps = may.moves h.words h.views seat h.rule h.seat
+  steps : MayStep z m h.views v u (slot_given (new_slot new)) (nodes_out out) may.0 may.1
+  steps = may.2.moves h.words h.views seat h.rule h.seat
 
   abbrev move : TreeMove
-  move = record { added = slot_given (new_slot new); entries = new_entries_of new; taken = nodes_out out; taken_entries = entries }
+  move = record { added = slot_given (new_slot new); entries = new_entries_of new; taken = nodes_out out; taken_entries = entries; plain = (tree_move z m h.views v u).plain }
 
   parts_are : (t : TreeMove) (added : Option ℕ) (es taken rs : List ℕ) → t.added ≡ added → t.entries ≡ es → t.taken ≡ taken → t.taken_entries ≡ rs
-      → t ≡ record { added = added; entries = es; taken = taken; taken_entries = rs }
+      → t ≡ record { added = added; entries = es; taken = taken; taken_entries = rs; plain = t.plain }
   parts_are t added es taken rs one two three four =
-      let moved : Option ℕ → List ℕ → List ℕ → List ℕ → TreeMove = λ a b c d. record { added = a; entries = b; taken = c; taken_entries = d } in
+      let moved : Option ℕ → List ℕ → List ℕ → List ℕ → TreeMove = λ a b c d. record { added = a; entries = b; taken = c; taken_entries = d; plain = t.plain } in
       ap (λ (a : Option ℕ). moved a t.entries t.taken t.taken_entries) one ∙ ap (λ (b : List ℕ). moved added b t.taken t.taken_entries) two
       ∙ ap (λ (c : List ℕ). moved added es c t.taken_entries) three ∙ ap (λ (d : List ℕ). moved added es taken d) four
 
@@ -75,5 +75,7 @@ module _ (z : Layout) (seat : ℕ) (u : Update) (v w : View) (n : ℕ) (h : Happ
     takes_are = steps.taken_is;
     entries = entries;
     holds = holds;
+    plain = (tree_move z m h.views v u).plain;
+    leaves = λ sets last told. ((subst (λ (y : Layout). MayRaise y v u (slot_given (new_slot new)) (nodes_out out) sets last) laid told).moves h.words h.views seat h.rule h.seat).leaves;
     view = w_is;
   }

@@ -77,7 +77,7 @@ found_step k x h hs true found rest = omega arith
 found_step k x h hs false found rest = omega (arith, rest found)
 
 -- a node that was found among those that are locked
-found_locked : (k : ℕ) (hs : List HeldNode) (h : HeldNode) → held_at k hs ≡ Some h → 0 < count k (held_slots hs)
+pub found_locked : (k : ℕ) (hs : List HeldNode) (h : HeldNode) → held_at k hs ≡ Some h → 0 < count k (held_slots hs)
 found_locked k [] h found = cc
 found_locked k (x ∷ hs) h found = found_step k x h hs (eqb x.node k) found (found_locked k hs h)
 

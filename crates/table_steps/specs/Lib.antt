@@ -12,3 +12,5 @@ pub mod Notes
 pub mod Opens
 pub mod Closes
 pub mod Loads
+pub mod Links
+pub mod Parcels

@@ -3,7 +3,9 @@ use Rattle.std.specs.Prelude.{◌≡◌, ℕ, ◌+◌, ◌<◌, ◌⊎◌, List,
 use Rattle.index_words.specs.declared.side.Side.{Side}
 use Rattle.index_words.specs.declared.side.Side.TheVariants.{Left, Right}
 use Rattle.index_words.specs.declared.view.View.{View}
+use Rattle.index_words.specs.declared.layout.Layout.{Layout}
 use Rattle.index_words.specs.declared.view.update.HeldNext.{HeldNext}
+use Rattle.index_words.specs.declared.view.update.Unlinking.{Unlinking}
 use Rattle.index_words.specs.declared.word.Field.TheVariants.{Head}
 use Rattle.index_words.specs.declared.word.Word.TheVariants.{Node}
 use Rattle.key_map.specs.declared.update.Update.{Update}
@@ -11,10 +13,12 @@ use Rattle.key_map.specs.History.{after}
 use Rattle.key_map.specs.Lists.{IsItem}
 use Rattle.core_trees.specs.NamedTree.{NamedTree, contents, IsLawful}
 use Rattle.core_events.specs.declared.event.Event.{Event}
+use Rattle.core_events.specs.declared.tree_move.PlainMove.{PlainMove}
 use Rattle.core_events.specs.TreeMoves.{takes}
 use Rattle.core_events.specs.UpdateMoves.{raised_view, listed_entry}
 use Rattle.core_laws.specs.Owners.{HasFreeNode, HasFreeEntry}
-use Rattle.core_updates.specs.Held.{HoldsHead, raise_of}
+use Rattle.core_updates.specs.Held.{HoldsHead, MayRaise, raise_of}
+use Rattle.core_updates.specs.SetLinks.{SetLink, LeavesPlain}
 use Rattle.core_laws.specs.ViewNeeds.{HasFilled}
 use Rattle.table_rule.specs.Running.{Happened}
 use Rattle.table_steps.specs.Passes.{Pass, Extends}
@@ -92,12 +96,17 @@ abbrev pub HoldsEntries : View → List ℕ → List ℕ → Type 0
 HoldsEntries v [] es = es ≡ []
 HoldsEntries v (k ∷ ks) es = (here : List ℕ) × (rest : List ℕ) × HoldsBundles v k here × HoldsEntries v ks rest × (es ≡ here ++ rest)
 
+-- the seat may raise the update, whatever it then leaves to be done at plain links
+abbrev pub MayRaiseBy : Layout → View → Update → List ℕ → List ℕ → Type 0
+MayRaiseBy z v u new out = (sets : List SetLink) × (unlinking : Option Unlinking) × MayRaise z v u (slot_given (new_slot new)) (nodes_out out) sets unlinking
+
 abbrev pub raising : Pass → Update → Event
 raising p u = raise_of p.view.layout p.seat u
 
 -- what an update that was raised at a place has found, and what it leaves: the updates before it are all that there were, and
 -- begin with those that the seat had seen; the tree then had the map after them; the update takes these nodes out of it, with
--- the entries of their bundles, and brings in the new node with its entries
+-- the entries of their bundles, and brings in the new node with its entries. What it leaves to be done at plain links is
+-- what the seat has told by its view that it leaves
 pub record HasRaised (v : View) (u : Update) (new out : List ℕ) (at : ℕ) (w : View) : Type 0 where
   pub others : List Update
   pub extends : Extends v.history.seen others
@@ -108,7 +117,10 @@ pub record HasRaised (v : View) (u : Update) (new out : List ℕ) (at : ℕ) (w 
   pub takes_are : takes u.change u.key tree ≡ nodes_out out
   pub entries : List ℕ
   pub holds : HoldsEntries v (nodes_out out) entries
-  pub view : w ≡ raised_view others v (length others) u (record { added = slot_given (new_slot new); entries = new_entries_of new; taken = nodes_out out; taken_entries = entries })
+  pub plain : PlainMove
+  pub leaves : (sets : List SetLink) (unlinking : Option Unlinking) → MayRaise v.layout v u (slot_given (new_slot new)) (nodes_out out) sets unlinking
+      → LeavesPlain u.change sets unlinking plain
+  pub view : w ≡ raised_view others v (length others) u (record { added = slot_given (new_slot new); entries = new_entries_of new; taken = nodes_out out; taken_entries = entries; plain = plain })
 
 -- the update was raised at this place by a step that the pass has made since it was `p`: it had made no update between,
 -- and has made none since

@@ -1,10 +1,10 @@
 //! The raise of an update, at which it takes effect.
 ghost use Rattle.std.specs.Prelude.{◌≡◌, ℕ, ◌+◌, List};
-ghost use Rattle.core_updates.specs.Held.{CanRaise, MayRaise};
+ghost use Rattle.core_updates.specs.Held.{CanRaise};
 ghost use Rattle.core_updates.specs.Ready.{update_of};
 ghost use Rattle.table_rule.specs.Running.{Happened};
 ghost use Rattle.table_steps.specs.Passes.{IsSamePass};
-ghost use Rattle.table_steps.specs.Raises.{raising, slot_given, new_slot, nodes_out, HasNew, HoldsEntries, HasRaised};
+ghost use Rattle.table_steps.specs.Raises.{raising, nodes_out, HasNew, HoldsEntries, HasRaised, MayRaiseBy};
 
 use crate::own_updates::OwnUpdate;
 use crate::pass::TablePass;
@@ -26,7 +26,7 @@ impl<'t> TablePass<'t> {
         out: [u32; 2],
     ) -> u64
         requires can { CanRaise self.old.view self.old.number }
-        requires may { MayRaise self.old.view.layout self.old.view (update_of self.old.number line key change) (slot_given (new_slot new)) (nodes_out out) }
+        requires may { MayRaiseBy self.old.view.layout self.old.view (update_of self.old.number line key change) new out }
         requires new { HasNew self.old.view new }
         requires known { (es : List ℕ) × HoldsEntries self.old.view (nodes_out out) es }
         ensures same { IsSamePass self.old self.new }

@@ -7,7 +7,7 @@ use Rattle.index_words.specs.declared.view.View.{View}
 use Rattle.index_words.specs.declared.view.reading.TreeNode.{TreeNode}
 use Rattle.index_words.specs.declared.view.update.HeldNode.{HeldNode}
 use Rattle.index_words.specs.declared.view.update.LoadedHead.{LoadedHead}
-use Rattle.index_words.specs.declared.word.Field.TheVariants.{Key, Val, Mark, Head}
+use Rattle.index_words.specs.declared.word.Field.TheVariants.{Key, Val, Mark, Head, Link, Tag}
 use Rattle.index_words.specs.declared.word.Part.TheVariants.{Child, Stamp as Number, Next}
 use Rattle.index_words.specs.declared.word.Word.{Word}
 use Rattle.index_words.specs.declared.word.Word.TheVariants.{Node, Entry}
@@ -21,18 +21,24 @@ use Rattle.core_events.specs.FillMoves.{filled_view}
 use Rattle.core_events.specs.LoadMoves.{bundle_link, head_loaded}
 use Rattle.core_events.specs.LockMoves.{nothing_loaded}
 use Rattle.core_events.specs.Moves.{entered}
-use Rattle.core_events.specs.UpdateMoves.{prepared}
-use Rattle.core_laws.specs.ViewNeeds.{HasFilled, IsInside, MayFill, MayLoadStamp, MayPrepare, MayReadHead}
+use Rattle.core_events.specs.PlainMoves.{link_set, other_links}
+use Rattle.core_events.specs.UpdateMoves.{finalised, prepared, raised_view}
+use Rattle.core_laws.specs.PlainNeeds.{MaySetLink}
+use Rattle.core_laws.specs.ViewNeeds.{HasFilled, IsInside, MayFill, MayLoadStamp, MayPrepare, MayReadHead, MayUnlock}
 use Rattle.core_events.specs.Versions.{tree_nodes}
 use Rattle.core_trees.specs.NamedTree.{NamedTree, Null, Branch, contents}
 use Rattle.core_updates.specs.Held.{HoldsGrow, HoldsHead, CanRaise, MayRaise}
 use Rattle.core_updates.specs.Ready.{update_of}
+use Rattle.core_updates.specs.SetLinks.{set_to, LeavesPlain}
+use Rattle.core_updates.specs.declared.plan.Front.{Front}
 use Rattle.core_updates.proofs.HeldReady.{grow_from_view}
 use Rattle.table_rule.proofs.Lists.{item_at, some_same}
 use Rattle.table_steps.specs.Passes.{Pass}
 use Rattle.table_steps.specs.Stamps.{reading_at, with_seen, CanAnnounce, HasSeen, ReadsNow}
 use Rattle.table_steps.specs.Loads.{HasLoadedHead}
-use Rattle.table_steps.specs.Raises.{HasNew}
+use Rattle.plan_laws.proofs.PlainLinks.{no-links, one-order, sets-first, sets-rest}
+use Rattle.plan_laws.proofs.Releases.{all-done}
+use Rattle.table_steps.specs.Raises.{HasNew, HasRaised}
 use Rattle.table_tests.specs.FirstPut.{at_start, at_seen, at_announced, at_root, at_locked_root}
 
 pub one_above : 0 < 1
@@ -182,6 +188,10 @@ holds_grow = record {
     left_link = (filled_at at_prepared 1 (Node (Head Left) 1) 0 refl, inl (refl, refl));
     right_head = 0;
     right_link = (filled_at at_prepared 2 (Node (Head Right) 1) 0 refl, inl (refl, refl));
+    left_child = filled_at at_prepared 3 (Node (Link Left) 1) 0 refl;
+    right_child = filled_at at_prepared 4 (Node (Link Right) 1) 0 refl;
+    left_tag = filled_at at_prepared 5 (Node (Tag Left) 1) 0 refl;
+    right_tag = filled_at at_prepared 6 (Node (Tag Right) 1) 0 refl;
     apart = λ _. refl;
   };
   entry = 1;
@@ -205,8 +215,45 @@ has_new = inr (
 can_raise : (n : ℕ) → at_prepared.number ≡ Some n → CanRaise at_prepared n
 can_raise n own = record { live = refl; own = own; unraised = refl; left = one_above }
 
-pub may_raise : (v : View) (n : ℕ) → v ≡ at_prepared → v.number ≡ Some n → MayRaise v.layout v (update_of n 2 5 (Put 7)) (Some 1) []
+pub may_raise : (v : View) (n : ℕ) → v ≡ at_prepared → v.number ≡ Some n → MayRaise v.layout v (update_of n 2 5 (Put 7)) (Some 1) [] (set_to 0 Right 1 ∷ []) None
 may_raise v n is own =
     let number : at_prepared.number ≡ Some n = sym (ap (λ (u : View). u.number) is) ∙ own in
-    subst (λ (u : View). MayRaise u.layout u (update_of n 2 5 (Put 7)) (Some 1) []) (sym is)
+    subst (λ (u : View). MayRaise u.layout u (update_of n 2 5 (Put 7)) (Some 1) [] (set_to 0 Right 1 ∷ []) None) (sym is)
     (grow_from_view at_prepared.layout at_prepared n 2 5 7 (can_raise n number) holds_grow)
+
+-- behind the raise the root's plain link is to be set to the new node
+abbrev root_front : Front
+root_front = record { at = record { node = 0; side = Right }; entry = 1; child = 1 }
+
+module _ (v w f : View) (n place : ℕ) (is : v ≡ at_prepared) (own : v.number ≡ Some n)
+    (gives : HasRaised v (update_of n 2 5 (Put 7)) (1 ∷ 0 ∷ 0 ∷ []) (0 ∷ 0 ∷ []) place w) (now : f ≡ finalised w 1) where
+  leaves : LeavesPlain (Put 7) (set_to 0 Right 1 ∷ []) None gives.plain
+  leaves = gives.leaves (set_to 0 Right 1 ∷ []) None (may_raise v n is own)
+
+  abbrev at_numbered : View
+  at_numbered =
+      finalised (raised_view gives.others at_prepared (length gives.others) (update_of n 2 5 (Put 7))
+      (record { added = Some 1; entries = []; taken = []; taken_entries = gives.entries; plain = gives.plain })) 1
+
+  numbered_is : f ≡ at_numbered
+  numbered_is =
+      now ∙ ap (λ (y : View). finalised y 1) (gives.view ∙ ap (λ (y : View). raised_view gives.others y (length gives.others) (update_of n 2 5 (Put 7))
+      (record { added = Some 1; entries = []; taken = []; taken_entries = gives.entries; plain = gives.plain })) is)
+
+  pub may_set : MaySetLink f 0 Right 1
+  may_set = subst (λ (y : View). MaySetLink y 0 Right 1) (sym numbered_is) (record {
+    locked = one_above;
+    done = refl;
+    marked = (λ some. absurd (omega (arith, some)), tt);
+    unset = sets-first gives.plain.unset root_front [] leaves.unset;
+    order = one-order root_front gives.plain.unset gives.plain.unlinking leaves.last;
+  })
+
+  -- once it is set the lock may be given back
+  pub may_unlock : (g : View) → g ≡ link_set f 0 Right 1 → MayUnlock g 0
+  may_unlock g set = subst (λ (y : View). MayUnlock y 0) (sym (set ∙ ap (λ (y : View). link_set y 0 Right 1) numbered_is)) (record {
+    locked = one_above;
+    done = refl;
+    marked = (λ some. absurd (omega (arith, some)), tt);
+    set = all-done 0 (link_set at_numbered 0 Right 1).update (no-links (other_links 0 Right gives.plain.unset) (sets-rest gives.plain.unset root_front [] leaves.unset tt), leaves.owed);
+  })

@@ -102,6 +102,7 @@ fn put_by_steps(pass: &mut TablePass<'_>, other: &mut TablePass<'_>) -> Read
     let place = pass.raise(2, 5, Change::Put(7), [1, 0, 0], [0, 0]);
     let raised = look(other);
     pass.finalise(1);
+    pass.set_link(0, Side::Right, 1);
     pass.unlock(0);
     pass.close_section();
     let ended = [try_next_from(other, 0), try_next_from(other, 6)];

@@ -18,7 +18,7 @@ use tree_update::{Try, put, try_put};
 use update_search::{Found, begin_search, find_plan};
 use update_try::{
     finalise_all, leave_section, make_ready, mark_all, plan_slots, prune_all, raise_plan,
-    unlock_all, validate,
+    raise_tags, set_links, unlock_all, validate,
 };
 
 /// The answer of one look, in a snapshot of its own, and then that of one try of a put.
@@ -42,6 +42,7 @@ struct Behind {
     numbered: Met,
     pruned: Met,
     marked: Met,
+    set: Met,
     ended: Met,
 }
 
@@ -75,7 +76,7 @@ fn meet(pass: &mut TablePass<'_>) -> Met
 }
 
 /// Ends an update behind its raise. Another pass meets it with the numbers written, with the bundles cut, with the
-/// nodes that went out marked, and after its end.
+/// nodes that went out marked, with the plain links set, and after its end.
 fn end_in_stages(
     pass: &mut TablePass<'_>,
     other: &mut TablePass<'_>,
@@ -94,6 +95,9 @@ fn end_in_stages(
     let pruned = meet(other);
     mark_all(pass, plan);
     let marked = meet(other);
+    set_links(pass, plan, slots);
+    raise_tags(pass, plan, slots);
+    let set = meet(other);
     unlock_all(pass, plan);
     leave_section(pass);
     let ended = meet(other);
@@ -101,6 +105,7 @@ fn end_in_stages(
         numbered,
         pruned,
         marked,
+        set,
         ended,
     }
 }
@@ -197,6 +202,7 @@ fn a_pass_meets_another_ones_update_at_its_stages(rt: HostRuntime) -> Result<(),
     assert_eq!(rt; behind.numbered, answers(51, Try::Busy));
     assert_eq!(rt; behind.pruned, answers(51, Try::Busy));
     assert_eq!(rt; behind.marked, answers(51, Try::Busy));
+    assert_eq!(rt; behind.set, answers(51, Try::Busy));
     let last = Try::Done(Done { at: 3, was: true });
     assert_eq!(rt; behind.ended, answers(51, last));
     Ok(())

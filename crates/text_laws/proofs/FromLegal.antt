@@ -9,8 +9,8 @@ use Rattle.bucket_terms.specs.LegalRun.{RequestLine, Run, Answered, IsLegal, IsM
 use Rattle.request_lines.specs.SessionLaws.{Rise}
 use Rattle.answer_text.specs.Lines.{line_of, journal_data}
 use Rattle.answer_text.specs.Shown.{last_data}
-use Rattle.text_laws.specs.WrongLine.{Checked, Makes, IsJournalLine, AreJournal, AreReplies, AreRight, setting, text_lines, requests_of, journal_texts, last_text}
-use Rattle.text_laws.specs.TextLaws.{IsLegalText}
+use Rattle.text_laws.specs.WrongLine.{Checked, Makes, IsJournalLine, AreJournal, AreReplies, setting, text_lines, requests_of, journal_texts, last_text}
+use Rattle.text_laws.specs.TextLaws.{IsLegalText, AreRight}
 use Rattle.text_laws.proofs.OneUpdate.{one_place}
 use Rattle.text_laws.proofs.Lined.{reply_list, reply_lists, journal_list, run_cut, lists_length, list_of_client}
 

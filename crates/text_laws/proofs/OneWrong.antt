@@ -10,8 +10,8 @@ use Rattle.bucket_terms.specs.declared.reply.Placed.{Placed}
 use Rattle.bucket_terms.specs.LegalRun.{RequestLine, answered_lines, lines_of}
 use Rattle.answer_text.specs.Lines.{line_of}
 use Rattle.answer_text.specs.Shown.{last_data}
-use Rattle.text_laws.specs.WrongLine.{Checked, IsJournalLine, AreJournal, IsReplyLine, AreReplies, AreAllReplies, IsWrongUpdate, IsWrongReply, IsWrongInJournal, IsWrongLine, AreRight, journal_texts, reply_texts, requests_of, text_at}
-use Rattle.text_laws.specs.TextLaws.{IsCheckable, OneWrongLineLaw, NoneWrongLaw}
+use Rattle.text_laws.specs.WrongLine.{Checked, IsJournalLine, AreJournal, IsReplyLine, AreReplies, AreAllReplies, IsWrongUpdate, IsWrongReply, IsWrongInJournal, IsWrongLine, journal_texts, reply_texts, requests_of, text_at}
+use Rattle.text_laws.specs.TextLaws.{IsCheckable, OneWrongLineLaw, NoneWrongLaw, AreRight}
 use Rattle.text_laws.proofs.GoesOn.{journal_length, one_journal, journal_goes_on, replies_go_on}
 
 -- ---- the journal

@@ -8,8 +8,8 @@ use Rattle.bucket_terms.specs.declared.reply.Placed.{Placed}
 use Rattle.bucket_terms.specs.LegalRun.{RequestLine, Run, Answered, IsLegal, IsMadeBy, IsChangeOf, AreAnswered, answered_lines, lines_of}
 use Rattle.answer_text.specs.Lines.{line_of, journal_data, session_text}
 use Rattle.answer_text.specs.Shown.{last_data}
-use Rattle.text_laws.specs.WrongLine.{Checked, Makes, AreJournal, AreReplies, AreRight, setting, text_lines, requests_of, journal_texts, last_text, reply_texts}
-use Rattle.text_laws.specs.TextLaws.{IsLegalText}
+use Rattle.text_laws.specs.WrongLine.{Checked, Makes, AreJournal, AreReplies, setting, text_lines, requests_of, journal_texts, last_text, reply_texts}
+use Rattle.text_laws.specs.TextLaws.{IsLegalText, AreRight}
 use Rattle.text_laws.proofs.Lined.{joined, joined_lines, reply_text, reply_list, reply_lists, journal_list, run_lines, run_cut, lists_of_slices}
 
 module _ (c : Checked) (us : List Update) where

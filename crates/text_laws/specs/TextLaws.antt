@@ -1,11 +1,22 @@
 -- Helper: the headline does not rest on this file.
 -- A text has one first wrong line at most, and none exactly where it is the text of a legal run.
-use Rattle.std.specs.Prelude.{◌≡◌, ◌↔◌, ℕ, ◌^◌, ◌<◌, List, length, All}
+use Rattle.std.specs.Prelude.{◌≡◌, ◌↔◌, ℕ, ◌^◌, ◌<◌, List, [], length, All}
+use Rattle.key_map.specs.declared.update.Update.{Update}
 use Rattle.key_names.specs.Names.{Rises}
+use Rattle.bucket_terms.specs.declared.reply.Placed.{Placed}
 use Rattle.bucket_terms.specs.LegalRun.{RequestLine, Run, IsLegal}
 use Rattle.answer_text.specs.Lines.{session_text}
 use Rattle.request_lines.specs.SessionLaws.{Rise}
-use Rattle.text_laws.specs.WrongLine.{Checked, text_lines, IsWrongLine, AreRight}
+use Rattle.text_laws.specs.WrongLine.{Checked, HasAllParts, AreJournal, AreAllReplies, IsWrongLine, text_lines, journal_texts, last_text, counting_line}
+
+-- each line is right
+pub record AreRight (c : Checked) (texts : List (List ℕ)) : Type 0 where
+  pub long : HasAllParts c texts
+  pub updates : List Update
+  pub journal : AreJournal c [] (journal_texts c texts) updates
+  pub last : last_text texts ≡ counting_line (length updates)
+  pub replies : List (List Placed)
+  pub replied : AreAllReplies c updates texts (length c.parts) replies
 
 -- what the texts of a session have: names and each client's lines rise, and clients and lines have numbers of 64 bits
 pub record IsCheckable (c : Checked) (texts : List (List ℕ)) : Type 0 where

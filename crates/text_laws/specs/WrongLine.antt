@@ -1,5 +1,5 @@
--- The first wrong line of a text that was written for a session. The lines are looked at in this order: first the journal,
--- line by line; then the last line; then the reply lines. The first one that is not right is the wrong line.
+-- The first wrong line of a text that was written for a session. The lines are looked at in this order: first the
+-- journal, line by line; then the last line; then the reply lines. The first one that is not right is the wrong line.
 use Rattle.std.specs.Prelude.{◌≡◌, ℕ, ◌+◌, ◌-◌, ◌<◌, ◌≤◌, ◌⊎◌, List, [], ◌∷◌, ◌++◌, length, take, drop, All, Any, codes, Some, slice_get, slice_index_or}
 use Rattle.key_map.specs.declared.update.Update.{Update}
 use Rattle.bucket_terms.specs.declared.record.Record.{Record}
@@ -32,8 +32,8 @@ pub record Makes (dir : List (List ℕ)) (u : Update) (l : RequestLine) : Type 0
   pub line : l.line ≡ u.line
   pub change : IsChangeOf dir u l.request
 
--- behind these updates the text is the journal line of this one: a request line of the session would make it, and none of
--- the earlier ones is of this line
+-- behind these updates the text is the journal line of this one: a request line of the session would make it, and none
+-- of the earlier ones is of this line
 pub record IsJournalLine (c : Checked) (earlier : List Update) (text : List ℕ) (u : Update) : Type 0 where
   pub client : u.client < length c.parts
   pub made : Any (Makes c.dir u) (lines_of c.parts u.client)
@@ -51,8 +51,8 @@ AreJournal c earlier texts us = ⊥
 abbrev pub setting : Checked → List Update → ℕ → Setting
 setting c updates client = record { dir = c.dir; updates = updates; client = client; slots = c.slots client }
 
--- behind these answers of the client the text is the line of this reply, which is right in a legal run: where the history
--- has an update of the request line, the reply stands at its place
+-- behind these answers of the client the text is the line of this reply, which is right in a legal run: where the
+-- history has an update of the request line, the reply stands at its place
 pub record IsReplyLine (c : Checked) (updates : List Update) (client : ℕ) (earlier : List Answered) (asked : RequestLine) (text : List ℕ) (placed : Placed) : Type 0 where
   pub answered : IsAnswered (setting c updates client) earlier asked placed
   pub own : (i : ℕ) (u : Update) → slice_get updates i ≡ Some u → IsOf (setting c updates client) asked.line u → placed.at ≡ Some (i + 1)
@@ -106,8 +106,8 @@ pub record IsWrongUpdate (c : Checked) (texts : List (List ℕ)) (place : ℕ) :
   pub right : AreJournal c [] (take place texts) updates
   pub here : (u : Update) → ¬ (IsJournalLine c updates (text_at texts place) u)
 
--- this reply line, from 0, is the first that is not right: those of the clients before are right, and those of this client
--- before it
+-- this reply line, from 0, is the first that is not right: those of the clients before are right, and those of this
+-- client before it
 pub record IsWrongReply (c : Checked) (updates : List Update) (texts : List (List ℕ)) (place : ℕ) : Type 0 where
   pub client : ℕ
   pub within : client < length c.parts
@@ -154,12 +154,3 @@ pub record IsWrongInReplies (c : Checked) (texts : List (List ℕ)) (line : ℕ)
 -- the line, counted from 1, is the first wrong one of a text with these lines
 abbrev pub IsWrongLine : Checked → List (List ℕ) → ℕ → Type 0
 IsWrongLine c texts line = IsShort c texts line ⊎ (IsWrongInJournal c texts line ⊎ (IsWrongAtLast c texts line ⊎ IsWrongInReplies c texts line))
-
--- each line is right
-pub record AreRight (c : Checked) (texts : List (List ℕ)) : Type 0 where
-  pub long : HasAllParts c texts
-  pub updates : List Update
-  pub journal : AreJournal c [] (journal_texts c texts) updates
-  pub last : last_text texts ≡ counting_line (length updates)
-  pub replies : List (List Placed)
-  pub replied : AreAllReplies c updates texts (length c.parts) replies

@@ -1,5 +1,5 @@
-//! Laws on a text that is checked against a session: which line is its first wrong one, and that there is one at most. No
-//! code: the calls do nothing, and their clauses are what is proved.
+//! Laws on a text that is checked against a session: which line is its first wrong one, and that there is one at most.
+//! No code: the calls do nothing, and their clauses are what is proved.
 #![tactic(auto)]
 
 mod laws;

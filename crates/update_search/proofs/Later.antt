@@ -25,6 +25,9 @@ module _ (v w : View) (read : HasRead v w) where
   pub way_before : (key : ℕ) (s : Search) → IsOnWay w key s → IsOnWay v key s
   way_before key s on = record { from = on.from; until = on.until; way = λ tree is. on.way tree (tree_after v w tree read is) }
 
+  pub way_later : (key : ℕ) (s : Search) → IsOnWay v key s → IsOnWay w key s
+  way_later key s on = record { from = on.from; until = on.until; way = λ tree is. on.way tree (tree_before v w tree read is) }
+
   pub at_key_before : (at : Link) (node key : ℕ) → IsAtKey w at node key → IsAtKey v at node key
   at_key_before at node key here = λ tree is. here tree (tree_after v w tree read is)
 

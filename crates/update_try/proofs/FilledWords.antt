@@ -53,7 +53,7 @@ module _ (v : View) (live : IsLiveView v) where
   node_can : (n : NewNode) → 0 < count n.slot v.free.nodes → Every (CanFill v) (node_fills n)
   node_can n free =
       let there = node_there v.layout n.slot (free_node_low n.slot free) in
-      (((refl, free), there), (((refl, free), there), (((refl, free), there), (((refl, free), there), (((refl, free), there), tt)))))
+      (((refl, free), there), (((refl, free), there), (((refl, free), there), (((refl, free), there), (((refl, free), there), (((refl, free), there), (((refl, free), there), (((refl, free), there), (((refl, free), there), tt)))))))))
 
   entry_can : (e child behind : ℕ) → 0 < count e v.free.entries → Every (CanFill v) (entry_fills e child behind)
   entry_can e child behind free =
@@ -113,12 +113,12 @@ filled_next v w n plan slots entries place f h apart is now =
     subst (λ (u : View). IsFilling u n plan slots entries (place + 1) × KeepsTry v u) (sym now)
     (next.filled, (steps_keep v).filled f.word f.value h.looked.trying.making.reads.inside)
 
--- a plan fills at most seventeen words
+-- a plan fills at most 21 words
 fresh_few : (f : Option Fresh) → length (fresh_fills f) ≤ 3
 fresh_few None = omega arith
 fresh_few (Some f) = omega arith
 
-new_few : (n : Option NewNode) → length (new_fills n) ≤ 11
+new_few : (n : Option NewNode) → length (new_fills n) ≤ 15
 new_few None = omega arith
 new_few (Some n) =
     omega (arith, length-append (node_fills n) (fresh_fills n.left ++ fresh_fills n.right), length-append (fresh_fills n.left) (fresh_fills n.right), fresh_few n.left, fresh_few n.right)
@@ -133,7 +133,7 @@ fronts_few (Join p) slots entries = omega (arith, by (p.next.at.node == p.node))
     by true = omega arith
     by false = omega arith
 
-pub few_fills : (plan : Plan) (slots : PlanSlots) (entries : List ℕ) → length (fills_of plan slots entries) ≤ 17
+pub few_fills : (plan : Plan) (slots : PlanSlots) (entries : List ℕ) → length (fills_of plan slots entries) ≤ 21
 few_fills plan slots entries =
     omega (arith, length-append (new_fills (new_node_of plan slots)) (front_fills 0 (fronts_of plan slots) entries), new_few (new_node_of plan slots), fronts_few plan slots entries)
 

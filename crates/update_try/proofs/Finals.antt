@@ -41,17 +41,20 @@ finalised_next v w n plan slots at place entry h apart is now =
     let next = finalise_step v.layout v 0 n plan slots at place entry h apart is in
     subst (λ (u : View). HasFinalised u n plan slots at (place + 1) × KeepsOwned v u) (sym now) (next.after, next.keeps)
 
-pub may_mark_out : (v : View) (n : ℕ) (plan : Plan) (place node : ℕ) → HasMarked v n plan place → slice_get (out_of plan) place ≡ Some node → MayMark v node
-may_mark_out v n plan place node h is = record {
+pub may_mark_out : (v : View) (n : ℕ) (plan : Plan) (slots : PlanSlots) (place node : ℕ) → HasMarked v n plan slots place → slice_get (out_of plan) place ≡ Some node → MayMark v node
+may_mark_out v n plan slots place node h is = record {
   locked = subst (λ ks. 0 < count node ks) (sym h.locked) (got-every (IsLockOf plan) (out_of plan) place node (locks_law plan no_slots).out is);
   taken = subst (λ ks. 0 < count node ks) (sym h.taken) (got-counts (out_of plan) place node is);
 }
 
-pub marked_next : (v w : View) (n : ℕ) (plan : Plan) (place node : ℕ) → HasMarked v n plan place → slice_get (out_of plan) place ≡ Some node → w ≡ with_mark v node 1
-    → HasMarked w n plan (place + 1) × KeepsOwned v w
-marked_next v w n plan place node h is now =
-    let next = mark_step v.layout v 0 n plan place node h is in
-    subst (λ (u : View). HasMarked u n plan (place + 1) × KeepsOwned v u) (sym now) (next.marked, next.keeps)
+pub marked_next : (v w : View) (n : ℕ) (plan : Plan) (slots : PlanSlots) (place node : ℕ) → HasMarked v n plan slots place → slice_get (out_of plan) place ≡ Some node
+    → w ≡ with_mark v node 1 → HasMarked w n plan slots (place + 1)
+marked_next v w n plan slots place node h is now =
+    subst (λ (u : View). HasMarked u n plan slots (place + 1)) (sym now) (mark_step v.layout v 0 n plan slots place node h is).marked
+
+pub marked_keeps : (v w : View) (node : ℕ) → w ≡ with_mark v node 1 → KeepsOwned v w
+marked_keeps v w node now =
+    subst (KeepsOwned v) (sym now) (record { layout = refl; joined = refl; number = refl; history = refl; counts = refl; free = refl; retired = refl; batch = refl })
 
 -- how many there are
 pub few_out : (plan : Plan) → length (out_of plan) ≤ 2

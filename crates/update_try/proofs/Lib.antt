@@ -6,6 +6,7 @@ pub mod Alone
 pub mod Counted
 pub mod Looks
 pub mod Finals
+pub mod Links
 pub mod FilledWords
 pub mod Raised
 pub mod Fronts

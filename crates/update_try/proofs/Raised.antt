@@ -16,7 +16,7 @@ use Rattle.core_updates.specs.declared.plan.NewNode.{NewNode}
 use Rattle.core_updates.specs.Held.{CanRaise, MayRaise, raise_of}
 use Rattle.core_updates.specs.PlanOf.{IsPlanIn}
 use Rattle.core_updates.specs.PlanReady.{HoldsNewNode, HoldsFreshEntry}
-use Rattle.core_updates.specs.Plans.{key_of, change_of, out_of, new_node_of, fronts_of, slot_of, head_of, fresh_to}
+use Rattle.core_updates.specs.Plans.{key_of, change_of, out_of, new_node_of, fronts_of, slot_of, head_of, fresh_to, sets_of, unlinks_of}
 use Rattle.core_updates.specs.Ready.{update_of}
 use Rattle.core_updates.proofs.PlansRaise.{plan_may_raise}
 use Rattle.plan_laws.specs.Fills.{AreApart}
@@ -29,7 +29,7 @@ use Rattle.plan_laws.proofs.Raises.{raise_step}
 use Rattle.table_rule.specs.Running.{Happened, table}
 use Rattle.table_rule.proofs.Happens.{happened_view, happened_word}
 use Rattle.table_steps.specs.Passes.{Pass}
-use Rattle.table_steps.specs.Raises.{slot_given, new_slot, nodes_out, HasNew, HasNewNode, IsGiven}
+use Rattle.table_steps.specs.Raises.{slot_given, new_slot, nodes_out, HasNew, HasNewNode, IsGiven, MayRaiseBy}
 use Rattle.update_try.specs.Preparing.{HasPreparedAll, new_slots_of, out_slots_of, IsRaisedBy}
 
 get_past : {X : Type 0} (xs : List X) → slice_get xs (length xs) ≡ None
@@ -111,11 +111,14 @@ module _ (p : Pass) (plan : Plan) (slots : PlanSlots) (entries : List ℕ) (h : 
   pub out_same : nodes_out (out_slots_of plan) ≡ out_of plan
   out_same = out_is h.making.reads.tree plan h.making.reads.planned
 
-  pub may_raise : (line : ℕ) → MayRaise v.layout v (update_of n line (key_of plan) (change_of plan)) (slot_given (new_slot (new_slots_of (new_node_of plan slots)))) (nodes_out (out_slots_of plan))
-  may_raise line =
-      subst (λ ks. MayRaise v.layout v (update_of n line (key_of plan) (change_of plan)) (slot_given (new_slot (new_slots_of (new_node_of plan slots)))) ks) (sym out_same)
-      (subst (λ o. MayRaise v.layout v (update_of n line (key_of plan) (change_of plan)) o (out_of plan)) (sym (slot_is plan slots node))
-      (plan_may_raise v.layout v n line plan slots can_raise ready.ready))
+  pub may_raise : (line : ℕ) → MayRaiseBy v.layout v (update_of n line (key_of plan) (change_of plan)) (new_slots_of (new_node_of plan slots)) (out_slots_of plan)
+  may_raise line = (
+    sets_of plan slots,
+    unlinks_of plan,
+    subst (λ ks. MayRaise v.layout v (update_of n line (key_of plan) (change_of plan)) (slot_given (new_slot (new_slots_of (new_node_of plan slots)))) ks (sets_of plan slots) (unlinks_of plan)) (sym out_same)
+        (subst (λ o. MayRaise v.layout v (update_of n line (key_of plan) (change_of plan)) o (out_of plan) (sets_of plan slots) (unlinks_of plan)) (sym (slot_is plan slots node))
+        (plan_may_raise v.layout v n line plan slots can_raise ready.ready)),
+  )
 
   pub new_is_ready : HasNew v (new_slots_of (new_node_of plan slots))
   new_is_ready = has_new v plan slots node apart ready.ready.new

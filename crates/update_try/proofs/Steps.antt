@@ -22,7 +22,7 @@ use Rattle.plan_laws.specs.Releases.{IsReleasing}
 use Rattle.plan_laws.specs.Tries.{HasLocked}
 use Rattle.plan_laws.proofs.Frames.{steps_keep}
 use Rattle.plan_laws.proofs.Items.{drop-got, got-every, not-yet, got-counts}
-use Rattle.plan_laws.proofs.Releases.{unlock_place}
+use Rattle.plan_laws.proofs.Releases.{unlock_place, all-done}
 use Rattle.plan_laws.proofs.Tries.{lock_step}
 use Rattle.table_steps.specs.Passes.{Pass, IsSamePass}
 use Rattle.update_try.specs.Outcomes.{KeepsAll}
@@ -83,6 +83,7 @@ may_unlock v n node place nodes r is = record {
   locked = subst (λ ks. 0 < count node ks) (sym (r.locked ∙ drop-got nodes place node is)) (got-counts (node ∷ drop (place + 1) nodes) 0 node refl);
   done = r.done;
   marked = r.marked;
+  set = all-done node v.update r.set;
 }
 
 pub unlocked_next : (v w : View) (n node place : ℕ) (nodes : List ℕ) → IsReleasing v n (drop place nodes) → slice_get nodes place ≡ Some node → w ≡ unlocked_view v node

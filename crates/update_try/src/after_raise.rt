@@ -1,15 +1,15 @@
 //! What follows the raise of an update, beside the cuts. The entries get their numbers first, so that readers go on;
-//! then the bundles that the update changed are cut; then the nodes that went out are marked; and no lock is given back
-//! before that is done.
+//! then the bundles that the update changed are cut; then the nodes that went out are marked, and the plain links are set;
+//! and no lock is given back before that is done.
 ghost use Rattle.std.specs.Prelude.{◌≡◌, ℕ, length};
 ghost use Rattle.std.specs.List.{slice_get};
 ghost use Rattle.core_updates.specs.declared.plan.PlanSlots.{PlanSlots as UpdateSlots};
-ghost use Rattle.core_updates.specs.Plans.{locks_of, entries_of, fronts_of};
+ghost use Rattle.core_updates.specs.Plans.{entries_of, fronts_of, sets_of};
 ghost use Rattle.plan_laws.specs.Fills.{AreApart};
 ghost use Rattle.plan_laws.specs.Frames.{KeepsOwned};
+ghost use Rattle.plan_laws.specs.PlainLinks.{IsSetting};
 ghost use Rattle.plan_laws.specs.Prunes.{HasNumbered};
 ghost use Rattle.plan_laws.specs.Raises.{HasFinalised, fresh_entries, raised_entries};
-ghost use Rattle.plan_laws.specs.Releases.{IsReleasing};
 ghost use Rattle.table_steps.specs.Passes.{IsSamePass};
 
 use core_updates::{NewNode, Plan, PlanSlots};
@@ -69,7 +69,7 @@ pub fn finalise_all(pass: &mut TablePass<'_>, plan: &Plan, slots: &PlanSlots)
 pub fn mark_all(pass: &mut TablePass<'_>, plan: &Plan)
     requires numbered { (slots : UpdateSlots) × HasNumbered pass.old.view pass.old.number plan.now slots }
     ensures same { IsSamePass pass.old pass.new }
-    ensures marked { IsReleasing pass.new.view pass.new.number (locks_of plan.now) }
+    ensures marked { (slots : UpdateSlots) → HasNumbered pass.old.view pass.old.number plan.now slots → IsSetting pass.new.view pass.new.number plan.now (sets_of plan.now slots) (sets_of plan.now slots) }
     ensures keeps { KeepsOwned pass.old.view pass.new.view }
 {
     let mut place = 0;

@@ -2,8 +2,8 @@
 //!
 //! The order is that of the steps below. The nodes are locked in the plan's order, each by one try. The looks come
 //! under the locks, and what is filled and put in front of bundles comes behind the last look. Behind the raise the
-//! entries get their numbers before the bundles are cut and the nodes that went out are marked, and the marks come
-//! before the first unlock. The locks are given back on every way out, and the section is left.
+//! entries get their numbers before the bundles are cut and the nodes that went out are marked; then the plain links are
+//! set, and the tags of those that became null are raised, before the first unlock. The locks are given back on every way out, and the section is left.
 ghost use Rattle.std.specs.Prelude.{◌≡◌, ◌+◌, ◌<◌, ℕ, length, IfOk, IfErr, Some};
 ghost use Rattle.core_updates.specs.PlanEvents.{HasSlots};
 ghost use Rattle.core_updates.specs.Plans.{fronts_of};
@@ -25,6 +25,7 @@ use crate::fills::{fill_all, prepare_all};
 use crate::locking::lock_all;
 use crate::looking::look_all;
 use crate::outcome::Failed;
+use crate::plain_links::{raise_tags, set_links};
 use crate::pruning::prune_all;
 use crate::raising::raise_plan;
 use crate::release::{leave_section, unlock_all};
@@ -65,7 +66,8 @@ pub fn make_ready(pass: &mut TablePass<'_>, plan: &Plan, slots: &PlanSlots, head
     prepare_all(pass, plan, slots, heads);
 }
 
-/// Ends an update behind its raise: the numbers, then the cuts, then the marks, then the locks, and then the section.
+/// Ends an update behind its raise: the numbers, then the cuts, the marks and the plain links, then the locks, and then
+/// the section.
 /// `number` is the one at which the pass reads.
 fn end_update(pass: &mut TablePass<'_>, number: u64, plan: &Plan, slots: &PlanSlots)
     requires raised { (at : ℕ) × HasFinalised pass.old.view pass.old.number plan.now slots.now at 0 }
@@ -78,6 +80,8 @@ fn end_update(pass: &mut TablePass<'_>, number: u64, plan: &Plan, slots: &PlanSl
     finalise_all(pass, plan, slots);
     prune_all(pass, plan, slots, number);
     mark_all(pass, plan);
+    set_links(pass, plan, slots);
+    raise_tags(pass, plan, slots);
     unlock_all(pass, plan);
     leave_section(pass);
 }

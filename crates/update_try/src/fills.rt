@@ -39,7 +39,7 @@ fn new_fill(node: &NewNode, place: usize) -> Option<Filled>
     if let Some(fill) = node.fill(place) {
         return Some(fill);
     }
-    let place = place - 5;
+    let place = place - 9;
     if let Some(fill) = fresh_fill(node.left, place) {
         return Some(fill);
     }
@@ -68,7 +68,7 @@ fn fill_at(plan: &Plan, slots: &PlanSlots, heads: &[u32; 9], place: usize) -> Op
     if let Some(fill) = new_fill(&node, place) {
         return Some(fill);
     }
-    let count = 5 + fresh_count(node.left) + fresh_count(node.right);
+    let count = 9 + fresh_count(node.left) + fresh_count(node.right);
     front_fill(plan, slots, heads, place - count)
 }
 

@@ -18,7 +18,7 @@ pub record IsWalking (dir : List (List ℕ)) (query : ListQuery) (point : Option
 abbrev pub invariant-loop-rank : goal.invariant-loop-rank
 invariant-loop-rank g l =
     IsWalking l.dir l.query (option_copied l.point) (g.P.KeyPass.view l.initial.pass) (g.P.KeyPass.view l.pass) l.cursor
-    × (g.P.KeyPass.home l.pass ≡ g.P.KeyPass.home l.initial.pass)
+    × (g.P.Homed.home l.pass ≡ g.P.Homed.home l.initial.pass)
 
 abbrev pub decreases-loop-rank : goal.decreases-loop-rank
 decreases-loop-rank g l = left_at (length l.cursor.dir + 1) l.cursor.next

@@ -1,42 +1,19 @@
-use Rattle.std.proofs.Common.{◌≡◌, ℕ, List, ◌<◌, ◌≤◌, ◌++◌, ◌∷◌, [], Option, Some, length, get_or, take, map, sym, subst, ap, ◌∙◌, refl, arith, if◌then◌else◌}
-use Rattle.std.specs.Option.{option_copied, ForSome}
-use Rattle.std.proofs.lemmas.Option.{none-some}
-use Rattle.std.proofs.lemmas.List.{get_or-map, length-map, length_push}
+use Rattle.std.proofs.Common.{◌≡◌, ℕ, List, ◌≤◌, ◌++◌, ◌∷◌, [], Option, Some, length, get_or, take, sym, subst, ap, ◌∙◌, refl, arith, if◌then◌else◌}
+use Rattle.std.specs.Option.{option_copied}
 use Rattle.bucket_terms.specs.declared.reply.Reply.{Reply}
 use Rattle.bucket_terms.specs.declared.reply.Placed.{Placed}
 use Rattle.bucket_terms.specs.LegalRun.{RequestLine, is_listing, last_listing, answered_lines}
 use Rattle.bucket_terms.specs.RunParts.{updates_in}
-use Rattle.request_lines.specs.declared.session.Asked.{Asked}
 use Rattle.request_lines.specs.Session.{request_line, request_lines}
 use Rattle.client_run.specs.ClientRun.{Answers, IsLaterLine}
 use Rattle.request_lines.specs.SessionLaws.{IsAskable}
-use Rattle.std.proofs.lemmas.List.Elements.{All-push}
-use Rattle.client_run.specs.Listing.{HasPageInRange}
-use Rattle.client_run.proofs.Growing.{start}
-use Rattle.client_run.proofs.Turn.{later_at, call_at, turn, last_turn, place_turn, reply_at}
+use Rattle.client_run.proofs.Turn.{later_at, call_at, line_here, first_turn, next_turn, reply_at}
 use Rattle.client_run.proofs.Stopping.{after_error, stopped_later, stopped_behind}
 use Rattle.client_run.proofs.run.run_client.Goals as goal
 
 pub loop-asked-init : goal.loop-asked-init
 loop-asked-init g c =
-    let view = g.P.KeyPass.view c.args.pass.now in (
-      rw c.new-replies.ensures.items (record {
-        running = start c.args.dir.now view c.client-client.ensures.mine c.requires.closed;
-        listing = refl;
-        place = λ k e. absurd (none-some k e);
-        in_range = λ k d below. absurd (omega arith);
-      }),
-      refl,
-    )
-
--- the line that this turn answers
-line_here : (asked : List Asked) (shown : List Asked) (i : ℕ) (d : Asked) → shown ≡ asked → i < length shown → d ≡ get_or shown i d
-    → (i < length (map request_line asked)) × (get_or (map request_line asked) i (request_line d) ≡ request_line d)
-line_here asked shown i d same below is =
-    let within : i < length asked = omega (arith, ap length same) in (
-      omega (arith, length-map asked request_line),
-      get_or-map request_line asked i d (request_line d) within ∙ ap request_line (ap (λ (xs : List Asked). get_or xs i d) (sym same) ∙ sym is),
-    )
+    (rw c.new-replies.ensures.items (first_turn c.args.dir.now (g.P.KeyPass.view c.args.pass.now) c.client-client.ensures.mine c.requires.closed), refl)
 
 pub answer-requires-clause-askable : goal.answer-requires-clause-askable
 answer-requires-clause-askable g c =
@@ -82,13 +59,7 @@ loop-asked-preserved g c =
     let answered : Answers c.args.dir.now mid now (last_listing (answered_lines (take i lines) replies)) (record { asked = get_or lines i (request_line d); placed = p }) =
     subst (λ (l : RequestLine). Answers c.args.dir.now mid now (last_listing (answered_lines (take i lines) replies)) (record { asked = l; placed = p })) (sym here.1)
     (subst (λ (o : Option Reply). Answers c.args.dir.now mid now o (record { asked = request_line d; placed = p })) last_is c.in_ok-placed.ensures.answers) in (
-      rw pushed (record {
-        running = turn c.args.dir.now lines i (request_line d) old mid now replies p here.0 before.running c.requires.later c.requires.rising answered c.in_ok-placed.ensures.in_range;
-        listing = ap (λ (o : Option ℕ). reply_at (replies ++ p ∷ []) o) later_is ∙ last_turn lines i (request_line d) replies p last here.0 before.running.same_length before.listing before.place;
-        place = subst (λ (o : Option ℕ). ForSome o (λ k. k < length (replies ++ p ∷ []))) (sym later_is)
-            (place_turn (is_listing (get_or lines i (request_line d)).request) (length replies) (length (replies ++ p ∷ [])) last (length_push replies p) before.place);
-        in_range = All-push (λ (q : Placed). HasPageInRange c.args.dir.now q.reply) replies p before.in_range c.in_ok-placed.ensures.in_range;
-      }),
+      rw pushed (next_turn c.args.dir.now lines i (request_line d) old mid now replies p last c.later_listing-last.result here.0 before c.requires.later c.requires.rising answered c.in_ok-placed.ensures.in_range later_is),
       c.in_ok-placed.ensures.home ∙ c.loop-asked.invariant.1,
     )
 

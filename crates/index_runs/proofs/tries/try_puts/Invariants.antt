@@ -1,9 +1,6 @@
-use Rattle.std.proofs.Common.{◌≡◌}
-use Rattle.shared_index.specs.Keys.{home_of_pass}
-use Rattle.shared_index.specs.Shown.{shown}
 use Rattle.index_runs.specs.Runs.{GoesOn}
 use Rattle.index_runs.proofs.tries.try_puts.Given as goal
 
 -- between two tries no snapshot is open
 abbrev pub invariant-tries : goal.invariant-tries
-invariant-tries l = GoesOn (shown l.initial.pass) (shown l.pass) × (home_of_pass l.pass ≡ home_of_pass l.initial.pass)
+invariant-tries l = GoesOn l.initial.pass l.pass

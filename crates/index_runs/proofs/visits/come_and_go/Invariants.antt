@@ -1,7 +1,6 @@
-use Rattle.std.proofs.Common.{◌≡◌}
 use Rattle.index_runs.specs.Runs.{GoesOn}
 use Rattle.index_runs.proofs.visits.come_and_go.Given as goal
 
 -- between two visits no snapshot is open
 abbrev pub invariant-visits : goal.invariant-visits
-invariant-visits g l = GoesOn (g.P.KeyPass.view l.initial.pass) (g.P.KeyPass.view l.pass) × (g.P.KeyPass.home l.pass ≡ g.P.KeyPass.home l.initial.pass)
+invariant-visits g l = GoesOn l.initial.pass l.pass

@@ -1,4 +1,3 @@
-use Rattle.machine_needs.specs.declared.step.Step.TheVariants as step
 use Rattle.machine_steps.proofs.StepMet.{has_seat, few, has_free, other_of, has_calls, spells_step}
 use Rattle.machine_steps.proofs.step.change.Goals as goal
 

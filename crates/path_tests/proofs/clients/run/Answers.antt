@@ -6,7 +6,7 @@ use Rattle.path_tests.proofs.clients.run.Goals as goal
 
 pub run_part-requires-clause-askable : goal.run_part-requires-clause-askable
 run_part-requires-clause-askable g c =
-    let names = c.in_ok-clients.field-0.names in
-    let count = length c.in_ok-clients.field-0.records in
+    let names = c.in_ok-session.session.names in
+    let count = length c.in_ok-session.session.records in
     askable c.in_ok-dir.dir names count c.in-Some.part.now.requests c.in_ok-dir.ensures
-    (served_first names count c.in_ok-clients.field-0.clients c.in-Some.part.now (ap (λ (cs : List ClientPart). slice_get cs 0) (sym c.as_slice.ensures) ∙ sym c.in-Some.ensures.value) c.in_ok-clients.ensures.requests.served)
+    (served_first names count c.in_ok-session.session.clients c.in-Some.part.now (ap (λ (cs : List ClientPart). slice_get cs 0) (sym c.as_slice.ensures) ∙ sym c.in-Some.ensures.value) c.in_ok-session.ensures.requests.served)

@@ -5,7 +5,7 @@ use Rattle.bundle_reads.proofs.ReadMoves.{same_pass, same_more, searched_nothing
 use Rattle.update_search.specs.Descents.{EndsFound}
 use Rattle.update_search.proofs.ReadTrees.{reader}
 use Rattle.update_search.proofs.Levels.{way_begins, way_link, way_missing_there}
-use Rattle.update_search.proofs.Later.{way_before, at_key_before}
+use Rattle.update_search.proofs.Later.{way_before, way_later, at_key_before}
 use Rattle.update_search.proofs.descent.find_end.Goals as goal
 
 pub down-init : goal.down-init
@@ -17,6 +17,13 @@ child_at-requires-clause-link c =
     let known = reader v c.args.at c.facts.ensures c.requires.reads in
     let s = c.down.search in
     link_after v c.down.pass.view s.at.node s.at.side c.down.invariant.0.read (way_link v c.args.key s c.down.invariant.3 known.tree known.is)
+
+pub go_on-requires-clause-way : goal.go_on-requires-clause-way
+go_on-requires-clause-way c =
+    let v = c.args.pass.now.view in
+    let x = c.child_at.new.pass.view in
+    let more = searched_more v c.down.pass.view x c.down.invariant.0 c.child_at.ensures.searched in
+    way_later v x more.read c.args.key c.down.search c.down.invariant.3
 
 pub returns-in_default-clause-searched : goal.returns-in_default-clause-searched
 returns-in_default-clause-searched c = searched_more c.args.pass.now.view c.down.pass.view c.child_at.new.pass.view c.down.invariant.0 c.child_at.ensures.searched

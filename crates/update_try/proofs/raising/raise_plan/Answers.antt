@@ -1,13 +1,13 @@
 use Rattle.std.proofs.Common.{◌≡◌, ◌∙◌, ap, sym, subst}
 use Rattle.index_words.specs.declared.view.View.{View}
 use Rattle.key_map.specs.declared.update.Change.{Change}
-use Rattle.core_updates.specs.Held.{MayRaise, raise_of}
+use Rattle.core_updates.specs.Held.{raise_of}
 use Rattle.core_updates.specs.Plans.{key_of, change_of, new_node_of}
 use Rattle.core_updates.specs.Ready.{update_of}
 use Rattle.plan_laws.specs.Raises.{HasFinalised, update_by}
 use Rattle.table_rule.specs.Running.{Happened}
 use Rattle.table_steps.proofs.Places.{raised_here}
-use Rattle.table_steps.specs.Raises.{slot_given, new_slot, nodes_out}
+use Rattle.table_steps.specs.Raises.{MayRaiseBy}
 use Rattle.update_try.specs.Preparing.{IsRaisedBy, new_slots_of}
 use Rattle.update_try.proofs.Raised.{may_raise, raised_now, answers_now}
 use Rattle.update_try.proofs.raising.raise_plan.Goals as goal
@@ -19,10 +19,10 @@ raise-requires-clause-may c =
     let slots = c.args.slots.now in
     let may = may_raise p plan slots c.args.heads.now c.requires.prepared c.requires.apart c.requires.node c.key_of.ensures.small c.requires.left c.args.line in
     let new : c.new_slots-new.result ≡ new_slots_of (new_node_of plan slots) = c.new_slots-new.ensures ∙ ap new_slots_of c.new_node.ensures in
-    subst (λ k. MayRaise p.view.layout p.view (update_of p.number c.args.line k c.change.result) (slot_given (new_slot c.new_slots-new.result)) (nodes_out c.out_slots-out.result)) (sym c.key_of.ensures.key)
-    (subst (λ (x : Change). MayRaise p.view.layout p.view (update_of p.number c.args.line (key_of plan) x) (slot_given (new_slot c.new_slots-new.result)) (nodes_out c.out_slots-out.result)) (sym c.change.ensures)
-    (subst (λ xs. MayRaise p.view.layout p.view (update_of p.number c.args.line (key_of plan) (change_of plan)) (slot_given (new_slot xs)) (nodes_out c.out_slots-out.result)) (sym new)
-    (subst (λ xs. MayRaise p.view.layout p.view (update_of p.number c.args.line (key_of plan) (change_of plan)) (slot_given (new_slot (new_slots_of (new_node_of plan slots)))) (nodes_out xs)) (sym c.out_slots-out.ensures) may)))
+    subst (λ k. MayRaiseBy p.view.layout p.view (update_of p.number c.args.line k c.change.result) c.new_slots-new.result c.out_slots-out.result) (sym c.key_of.ensures.key)
+    (subst (λ (x : Change). MayRaiseBy p.view.layout p.view (update_of p.number c.args.line (key_of plan) x) c.new_slots-new.result c.out_slots-out.result) (sym c.change.ensures)
+    (subst (λ xs. MayRaiseBy p.view.layout p.view (update_of p.number c.args.line (key_of plan) (change_of plan)) xs c.out_slots-out.result) (sym new)
+    (subst (λ xs. MayRaiseBy p.view.layout p.view (update_of p.number c.args.line (key_of plan) (change_of plan)) (new_slots_of (new_node_of plan slots)) xs) (sym c.out_slots-out.ensures) may)))
 
 pub returns-clause-raised : goal.returns-clause-raised
 returns-clause-raised c =

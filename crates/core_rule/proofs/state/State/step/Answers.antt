@@ -18,7 +18,7 @@ use Rattle.core_laws.proofs.Laws.{laws_of, laws_same, laws_refused}
 use Rattle.core_laws.proofs.Owners.{owners}
 use Rattle.core_laws.proofs.RaiseStamps.{raise_small, stored_small}
 use Rattle.core_rule.proofs.StepOwners.{owners_refused, owners_stay}
-use Rattle.core_rule.proofs.Stepped.{taken, taken_law, met_now, step_is, is_met_by, same_selections, refused_selections}
+use Rattle.core_rule.proofs.Stepped.{taken, taken_law, met_now, step_is, is_met_by, same_selections, refused_selections, refused_right}
 use Rattle.core_rule.proofs.state.State.step.Goals as goal
 
 pub change-requires-clause-met : goal.change-requires-clause-met
@@ -42,6 +42,11 @@ store-requires-clause-small c is =
     c.self.invariant c.in-Some.ensures.value refl refl refl
     (met_now c.self.inside.layout c.self.inside.words.items c.as_slice.result.now c.self.inside.views.items c.as_slice-2.result.now c.args.event.now c.in-Some.word c.in-Some-allowed_step.step c.allowed_step.result c.as_slice.ensures.value c.as_slice-2.ensures.value c.allowed_step.ensures.met c.in-Some-allowed_step.is)
     (sym (ap (λ (p : Parts). p.kind) (step_is c.self.inside.layout c.self.inside.words.items c.as_slice.result.now c.self.inside.views.items c.as_slice-2.result.now c.args.event.now c.in-Some.word c.in-Some-allowed_step.step c.allowed_step.result c.as_slice.ensures.value c.as_slice-2.ensures.value c.allowed_step.ensures.met c.in-Some-allowed_step.is c.allowed_step.ensures.step)) ∙ is)
+
+pub invariant_of-self : goal.invariant_of-self
+invariant_of-self c =
+    refused_right (record { layout = c.self.inside.layout; words = c.self.inside.words.items; views = c.self.inside.views.items }) c.change.new.views.items c.is_err.result
+    c.change.result c.self.invariant c.is_err.ensures.value c.if-is_err.true c.change.ensures.err
 
 pub invariant_of-self-2 : goal.invariant_of-self-2
 invariant_of-self-2 c =
@@ -150,6 +155,11 @@ returns-then-is_err-clause-links c =
     let t : Table = record { layout = c.self.inside.layout; words = c.self.inside.words.items; views = c.self.inside.views.items } in
     subst (λ (u : Table). KeepsSelections u (record { layout = c.self.inside.layout; words = c.self.inside.words.items; views = c.change.new.views.items })) c.self.view_is
     (refused_selections t c.change.new.views.items c.is_err.result c.change.result c.is_err.ensures.value c.if-is_err.true c.change.ensures.err)
+
+pub returns-then-is_err-clause-rule : goal.returns-then-is_err-clause-rule
+returns-then-is_err-clause-rule c =
+    refused_right (record { layout = c.self.inside.layout; words = c.self.inside.words.items; views = c.self.inside.views.items }) c.change.new.views.items c.is_err.result
+    c.change.result c.self.invariant c.is_err.ensures.value c.if-is_err.true c.change.ensures.err
 
 pub returns-then-is_err-clause-trees : goal.returns-then-is_err-clause-trees
 returns-then-is_err-clause-trees c =

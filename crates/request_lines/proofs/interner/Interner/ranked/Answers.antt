@@ -1,27 +1,31 @@
-use Rattle.std.proofs.Common.{sym, ◌∙◌}
-use Rattle.request_lines.proofs.Interned.{have_numbers, numbers_below, all_have_ranks, interned_sorted, same_named}
+use Rattle.std.proofs.Common.{◌≡◌, sym, ◌∙◌}
+use Rattle.request_lines.specs.Interned.{named}
+use Rattle.request_lines.proofs.Interned.{have_numbers, numbers_below, all_have_groups, interned_sorted, same_named}
 use Rattle.request_lines.proofs.interner.Interner.ranked.Goals as goal
 
-pub ranks_of-requires : goal.ranks_of-requires
-ranks_of-requires c = rw c.deref.ensures.value (have_numbers c.self.inside.known.keys c.in_ok-entries.entries.items (rw (sym c.as_slice-names.ensures.keys) c.in_ok-entries.ensures))
+pub places_of-requires : goal.places_of-requires
+places_of-requires c = rw c.deref.ensures.value (have_numbers c.as_slice-names.result.now c.in_ok-entries.entries.items c.in_ok-entries.ensures)
 
-pub at_ranks-requires : goal.at_ranks-requires
-at_ranks-requires c =
-    rw (c.deref-2.ensures.value, c.deref-3.ensures.value)
-    (all_have_ranks c.self.inside.known.keys c.self.inside.order.items c.in_ok-entries.entries.items c.in_ok-ranks.ranks.items c.self.invariant (rw (sym c.as_slice-names.ensures.keys) c.in_ok-entries.ensures)
-    (rw (sym c.deref.ensures.value) c.in_ok-ranks.ensures))
+pub grouped-requires : goal.grouped-requires
+grouped-requires c = rw c.deref-2.ensures.value (numbers_below c.as_slice-names.result.now c.in_ok-entries.entries.items c.in_ok-entries.ensures)
 
-pub names_of-requires : goal.names_of-requires
-names_of-requires c = rw (c.deref-4.ensures.value, c.as_slice-names.ensures.keys) (numbers_below c.self.inside.known.keys c.in_ok-entries.entries.items (rw (sym c.as_slice-names.ensures.keys) c.in_ok-entries.ensures))
+pub at_places-requires : goal.at_places-requires
+at_places-requires c =
+    rw (c.deref-3.ensures.value, c.deref-4.ensures.value)
+    (all_have_groups c.as_slice-names.result.now c.in_ok-entries.entries.items c.in_ok-places.places.items c.in_ok-distinct.distinct.items c.in_ok-distinct.groups.items c.in_ok-entries.ensures
+    (rw (sym c.deref.ensures.value) c.in_ok-places.ensures) (rw (sym c.deref-2.ensures.value) c.in_ok-distinct.ensures))
 
 pub of-requires : goal.of-requires
 of-requires c =
-    rw (c.in_ok-distinct.ensures, c.in_ok-order.ensures, c.deref-2.ensures.value, c.deref-3.ensures.value, c.deref-4.ensures.value, c.as_slice-names.ensures.keys)
-    (interned_sorted c.self.inside.known.keys c.self.inside.order.items c.in_ok-entries.entries.items c.in_ok-ranks.ranks.items c.self.invariant (rw (sym c.as_slice-names.ensures.keys) c.in_ok-entries.ensures)
-    (rw (sym c.deref.ensures.value) c.in_ok-ranks.ensures))
+    rw (c.in_ok-order.ensures.items, c.deref-5.ensures.value, c.in_ok-ranks.ensures, c.deref-3.ensures.value, c.deref-4.ensures.value)
+    (interned_sorted c.as_slice-names.result.now c.in_ok-entries.entries.items c.in_ok-places.places.items c.in_ok-distinct.distinct.items c.in_ok-distinct.groups.items c.in_ok-entries.ensures
+    (rw (sym c.deref.ensures.value) c.in_ok-places.ensures) (rw (sym c.deref-2.ensures.value) c.in_ok-distinct.ensures))
 
 pub returns : goal.returns
 returns c =
-    c.of.ensures ∙ (rw (c.in_ok-distinct.ensures, c.in_ok-order.ensures, c.deref-2.ensures.value, c.deref-3.ensures.value, c.deref-4.ensures.value, c.as_slice-names.ensures.keys)
-    (same_named c.self.inside.known.keys c.self.inside.order.items c.in_ok-entries.entries.items c.in_ok-ranks.ranks.items c.self.invariant (rw (sym c.as_slice-names.ensures.keys) c.in_ok-entries.ensures)
-    (rw (sym c.deref.ensures.value) c.in_ok-ranks.ensures))) ∙ c.self.view_is
+    let same : named c.in_ok-distinct.distinct.items c.in_ok-order.order.items ≡ c.as_slice-names.result.now =
+    rw (c.in_ok-order.ensures.items, c.deref-5.ensures.value, c.in_ok-ranks.ensures, c.deref-3.ensures.value, c.deref-4.ensures.value)
+    (same_named c.as_slice-names.result.now c.in_ok-entries.entries.items c.in_ok-places.places.items c.in_ok-distinct.distinct.items c.in_ok-distinct.groups.items c.in_ok-entries.ensures
+    (rw (sym c.deref.ensures.value) c.in_ok-places.ensures) (rw (sym c.deref-2.ensures.value) c.in_ok-distinct.ensures))
+    in
+    c.of.ensures ∙ same ∙ c.as_slice-names.ensures.value ∙ c.self.view_is

@@ -1,10 +1,16 @@
-use Rattle.std.proofs.Common.{ℕ, List, subst, ◌∙◌}
-use Rattle.key_names.specs.Names.{HoldsEachOnce}
-use Rattle.request_lines.proofs.Interned.{kept_once}
+use Rattle.std.proofs.Common.{ℕ, List, All, sym, subst, ◌∙◌}
+use Rattle.key_names.specs.Names.{HoldsEachOnce, IsFine}
+use Rattle.request_lines.proofs.Interned.{kept_fine, kept_once}
 use Rattle.request_lines.proofs.names.Names.directory.Goals as goal
 
-pub returns-in-Ok : goal.returns-in-Ok
-returns-in-Ok c =
-    subst (λ (names : List (List ℕ)). HoldsEachOnce names c.in-Ok.dir) c.self.view_is
-    (kept_once c.self.inside.names.items c.self.inside.order c.in-Ok.dir c.self.invariant
-    (subst (λ (names : List (List ℕ)). HoldsEachOnce names c.in-Ok.dir) (c.in_ok-copies.ensures ∙ c.deref.ensures.value) c.in-Ok.ensures.names))
+pub directory_of-requires : goal.directory_of-requires
+directory_of-requires c =
+    subst (λ (names : List (List ℕ)). All IsFine names) (sym (c.in_ok-names.ensures ∙ c.deref.ensures.value))
+    (kept_fine c.self.inside.names.items c.self.inside.order c.self.invariant
+    (subst (λ (names : List (List ℕ)). All IsFine names) (sym c.self.view_is) c.requires))
+
+pub returns : goal.returns
+returns c =
+    subst (λ (names : List (List ℕ)). HoldsEachOnce names c.directory_of.result) c.self.view_is
+    (kept_once c.self.inside.names.items c.self.inside.order c.directory_of.result c.self.invariant
+    (subst (λ (names : List (List ℕ)). HoldsEachOnce names c.directory_of.result) (c.in_ok-names.ensures ∙ c.deref.ensures.value) c.directory_of.ensures))

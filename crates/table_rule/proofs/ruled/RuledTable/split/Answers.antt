@@ -1,4 +1,4 @@
-use Rattle.std.proofs.Common.{◌≡◌, refl, ap, sym, subst}
+use Rattle.std.proofs.Common.{◌≡◌, inl, refl, ap, sym, subst}
 use Rattle.index_words.specs.declared.layout.Layout.{Layout}
 use Rattle.index_words.specs.declared.word.Word.TheVariants.{Stamp}
 use Rattle.atomic_table.specs.Table.{Splits}
@@ -20,7 +20,7 @@ split_seat-right-requires c =
     let live = c.seat.invariant.1 in (
       of.id,
       word_within t.table_id t.key z c.self.invariant.0 c.self.invariant.1 s.table_id s.id s.me Stamp 0 refl refl,
-      subst (λ (k : Layout). Splits (holds k) s.id s.me.0 (split_left s.me.0 0) (split_right s.me.0 0)) (sym c.self.invariant.0) (split_splits s.me.0 live.live z s.id),
+      subst (λ (k : Layout). Splits (holds k) s.id s.me.0 (split_left s.me.0 0) (split_right s.me.0 0)) (sym c.self.invariant.0) (split_splits s.me.0 0 (record { live = live.live; few = inl refl }) z s.id),
     )
 
 pub invariant_of-result : goal.invariant_of-result
@@ -28,7 +28,7 @@ invariant_of-result c =
     let s = c.seat.inside.seat in
     let live = c.seat.invariant.1 in
     let is = c.split_seat-right.ensures.4 in
-    (ap (λ m. m.1) is, subst IsLiveView (sym (ap (λ m. m.0) is)) (split_live s.me.0 live.live live.stands))
+    (ap (λ m. m.1) is, subst IsLiveView (sym (ap (λ m. m.0) is)) (split_live s.me.0 0 (record { live = live.live; few = inl refl }) live.stands))
 
 pub returns-clause-event : goal.returns-clause-event
 returns-clause-event c =
@@ -42,4 +42,4 @@ returns-clause-event c =
     let stands : Stands z s.me.0 = subst (λ (k : Layout). Stands k s.me.0) of.layout live.stands in
     subst (λ (h : Home). Split h.layout c.args.seat.now.view 0 c.split_seat-right.new.seat.me.0 c.split_seat-right.result.me.0) c.self.view_is
     (subst (λ (x : Sat). Split z x.view 0 c.split_seat-right.new.seat.me.0 c.split_seat-right.result.me.0) c.seat.view_is
-    (rw (now.0, now.1) (split_happened s.me.0 live.live z stands)))
+    (rw (now.0, now.1) (split_happened s.me.0 0 (record { live = live.live; few = inl refl }) z stands)))

@@ -2,14 +2,13 @@ use Rattle.std.proofs.Common.{◌≡◌, ℕ, ◌+◌, ◌-◌, ◌<◌, List, a
 use Rattle.index_words.specs.declared.layout.Layout.{Layout}
 use Rattle.index_words.specs.declared.view.View.{View}
 use Rattle.key_map.specs.declared.update.Update.{Update}
-use Rattle.core_updates.specs.Held.{MayRaise}
 use Rattle.core_updates.specs.Ready.{update_of}
 use Rattle.pass_slots.specs.Owned.{KeptSlots}
 use Rattle.table_rule.specs.Homes.{Home, IsOf}
 use Rattle.table_steps.specs.Kept.{Keeps}
 use Rattle.table_steps.specs.Made.{Made}
 use Rattle.table_steps.specs.Passes.{Pass}
-use Rattle.table_steps.specs.Raises.{slot_given, new_slot, nodes_out, HasNew, HoldsEntries, HasRaised}
+use Rattle.table_steps.specs.Raises.{nodes_out, HasNew, HoldsEntries, HasRaised, MayRaiseBy}
 use Rattle.table_steps.specs.Retires.{HasRoomFor, with_retired}
 use Rattle.table_steps.specs.declared.kept.Kept.{Kept}
 use Rattle.table_steps.proofs.RaiseGives.{raise_gives}
@@ -24,10 +23,10 @@ add-found-requires-clause-asks c =
     let keeps : Keeps s.view k = c.self.invariant.0 in
     let of : IsOf home s = subst (λ (h : Home). IsOf h s) (sym c.table.view_is) c.self.invariant.1 in
     let u : Update = update_of k.number c.args.line c.args.key c.args.change in
-    let may : MayRaise home.layout s.view u (slot_given (new_slot c.args.new)) (nodes_out c.args.out)
-    = subst (λ (z : Layout). MayRaise z s.view u (slot_given (new_slot c.args.new)) (nodes_out c.args.out)) of.layout
-    (subst (λ (p : Pass). MayRaise p.view.layout p.view (update_of p.number c.args.line c.args.key c.args.change) (slot_given (new_slot c.args.new)) (nodes_out c.args.out)) (sym c.self.view_is) c.requires.may) in
-    record { of = of; there = refl; seat = refl; word = refl; may = λ words vs rule is. may.may words vs s.seat rule is }
+    let may : MayRaiseBy home.layout s.view u c.args.new c.args.out
+    = subst (λ (z : Layout). MayRaiseBy z s.view u c.args.new c.args.out) of.layout
+    (subst (λ (p : Pass). MayRaiseBy p.view.layout p.view (update_of p.number c.args.line c.args.key c.args.change) c.args.new c.args.out) (sym c.self.view_is) c.requires.may) in
+    record { of = of; there = refl; seat = refl; word = refl; may = λ words vs rule is. may.2.may words vs s.seat rule is }
 
 pub overflow_add-at : goal.overflow_add-at
 overflow_add-at c =
@@ -37,15 +36,15 @@ overflow_add-at c =
     let keeps : Keeps s.view k = c.self.invariant.0 in
     let of : IsOf home s = subst (λ (h : Home). IsOf h s) (sym c.table.view_is) c.self.invariant.1 in
     let u : Update = update_of k.number c.args.line c.args.key c.args.change in
-    let may : MayRaise home.layout s.view u (slot_given (new_slot c.args.new)) (nodes_out c.args.out)
-    = subst (λ (z : Layout). MayRaise z s.view u (slot_given (new_slot c.args.new)) (nodes_out c.args.out)) of.layout
-    (subst (λ (p : Pass). MayRaise p.view.layout p.view (update_of p.number c.args.line c.args.key c.args.change) (slot_given (new_slot c.args.new)) (nodes_out c.args.out)) (sym c.self.view_is) c.requires.may) in
+    let may : MayRaiseBy home.layout s.view u c.args.new c.args.out
+    = subst (λ (z : Layout). MayRaiseBy z s.view u c.args.new c.args.out) of.layout
+    (subst (λ (p : Pass). MayRaiseBy p.view.layout p.view (update_of p.number c.args.line c.args.key c.args.change) c.args.new c.args.out) (sym c.self.view_is) c.requires.may) in
     let ready : HasNew s.view c.args.new = subst (λ (p : Pass). HasNew p.view c.args.new) (sym c.self.view_is) c.requires.new in
     let held = subst (λ (p : Pass). (es : List ℕ) × HoldsEntries p.view (nodes_out c.args.out) es) (sym c.self.view_is) c.requires.known in
     let w : View = c.add-found.new.seat.view in
     let at : ℕ = c.add-found.result + 1 in
     let gives : HasRaised s.view u c.args.new c.args.out at w
-    = raise_gives home.layout s.seat u s.view w c.add-found.result c.add-found.ensures.event c.args.new c.args.out held.0 may ready held.1 in
+    = raise_gives home.layout s.seat u s.view w of.layout c.add-found.result c.add-found.ensures.event c.args.new c.args.out held.0 may ready held.1 in
     omega (arith, raise_small s.view w u c.args.new c.args.out at gives c.facts-2.ensures)
 
 pub take_new-requires-clause-node : goal.take_new-requires-clause-node
@@ -96,15 +95,15 @@ retire_nodes-requires c =
     let keeps : Keeps s.view k = c.self.invariant.0 in
     let of : IsOf home s = subst (λ (h : Home). IsOf h s) (sym c.table.view_is) c.self.invariant.1 in
     let u : Update = update_of k.number c.args.line c.args.key c.args.change in
-    let may : MayRaise home.layout s.view u (slot_given (new_slot c.args.new)) (nodes_out c.args.out)
-    = subst (λ (z : Layout). MayRaise z s.view u (slot_given (new_slot c.args.new)) (nodes_out c.args.out)) of.layout
-    (subst (λ (p : Pass). MayRaise p.view.layout p.view (update_of p.number c.args.line c.args.key c.args.change) (slot_given (new_slot c.args.new)) (nodes_out c.args.out)) (sym c.self.view_is) c.requires.may) in
+    let may : MayRaiseBy home.layout s.view u c.args.new c.args.out
+    = subst (λ (z : Layout). MayRaiseBy z s.view u c.args.new c.args.out) of.layout
+    (subst (λ (p : Pass). MayRaiseBy p.view.layout p.view (update_of p.number c.args.line c.args.key c.args.change) c.args.new c.args.out) (sym c.self.view_is) c.requires.may) in
     let ready : HasNew s.view c.args.new = subst (λ (p : Pass). HasNew p.view c.args.new) (sym c.self.view_is) c.requires.new in
     let held = subst (λ (p : Pass). (es : List ℕ) × HoldsEntries p.view (nodes_out c.args.out) es) (sym c.self.view_is) c.requires.known in
     let w : View = c.add-found.new.seat.view in
     let at : ℕ = c.add-found.result + 1 in
     let gives : HasRaised s.view u c.args.new c.args.out at w
-    = raise_gives home.layout s.seat u s.view w c.add-found.result c.add-found.ensures.event c.args.new c.args.out held.0 may ready held.1 in
+    = raise_gives home.layout s.seat u s.view w of.layout c.add-found.result c.add-found.ensures.event c.args.new c.args.out held.0 may ready held.1 in
     let left : 0 < s.view.history.left = subst (λ (p : Pass). 0 < p.view.history.left) (sym c.self.view_is) c.requires.can.left in
     let room : HasRoomFor (nodes_out c.args.out) gives.entries s.view.layout.entries c.take_new.new.self
     = subst (HasRoomFor (nodes_out c.args.out) gives.entries s.view.layout.entries) (sym c.take_new.ensures) (raise_room s.view w u c.args.new c.args.out at gives k keeps left c.facts-2.ensures) in
@@ -124,15 +123,15 @@ invariant_of-self c =
     let keeps : Keeps s.view k = c.self.invariant.0 in
     let of : IsOf home s = subst (λ (h : Home). IsOf h s) (sym c.table.view_is) c.self.invariant.1 in
     let u : Update = update_of k.number c.args.line c.args.key c.args.change in
-    let may : MayRaise home.layout s.view u (slot_given (new_slot c.args.new)) (nodes_out c.args.out)
-    = subst (λ (z : Layout). MayRaise z s.view u (slot_given (new_slot c.args.new)) (nodes_out c.args.out)) of.layout
-    (subst (λ (p : Pass). MayRaise p.view.layout p.view (update_of p.number c.args.line c.args.key c.args.change) (slot_given (new_slot c.args.new)) (nodes_out c.args.out)) (sym c.self.view_is) c.requires.may) in
+    let may : MayRaiseBy home.layout s.view u c.args.new c.args.out
+    = subst (λ (z : Layout). MayRaiseBy z s.view u c.args.new c.args.out) of.layout
+    (subst (λ (p : Pass). MayRaiseBy p.view.layout p.view (update_of p.number c.args.line c.args.key c.args.change) c.args.new c.args.out) (sym c.self.view_is) c.requires.may) in
     let ready : HasNew s.view c.args.new = subst (λ (p : Pass). HasNew p.view c.args.new) (sym c.self.view_is) c.requires.new in
     let held = subst (λ (p : Pass). (es : List ℕ) × HoldsEntries p.view (nodes_out c.args.out) es) (sym c.self.view_is) c.requires.known in
     let w : View = c.add-found.new.seat.view in
     let at : ℕ = c.add-found.result + 1 in
     let gives : HasRaised s.view u c.args.new c.args.out at w
-    = raise_gives home.layout s.seat u s.view w c.add-found.result c.add-found.ensures.event c.args.new c.args.out held.0 may ready held.1 in
+    = raise_gives home.layout s.seat u s.view w of.layout c.add-found.result c.add-found.ensures.event c.args.new c.args.out held.0 may ready held.1 in
     let left : 0 < s.view.history.left = subst (λ (p : Pass). 0 < p.view.history.left) (sym c.self.view_is) c.requires.can.left in
     let slots : c.retire_nodes.new.slots ≡ slots_moved s.view w u c.args.new c.args.out at gives k keeps left
     = c.retire_nodes.ensures gives.entries (entries_kept s.view k.held keeps.held (nodes_out c.args.out) gives.entries gives.holds) ∙ ap (λ (x : KeptSlots). with_retired (nodes_out c.args.out) gives.entries x) c.take_new.ensures in
@@ -152,13 +151,13 @@ returns-clause-gives c =
     let keeps : Keeps s.view k = c.self.invariant.0 in
     let of : IsOf home s = subst (λ (h : Home). IsOf h s) (sym c.table.view_is) c.self.invariant.1 in
     let u : Update = update_of k.number c.args.line c.args.key c.args.change in
-    let may : MayRaise home.layout s.view u (slot_given (new_slot c.args.new)) (nodes_out c.args.out)
-    = subst (λ (z : Layout). MayRaise z s.view u (slot_given (new_slot c.args.new)) (nodes_out c.args.out)) of.layout
-    (subst (λ (p : Pass). MayRaise p.view.layout p.view (update_of p.number c.args.line c.args.key c.args.change) (slot_given (new_slot c.args.new)) (nodes_out c.args.out)) (sym c.self.view_is) c.requires.may) in
+    let may : MayRaiseBy home.layout s.view u c.args.new c.args.out
+    = subst (λ (z : Layout). MayRaiseBy z s.view u c.args.new c.args.out) of.layout
+    (subst (λ (p : Pass). MayRaiseBy p.view.layout p.view (update_of p.number c.args.line c.args.key c.args.change) c.args.new c.args.out) (sym c.self.view_is) c.requires.may) in
     let ready : HasNew s.view c.args.new = subst (λ (p : Pass). HasNew p.view c.args.new) (sym c.self.view_is) c.requires.new in
     let held = subst (λ (p : Pass). (es : List ℕ) × HoldsEntries p.view (nodes_out c.args.out) es) (sym c.self.view_is) c.requires.known in
     let w : View = c.add-found.new.seat.view in
     let at : ℕ = c.add-found.result + 1 in
     let gives : HasRaised s.view u c.args.new c.args.out at w
-    = raise_gives home.layout s.seat u s.view w c.add-found.result c.add-found.ensures.event c.args.new c.args.out held.0 may ready held.1 in
+    = raise_gives home.layout s.seat u s.view w of.layout c.add-found.result c.add-found.ensures.event c.args.new c.args.out held.0 may ready held.1 in
     subst (λ (p : Pass). HasRaised p.view (update_of p.number c.args.line c.args.key c.args.change) c.args.new c.args.out at w) c.self.view_is gives

@@ -1,0 +1,90 @@
+-- The needs of each kind of event that loads or stores a plain link or its tag, as computed truth values.
+use Rattle.std.specs.Prelude.{ℕ, ◌+◌, List, Bool, true, false, not, ◌==◌, ◌&&◌, Option, Some, None}
+use Rattle.std.specs.List.{list_any}
+use Rattle.index_words.specs.declared.side.Side.{Side}
+use Rattle.index_words.specs.declared.view.View.{View}
+use Rattle.index_words.specs.declared.view.update.OwedTag.{OwedTag}
+use Rattle.index_words.specs.declared.view.update.Unlinking.{Unlinking}
+use Rattle.index_words.specs.declared.view.update.UnsetLink.{UnsetLink}
+use Rattle.index_words.specs.declared.view.update.Updating.{Updating}
+use Rattle.index_words.specs.declared.word.Field.{Field}
+use Rattle.index_words.specs.declared.word.Field.TheVariants.{Link, Tag}
+use Rattle.index_words.specs.declared.word.Word.{Word}
+use Rattle.index_words.specs.declared.word.Word.TheVariants.{Node}
+use Rattle.index_words.specs.Words.{Memory, same_side}
+use Rattle.core_grace.specs.Sections.{is_even}
+use Rattle.core_events.specs.Needs.{nothing_pending}
+use Rattle.core_events.specs.LoadMoves.{locks}
+
+abbrev pub is_plain_link : Field → Bool
+is_plain_link (Link side) = true
+is_plain_link _ = false
+
+abbrev pub is_tag : Field → Bool
+is_tag (Tag side) = true
+is_tag _ = false
+
+-- inside a section, at a node that the seat has locked
+abbrev pub may_look_under : View → ℕ → Bool
+may_look_under v k = not (is_even v.section_word) && locks k v.held.nodes
+
+-- load of a plain link, or of a tag: of a node that the seat has locked
+abbrev pub may_load_link : View → Word → ℕ → Bool
+may_load_link v (Node field k) value = is_plain_link field && may_look_under v k && value == 0
+may_load_link v _ value = false
+
+abbrev pub may_load_tag : View → Word → ℕ → Bool
+may_load_tag v (Node field k) value = is_tag field && may_look_under v k && value == 0
+may_load_tag v _ value = false
+
+-- a link that is to be set is this one
+abbrev pub is_link_of : ℕ → Side → UnsetLink → Bool
+is_link_of k side u = u.node == k && same_side u.side side
+
+-- the update has still to set the link, to this child
+abbrev pub sets_to : ℕ → Side → ℕ → List UnsetLink → Bool
+sets_to k side child us = list_any (λ (u : UnsetLink). is_link_of k side u && u.child == child) us
+
+-- the link is that to a successor which is to be unlinked
+abbrev pub unlinks_at : ℕ → Side → Option Unlinking → Bool
+unlinks_at k side None = false
+unlinks_at k side (Some u) = u.parent == k && same_side u.side side
+
+-- another link than this one is still to be set
+abbrev pub sets_others : ℕ → Side → List UnsetLink → Bool
+sets_others k side us = list_any (λ (u : UnsetLink). not (is_link_of k side u)) us
+
+-- a successor is unlinked last, when its copy is linked
+abbrev pub keeps_order : ℕ → Side → Updating → Bool
+keeps_order k side u = not (unlinks_at k side u.unlinking && sets_others k side u.unset)
+
+-- set link: the seat has locked the node, nothing is pending, and its update has still to set the link to this child
+abbrev pub may_set_field : Memory → View → Field → ℕ → ℕ → Bool
+may_set_field m v (Link side) k child =
+    locks k v.held.nodes && nothing_pending m v && sets_to k side child v.update.unset && keeps_order k side v.update
+may_set_field m v _ k child = false
+
+abbrev pub may_set_link : Memory → View → Word → ℕ → Bool
+may_set_link m v (Node field k) child = may_set_field m v field k child
+may_set_link m v _ child = false
+
+abbrev pub is_owed_at : ℕ → Side → OwedTag → Bool
+is_owed_at k side o = o.node == k && same_side o.side side
+
+-- the update has still to raise the tag
+abbrev pub owes : ℕ → Side → List OwedTag → Bool
+owes k side os = list_any (is_owed_at k side) os
+
+-- set tag: the seat has locked the node, its update has still to raise the tag, and the value is one more
+abbrev pub may_raise_tag : Memory → View → Field → ℕ → ℕ → Bool
+may_raise_tag m v (Tag side) k value = locks k v.held.nodes && owes k side v.update.owed && value == m (Node (Tag side) k) + 1
+may_raise_tag m v _ k value = false
+
+abbrev pub may_set_tag : Memory → View → Word → ℕ → Bool
+may_set_tag m v (Node field k) value = may_raise_tag m v field k value
+may_set_tag m v _ value = false
+
+-- the update has set all links of the node and raised all its tags
+abbrev pub is_done_at : ℕ → Updating → Bool
+is_done_at k u =
+    not (list_any (λ (x : UnsetLink). x.node == k) u.unset) && not (list_any (λ (o : OwedTag). o.node == k) u.owed)

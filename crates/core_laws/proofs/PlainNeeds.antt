@@ -1,0 +1,95 @@
+-- A seat whose view shows that it may load or set a plain link, or its tag, may do so.
+use Rattle.std.proofs.Common.{◌≡◌, ℕ, ◌+◌, List, true, not, eqb, ◌&&◌, refl, ap, sym, subst, inr, Option, Some}
+use Rattle.std.specs.Prelude.{IfSome}
+use Rattle.std.specs.List.{slice_get}
+use Rattle.std.proofs.lemmas.Bool.{eq-eqb}
+use Rattle.index_words.specs.declared.layout.Layout.{Layout}
+use Rattle.index_words.specs.declared.side.Side.{Side}
+use Rattle.index_words.specs.declared.side.Side.TheVariants.{Left, Right}
+use Rattle.index_words.specs.declared.view.View.{View}
+use Rattle.index_words.specs.declared.view.update.HeldNode.{HeldNode}
+use Rattle.index_words.specs.declared.word.Field.TheVariants.{Link, Tag}
+use Rattle.index_words.specs.declared.word.Word.TheVariants.{Node}
+use Rattle.index_words.specs.Words.{Memory, memory}
+use Rattle.key_map.specs.Lists.{IsItem}
+use Rattle.core_grace.specs.Sections.{is_even}
+use Rattle.core_events.specs.declared.event.Kind.TheVariants.{LoadLink, SetLink, LoadTag, SetTag}
+use Rattle.core_events.specs.LoadMoves.{locks}
+use Rattle.core_events.specs.Needs.{nothing_pending}
+use Rattle.core_events.specs.PlainNeeds.{sets_to, keeps_order, owes}
+use Rattle.core_events.specs.Steps.{allowed}
+use Rattle.core_events.specs.Tables.{Table}
+use Rattle.core_events.specs.UpdateNeeds.{side_of}
+use Rattle.core_invariant.specs.Locks.{IsNodeAt}
+use Rattle.core_invariant.specs.Readers.{IsLocked}
+use Rattle.core_invariant.specs.Rule.{InRule}
+use Rattle.core_invariant.proofs.HeldFacts.{locks-count, count-locks}
+use Rattle.core_invariant.proofs.Needed.{found_held}
+use Rattle.core_invariant.proofs.OneView.{item_from_get, seat_at}
+use Rattle.core_laws.specs.PlainNeeds.{MayReadLink, MaySetLink, MaySetTag, ReadLinkLaw, ReadTagLaw, SetLinkLaw, SetTagLaw}
+use Rattle.core_laws.specs.ViewNeeds.{event_at}
+use Rattle.core_laws.proofs.ViewTests.{both, not_of, found-locks}
+use Rattle.core_laws.proofs.ViewNeeds.{locked_alive, allowed_by, reach_there, done_by}
+
+module _ (z : Layout) (words : List ℕ) (vs : List View) (right : InRule z words vs) (i : ℕ) (v : View) (is : slice_get vs i ≡ Some v) where
+  abbrev m : Memory
+  m = memory z words
+
+  abbrev t : Table
+  t = record { layout = z; words = words; views = vs }
+
+  read_link_may : (k : ℕ) (side : Side) → MayReadLink v k → allowed t (event_at z i LoadLink (Node (Link side) k) 0) ≡ true
+  read_link_may k side may =
+      let a = not (is_even v.section_word) in
+      let b = locks k v.held.nodes in
+      allowed_by z words vs right i v is LoadLink (Node (Link side) k) 0 (locked_alive z words vs right i v is k may.locked)
+      (reach_there z words vs right i v is (Link side) k (inr (inr may.locked))) refl
+      (both (true && (a && b)) (eqb 0 0) (both true (a && b) refl (both a b (not_of (is_even v.section_word) may.inside) (count-locks k v.held.nodes may.locked))) refl)
+
+  read_tag_may : (k : ℕ) (side : Side) → MayReadLink v k → allowed t (event_at z i LoadTag (Node (Tag side) k) 0) ≡ true
+  read_tag_may k side may =
+      let a = not (is_even v.section_word) in
+      let b = locks k v.held.nodes in
+      allowed_by z words vs right i v is LoadTag (Node (Tag side) k) 0 (locked_alive z words vs right i v is k may.locked)
+      (reach_there z words vs right i v is (Tag side) k (inr (inr may.locked))) refl
+      (both (true && (a && b)) (eqb 0 0) (both true (a && b) refl (both a b (not_of (is_even v.section_word) may.inside) (count-locks k v.held.nodes may.locked))) refl)
+
+  set_link_may : (k : ℕ) (side : Side) (child : ℕ) → MaySetLink v k side child → allowed t (event_at z i SetLink (Node (Link side) k) child) ≡ true
+  set_link_may k side child may =
+      let a = locks k v.held.nodes in
+      let b = nothing_pending m v in
+      let c = sets_to k side child v.update.unset in
+      allowed_by z words vs right i v is SetLink (Node (Link side) k) child (locked_alive z words vs right i v is k may.locked)
+      (reach_there z words vs right i v is (Link side) k (inr (inr may.locked))) refl
+      (both (a && b && c) (keeps_order k side v.update)
+      (both (a && b) c (both a b (count-locks k v.held.nodes may.locked) (done_by z words vs right i v is may.done may.marked)) may.unset) may.order)
+
+  -- a tag that is known is what the word holds
+  tag_by : (s : Side) (h : HeldNode) (tag : ℕ) → IsNodeAt m h → (side_of s h).tag ≡ Some tag → m (Node (Tag s) h.node) ≡ tag
+  tag_by Left h tag known loaded = subst (λ (o : Option ℕ). IfSome o (λ x. m (Node (Tag Left) h.node) ≡ x)) loaded known.plain.0.1
+  tag_by Right h tag known loaded = subst (λ (o : Option ℕ). IfSome o (λ x. m (Node (Tag Right) h.node) ≡ x)) loaded known.plain.1.1
+
+  set_tag_may : (k : ℕ) (side : Side) (tag : ℕ) → MaySetTag v k side tag → allowed t (event_at z i SetTag (Node (Tag side) k) (tag + 1)) ≡ true
+  set_tag_may k side tag may =
+      let at : IsItem vs i v = item_from_get vs i v is in
+      let locked : IsLocked v k = locks-count k v.held.nodes (found-locks k v.held.nodes may.node may.locked) in
+      let held = found_held (IsNodeAt m) k may.node v.held.nodes (seat_at z m vs right.meaning i v at right.rule).loaded.nodes may.locked in
+      let known : m (Node (Tag side) k) ≡ tag = subst (λ n. m (Node (Tag side) n) ≡ tag) held.same (tag_by side may.node tag held.known may.loaded) in
+      let a = locks k v.held.nodes in
+      let b = owes k side v.update.owed in
+      allowed_by z words vs right i v is SetTag (Node (Tag side) k) (tag + 1) (locked_alive z words vs right i v is k locked)
+      (reach_there z words vs right i v is (Tag side) k (inr (inr locked))) refl
+      (both (a && b) (eqb (tag + 1) (m (Node (Tag side) k) + 1)) (both a b (count-locks k v.held.nodes locked) may.owed)
+      (eq-eqb (tag + 1) (m (Node (Tag side) k) + 1) (ap (λ x. x + 1) (sym known))))
+
+pub may_read_link_law : ReadLinkLaw
+may_read_link_law z v seat k side may words vs right is = read_link_may z words vs right seat v is k side may
+
+pub may_read_tag_law : ReadTagLaw
+may_read_tag_law z v seat k side may words vs right is = read_tag_may z words vs right seat v is k side may
+
+pub may_set_link_law : SetLinkLaw
+may_set_link_law z v seat k side child may words vs right is = set_link_may z words vs right seat v is k side child may
+
+pub may_set_tag_law : SetTagLaw
+may_set_tag_law z v seat k side tag may words vs right is = set_tag_may z words vs right seat v is k side tag may

@@ -1,5 +1,0 @@
-use Rattle.std.proofs.Common.{◌≡◌, map, take, slice_index}
-use Rattle.request_lines.proofs.interner.at_ranks.Given as goal
-
-abbrev pub invariant-loop-number : goal.invariant-loop-number
-invariant-loop-number l = l.order.items ≡ map (slice_index l.ranks) (take l.number-index l.numbers)

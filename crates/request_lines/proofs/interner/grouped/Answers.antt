@@ -1,0 +1,20 @@
+use Rattle.std.proofs.Common.{◌≡◌, ◌∙◌, ℕ, List, [], get_or, subst}
+use Rattle.std.proofs.lemmas.List.{get_or_default}
+use Rattle.request_lines.specs.declared.leads.Numbered.{Numbered}
+use Rattle.request_lines.specs.Interned.{IsKnownAs, name_of}
+use Rattle.request_lines.proofs.Interned.{one_group_more}
+use Rattle.request_lines.proofs.interner.grouped.Goals as goal
+
+pub loop-entry-preserved : goal.loop-entry-preserved
+loop-entry-preserved c =
+    let names = c.args.names.now in
+    let place = c.loop-entry.entry-index in
+    let first : Numbered = record { lead = 0; number = 0 } in
+    let entry : Numbered = get_or c.args.entries.now place first in
+    let is : c.index-names-entry.result ≡ name_of names entry =
+    c.index-names-entry.is ∙ get_or_default names entry.number c.index-names-entry.result [] (c.requires place first c.loop-entry-test.true)
+    in
+    rw c.in_ok-push.ensures.items
+    (one_group_more names c.args.entries.now c.loop-entry.distinct.items c.group_of.new.distinct.items c.loop-entry.groups.items place c.in_ok-group.group
+    c.loop-entry.invariant c.loop-entry-test.true
+    (subst (λ (name : List ℕ). IsKnownAs c.loop-entry.distinct.items c.group_of.new.distinct.items name c.in_ok-group.group) is c.in_ok-group.ensures))

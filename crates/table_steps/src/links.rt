@@ -1,0 +1,67 @@
+//! The steps on the plain links of locked nodes and on their tags. Each is one move of one word.
+ghost use Rattle.std.specs.Prelude.{◌≡◌, ◌+◌};
+ghost use Rattle.core_events.specs.PlainMoves.{link_loaded, tag_loaded, link_set, tag_set};
+ghost use Rattle.core_laws.specs.PlainNeeds.{MayReadLink, MaySetLink, MaySetTag};
+ghost use Rattle.table_rule.specs.Running.{Happened, Stored};
+ghost use Rattle.table_steps.specs.Links.{loading_link, loading_tag, setting_link, setting_tag};
+ghost use Rattle.table_steps.specs.Passes.{IsSamePass};
+
+use crate::pass::TablePass;
+use index_words::{Field, Side, Word};
+use std::marker::Brand;
+
+impl<'t> TablePass<'t> {
+    /// Loads a plain link of a locked node: the child, or 0 for none.
+    pub fn load_link(&mut self, node: u32, side: Side) -> u64
+        requires may { MayReadLink self.old.view node }
+        ensures same { IsSamePass self.old self.new }
+        ensures event { Happened self.old.view.layout (loading_link self.old node side) self.old.view result self.new.view }
+        ensures view { self.new.view ≡ link_loaded self.old.view node side result }
+    {
+        self.seat.facts();
+        let table = self.table;
+        let word = Word::Node(Field::Link(side), node);
+        table.ruled.load::<Brand>(&mut self.seat, word)
+    }
+
+    /// Loads the tag of a plain link of a locked node: how often the link became null.
+    pub fn load_tag(&mut self, node: u32, side: Side) -> u64
+        requires may { MayReadLink self.old.view node }
+        ensures same { IsSamePass self.old self.new }
+        ensures event { Happened self.old.view.layout (loading_tag self.old node side) self.old.view result self.new.view }
+        ensures view { self.new.view ≡ tag_loaded self.old.view node side result }
+    {
+        self.seat.facts();
+        let table = self.table;
+        let word = Word::Node(Field::Tag(side), node);
+        table.ruled.load::<Brand>(&mut self.seat, word)
+    }
+
+    /// Sets a plain link of a locked node to the child that it has since the raise, 0 for none.
+    pub fn set_link(&mut self, node: u32, side: Side, child: u32)
+        requires may { MaySetLink self.old.view node side child }
+        ensures same { IsSamePass self.old self.new }
+        ensures event { Stored self.old.view.layout (setting_link self.old node side child) self.old.view self.new.view }
+        ensures view { self.new.view ≡ link_set self.old.view node side child }
+    {
+        self.seat.facts();
+        let table = self.table;
+        let word = Word::Node(Field::Link(side), node);
+        table
+            .ruled
+            .store::<Brand>(&mut self.seat, word, child as u64);
+    }
+
+    /// Raises the tag of a plain link that the update has made null. It was loaded under the lock.
+    pub fn set_tag(&mut self, node: u32, side: Side, tag: u64)
+        requires may { MaySetTag self.old.view node side tag }
+        ensures same { IsSamePass self.old self.new }
+        ensures event { Stored self.old.view.layout (setting_tag self.old node side tag) self.old.view self.new.view }
+        ensures view { self.new.view ≡ tag_set self.old.view node side (tag + 1) }
+    {
+        self.seat.facts();
+        let table = self.table;
+        let word = Word::Node(Field::Tag(side), node);
+        table.ruled.store::<Brand>(&mut self.seat, word, tag + 1);
+    }
+}
