@@ -148,6 +148,7 @@ def main():
             tries += [(row.name, row.raw, None, row.words) for row in rows() if row.name == PAGES]
             tries += [("check: " + name, raw + line + text, None, words) for name, words, raw, line, text, _ in VERDICTS if name in CHECKED]
             tries.append(("three clients, of two slots each", THREE.read_bytes(), None, words_of(2)))
+            tries.append(("three clients, with a pool", THREE.read_bytes(), None, words_of(2, "--pool")))
         for name, session, text, words in tries:
             count, begun, borne = failures_of(tried, session, text, words)
             if count == 0:

@@ -20,7 +20,8 @@ from samples import bad_words
 
 TOP = Path(__file__).resolve().parent.parent
 FORMS = [["run"], ["check"], ["sample", "1"], ["sample", "9"], ["sample", "10"], ["sample", "39999"], ["sample", "40000"]]
-FORMS += [words for n in ("1", "9", "10", "8191", "8192") for verb in ("run", "check") for words in ([verb, "--slots", n], [verb, "--slots=" + n])]
+FORMS += [words for n in ("1", "9", "10", "8191", "8192") for verb, option in (("run", "--slots"), ("run", "--pool"), ("check", "--slots"))
+          for words in ([verb, option, n], [verb, option + "=" + n])]
 HELP = [[], ["--help"], ["-h"], ["help"]]
 CRATES = """# Two crates of the program, the program, and one of tests
 key_map:
@@ -118,7 +119,7 @@ def try_words(top):
         expect("%r is not refused" % words, status == 70 and "called" in said)
     page = at_a_terminal(top, ["walk"])[2]
     expect("at a terminal the page follows each bad word", page.startswith("bucketidx: bad words\n\nusage: "))
-    for part in ("./bucketidx run", "./bucketidx run --slots N", "./bucketidx check", "./bucketidx check --slots N", "./bucketidx sample N", "exit status:", *("\n    %d" % status for status in (0, 2, 3, 4, 5, 7, 8, 70))):
+    for part in ("./bucketidx run", "./bucketidx run --slots N", "./bucketidx run --pool N", "./bucketidx check", "./bucketidx check --slots N", "./bucketidx sample N", "exit status:", *("\n    %d" % status for status in (0, 2, 3, 4, 5, 7, 8, 70))):
         expect("the page has %r" % part, part in page)
 
 

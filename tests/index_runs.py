@@ -9,6 +9,8 @@
     tests/index_runs.py PROGRAM --visits READERS [--runs N] [--requests R] [--turns T] [--nodes N] [--entries E]
     tests/index_runs.py PROGRAM --few READERS [--runs N] [--passes P] [--keys K] [--requests R] [--turns T] [--nodes N]
                         [--entries E] [--least-made M]
+    tests/index_runs.py PROGRAM --far READERS [--runs N] [--meanwhile M] [--turns T] [--seconds S]
+    tests/index_runs.py PROGRAM --deep [--runs N] [--passes P] [--keys K] [--requests R] [--seconds S]
     tests/index_runs.py PROGRAM --sections TURNS [--runs N]
     tests/index_runs.py PROGRAM --waits TURNS [--runs N] [--seconds S]
 
@@ -22,14 +24,17 @@ this is checked, by a map of the script's own that the history is replayed on:
   where it has not, and one that was not made stands at a place where the map has the key;
 - a listing has the first pairs of the map at its place, from its key on;
 - an update is refused exactly where its pass owns no node: one less after each put of a new key, one more after each removal
-  (the passes have entries for all updates).
+  (the passes have entries for all updates);
+- when all passes have laid their work down each plain link of the tree holds the child that the tree at the stamp has there, and
+  the tree has one link more than twice the keys of the map.
 
 With `--entries E` each pass has so few entries. Then an update may also be refused where the pass owns nodes: which pass
 owns an entry depends on the schedule, and while a snapshot is open the entries that it reads stay where they are. How many
 were refused is told.
 
 With `--held` the first pass makes its requests, all updates; then each other pass opens a snapshot and is held inside it
-while the first one makes MEANWHILE more updates. Their listings come after these: they are the map at the place that
+while the first one makes MEANWHILE more updates, whose removals are of the least key: that one has no child to its left, so its
+removal waits for nobody. Their listings come after these: they are the map at the place that
 was theirs. Behind each of the updates a try to settle is held by pass 1 in its first section, once something was taken out;
 behind the end of the snapshots one settles. With `--nodes N --entries E` the first pass has so few slots, and still no
 update may be refused. With `--puts` all updates are puts.
@@ -51,6 +56,13 @@ another puts each key and removes it, and each tells which of its slots are free
 
 How many updates were refused is told, how many of them while a reader was at a visit, and fewer than M updates in a hundred
 requests are a failure.
+
+With `--far` a pass puts 31 keys, so that the tree has five full levels. READERS open a snapshot and are held inside it. Then seven
+passes remove a key each, all at once: each key has two children, and its successor hangs further down. When all seven keys are
+gone for the first pass it puts another key M times, and gives the processor away T times; none of the removals has returned by
+then, and the readers still list all 31 keys. Then the snapshots are closed, and all removals return.
+
+With `--deep` one pass puts K random keys below K, and then all P passes remove R keys each: the first one from a random key on.
 
 With `--tries` each request is one try of a put. With `--least-met N` fewer than N tries in all the runs that found a lock
 held, that found that something had moved, or that found an entry without a number, are a failure.
@@ -75,11 +87,13 @@ from collections import defaultdict
 def checked(lines, nodes, scarce=False):
     """What is wrong with a run, or None; and how many updates, listings and refusals it has. Where entries are scarce an
     update may be refused for want of them."""
-    requests, history = defaultdict(list), []
+    requests, history, links = defaultdict(list), [], []
     for line in lines:
         kind, *fields = line.split()
         if kind == "J":
             history.append(fields)
+        elif kind == "X":
+            links.append(" ".join(fields))
         else:
             requests[int(fields[0])].append((kind, fields[1:]))
     by_place, told, refused = defaultdict(list), {}, 0
@@ -140,6 +154,8 @@ def checked(lines, nodes, scarce=False):
                     return f"place {at}: pass {number} removed a key that was not there", None
             elif fields[2] in state:
                 return f"place {at}: pass {number} did not find key {fields[2]}", None
+    if links != [str(2 * len(state) + 1)]:
+        return f"the map has {len(state)} keys, and of the plain links was told: {links}", None
     return None, (len(history), listings, refused)
 
 
@@ -279,6 +295,47 @@ def run_with_few_slots(words, seed):
     }
 
 
+def run_of_far_removals(words, seed):
+    """A run of removals that wait for the readers: what is wrong, and how many removals have waited."""
+    readers, keys, removals = words.far, 31, 7
+    # While the readers are held nothing that goes out can be used again.
+    nodes = keys + words.meanwhile + 10
+    lines = printed(
+        words, "far", passes=removals + 1, readers=readers, keys=keys, requests=keys, meanwhile=words.meanwhile, turns=words.turns,
+        seed=seed, nodes=nodes, entries=4 * nodes,
+    )
+    wrong, counts = checked([line for line in lines if line[0] != "B"], nodes)
+    if wrong:
+        return wrong, None
+    if counts != (keys + removals + words.meanwhile, readers + 1, 0):
+        return f"updates, listings and refusals: {counts}", None
+    back = [line for line in lines if line[0] == "B"]
+    if readers and back != ["B 0 0"]:
+        return f"removals had returned while readers were held: {back}", None
+    listed = [line.split() for line in lines if line[0] == "L"]
+    for _, number, at, _, _, *pairs in listed:
+        wanted = (str(keys), keys) if int(number) > removals else (str(keys + removals), keys - removals)
+        if (at, len(pairs)) != wanted:
+            return f"pass {number} listed {len(pairs)} keys at place {at}, and not {wanted}", None
+    return None, {"removals beside readers": removals, "updates meanwhile": words.meanwhile}
+
+
+def run_in_a_deep_tree(words, seed):
+    """A run in which all passes remove: what is wrong, and how many keys they have removed."""
+    lines = printed(
+        words, "deep", passes=words.passes, keys=words.keys, requests=words.requests, seed=seed, nodes=words.keys,
+        entries=4 * words.keys + 4,
+    )
+    asked = sum(line[0] in "PRN" for line in lines)
+    if asked != words.keys + words.passes * words.requests:
+        return f"{asked} requests were answered: {lines[:1]}", None
+    wrong, counts = checked(lines, words.keys)
+    if wrong:
+        return wrong, None
+    gone = sum(line[0] == "R" and line.endswith("true") for line in lines)
+    return None, {"removals": gone, "removals that found no key": words.passes * words.requests - gone}
+
+
 def run_of_tries(words, seed):
     """A run of tries: what is wrong, and how many puts were made and how many tries have met what."""
     nodes = 64 if words.nodes is None else words.nodes
@@ -350,11 +407,12 @@ def main():
     for name, value in (
         ("runs", 10), ("passes", 4), ("keys", 16), ("requests", 2000), ("updates", 60), ("listings", 10),
         ("page", 10), ("seed", 1), ("seconds", 60), ("least-met", 0), ("least-made", 0), ("turns", 3),
+        ("meanwhile", 0),
     ):
         parser.add_argument(f"--{name}", type=int, default=value)
-    for name in ("nodes", "entries", "held", "visits", "few", "sections", "waits"):
+    for name in ("nodes", "entries", "held", "visits", "few", "far", "sections", "waits"):
         parser.add_argument(f"--{name}", type=int)
-    for name in ("tries", "puts"):
+    for name in ("tries", "puts", "deep"):
         parser.add_argument(f"--{name}", action="store_true")
     words = parser.parse_args()
     make = run_of_requests
@@ -364,6 +422,10 @@ def main():
         make = run_beside_visits
     elif words.few is not None:
         make = run_with_few_slots
+    elif words.far is not None:
+        make = run_of_far_removals
+    elif words.deep:
+        make = run_in_a_deep_tree
     elif words.sections is not None:
         make = run_in_sections
     elif words.waits is not None:

@@ -3,7 +3,7 @@
 
     tests/legal_runs.py PROGRAM [--sessions N] [--most-clients N] [--requests N] [--seed N] [--seconds S]
                         [--names N] [--least-interleaved N] [--rounds N] [--contenders N] [--whole] [--slots N]
-                        [--least-clients N]
+                        [--pool N] [--least-clients N]
     tests/legal_runs.py --session FILE --text FILE [--slots N]
 
 Which of several legal texts is written depends on the schedule, so nothing is compared here: `fault_of` takes a
@@ -14,7 +14,8 @@ ends with status 1 too where there are fewer of them than asked for. With --roun
 clients that put the same seven names, list them and remove them, each so many times. With --contenders so many clients put
 one name once, each where it is not there: exactly one of them is answered 200, and all others 412. With --whole each session
 has as many clients, requests of each client and names as it may have at most. With --slots each client has so many node
-slots, by the program's option, and may be refused for want of them.
+slots, by the program's option, and may be refused for want of them. With --pool it has so many too, and clients hand spare
+ones to one another.
 """
 import argparse
 import bisect
@@ -357,9 +358,9 @@ def random_line(rng, names, most_keys):
     return "LIST " + "&".join(query) if query else "LIST"
 
 
-def words_of(slots):
+def words_of(slots, option="--slots"):
     """The words of a run whose clients have so many node slots, where a number is named; in both of their forms."""
-    return ["run"] if slots is None else ["run", "--slots", str(slots)] if slots % 2 else ["run", "--slots=%d" % slots]
+    return ["run"] if slots is None else ["run", option, str(slots)] if slots % 2 else ["run", "%s=%d" % (option, slots)]
 
 
 def rule_of(slots):
@@ -367,10 +368,10 @@ def rule_of(slots):
     return default_slots if slots is None else lambda lines: slots
 
 
-def text_of(program, raw, seconds, slots=None):
+def text_of(program, raw, seconds, slots=None, option="--slots"):
     """What the program writes for the session."""
     try:
-        ran = subprocess.run([program, *words_of(slots)], input=raw, capture_output=True, timeout=seconds)
+        ran = subprocess.run([program, *words_of(slots, option)], input=raw, capture_output=True, timeout=seconds)
     except subprocess.TimeoutExpired:
         raise Fault("the run had not ended after %d seconds" % seconds) from None
     want((ran.returncode, ran.stderr) == (0, b""), "it ends with status", ran.returncode, ran.stderr.decode())
@@ -393,11 +394,12 @@ def check_contention(run):
 
 def run_sessions(options):
     rng, requests, interleaved, refused = random.Random(options.seed), 0, 0, 0
+    slots, option = (options.pool, "--pool") if options.pool else (options.slots, "--slots")
     for _ in range(options.sessions):
         raw, text = session_of(rng, options), ""
         try:
-            text = text_of(options.program, raw, options.seconds, options.slots)
-            run = legal_run_of(raw, text, rule_of(options.slots))
+            text = text_of(options.program, raw, options.seconds, slots, option)
+            run = legal_run_of(raw, text, rule_of(slots))
             if options.contenders:
                 check_contention(run)
         except Fault as fault:
@@ -407,7 +409,7 @@ def run_sessions(options):
         refused += sum(reply["Status"] == 503 for replies in run.replies for reply in replies)
     told = "%d sessions, %d requests: each text is of a legal run, and %d are of no run of the clients one after another"
     print(told % (options.sessions, requests, interleaved), file=sys.stderr)
-    if options.slots is not None:
+    if slots is not None:
         print("%d requests were refused for want of slots" % refused, file=sys.stderr)
     if interleaved < options.least_interleaved:
         sys.exit("fewer than the %d asked for" % options.least_interleaved)
@@ -428,6 +430,7 @@ def main():
     parser.add_argument("--contenders", type=int, default=0)
     parser.add_argument("--whole", action="store_true")
     parser.add_argument("--slots", type=int)
+    parser.add_argument("--pool", type=int)
     parser.add_argument("--session")
     parser.add_argument("--text")
     options = parser.parse_args()

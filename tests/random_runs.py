@@ -39,6 +39,11 @@ class Table:
         self.cases, self.freed, self.cut_off = Counter(), 0, 0
         # Places of cuts, each with the event of a cut that goes too far.
         self.too_far = []
+        # Places of the looks with which a waiting removal passes another pass, and of the mark of its successor, each
+        # with the place of the set link that unlinks the successor.
+        self.unlinks = []
+        # Places of the marks of successors that are unlinked behind a wait: no unlock before it needs these.
+        self.marks = set()
 
     def section(self, seat):
         return 1 + seat
@@ -106,8 +111,11 @@ class Seat:
         self.retired, self.batch, self.found, self.passed = ([], []), ([], []), {}, set()
         # The section number, and the least number with the passes whose announcements it has looked at.
         self.at, self.least, self.looked = None, None, set()
-        # The plain links that its update has still to set, each with what it holds and its new child, and the tags to raise.
+        # The plain links that its update has still to set, each with what it holds and its new child, and the tags to
+        # raise.
         self.unset, self.owed = [], []
+        # The successor that is to be unlinked, with its parent, and the place of its mark.
+        self.last, self.marked_at = None, None
 
     # ---- steps: each is one event
 
@@ -316,6 +324,7 @@ class Seat:
 
     def raise_stamp(self, line, key, change, taken, pending, links):
         table = self.table
+        self.last = (taken[1], links[1][0]) if len(links) > 1 else None
         self.unset = [(node, side, table.words[table.link(node, side)], child) for node, side, child in links]
         self.owed = [(node, side) for node, side, child in links if not child and change is None]
         text = "Put %d" % change if change is not None else "Remove"
@@ -347,16 +356,24 @@ class Seat:
         if prunes < 0.8:
             for node, side in changed:
                 yield from self.prune(node, side)
+        late = self.last and self.rng.random() < 0.7
         for node in marked:
-            self.store("Mark", self.table.node(node, MARK), 1)
-            yield
-        yield from self.set_links()
-        yield from self.unlock_all(locked)
+            if not (late and node == self.last[0]):
+                self.mark(node)
+                yield
+        yield from self.set_links(1 if self.last else 0)
+        yield from self.unlock_all([node for node in locked if not self.last or node not in self.last])
 
-    def set_links(self):
-        """Sets the plain links that the update changes, and raises the tags of those that a removal made null."""
+    def mark(self, node):
+        if self.last and node == self.last[0]:
+            self.marked_at = len(self.table.events)
+            self.table.marks.add(self.marked_at)
+        self.store("Mark", self.table.node(node, MARK), 1)
+
+    def set_links(self, left):
+        """Sets the plain links that the update changes but for so many, and raises the tags of those made null."""
         table = self.table
-        while self.unset:
+        while len(self.unset) > left:
             node, side, was, child = self.unset[0]
             if self.load("LoadLink", table.link(node, side)) != was:
                 raise Refused("the plain link of %d on %d" % (node, side))
@@ -365,12 +382,44 @@ class Seat:
             del self.unset[0]
             yield
         self.rng.shuffle(self.owed)
-        while self.owed:
+        while self.owed and not left:
             tag = self.load("LoadTag", table.tag(*self.owed[0]))
             yield
             self.store("SetTag", table.tag(*self.owed[0]), tag + 1)
             del self.owed[0]
             yield
+        for link in self.owed:
+            self.load("LoadTag", table.tag(*link))
+            yield
+
+    def unlink(self):
+        """Outside of the section: waits for every other pass, and unlinks the successor."""
+        table, passed, found, looks = self.table, set(), {}, []
+        others = [other for other in range(table.passes) if other != self.number]
+        while len(passed) < len(others):
+            for other in self.rng.sample(others, len(others)):
+                if other not in passed:
+                    word = self.load("LookSec", table.section(other))
+                    if word % 2 == 0 or found.get(other, word) != word:
+                        passed.add(other)
+                        looks.append(len(table.events) - 1)
+                    found.setdefault(other, word)
+                    yield
+        successor, parent = self.last
+        if not table.words[table.node(successor, MARK)]:
+            self.mark(successor)
+            yield
+        for node, side, _, child in self.unset:
+            self.store("SetLink", table.link(node, side), child)
+            table.unlinks += [(place, len(table.events) - 1) for place in looks + [self.marked_at]]
+        self.unset = []
+        yield
+        for link in self.owed:
+            self.store("SetTag", table.tag(*link), table.words[table.tag(*link)] + 1)
+        self.owed, self.last = [], None
+        yield
+        yield from self.unlock_all(self.rng.sample([successor, parent], 2))
+        table.cases["waits"] += 1
 
     def has_slots(self):
         return self.free[0] and len(self.free[1]) >= 4
@@ -380,6 +429,8 @@ class Seat:
         yield from self.begin(0)
         answered = yield from self.try_inside(line, key, change)
         yield from self.end()
+        if self.last:
+            yield from self.unlink()
         return answered
 
     def try_inside(self, line, key, change):
@@ -625,6 +676,7 @@ def random_run(rng, count, inserts):
 # An event of the first kind must not be left out before the seat's next event of the second, in the same section.
 NEEDED_BY = {"Prepare": "Raise", "Mark": "Unlock", "Finalise": "Unlock", "SetLink": "Unlock", "SetTag": "Unlock", "Announce": "LookAnn", "LookAnn": "Cut"}
 CASES = {"insert", "replace", "remove, 0 children", "remove, 1 children", "remove, 2 children, deep", "remove, 2 children, right child"}
+WAITS = {"waits"}
 CUTS = {"cut, behind an older reader", "cut, behind the newest entry read"}
 
 
@@ -643,7 +695,7 @@ def lock_of(table, word):
 def needed_event(rng, table):
     """A random event that a later one needs, and the place of that one: for a plain link the unlock of its node."""
     events = table.events
-    places = [place for place, event in enumerate(events) if event.split()[1] in NEEDED_BY]
+    places = [place for place, event in enumerate(events) if event.split()[1] in NEEDED_BY and place not in table.marks]
     rng.shuffle(places)
     for place in places:
         seat, kind, word = events[place].split()[:3]
@@ -678,6 +730,11 @@ def compare(program, rng, table, run):
         said = answer(program, table.sizes, table.events[:place] + table.events[place + 1 :])
         if said.split()[:1] != ["refused"] or int(said.split()[1]) > later - 1:
             fail(run, "without event %d, %s" % (place, table.events[place]), said)
+    if table.unlinks:
+        place, later = rng.choice(table.unlinks)
+        said = answer(program, table.sizes, table.events[:place] + table.events[place + 1 : later + 1])
+        if said != "refused %d\n" % (later - 1):
+            fail(run, "without event %d, %s, the unlinking at %d" % (place, table.events[place], later), said)
     if table.too_far:
         place, cut = rng.choice(table.too_far)
         said = answer(program, table.sizes, table.events[:place] + [cut])
@@ -702,7 +759,7 @@ def main():
         cut_off += table.cut_off
         if options.program:
             compare(options.program, rng, table, run)
-    missed = sorted((CASES | CUTS) - set(cases)) + ["slots that are used again"] * (not freed) + ["entries cut off"] * (not cut_off)
+    missed = sorted((CASES | CUTS | WAITS) - set(cases)) + ["slots that are used again"] * (not freed) + ["entries cut off"] * (not cut_off)
     if not options.inserts and missed:
         print("not reached: %s" % ", ".join(missed))
         sys.exit(1)

@@ -6,7 +6,7 @@
 - rows.txt: sessions of one client, and lines of their text at their places, counted from 1.
 - TEXTS: the same, of inputs that the file cannot show: ends of lines, no request, long ones.
 - LIMITS: what fits a limit exactly.
-- SLOTS: sessions whose clients have a named number of node slots, in both forms of the words.
+- SLOTS: sessions whose clients have a named number of node slots, in both forms of the words, and with a pool.
 - TOKENS: the value of a continuation token, and whether it is read. BOUND: those that name their listing.
 - RIGHT: lines behind `CLIENT` that are not refused.
 - FAULTY: a line between good ones, and its cause.
@@ -528,9 +528,12 @@ def rows():
     for name, session, lines in TEXTS + LIMITS:
         yield Row(name, session.encode(), lines)
     for name, slots, session, lines in SLOTS:
-        for words in (("run", "--slots", str(slots)), ("run", "--slots=%d" % slots)):
+        # One client alone is answered so with a pool too: it never owns more slots than it has begun with.
+        forms = [[option, str(slots)] for option in ("--slots", "--pool")]
+        for words in [("run", *form) for form in forms] + [("run", "=".join(form)) for form in forms]:
             yield Row("%s, %s" % (" ".join(words), name), session.encode(), lines, words=words)
-    yield Row("a faulty line, with slots", b"CLIENT\nGET a\n", refusal=(2, "UnknownVerb"), words=("run", "--slots=1"))
+    for option in ("--slots=1", "--pool=1"):
+        yield Row("a faulty line, with slots", b"CLIENT\nGET a\n", refusal=(2, "UnknownVerb"), words=("run", option))
     for token, is_read in TOKENS:
         wanted = page_behind(token) if is_read else NO_TOKEN
         yield Row("token " + token, b"CLIENT\nLIST continuation-token=%s\n" % token.encode(), {1: wanted})

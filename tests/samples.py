@@ -29,6 +29,9 @@ BAD_WORDS = [
     "run --slot=1", "run --slots1", "run --Slots=1", "run --number 1", "run --slots 1 1", "run --slots 1 --slots 1",
     "run --slots=1 --slots=2", "run --slots=1 --", "run -- --slots=1", "run --slots=1 run", "run --slots 1,2", "--slots 1 run",
     "--slots=1 run", "--slots 1", "sample --slots 1", "sample 1 --slots 1", "sample --slots=1 1", "run run",
+    "run --pool", "run --pool=", "run --pool 0", "run --pool=0", "run --pool 8193", "run --pool=8193", "run --pool=01", "run --pool +1",
+    "run --pools=1", "run --poo 1", "run --pool1", "run --pool 1 1", "run --pool 1 --pool 1", "run --pool=1 --", "--pool 1 run",
+    "run --slots 1 --pool 1", "run --pool=1 --slots=1", "run --slots --pool 1", "check --pool 1", "check --pool=1", "sample --pool 1",
 ]
 
 
@@ -55,7 +58,7 @@ def bad_words():
     """Lists of words of no form."""
     return [words.split() for words in BAD_WORDS] + [[""], ["run", ""], ["sample", ""], ["sample", "1", ""], ["sample", " 1"],
         ["run", "--slots", ""], ["run", "--slots", "1", ""], ["run", "--slots=1", ""], ["run", "--slots= 1"], ["run", "--slots 1"],
-        ["check", ""], ["check", "--slots", ""], ["check", "--slots=1", ""]]
+        ["run", "--pool", ""], ["run", "--pool= 1"], ["check", ""], ["check", "--slots", ""], ["check", "--slots=1", ""]]
 
 
 def try_bad_words(program):

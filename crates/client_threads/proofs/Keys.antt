@@ -1,5 +1,5 @@
 -- From the keys of an opened index to the run of all clients, and to the history.
-use Rattle.std.proofs.Common.{◌≡◌, ℕ, zero, suc, ◌+◌, ◌*◌, ◌<◌, ◌≤◌, ◌==◌, All, length, get_or, map, List, [], ◌∷◌, Option, Some, inl, inr, refl, sym, ap, ◌∙◌, subst, arith}
+use Rattle.std.proofs.Common.{◌≡◌, ℕ, zero, suc, ◌+◌, ◌*◌, ◌<◌, ◌≤◌, ◌==◌, All, length, get_or, map, List, [], ◌∷◌, Option, Some, None, inl, inr, refl, sym, ap, ◌∙◌, subst, arith}
 use Rattle.std.specs.List.{slice_get}
 use Rattle.std.specs.Option.{unwrap_or}
 use Rattle.std.proofs.lemmas.Bool.{cases_Bool}
@@ -10,7 +10,7 @@ use Rattle.std.proofs.lemmas.Option.{slice_get_within, get_or_from_slice_get}
 use Rattle.key_map.specs.declared.pass.PassSize.{PassSize}
 use Rattle.key_map.specs.declared.update.Update.{Update}
 use Rattle.key_map.specs.History.{own_places}
-use Rattle.key_map.specs.Lists.{count, Every}
+use Rattle.key_map.specs.Lists.{count}
 use Rattle.bucket_terms.specs.declared.reply.Placed.{Placed}
 use Rattle.bucket_terms.specs.PassView.{PassView, Extends}
 use Rattle.bucket_terms.specs.PlainPass.{fresh}
@@ -28,24 +28,15 @@ use Rattle.shared_index.specs.Keys.{IsKeyOf, AreAllKeys, AreFresh}
 use Rattle.shared_index.specs.Shown.{shown}
 use Rattle.client_threads.specs.ClientSlots.{slots_under}
 use Rattle.client_threads.specs.Clients.{RanEach}
+use Rattle.client_run.specs.Pooling.{capped}
+use Rattle.client_run.proofs.TradedAnswers.{extends_on, extends_same}
+use Rattle.client_threads.proofs.Lists.{every_at, every_from, item_of}
+use Rattle.client_threads.specs.Behind.{RanBehindEach, counted}
+use Rattle.client_threads.specs.Pools.{PooledOverEach}
 use Rattle.client_threads.specs.Runs.{CanRunEach, RanOverEach, parts_of}
 use Rattle.client_threads.specs.Sizes.{CanServe, size_of, sizes_of}
 
 -- ---- lists
-
-every_at : {X : Type 0} (P : X → Type 0) (xs : List X) → Every P xs → (i : ℕ) (d : X) → i < length xs → P (get_or xs i d)
-every_at P [] every i d lt = absurd (omega arith)
-every_at P (x ∷ xs) every zero d lt = every.0
-every_at P (x ∷ xs) every (suc i) d lt = every_at P xs every.1 i d (omega arith)
-
-every_from : {X : Type 0} (P : X → Type 0) (xs : List X) → ((i : ℕ) (d : X) → i < length xs → P (get_or xs i d)) → Every P xs
-every_from P [] each = tt
-every_from P (x ∷ xs) each = (each 0 x (omega arith), every_from P xs (λ i d lt. each (suc i) d (omega arith)))
-
--- an item of a list that is not empty
-item_of : {X : Type 0} (xs : List X) (i : ℕ) → i < length xs → X
-item_of [] i lt = absurd (omega arith)
-item_of (x ∷ xs) i lt = x
 
 same_map : {X Y : Type 0} (f : X → Y) (xs ys : List X) → length xs ≡ length ys → ((i : ℕ) (d e : X) → i < length xs → f (get_or xs i d) ≡ f (get_or ys i e)) → map f xs ≡ map f ys
 same_map f [] [] long each = refl
@@ -134,8 +125,63 @@ can_run dir named session index keys can all are = record {
 
 -- ---- the keys behind the run
 
-module _ (dir : List (List ℕ)) (index : Home) (parts : List (List RequestLine)) (keys back : List Pass) (replies : List (List Placed))
-    (can : CanRunEach dir index parts keys) (ran : RanOverEach dir index parts keys back replies) where
+-- a named number of slots counts whole where a pass has as many
+counted_named : (named : Option ℕ) (asked : ℕ) → counted named (unwrap_or named asked) ≡ unwrap_or named asked
+counted_named None asked = refl
+counted_named (Some n) asked = grind (arith, nat_tests)
+
+counted_few : (named : Option ℕ) (nodes : ℕ) → counted named nodes ≤ nodes
+counted_few None nodes = omega arith
+counted_few (Some n) nodes = grind (arith, nat_tests)
+
+-- without a depot
+pub apart_behind : (named : Option ℕ) (dir : List (List ℕ)) (index : Home) (parts : List (List RequestLine)) (keys back : List Pass) (replies : List (List Placed))
+    → RanOverEach dir index parts keys back replies → RanBehindEach named dir index parts keys back replies
+apart_behind named dir index parts keys back replies ran = record {
+  keys = ran.keys;
+  lists = ran.lists;
+  each = λ c d e lt.
+      let one = ran.each c d e lt in
+      record {
+        of = one.of;
+        number = one.number;
+        first = shown (get_or keys c d);
+        last = shown (get_or back c e);
+        ran = one.ran;
+        first_number = refl;
+        first_mine = refl;
+        first_nodes = counted_few named (shown (get_or keys c d)).nodes;
+        first_entries = refl;
+        last_seen = extends_same (shown (get_or back c e)).seen;
+        last_mine = refl;
+      };
+}
+
+-- with one
+pub pooled_behind : (own : ℕ) (dir : List (List ℕ)) (index : Home) (parts : List (List RequestLine)) (keys back : List Pass) (replies : List (List Placed))
+    → PooledOverEach own dir index parts keys back replies → RanBehindEach (Some own) dir index parts keys back replies
+pooled_behind own dir index parts keys back replies ran = record {
+  keys = ran.keys;
+  lists = ran.lists;
+  each = λ c d e lt.
+      let one = ran.each c d e lt in
+      record {
+        of = one.of;
+        number = one.adopted.number ∙ one.ran.number;
+        first = capped own (shown (get_or keys c d));
+        last = capped own (shown one.behind);
+        ran = one.ran.ran;
+        first_number = refl;
+        first_mine = refl;
+        first_nodes = omega arith;
+        first_entries = refl;
+        last_seen = one.adopted.seen;
+        last_mine = sym one.adopted.mine;
+      };
+}
+
+module _ (named : Option ℕ) (dir : List (List ℕ)) (index : Home) (parts : List (List RequestLine)) (keys back : List Pass) (replies : List (List Placed))
+    (can : CanRunEach dir index parts keys) (ran : RanBehindEach named dir index parts keys back replies) where
   pub all_back : AreAllKeys index keys → AreAllKeys index back
   all_back all = record {
     of = every_from (IsKeyOf index) back (λ c d lt. (ran.each c d d (omega (arith, ran.keys))).of);
@@ -162,7 +208,7 @@ module _ (dir : List (List ℕ)) (index : Home) (parts : List (List RequestLine)
         omega (arith, (ran.each c d d within).number))
 
     pub ran_each : (slots : ℕ → ℕ)
-        → ((c : ℕ) (d : Pass) → c < length parts → ((shown (get_or keys c d)).mine ≡ []) × (slots c ≤ (shown (get_or keys c d)).nodes) × (4 * slots c ≤ (shown (get_or keys c d)).entries))
+        → ((c : ℕ) (d : Pass) → c < length parts → ((shown (get_or keys c d)).mine ≡ []) × (slots c ≤ counted named (shown (get_or keys c d)).nodes) × (4 * slots c ≤ (shown (get_or keys c d)).entries))
         → RanEach dir parts slots (record { updates = updates; replies = replies })
     ran_each slots start = record {
       clients = ran.lists;
@@ -172,16 +218,16 @@ module _ (dir : List (List ℕ)) (index : Home) (parts : List (List RequestLine)
           let one = ran.each c d d lt in
           let first = start c d lt in
           record {
-            old = shown (get_or keys c d);
-            new = shown (get_or back c d);
+            old = one.first;
+            new = one.last;
             ran = one.ran;
-            number = (can.each c d lt).number;
-            fresh = first.0;
-            nodes = first.1;
-            entries = first.2;
-            seen = every_at (λ (k : Pass). Extends (shown k).seen updates) back begins c d here;
+            number = one.first_number ∙ (can.each c d lt).number;
+            fresh = one.first_mine ∙ first.0;
+            nodes = omega (arith, first.1, one.first_nodes);
+            entries = omega (arith, first.2, one.first_entries);
+            seen = extends_on one.last.seen (shown (get_or back c d)).seen updates one.last_seen (every_at (λ (k : Pass). Extends (shown k).seen updates) back begins c d here);
             own =
-                every_at (λ (k : Pass). (shown k).mine ≡ own_places (number_of k) updates) back own c d here
+                one.last_mine ∙ every_at (λ (k : Pass). (shown k).mine ≡ own_places (number_of k) updates) back own c d here
                 ∙ ap (λ (n : ℕ). own_places n updates) one.number;
           };
       by_client = by_client;
@@ -189,16 +235,21 @@ module _ (dir : List (List ℕ)) (index : Home) (parts : List (List RequestLine)
 
 -- the run of a session's clients over an index that was opened for it
 pub ran_session : (dir : List (List ℕ)) (named : Option ℕ) (session : Session) (index : Home) (keys back : List Pass) (replies : List (List Placed)) (updates : List Update)
-    → CanServe dir session → AreAllKeys index keys → AreFresh 0 (sizes_of named session.clients) keys → RanOverEach dir index (parts_of session.clients) keys back replies
+    → CanServe dir session → AreAllKeys index keys → AreFresh 0 (sizes_of named session.clients) keys → RanBehindEach named dir index (parts_of session.clients) keys back replies
     → BeginsWithSeen back updates → AreMadeBy back updates → StandAtOwnPlaces back updates
     → RanEach dir (parts_of session.clients) (slots_under named (parts_of session.clients)) (record { updates = updates; replies = replies })
 ran_session dir named session index keys back replies updates can all are ran begins made own =
-    ran_each dir index (parts_of session.clients) keys back replies (can_run dir named session index keys can all are) ran updates begins made own (slots_under named (parts_of session.clients))
+    ran_each named dir index (parts_of session.clients) keys back replies (can_run dir named session index keys can all are) ran updates begins made own (slots_under named (parts_of session.clients))
     (λ c d lt.
     let is = client_fresh named session.clients keys c d are lt in
     let below : c < length session.clients = omega (arith, length-map session.clients request_lines) in
     let slots = ap (λ (ls : List RequestLine). unwrap_or named (updates_in ls + 1)) (lines_at session.clients c no_part below) in (
       ap (λ (p : PassView). p.mine) is,
-      omega (arith, ap (λ (p : PassView). p.nodes) is, slots),
+      omega (
+        arith,
+        ap (λ (p : PassView). counted named p.nodes) is,
+        slots,
+        counted_named named (updates_in (request_lines (get_or session.clients c no_part)) + 1),
+      ),
       omega (arith, ap (λ (p : PassView). p.entries) is, slots),
     ))

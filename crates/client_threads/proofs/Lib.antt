@@ -1,7 +1,9 @@
 pub mod Clients
 pub mod SizesFit
+pub mod Lists
 pub mod Keys
 pub mod Sessions
 pub mod Threads
 pub mod Sums
 pub mod SlotsSuffice
+pub mod Depots

@@ -12,7 +12,7 @@ use Rattle.request_lines.specs.declared.session.ClientPart.{ClientPart}
 use Rattle.request_lines.specs.Session.{request_lines}
 use Rattle.client_run.specs.ClientRun.{RanClient}
 use Rattle.client_threads.specs.Runs.{CanRun, CanRunEach, RanOver, RanOverEach, parts_of}
-use Rattle.client_threads.specs.Threads.{Ran, CanRunOne, CameOf, AreParts}
+use Rattle.client_threads.specs.Threads.{Ran, RanOne, CanRunOne, CameOf, AreParts}
 
 -- the key of each place is one of a client
 pub can_run_one : (dir : List (List ℕ)) (index : Home) (parts : List (List RequestLine)) (keys : List Pass) → CanRunEach dir index parts keys
@@ -48,39 +48,50 @@ ran_key dir index lines asked key attached left back replies kept of same_key sa
 }
 
 -- nothing was taken apart yet
-pub no_parts : {E : Type 0} → AreParts {E = E} [] [] []
-no_parts = record { keys_length = refl; replies_length = refl; each = λ i d e lt. absurd (omega (arith, lt)) }
+pub no_parts : {S E : Type 0} → AreParts {S = S} {E = E} [] [] [] []
+no_parts = record { keys_length = refl; seats_length = refl; replies_length = refl; each = λ i d e s lt. absurd (omega (arith, lt)) }
 
 -- one result more
-pub one_part_more : {E : Type 0} (results : List (Result Ran E)) (keys : List Pass) (replies : List (List Placed)) (last : Result Ran E) (key : Pass) (answered : List Placed)
-    → AreParts results keys replies → last ≡ Ok (record { key = key; replies = answered }) → AreParts (results ++ last ∷ []) (keys ++ key ∷ []) (replies ++ answered ∷ [])
-one_part_more results keys replies last key answered are is = record {
+pub one_part_more : {S E : Type 0} (results : List (Result (Ran S) E)) (keys : List Pass) (seats : List S) (replies : List (List Placed)) (last : Result (Ran S) E) (key : Pass) (seat : S) (answered : List Placed)
+    → AreParts results keys seats replies → last ≡ Ok (record { key = key; seat = seat; replies = answered })
+    → AreParts (results ++ last ∷ []) (keys ++ key ∷ []) (seats ++ seat ∷ []) (replies ++ answered ∷ [])
+one_part_more {S = S} results keys seats replies last key seat answered are is = record {
   keys_length = omega (arith, length_push keys key, length_push results last, are.keys_length);
+  seats_length = omega (arith, length_push seats seat, length_push results last, are.seats_length);
   replies_length = omega (arith, length_push replies answered, length_push results last, are.replies_length);
-  each = λ i d e lt.
+  each = λ i d e s lt.
       elim (cases_lt i (length results)) [
         | inl front ↦
-            let here = are.each i d e front in
+            let here = are.each i d e s front in
             get_or_append_left results (last ∷ []) d i front ∙ here
-            ∙ ap (λ (k : Pass). Ok (record { key = k; replies = get_or replies i [] })) (sym (get_or_append_left keys (key ∷ []) e i (omega (arith, are.keys_length))))
-            ∙ ap (λ (ps : List Placed). Ok (record { key = get_or (keys ++ key ∷ []) i e; replies = ps })) (sym (get_or_append_left replies (answered ∷ []) [] i (omega (arith, are.replies_length))))
+            ∙ ap (λ (k : Pass). Ok (record { key = k; seat = get_or seats i s; replies = get_or replies i [] })) (sym (get_or_append_left keys (key ∷ []) e i (omega (arith, are.keys_length))))
+            ∙ ap (λ (x : S). Ok (record { key = get_or (keys ++ key ∷ []) i e; seat = x; replies = get_or replies i [] })) (sym (get_or_append_left seats (seat ∷ []) s i (omega (arith, are.seats_length))))
+            ∙ ap (λ (ps : List Placed). Ok (record { key = get_or (keys ++ key ∷ []) i e; seat = get_or (seats ++ seat ∷ []) i s; replies = ps }))
+            (sym (get_or_append_left replies (answered ∷ []) [] i (omega (arith, are.replies_length))))
         | inr back ↦
             let at_end : i ≡ length results = omega (arith, length_push results last) in
             get_or_push results last d i (sym at_end) ∙ is
-            ∙ ap (λ (k : Pass). Ok (record { key = k; replies = answered })) (sym (get_or_push keys key e i (are.keys_length ∙ sym at_end)))
-            ∙ ap (λ (ps : List Placed). Ok (record { key = get_or (keys ++ key ∷ []) i e; replies = ps })) (sym (get_or_push replies answered [] i (are.replies_length ∙ sym at_end)))
+            ∙ ap (λ (k : Pass). Ok (record { key = k; seat = seat; replies = answered })) (sym (get_or_push keys key e i (are.keys_length ∙ sym at_end)))
+            ∙ ap (λ (x : S). Ok (record { key = get_or (keys ++ key ∷ []) i e; seat = x; replies = answered })) (sym (get_or_push seats seat s i (are.seats_length ∙ sym at_end)))
+            ∙ ap (λ (ps : List Placed). Ok (record { key = get_or (keys ++ key ∷ []) i e; seat = get_or (seats ++ seat ∷ []) i s; replies = ps }))
+            (sym (get_or_push replies answered [] i (are.replies_length ∙ sym at_end)))
       ];
 }
 
+-- what holds of each job's run holds of what was brought back
+pub came_apart : {J S E : Type 0} (P : ℕ → J → Ran S → Type 0) (jobs : List J) (results : List (Result (Ran S) E)) (keys : List Pass) (seats : List S) (replies : List (List Placed))
+    → CameOf P jobs results → AreParts results keys seats replies
+    → (c : ℕ) (j : J) (e : Pass) (s : S) → c < length jobs → P c (get_or jobs c j) (record { key = get_or keys c e; seat = get_or seats c s; replies = get_or replies c [] })
+came_apart {S = S} {E = E} P jobs results keys seats replies came are c j e s lt =
+    let some : Result (Ran S) E = Ok (record { key = e; seat = s; replies = [] }) in
+    subst (λ (r : Result (Ran S) E). IfOk r (P c (get_or jobs c j))) (are.each c some e s (omega (arith, came.one_each))) (came.each c j some lt)
+
 -- where all went well, each client was run
-pub ran_each_part : {E : Type 0} (dir : List (List ℕ)) (index : Home) (parts : List (List RequestLine)) (keys : List Pass) (results : List (Result Ran E)) (back : List Pass) (replies : List (List Placed))
-    → length keys ≡ length parts → CameOf dir index parts keys results → AreParts results back replies → RanOverEach dir index parts keys back replies
-ran_each_part {E} dir index parts keys results back replies long came are = record {
+pub ran_each_part : {S E : Type 0} (dir : List (List ℕ)) (index : Home) (parts : List (List RequestLine)) (keys : List Pass) (results : List (Result (Ran S) E)) (back : List Pass) (seats : List S)
+    (replies : List (List Placed)) (seat : S)
+    → length keys ≡ length parts → CameOf (RanOne dir index parts) keys results → AreParts results back seats replies → RanOverEach dir index parts keys back replies
+ran_each_part dir index parts keys results back seats replies seat long came are = record {
   keys = omega (arith, long, came.one_each, are.keys_length);
   lists = omega (arith, long, came.one_each, are.replies_length);
-  each = λ c d e lt.
-      let some : Result Ran E = Ok (record { key = d; replies = [] }) in
-      let within : c < length keys = omega (arith, long) in
-      subst (λ (r : Result Ran E). IfOk r (λ s. RanOver dir index c (lines_of parts c) (get_or keys c d) s.key s.replies)) (are.each c some e (omega (arith, long, came.one_each)))
-      (came.each c d some within);
+  each = λ c d e lt. came_apart (RanOne dir index parts) keys results back seats replies came are c d e seat (omega (arith, long));
 }

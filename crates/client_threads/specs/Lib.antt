@@ -4,3 +4,6 @@ pub mod Clients
 pub mod Runs
 pub mod Sizes
 pub mod Threads
+pub mod Pools
+pub mod Depots
+pub mod Behind

@@ -23,20 +23,25 @@ pub record CanRunOne (dir : List (List ℕ)) (index : Home) (parts : List (List 
   pub there : (shown key).number < length parts
   pub can : CanRun dir index (shown key).number (lines_of parts (shown key).number) key
 
--- a client's key behind its run, and its replies
-pub record Ran : Type 0 where
+-- a client's key behind its run, what else its thread brought back, and its replies
+pub record Ran (S : Type 0) : Type 0 where
   pub key : Pass
+  pub seat : S
   pub replies : List Placed
 
--- what came of the run of each key: where it went well, it was that of the client of its place
-pub record CameOf {E : Type 0} (dir : List (List ℕ)) (index : Home) (parts : List (List RequestLine)) (keys : List Pass) (results : List (Result Ran E)) : Type 0 where
-  pub one_each : length results ≡ length keys
-  pub each : (c : ℕ) (k : Pass) (d : Result Ran E) → c < length keys
-      → IfOk (slice_index_or results c d) (λ r. RanOver dir index c (lines_of parts c) (slice_index_or keys c k) r.key r.replies)
+-- what came of each job: where it went well, it was that of the client of its place
+pub record CameOf {J S E : Type 0} (P : ℕ → J → Ran S → Type 0) (jobs : List J) (results : List (Result (Ran S) E)) : Type 0 where
+  pub one_each : length results ≡ length jobs
+  pub each : (c : ℕ) (j : J) (d : Result (Ran S) E) → c < length jobs → IfOk (slice_index_or results c d) (P c (slice_index_or jobs c j))
 
--- all runs went well, and these are their keys and replies, in order
-pub record AreParts {E : Type 0} (results : List (Result Ran E)) (keys : List Pass) (replies : List (List Placed)) : Type 0 where
+-- the client's lines were answered over the pass of its key
+abbrev pub RanOne : {S : Type 0} → List (List ℕ) → Home → List (List RequestLine) → ℕ → Pass → Ran S → Type 0
+RanOne dir index parts client key r = RanOver dir index client (lines_of parts client) key r.key r.replies
+
+-- all runs went well, and this is what they brought back, in order
+pub record AreParts {S E : Type 0} (results : List (Result (Ran S) E)) (keys : List Pass) (seats : List S) (replies : List (List Placed)) : Type 0 where
   pub keys_length : length keys ≡ length results
+  pub seats_length : length seats ≡ length results
   pub replies_length : length replies ≡ length results
-  pub each : (i : ℕ) (d : Result Ran E) (e : Pass) → i < length results
-      → slice_index_or results i d ≡ Ok (record { key = slice_index_or keys i e; replies = slice_index_or replies i [] })
+  pub each : (i : ℕ) (d : Result (Ran S) E) (e : Pass) (s : S) → i < length results
+      → slice_index_or results i d ≡ Ok (record { key = slice_index_or keys i e; seat = slice_index_or seats i s; replies = slice_index_or replies i [] })

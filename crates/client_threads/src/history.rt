@@ -1,40 +1,77 @@
 // The history of a session: its clients over one shared index, which is then closed.
-ghost use Rattle.std.specs.Prelude.{◌≡◌, IfOk, OnOk};
+ghost use Rattle.std.specs.Prelude.{◌≡◌, ◌<◌, ◌≤◌, IfOk, OnOk, length};
 ghost use Rattle.outside_io.specs.Streams.{one_more};
 ghost use Rattle.client_threads.specs.Clients.{RanSession};
 ghost use Rattle.client_threads.specs.ClientSlots.{IsNamable};
+ghost use Rattle.client_threads.specs.Pools.{named};
+ghost use Rattle.client_threads.specs.Runs.{CanRunEach, parts_of};
+ghost use Rattle.client_threads.specs.Behind.{RanBehindEach};
 ghost use Rattle.client_threads.specs.Sizes.{CanServe};
+ghost use Rattle.request_lines.specs.InputParts.{most_clients};
 
+use crate::node_slots::NodeSlots;
 use crate::opening::open_index;
 use crate::runner::Runner;
 use client_run::Gate;
 use key_map::Update;
 use key_names::{Directory, NoMemory};
 use request_lines::Session;
+use shared_index::{PassKey, SharedIndex};
 use std::alloc::Global;
 use std::sync::Wait;
 use std::thread::Threads;
 
-/// Runs the clients over an index of their own, and closes it: the whole history of their updates. Each client has the
-/// named number of node slots, or one more than it has PUT, PUTNEW and DELETE lines.
+/// Runs the clients over an index of their own, and closes it: the whole history of their updates. Each client has
+/// the named number of node slots, or one more than it has PUT, PUTNEW and DELETE lines. Where they are pooled,
+/// clients hand node slots to one another.
 pub fn history_of<G: Gate + Sync, R: Runner<G>, Rt: Threads + Wait + Sync>(
     rt: &Rt,
     alloc: Global,
-    slots: Option<u32>,
+    slots: NodeSlots,
     session: &Session,
     dir: &Directory,
     gate: &G,
     runner: &mut R,
 ) -> Result<Vec<Update>, NoMemory>
     requires can { CanServe dir.now session.now }
-    requires slots { IsNamable slots }
-    ensures ran { IfOk result (λ updates. RanSession dir.now slots session.now.clients updates.items (R.replied runner.new)) }
+    requires slots { IsNamable (named slots) }
+    ensures ran { IfOk result (λ updates. RanSession dir.now (named slots) session.now.clients updates.items (R.replied runner.new)) }
     ensures runs { OnOk result (R.runs runner.new ≡ one_more (R.runs runner.old)) }
 {
-    let (index, keys) = open_index(alloc, slots, session.clients.as_slice())?;
-    let keys = runner.run_all(rt, alloc, &index, keys, session, dir, gate)?;
+    let (index, keys) = open_index(alloc, slots.named(), session.clients.as_slice())?;
+    let keys = run_keys(rt, alloc, slots, &index, keys, session, dir, gate, runner)?;
     match index.finish(alloc, keys) {
         Ok(updates) => Ok(updates),
         Err(_) => Err(NoMemory),
+    }
+}
+
+// Runs the clients over the passes of these keys. A pool has room for all node slots.
+fn run_keys<G: Gate + Sync, R: Runner<G>, Rt: Threads + Wait + Sync>(
+    rt: &Rt,
+    alloc: Global,
+    slots: NodeSlots,
+    index: &SharedIndex,
+    keys: Vec<PassKey>,
+    session: &Session,
+    dir: &Directory,
+    gate: &G,
+    runner: &mut R,
+) -> Result<Vec<PassKey>, NoMemory>
+    requires slots { IsNamable (named slots) }
+    requires can { CanRunEach dir.now index.now (parts_of session.now.clients) keys.items }
+    requires some { 0 < length keys.items }
+    requires few { length keys.items ≤ most_clients }
+    ensures ran { IfOk result (λ back. RanBehindEach (named slots) dir.now index.now (parts_of session.now.clients) keys.items back.items (R.replied runner.new)) }
+    ensures runs { OnOk result (R.runs runner.new ≡ one_more (R.runs runner.old)) }
+{
+    match slots {
+        NodeSlots::Pooled(own) => {
+            let room = own * keys.len() as u32;
+            runner.run_pool(rt, alloc, index, keys, session, dir, gate, own, room)
+        }
+        NodeSlots::AsAsked | NodeSlots::Named(_) => {
+            runner.run_all(rt, alloc, index, keys, session, dir, gate)
+        }
     }
 }

@@ -5,13 +5,17 @@
 
 mod counting;
 mod history;
+mod node_slots;
 mod opening;
+mod parts;
+mod pooled;
 mod runner;
 mod slots;
 mod threaded;
 
 pub use counting::summary_of;
 pub use history::history_of;
+pub use node_slots::NodeSlots;
 pub use opening::open_index;
 pub use runner::Runner;
 pub use slots::slots_suffice;

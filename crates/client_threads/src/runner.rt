@@ -3,6 +3,7 @@ ghost use Rattle.std.specs.Prelude.{◌≡◌, ◌<◌, ◌≤◌, ℕ, List, []
 ghost use Rattle.bucket_terms.specs.declared.reply.Placed.{Placed as PlacedReply};
 ghost use Rattle.std.specs.Thread.{IsSync};
 ghost use Rattle.outside_io.specs.Streams.{one_more};
+ghost use Rattle.client_threads.specs.Pools.{PooledOverEach};
 ghost use Rattle.client_threads.specs.Runs.{CanRunEach, RanOverEach, parts_of};
 
 use bucket_terms::Placed;
@@ -50,6 +51,31 @@ pub trait Runner<G: Gate + Sync> {
         requires sync { IsSync Rt.row }
         requires can { CanRunEach dir.now index.now (parts_of session.now.clients) keys.items }
         ensures ran { IfOk result (λ back. RanOverEach dir.now index.now (parts_of session.now.clients) keys.items back.items (replied self.new)) }
+        ensures runs { OnOk result (runs self.new ≡ one_more (runs self.old)) }
+        ensures never_fall { runs self.old ≤ runs self.new };
+
+    /// The same, and clients hand node slots to one another: each gives what it owns above `own` to a depot of so much
+    /// room, and takes one where it owns none. The first key's pass gets what is left in the end. There is a key.
+    ///
+    /// # Errors
+    /// Want of memory ends the run. Updates may have been made then, and the keys are gone.
+    fn run_pool<Rt: Threads + Wait + Sync>(
+        &mut self,
+        rt: &Rt,
+        alloc: Global,
+        index: &SharedIndex,
+        keys: Vec<PassKey>,
+        session: &Session,
+        dir: &Directory,
+        gate: &G,
+        own: u32,
+        room: u32,
+    ) -> Result<Vec<PassKey>, NoMemory>
+        requires sync { IsSync Rt.row }
+        requires can { CanRunEach dir.now index.now (parts_of session.now.clients) keys.items }
+        requires some { 0 < length keys.items }
+        requires room { 0 < room }
+        ensures ran { IfOk result (λ back. PooledOverEach own dir.now index.now (parts_of session.now.clients) keys.items back.items (replied self.new)) }
         ensures runs { OnOk result (runs self.new ≡ one_more (runs self.old)) }
         ensures never_fall { runs self.old ≤ runs self.new };
 

@@ -3,9 +3,12 @@ ghost use Rattle.std.specs.Prelude.{◌≡◌, ◌<◌, ◌≤◌, [], length, I
 ghost use Rattle.outside_io.specs.Streams.{one_more};
 ghost use Rattle.request_lines.specs.Session.{request_lines};
 ghost use Rattle.client_threads.specs.Runs.{CanRunEach, RanOver, RanOverEach, parts_of};
-ghost use Rattle.client_threads.specs.Threads.{CanRunOne, CameOf, AreParts};
+ghost use Rattle.client_threads.specs.Pools.{PooledOverEach};
+ghost use Rattle.client_threads.specs.Threads.{CanRunOne, CameOf, RanOne};
 ghost use Rattle.bucket_terms.specs.LegalRun.{lines_of};
 
+use crate::parts::{RanPart, take_apart};
+use crate::pooled::pool_each;
 use crate::runner::Runner;
 use bucket_terms::{KeyPass, Placed};
 use client_run::{Gate, OpenGate, run_client};
@@ -24,7 +27,7 @@ use std::thread::Threads;
 ///
 /// ```
 /// let mut runner = Threaded::new();
-/// let updates = history_of(&rt, alloc, None, &session, &dir, &OpenGate, &mut runner)?;
+/// let updates = history_of(&rt, alloc, NodeSlots::AsAsked, &session, &dir, &OpenGate, &mut runner)?;
 /// // the first client's, one for each of its request lines
 /// let replies = runner.replies(0);
 /// ```
@@ -73,7 +76,7 @@ impl Threaded {
         ensures runs { self.new.runs ≡ one_more self.old.runs }
         ensures never_fall { self.old.runs ≤ self.new.runs }
     {
-        self.runs = self.runs.saturating_add(1);
+        self.count_run();
         let results = run_each(
             rt,
             alloc,
@@ -83,9 +86,52 @@ impl Threaded {
             dir,
             gate,
         )?;
-        let (keys, replies) = take_apart(alloc, results)?;
-        self.replies = Some(Items::from_vec(replies));
+        let (keys, _, replies) = take_apart(alloc, results)?;
+        self.keep(replies);
         Ok(keys)
+    }
+
+    /// Runs the clients, for any gate, as `Runner::run_pool` does it for each gate that the trait is implemented for.
+    pub fn pool_on_threads<G: Gate + Sync, Rt: Threads + Wait + Sync>(
+        &mut self,
+        rt: &Rt,
+        alloc: Global,
+        index: &SharedIndex,
+        keys: Vec<PassKey>,
+        session: &Session,
+        dir: &Directory,
+        gate: &G,
+        own: u32,
+        room: u32,
+    ) -> Result<Vec<PassKey>, NoMemory>
+        requires can { CanRunEach dir.now index.now (parts_of session.now.clients) keys.items }
+        requires some { 0 < length keys.items }
+        requires room { 0 < room }
+        ensures ran { IfOk result (λ back. PooledOverEach own dir.now index.now (parts_of session.now.clients) keys.items back.items self.new.replied) }
+        ensures runs { self.new.runs ≡ one_more self.old.runs }
+        ensures never_fall { self.old.runs ≤ self.new.runs }
+    {
+        self.count_run();
+        let parts = session.clients.as_slice();
+        let (keys, replies) = pool_each(rt, alloc, index, keys, parts, dir, gate, own, room)?;
+        self.keep(replies);
+        Ok(keys)
+    }
+
+    // Counts a run.
+    fn count_run(&mut self)
+        ensures runs { self.new.runs ≡ one_more self.old.runs }
+        ensures never_fall { self.old.runs ≤ self.new.runs }
+    {
+        self.runs = self.runs.saturating_add(1);
+    }
+
+    // Keeps the replies of a run.
+    fn keep(&mut self, replies: Vec<Items<Placed>>)
+        ensures replied { self.new.replied ≡ replies.items }
+        ensures runs { self.new.runs ≡ self.old.runs }
+    {
+        self.replies = Some(Items::from_vec(replies));
     }
 
     /// The replies of this client in the last run.
@@ -118,24 +164,24 @@ impl Runner<OpenGate> for Threaded {
         self.run_on_threads(rt, alloc, index, keys, session, dir, gate)
     }
 
+    fn run_pool<Rt: Threads + Wait + Sync>(
+        &mut self,
+        rt: &Rt,
+        alloc: Global,
+        index: &SharedIndex,
+        keys: Vec<PassKey>,
+        session: &Session,
+        dir: &Directory,
+        gate: &OpenGate,
+        own: u32,
+        room: u32,
+    ) -> Result<Vec<PassKey>, NoMemory> {
+        self.pool_on_threads(rt, alloc, index, keys, session, dir, gate, own, room)
+    }
+
     fn replies(&self, client: u32) -> &[Placed] {
         self.replies_of(client)
     }
-}
-
-/// The key of a client's pass behind its run, and the replies.
-#[derive(Drop)]
-struct RanPart {
-    key: PassKey,
-    replies: Items<Placed>,
-}
-
-impl Model for RanPart {
-    ghost use Rattle.client_threads.specs.Threads.{Ran};
-
-    ghost Value = { Ran };
-
-    ghost view = { λ r. record { key = r.key; replies = r.replies } };
 }
 
 // Runs the client of each key, each on a thread of its own.
@@ -147,11 +193,11 @@ fn run_each<G: Gate + Sync, Rt: Threads + Wait + Sync>(
     parts: &[ClientPart],
     dir: &Directory,
     gate: &G,
-) -> Result<Vec<Result<RanPart, NoMemory>>, NoMemory>
+) -> Result<Vec<Result<RanPart<()>, NoMemory>>, NoMemory>
     requires { CanRunEach dir.now index.now (parts_of parts.now) keys.items }
-    ensures { IfOk result (λ results. CameOf dir.now index.now (parts_of parts.now) keys.items results.items) }
+    ensures { IfOk result (λ results. CameOf (RanOne dir.now index.now (parts_of parts.now)) keys.items results.items) }
 {
-    let run = |key: PassKey| -> Result<RanPart, NoMemory>
+    let run = |key: PassKey| -> Result<RanPart<()>, NoMemory>
         requires { CanRunOne dir.now index.now (parts_of parts.now) key }
         ensures { IfOk result (λ r. RanOver dir.entry.now index.entry.now key.number (lines_of (parts_of parts.entry.now) key.number) key r.key r.replies) }
     { run_key(rt, alloc, index, key, parts, dir, gate) };
@@ -167,7 +213,7 @@ fn run_key<G: Gate, Rt: Wait>(
     parts: &[ClientPart],
     dir: &Directory,
     gate: &G,
-) -> Result<RanPart, NoMemory>
+) -> Result<RanPart<()>, NoMemory>
     requires { CanRunOne dir.now index.now (parts_of parts.now) key }
     ensures { IfOk result (λ r. RanOver dir.now index.now key.number (lines_of (parts_of parts.now) key.number) key r.key r.replies) }
 {
@@ -176,26 +222,7 @@ fn run_key<G: Gate, Rt: Wait>(
     let replies = run_client(rt, alloc, &mut pass, part, dir, gate)?;
     Ok(RanPart {
         key: pass.detach(),
+        seat: (),
         replies: Items::from_vec(replies),
     })
-}
-
-// The keys and the replies of all clients, where each was run to its end.
-fn take_apart(
-    alloc: Global,
-    mut results: Vec<Result<RanPart, NoMemory>>,
-) -> Result<(Vec<PassKey>, Vec<Items<Placed>>), NoMemory>
-    ensures { IfOk result (λ parts. AreParts results.items parts.0.items parts.1.items) }
-{
-    let Some(last) = results.pop() else {
-        return Ok((Vec::new(alloc), Vec::new(alloc)));
-    };
-    let (mut keys, mut replies) = take_apart(alloc, results)?;
-    let RanPart {
-        key,
-        replies: answered,
-    } = last?;
-    keys.push(key)?;
-    replies.push(answered)?;
-    Ok((keys, replies))
 }

@@ -18,9 +18,9 @@ use Rattle.clap.specs.declared.parser.matches.ArgMatches.{ArgMatches}
 use Rattle.clap.specs.declared.parser.matches.ArgMatches.TheViews.{out-ArgMatches, out-SubCommand}
 use Rattle.clap.proofs.OnLiterals.{clap_on_literals}
 use Rattle.command_words.specs.declared.form.Form.{Form}
-use Rattle.command_words.specs.declared.form.Form.TheVariants.{Run, Check, Sample}
+use Rattle.command_words.specs.declared.form.Form.TheVariants.{Run, Pool, Check, Sample}
 use Rattle.command_words.specs.Program.{program, read_of, IsForm}
-use Rattle.command_words.specs.Words.{HasSlots, IsVerb}
+use Rattle.command_words.specs.Words.{HasOption}
 
 pub program_simple : is_simple program ≡ true
 unfolding clap_on_literals
@@ -31,12 +31,19 @@ program_simple = refl
 abbrev sample_words : List ℕ → List (List ℕ)
 sample_words number = codes "sample" ∷ number ∷ []
 
--- the option `--slots`: its number is the word behind it, or stands in the same word
-abbrev slots_words : List ℕ → List ℕ → List (List ℕ)
-slots_words verb number = verb ∷ codes "--slots" ∷ number ∷ []
+-- an option: its number is the word behind it, or stands in the same word
+abbrev apart_words : List ℕ → List ℕ → List ℕ → List (List ℕ)
+apart_words verb option number = verb ∷ option ∷ number ∷ []
 
-abbrev joined_words : List ℕ → List ℕ → List (List ℕ)
-joined_words verb number = verb ∷ (codes "--slots=" ++ number) ∷ []
+abbrev joined_words : List ℕ → List ℕ → List ℕ → List (List ℕ)
+joined_words verb option number = verb ∷ (option ++ codes "=" ++ number) ∷ []
+
+-- what is read of a verb with `--slots`, and of one with `--pool`
+abbrev slots_read : List ℕ → List ℕ → Text × Option Text × Option Text
+slots_read verb number = (verb, Some number, None)
+
+abbrev pool_read : List ℕ → List ℕ → Text × Option Text × Option Text
+pool_read verb number = (verb, None, Some number)
 
 -- one of nine digits
 nine : (P : ℕ → Type 0) → P 49 → P 50 → P 51 → P 52 → P 53 → P 54 → P 55 → P 56 → P 57 → (d : ℕ) → 48 < d → d < 58 → P d
@@ -79,89 +86,110 @@ takes_sample_digits : (digits : List ℕ) (d : ℕ) → 48 < d → d < 58 → ta
 unfolding clap_on_literals
 takes_sample_digits digits = nine (λ d. takes program (sample_words (d ∷ digits)) ≡ true) refl refl refl refl refl refl refl refl refl
 
-reads_sample_digits : (digits : List ℕ) (d : ℕ) → 48 < d → d < 58 → read_of (subcommand_of program (sample_words (d ∷ digits))) ≡ Some (codes "sample", Some (d ∷ digits))
+reads_sample_digits : (digits : List ℕ) (d : ℕ) → 48 < d → d < 58 → read_of (subcommand_of program (sample_words (d ∷ digits))) ≡ Some (slots_read (codes "sample") (d ∷ digits))
 unfolding clap_on_literals
-reads_sample_digits digits = nine (λ d. read_of (subcommand_of program (sample_words (d ∷ digits))) ≡ Some (codes "sample", Some (d ∷ digits))) refl refl refl refl refl refl refl refl refl
-
--- what clap takes and reads of a verb that may name a number of slots
-record ReadsVerb (verb : List ℕ) : Type 0 where
-  takes_alone : takes program (verb ∷ []) ≡ true
-  reads_alone : read_of (subcommand_of program (verb ∷ [])) ≡ Some (verb, None)
-  takes_apart : (digits : List ℕ) (d : ℕ) → 48 < d → d < 58 → takes program (slots_words verb (d ∷ digits)) ≡ true
-  reads_apart : (digits : List ℕ) (d : ℕ) → 48 < d → d < 58 → read_of (subcommand_of program (slots_words verb (d ∷ digits))) ≡ Some (verb, Some (d ∷ digits))
-  takes_joined : (digits : List ℕ) (d : ℕ) → 48 < d → d < 58 → takes program (joined_words verb (d ∷ digits)) ≡ true
-  reads_joined : (digits : List ℕ) (d : ℕ) → 48 < d → d < 58 → read_of (subcommand_of program (joined_words verb (d ∷ digits))) ≡ Some (verb, Some (d ∷ digits))
+reads_sample_digits digits =
+    nine (λ d. read_of (subcommand_of program (sample_words (d ∷ digits))) ≡ Some (slots_read (codes "sample") (d ∷ digits))) refl refl refl refl refl refl refl refl refl
 
 run_takes_alone : takes program (codes "run" ∷ []) ≡ true
 unfolding clap_on_literals
 run_takes_alone = refl
 
-run_reads_alone : read_of (subcommand_of program (codes "run" ∷ [])) ≡ Some (codes "run", None)
+run_reads_alone : read_of (subcommand_of program (codes "run" ∷ [])) ≡ Some (codes "run", None, None)
 unfolding clap_on_literals
 run_reads_alone = refl
-
-run_takes_apart : (digits : List ℕ) (d : ℕ) → 48 < d → d < 58 → takes program (slots_words (codes "run") (d ∷ digits)) ≡ true
-unfolding clap_on_literals
-run_takes_apart digits = nine (λ d. takes program (slots_words (codes "run") (d ∷ digits)) ≡ true) refl refl refl refl refl refl refl refl refl
-
-run_reads_apart : (digits : List ℕ) (d : ℕ) → 48 < d → d < 58 → read_of (subcommand_of program (slots_words (codes "run") (d ∷ digits))) ≡ Some (codes "run", Some (d ∷ digits))
-unfolding clap_on_literals
-run_reads_apart digits =
-    nine (λ d. read_of (subcommand_of program (slots_words (codes "run") (d ∷ digits))) ≡ Some (codes "run", Some (d ∷ digits))) refl refl refl refl refl refl refl refl refl
-
-run_takes_joined : (digits : List ℕ) (d : ℕ) → 48 < d → d < 58 → takes program (joined_words (codes "run") (d ∷ digits)) ≡ true
-unfolding clap_on_literals
-run_takes_joined digits = nine (λ d. takes program (joined_words (codes "run") (d ∷ digits)) ≡ true) refl refl refl refl refl refl refl refl refl
-
-run_reads_joined : (digits : List ℕ) (d : ℕ) → 48 < d → d < 58 → read_of (subcommand_of program (joined_words (codes "run") (d ∷ digits))) ≡ Some (codes "run", Some (d ∷ digits))
-unfolding clap_on_literals
-run_reads_joined digits =
-    nine (λ d. read_of (subcommand_of program (joined_words (codes "run") (d ∷ digits))) ≡ Some (codes "run", Some (d ∷ digits))) refl refl refl refl refl refl refl refl refl
-
-run_reads : ReadsVerb (codes "run")
-run_reads = record {
-  takes_alone = run_takes_alone;
-  reads_alone = run_reads_alone;
-  takes_apart = run_takes_apart;
-  reads_apart = run_reads_apart;
-  takes_joined = run_takes_joined;
-  reads_joined = run_reads_joined;
-}
 
 check_takes_alone : takes program (codes "check" ∷ []) ≡ true
 unfolding clap_on_literals
 check_takes_alone = refl
 
-check_reads_alone : read_of (subcommand_of program (codes "check" ∷ [])) ≡ Some (codes "check", None)
+check_reads_alone : read_of (subcommand_of program (codes "check" ∷ [])) ≡ Some (codes "check", None, None)
 unfolding clap_on_literals
 check_reads_alone = refl
 
-check_takes_apart : (digits : List ℕ) (d : ℕ) → 48 < d → d < 58 → takes program (slots_words (codes "check") (d ∷ digits)) ≡ true
-unfolding clap_on_literals
-check_takes_apart digits = nine (λ d. takes program (slots_words (codes "check") (d ∷ digits)) ≡ true) refl refl refl refl refl refl refl refl refl
+-- what clap takes and reads of a verb with an option
+record ReadsOption (verb option : List ℕ) (read : List ℕ → Text × Option Text × Option Text) : Type 0 where
+  takes_apart : (digits : List ℕ) (d : ℕ) → 48 < d → d < 58 → takes program (apart_words verb option (d ∷ digits)) ≡ true
+  reads_apart : (digits : List ℕ) (d : ℕ) → 48 < d → d < 58 → read_of (subcommand_of program (apart_words verb option (d ∷ digits))) ≡ Some (read (d ∷ digits))
+  takes_joined : (digits : List ℕ) (d : ℕ) → 48 < d → d < 58 → takes program (joined_words verb option (d ∷ digits)) ≡ true
+  reads_joined : (digits : List ℕ) (d : ℕ) → 48 < d → d < 58 → read_of (subcommand_of program (joined_words verb option (d ∷ digits))) ≡ Some (read (d ∷ digits))
 
-check_reads_apart : (digits : List ℕ) (d : ℕ) → 48 < d → d < 58 → read_of (subcommand_of program (slots_words (codes "check") (d ∷ digits))) ≡ Some (codes "check", Some (d ∷ digits))
+run_slots_takes_apart : (digits : List ℕ) (d : ℕ) → 48 < d → d < 58 → takes program (apart_words (codes "run") (codes "--slots") (d ∷ digits)) ≡ true
 unfolding clap_on_literals
-check_reads_apart digits =
-    nine (λ d. read_of (subcommand_of program (slots_words (codes "check") (d ∷ digits))) ≡ Some (codes "check", Some (d ∷ digits))) refl refl refl refl refl refl refl refl refl
+run_slots_takes_apart digits = nine (λ d. takes program (apart_words (codes "run") (codes "--slots") (d ∷ digits)) ≡ true) refl refl refl refl refl refl refl refl refl
 
-check_takes_joined : (digits : List ℕ) (d : ℕ) → 48 < d → d < 58 → takes program (joined_words (codes "check") (d ∷ digits)) ≡ true
+run_slots_reads_apart : (digits : List ℕ) (d : ℕ) → 48 < d → d < 58 → read_of (subcommand_of program (apart_words (codes "run") (codes "--slots") (d ∷ digits))) ≡ Some (slots_read (codes "run") (d ∷ digits))
 unfolding clap_on_literals
-check_takes_joined digits = nine (λ d. takes program (joined_words (codes "check") (d ∷ digits)) ≡ true) refl refl refl refl refl refl refl refl refl
+run_slots_reads_apart digits =
+    nine (λ d. read_of (subcommand_of program (apart_words (codes "run") (codes "--slots") (d ∷ digits))) ≡ Some (slots_read (codes "run") (d ∷ digits))) refl refl refl refl refl refl refl refl refl
 
-check_reads_joined : (digits : List ℕ) (d : ℕ) → 48 < d → d < 58 → read_of (subcommand_of program (joined_words (codes "check") (d ∷ digits))) ≡ Some (codes "check", Some (d ∷ digits))
+run_slots_takes_joined : (digits : List ℕ) (d : ℕ) → 48 < d → d < 58 → takes program (joined_words (codes "run") (codes "--slots") (d ∷ digits)) ≡ true
 unfolding clap_on_literals
-check_reads_joined digits =
-    nine (λ d. read_of (subcommand_of program (joined_words (codes "check") (d ∷ digits))) ≡ Some (codes "check", Some (d ∷ digits))) refl refl refl refl refl refl refl refl refl
+run_slots_takes_joined digits = nine (λ d. takes program (joined_words (codes "run") (codes "--slots") (d ∷ digits)) ≡ true) refl refl refl refl refl refl refl refl refl
 
-check_reads : ReadsVerb (codes "check")
-check_reads = record {
-  takes_alone = check_takes_alone;
-  reads_alone = check_reads_alone;
-  takes_apart = check_takes_apart;
-  reads_apart = check_reads_apart;
-  takes_joined = check_takes_joined;
-  reads_joined = check_reads_joined;
+run_slots_reads_joined : (digits : List ℕ) (d : ℕ) → 48 < d → d < 58 → read_of (subcommand_of program (joined_words (codes "run") (codes "--slots") (d ∷ digits))) ≡ Some (slots_read (codes "run") (d ∷ digits))
+unfolding clap_on_literals
+run_slots_reads_joined digits =
+    nine (λ d. read_of (subcommand_of program (joined_words (codes "run") (codes "--slots") (d ∷ digits))) ≡ Some (slots_read (codes "run") (d ∷ digits))) refl refl refl refl refl refl refl refl refl
+
+run_slots_reads : ReadsOption (codes "run") (codes "--slots") (slots_read (codes "run"))
+run_slots_reads = record {
+  takes_apart = run_slots_takes_apart;
+  reads_apart = run_slots_reads_apart;
+  takes_joined = run_slots_takes_joined;
+  reads_joined = run_slots_reads_joined;
+}
+
+run_pool_takes_apart : (digits : List ℕ) (d : ℕ) → 48 < d → d < 58 → takes program (apart_words (codes "run") (codes "--pool") (d ∷ digits)) ≡ true
+unfolding clap_on_literals
+run_pool_takes_apart digits = nine (λ d. takes program (apart_words (codes "run") (codes "--pool") (d ∷ digits)) ≡ true) refl refl refl refl refl refl refl refl refl
+
+run_pool_reads_apart : (digits : List ℕ) (d : ℕ) → 48 < d → d < 58 → read_of (subcommand_of program (apart_words (codes "run") (codes "--pool") (d ∷ digits))) ≡ Some (pool_read (codes "run") (d ∷ digits))
+unfolding clap_on_literals
+run_pool_reads_apart digits =
+    nine (λ d. read_of (subcommand_of program (apart_words (codes "run") (codes "--pool") (d ∷ digits))) ≡ Some (pool_read (codes "run") (d ∷ digits))) refl refl refl refl refl refl refl refl refl
+
+run_pool_takes_joined : (digits : List ℕ) (d : ℕ) → 48 < d → d < 58 → takes program (joined_words (codes "run") (codes "--pool") (d ∷ digits)) ≡ true
+unfolding clap_on_literals
+run_pool_takes_joined digits = nine (λ d. takes program (joined_words (codes "run") (codes "--pool") (d ∷ digits)) ≡ true) refl refl refl refl refl refl refl refl refl
+
+run_pool_reads_joined : (digits : List ℕ) (d : ℕ) → 48 < d → d < 58 → read_of (subcommand_of program (joined_words (codes "run") (codes "--pool") (d ∷ digits))) ≡ Some (pool_read (codes "run") (d ∷ digits))
+unfolding clap_on_literals
+run_pool_reads_joined digits =
+    nine (λ d. read_of (subcommand_of program (joined_words (codes "run") (codes "--pool") (d ∷ digits))) ≡ Some (pool_read (codes "run") (d ∷ digits))) refl refl refl refl refl refl refl refl refl
+
+run_pool_reads : ReadsOption (codes "run") (codes "--pool") (pool_read (codes "run"))
+run_pool_reads = record {
+  takes_apart = run_pool_takes_apart;
+  reads_apart = run_pool_reads_apart;
+  takes_joined = run_pool_takes_joined;
+  reads_joined = run_pool_reads_joined;
+}
+
+check_slots_takes_apart : (digits : List ℕ) (d : ℕ) → 48 < d → d < 58 → takes program (apart_words (codes "check") (codes "--slots") (d ∷ digits)) ≡ true
+unfolding clap_on_literals
+check_slots_takes_apart digits = nine (λ d. takes program (apart_words (codes "check") (codes "--slots") (d ∷ digits)) ≡ true) refl refl refl refl refl refl refl refl refl
+
+check_slots_reads_apart : (digits : List ℕ) (d : ℕ) → 48 < d → d < 58 → read_of (subcommand_of program (apart_words (codes "check") (codes "--slots") (d ∷ digits))) ≡ Some (slots_read (codes "check") (d ∷ digits))
+unfolding clap_on_literals
+check_slots_reads_apart digits =
+    nine (λ d. read_of (subcommand_of program (apart_words (codes "check") (codes "--slots") (d ∷ digits))) ≡ Some (slots_read (codes "check") (d ∷ digits))) refl refl refl refl refl refl refl refl refl
+
+check_slots_takes_joined : (digits : List ℕ) (d : ℕ) → 48 < d → d < 58 → takes program (joined_words (codes "check") (codes "--slots") (d ∷ digits)) ≡ true
+unfolding clap_on_literals
+check_slots_takes_joined digits = nine (λ d. takes program (joined_words (codes "check") (codes "--slots") (d ∷ digits)) ≡ true) refl refl refl refl refl refl refl refl refl
+
+check_slots_reads_joined : (digits : List ℕ) (d : ℕ) → 48 < d → d < 58 → read_of (subcommand_of program (joined_words (codes "check") (codes "--slots") (d ∷ digits))) ≡ Some (slots_read (codes "check") (d ∷ digits))
+unfolding clap_on_literals
+check_slots_reads_joined digits =
+    nine (λ d. read_of (subcommand_of program (joined_words (codes "check") (codes "--slots") (d ∷ digits))) ≡ Some (slots_read (codes "check") (d ∷ digits))) refl refl refl refl refl refl refl refl refl
+
+check_slots_reads : ReadsOption (codes "check") (codes "--slots") (slots_read (codes "check"))
+check_slots_reads = record {
+  takes_apart = check_slots_takes_apart;
+  reads_apart = check_slots_reads_apart;
+  takes_joined = check_slots_takes_joined;
+  reads_joined = check_slots_reads_joined;
 }
 
 numerals : IsNumeralModel (λ digits. all_ascii_digits digits ≡ true) (digits_value 10)
@@ -192,75 +220,94 @@ takes_decimal words of_digits n some small =
     let first = decimal_digit_first n some small in
     ap (λ (t : List ℕ). takes program (words t)) first.is ∙ of_digits first.digits first.d first.low first.high
 
-reads_decimal : (words : List ℕ → List (List ℕ)) (word : List ℕ)
-    → ((digits : List ℕ) (d : ℕ) → 48 < d → d < 58 → read_of (subcommand_of program (words (d ∷ digits))) ≡ Some (word, Some (d ∷ digits)))
-    → (n : ℕ) → 0 < n → n < 2 ^ 64 → read_of (subcommand_of program (words (decimal n))) ≡ Some (word, Some (decimal n))
-reads_decimal words word of_digits n some small =
+reads_decimal : (words : List ℕ → List (List ℕ)) (read : List ℕ → Text × Option Text × Option Text)
+    → ((digits : List ℕ) (d : ℕ) → 48 < d → d < 58 → read_of (subcommand_of program (words (d ∷ digits))) ≡ Some (read (d ∷ digits)))
+    → (n : ℕ) → 0 < n → n < 2 ^ 64 → read_of (subcommand_of program (words (decimal n))) ≡ Some (read (decimal n))
+reads_decimal words read of_digits n some small =
     let first = decimal_digit_first n some small in
     ap (λ (t : List ℕ). read_of (subcommand_of program (words t))) first.is ∙ of_digits first.digits first.d first.low first.high
-    ∙ ap (λ (t : List ℕ). Some (word, Some t)) (sym first.is)
+    ∙ ap (λ (t : List ℕ). Some (read t)) (sym first.is)
 
--- clap takes the words of each verb
-takes_verb : (verb : List ℕ) (words : List (List ℕ)) (slots : Option ℕ) → ReadsVerb verb → IsVerb verb words slots → takes program words ≡ true
-takes_verb verb words None reads is = ap (takes program) is ∙ reads.takes_alone
-takes_verb verb words (Some n) reads is = elim is.spelled [
-  | inl apart ↦ ap (takes program) apart ∙ takes_decimal (slots_words verb) reads.takes_apart n is.some (omega (arith, is.most))
-  | inr joined ↦ ap (takes program) joined ∙ takes_decimal (joined_words verb) reads.takes_joined n is.some (omega (arith, is.most))
+-- clap takes the words of each form
+takes_option : (verb option : List ℕ) (read : List ℕ → Text × Option Text × Option Text) (words : List (List ℕ)) (n : ℕ) → ReadsOption verb option read → HasOption verb option words n
+    → takes program words ≡ true
+takes_option verb option read words n reads is = elim is.spelled [
+  | inl apart ↦ ap (takes program) apart ∙ takes_decimal (apart_words verb option) reads.takes_apart n is.some (omega (arith, is.most))
+  | inr joined ↦ ap (takes program) joined ∙ takes_decimal (joined_words verb option) reads.takes_joined n is.some (omega (arith, is.most))
 ]
 
 pub takes_form : (words : List (List ℕ)) (form : Form) → IsForm words form → takes program words ≡ true
-takes_form words (Run slots) is = takes_verb (codes "run") words slots run_reads is
-takes_form words (Check slots) is = takes_verb (codes "check") words slots check_reads is
+takes_form words (Run None) is = ap (takes program) is ∙ run_takes_alone
+takes_form words (Run (Some n)) is = takes_option (codes "run") (codes "--slots") (slots_read (codes "run")) words n run_slots_reads is
+takes_form words (Pool n) is = takes_option (codes "run") (codes "--pool") (pool_read (codes "run")) words n run_pool_reads is
+takes_form words (Check None) is = ap (takes program) is ∙ check_takes_alone
+takes_form words (Check (Some n)) is = takes_option (codes "check") (codes "--slots") (slots_read (codes "check")) words n check_slots_reads is
 takes_form words (Sample n) is = ap (takes program) is.spelled ∙ takes_decimal sample_words takes_sample_digits n is.some (omega (arith, is.most))
 
 -- and reads them
-reads_slots : (verb : List ℕ) (words : List (List ℕ)) (n : ℕ) → ReadsVerb verb → HasSlots verb words n → read_of (subcommand_of program words) ≡ Some (verb, Some (decimal n))
-reads_slots verb words n reads is = elim is.spelled [
+reads_option : (verb option : List ℕ) (read : List ℕ → Text × Option Text × Option Text) (words : List (List ℕ)) (n : ℕ) → ReadsOption verb option read → HasOption verb option words n
+    → read_of (subcommand_of program words) ≡ Some (read (decimal n))
+reads_option verb option read words n reads is = elim is.spelled [
   | inl apart ↦
-      ap (λ (ws : List (List ℕ)). read_of (subcommand_of program ws)) apart ∙ reads_decimal (slots_words verb) verb reads.reads_apart n is.some (omega (arith, is.most))
+      ap (λ (ws : List (List ℕ)). read_of (subcommand_of program ws)) apart
+      ∙ reads_decimal (apart_words verb option) read reads.reads_apart n is.some (omega (arith, is.most))
   | inr joined ↦
-      ap (λ (ws : List (List ℕ)). read_of (subcommand_of program ws)) joined ∙ reads_decimal (joined_words verb) verb reads.reads_joined n is.some (omega (arith, is.most))
+      ap (λ (ws : List (List ℕ)). read_of (subcommand_of program ws)) joined
+      ∙ reads_decimal (joined_words verb option) read reads.reads_joined n is.some (omega (arith, is.most))
 ]
 
 -- ---- from the matches to what is read
 
-sub_read : {B : Type 0} (f : B → Text × List Row) (o : Option B) (name : Text) (inner : List Row) (word : Text) (number : Option Text)
+-- what is read of a row
+pub record HasRead (name : Text) (inner : List Row) (word : Text) (number pool : Option Text) : Type 0 where
+  pub name_is : name ≡ word
+  pub number_is : first_of (codes "number") inner ≡ number
+  pub pool_is : first_of (codes "pool") inner ≡ pool
+
+sub_read : {B : Type 0} (f : B → Text × List Row) (o : Option B) (name : Text) (inner : List Row) (word : Text) (number pool : Option Text)
     → option_map (λ b. (f b).0) o ≡ Some name → option_map (λ p. p.1) (option_map f o) ≡ Some inner
-    → read_of (option_map f o) ≡ Some (word, number) → (name ≡ word) × (first_of (codes "number") inner ≡ number)
-sub_read f None name inner word number is_name is_inner is_read = absurd cc
-sub_read f (Some b) name inner word number is_name is_inner is_read =
-    let all : ◌≡◌ {A = Text × Option Text} ((f b).0, first_of (codes "number") (f b).1) (word, number) = cc in
-    let pair : (f b).0 ≡ word = ap (λ (p : Text × Option Text). p.0) all in
-    let value : first_of (codes "number") (f b).1 ≡ number = ap (λ (p : Text × Option Text). p.1) all in
+    → read_of (option_map f o) ≡ Some (word, number, pool) → HasRead name inner word number pool
+sub_read f None name inner word number pool is_name is_inner is_read = absurd cc
+sub_read f (Some b) name inner word number pool is_name is_inner is_read =
+    let all : ◌≡◌ {A = Text × Option Text × Option Text} ((f b).0, first_of (codes "number") (f b).1, first_of (codes "pool") (f b).1) (word, number, pool) = cc in
+    let named : (f b).0 ≡ word = ap (λ (p : Text × Option Text × Option Text). p.0) all in
+    let numbered : first_of (codes "number") (f b).1 ≡ number = ap (λ (p : Text × Option Text × Option Text). p.1) all in
+    let pooled : first_of (codes "pool") (f b).1 ≡ pool = ap (λ (p : Text × Option Text × Option Text). p.2) all in
     let row : (f b).1 ≡ inner = cc in
-    (cc, ap (first_of (codes "number")) (sym row) ∙ value)
+    record {
+      name_is = cc;
+      number_is = ap (first_of (codes "number")) (sym row) ∙ numbered;
+      pool_is = ap (first_of (codes "pool")) (sym row) ∙ pooled;
+    }
 
-pub rows_read : (m : ArgMatches) (name : Text) (inner : List Row) (word : Text) (number : Option Text)
+pub rows_read : (m : ArgMatches) (name : Text) (inner : List Row) (word : Text) (number pool : Option Text)
     → subcommand_name_of m ≡ Some name → option_map (λ p. p.1) (subcommand_rows_of m) ≡ Some inner
-    → read_of (subcommand_rows_of m) ≡ Some (word, number) → (name ≡ word) × (first_of (codes "number") inner ≡ number)
-rows_read m name inner word number =
-    sub_read (λ b. ((out-SubCommand (box_value b)).name.now, rows_of (found_of (out-SubCommand (box_value b)).matches))) (out-ArgMatches m).subcommand name inner word number
+    → read_of (subcommand_rows_of m) ≡ Some (word, number, pool) → HasRead name inner word number pool
+rows_read m name inner word number pool =
+    sub_read (λ b. ((out-SubCommand (box_value b)).name.now, rows_of (found_of (out-SubCommand (box_value b)).matches))) (out-ArgMatches m).subcommand name inner word number pool
 
--- what is answered of a verb, by whether a number of slots was read
-pub record AnswersVerb (verb : List ℕ) (form : Option ℕ → Form) (m : ArgMatches) (result : Option Form) : Type 0 where
-  pub alone : read_of (subcommand_rows_of m) ≡ Some (verb, None) → result ≡ Some (form None)
-  pub named : (n : ℕ) → read_of (subcommand_rows_of m) ≡ Some (verb, Some (decimal n)) → n ≤ 8192 → result ≡ Some (form (Some n))
-
-verb_read : (verb : List ℕ) (form : Option ℕ → Form) (words : List (List ℕ)) (m : ArgMatches) (result : Option Form) (slots : Option ℕ) → ReadsVerb verb
-    → subcommand_rows_of m ≡ subcommand_of program words → AnswersVerb verb form m result → IsVerb verb words slots → result ≡ Some (form slots)
-verb_read verb form words m result None reads rows answers is =
-    answers.alone (ap read_of rows ∙ ap (λ (ws : List (List ℕ)). read_of (subcommand_of program ws)) is ∙ reads.reads_alone)
-verb_read verb form words m result (Some n) reads rows answers is = answers.named n (ap read_of rows ∙ reads_slots verb words n reads is) is.most
+-- what is answered of each verb, by the numbers that were read
+pub record AnswersRead (m : ArgMatches) (result : Option Form) : Type 0 where
+  pub run : read_of (subcommand_rows_of m) ≡ Some (codes "run", None, None) → result ≡ Some (Run None)
+  pub slots : (n : ℕ) → read_of (subcommand_rows_of m) ≡ Some (codes "run", Some (decimal n), None) → n ≤ 8192 → result ≡ Some (Run (Some n))
+  pub pool : (n : ℕ) → read_of (subcommand_rows_of m) ≡ Some (codes "run", None, Some (decimal n)) → n ≤ 8192 → result ≡ Some (Pool n)
+  pub check : read_of (subcommand_rows_of m) ≡ Some (codes "check", None, None) → result ≡ Some (Check None)
+  pub check_slots : (n : ℕ) → read_of (subcommand_rows_of m) ≡ Some (codes "check", Some (decimal n), None) → n ≤ 8192 → result ≡ Some (Check (Some n))
+  pub sample : (n : ℕ) → read_of (subcommand_rows_of m) ≡ Some (codes "sample", Some (decimal n), None) → n ≤ 40000 → result ≡ Some (Sample n)
 
 -- the form of the words is read
 pub form_read : (words : List (List ℕ)) (m : ArgMatches) (result : Option Form) (form : Form) → subcommand_rows_of m ≡ subcommand_of program words
-    → AnswersVerb (codes "run") Run m result → AnswersVerb (codes "check") Check m result
-    → ((n : ℕ) → read_of (subcommand_rows_of m) ≡ Some (codes "sample", Some (decimal n)) → n ≤ 40000 → result ≡ Some (Sample n))
-    → IsForm words form → result ≡ Some form
-form_read words m result (Run slots) rows run check sample is = verb_read (codes "run") Run words m result slots run_reads rows run is
-form_read words m result (Check slots) rows run check sample is = verb_read (codes "check") Check words m result slots check_reads rows check is
-form_read words m result (Sample n) rows run check sample is =
-    sample n
+    → AnswersRead m result → IsForm words form → result ≡ Some form
+form_read words m result (Run None) rows answers is = answers.run (ap read_of rows ∙ ap (λ (ws : List (List ℕ)). read_of (subcommand_of program ws)) is ∙ run_reads_alone)
+form_read words m result (Run (Some n)) rows answers is =
+    answers.slots n (ap read_of rows ∙ reads_option (codes "run") (codes "--slots") (slots_read (codes "run")) words n run_slots_reads is) is.most
+form_read words m result (Pool n) rows answers is =
+    answers.pool n (ap read_of rows ∙ reads_option (codes "run") (codes "--pool") (pool_read (codes "run")) words n run_pool_reads is) is.most
+form_read words m result (Check None) rows answers is = answers.check (ap read_of rows ∙ ap (λ (ws : List (List ℕ)). read_of (subcommand_of program ws)) is ∙ check_reads_alone)
+form_read words m result (Check (Some n)) rows answers is =
+    answers.check_slots n (ap read_of rows ∙ reads_option (codes "check") (codes "--slots") (slots_read (codes "check")) words n check_slots_reads is) is.most
+form_read words m result (Sample n) rows answers is =
+    answers.sample n
     (ap read_of rows ∙ ap (λ (ws : List (List ℕ)). read_of (subcommand_of program ws)) is.spelled
-    ∙ reads_decimal sample_words (codes "sample") reads_sample_digits n is.some (omega (arith, is.most)))
+    ∙ reads_decimal sample_words (slots_read (codes "sample")) reads_sample_digits n is.some (omega (arith, is.most)))
     is.most

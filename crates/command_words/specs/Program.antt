@@ -1,10 +1,10 @@
 -- Helper: the headline does not rest on this file.
 -- The command that `clap` is given, and what it reads of words.
-use Rattle.std.specs.Prelude.{ℕ, true, List, codes, Option, Some}
+use Rattle.std.specs.Prelude.{◌≡◌, ℕ, true, List, [], ◌∷◌, codes, Option, Some, None}
 use Rattle.std.specs.Option.{option_map}
 use Rattle.command_words.specs.declared.form.Form.{Form}
-use Rattle.command_words.specs.declared.form.Form.TheVariants.{Run, Check, Sample}
-use Rattle.command_words.specs.Words.{IsRun, IsCheck, IsSample}
+use Rattle.command_words.specs.declared.form.Form.TheVariants.{Run, Pool, Check, Sample}
+use Rattle.command_words.specs.Words.{HasOption, IsCheck, IsSample}
 use Rattle.clap.specs.Words.{App, Row, Rule, Text, first_of, new_app, new_rule, with_rule, with_subcommand}
 
 -- the most requests that each client of the generated session may be asked for
@@ -17,7 +17,9 @@ most_slots = 8192
 
 -- the words are this form
 abbrev pub IsForm : List (List ℕ) → Form → Type 0
-IsForm words (Run slots) = IsRun words slots
+IsForm words (Run None) = words ≡ codes "run" ∷ []
+IsForm words (Run (Some n)) = HasOption (codes "run") (codes "--slots") words n
+IsForm words (Pool n) = HasOption (codes "run") (codes "--pool") words n
 IsForm words (Check slots) = IsCheck words slots
 IsForm words (Sample n) = IsSample words n
 
@@ -29,14 +31,15 @@ number_rule = record (new_rule (codes "number")) { required = true }
 abbrev pub slots_rule : Rule
 slots_rule = record (new_rule (codes "number")) { long = Some (codes "slots") }
 
-abbrev pub slots_app : List ℕ → App
-slots_app verb = with_rule (new_app verb) slots_rule
+-- the number of `run`, where clients hand slots to one another
+abbrev pub pool_rule : Rule
+pool_rule = record (new_rule (codes "pool")) { long = Some (codes "pool") }
 
 abbrev pub run_app : App
-run_app = slots_app (codes "run")
+run_app = with_rule (with_rule (new_app (codes "run")) slots_rule) pool_rule
 
 abbrev pub check_app : App
-check_app = slots_app (codes "check")
+check_app = with_rule (new_app (codes "check")) slots_rule
 
 abbrev pub sample_app : App
 sample_app = with_rule (new_app (codes "sample")) number_rule
@@ -48,6 +51,6 @@ bare_app = record (new_app (codes "bucketidx")) { top = record (new_app (codes "
 abbrev pub program : App
 program = with_subcommand (with_subcommand (with_subcommand bare_app run_app.top) check_app.top) sample_app.top
 
--- the word of a subcommand and its number, where it has one
-abbrev pub read_of : Option (Text × List Row) → Option (Text × Option Text)
-read_of = option_map (λ p. (p.0, first_of (codes "number") p.1))
+-- the word of a subcommand, and its numbers, where it has them: the one of `sample` or of `--slots`, and the one of `--pool`
+abbrev pub read_of : Option (Text × List Row) → Option (Text × Option Text × Option Text)
+read_of = option_map (λ p. (p.0, first_of (codes "number") p.1, first_of (codes "pool") p.1))

@@ -2,25 +2,23 @@
 use Rattle.std.specs.Prelude.{◌≡◌, ℕ, ◌<◌, ◌≤◌, ◌⊎◌, List, [], ◌∷◌, ◌++◌, codes, Option, Some, None}
 use Rattle.std.specs.Fmt.{decimal}
 
--- the word `verb`, and behind it the option `--slots` with a number from 1 to 8,192 in decimal digits without a leading
--- zero, which is a word of its own, or stands behind an equal sign in the same word
-pub record HasSlots (verb : List ℕ) (words : List (List ℕ)) (n : ℕ) : Type 0 where
+-- the word `verb`, and behind it the word `option` with a number from 1 to 8,192 in decimal digits without a leading zero,
+-- which is a word of its own, or stands behind an equal sign in the same word
+pub record HasOption (verb option : List ℕ) (words : List (List ℕ)) (n : ℕ) : Type 0 where
   pub some : 0 < n
   pub most : n ≤ 8192
-  pub spelled : (words ≡ verb ∷ codes "--slots" ∷ decimal n ∷ []) ⊎ (words ≡ verb ∷ (codes "--slots=" ++ decimal n) ∷ [])
+  pub spelled : (words ≡ verb ∷ option ∷ decimal n ∷ []) ⊎ (words ≡ verb ∷ (option ++ codes "=" ++ decimal n) ∷ [])
 
--- the word `verb` alone, or with the node slots that each client is to have
-abbrev pub IsVerb : List ℕ → List (List ℕ) → Option ℕ → Type 0
-IsVerb verb words None = words ≡ verb ∷ []
-IsVerb verb words (Some n) = HasSlots verb words n
-
--- the word `run`, alone or with a number of node slots
+-- the word `run`, alone or with the node slots that each client is to have: under `--slots` they stay its own, under
+-- `--pool` clients hand spare ones to one another
 abbrev pub IsRun : List (List ℕ) → Option ℕ → Type 0
-IsRun words slots = IsVerb (codes "run") words slots
+IsRun words None = words ≡ codes "run" ∷ []
+IsRun words (Some n) = HasOption (codes "run") (codes "--slots") words n ⊎ HasOption (codes "run") (codes "--pool") words n
 
 -- the word `check`, alone or with a number of node slots
 abbrev pub IsCheck : List (List ℕ) → Option ℕ → Type 0
-IsCheck words slots = IsVerb (codes "check") words slots
+IsCheck words None = words ≡ codes "check" ∷ []
+IsCheck words (Some n) = HasOption (codes "check") (codes "--slots") words n
 
 -- the word `sample`, and behind it a number from 1 to 40,000 in decimal digits without a leading zero
 pub record IsSample (words : List (List ℕ)) (n : ℕ) : Type 0 where

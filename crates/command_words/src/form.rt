@@ -14,6 +14,8 @@ pub enum Form {
     /// `run`: runs the session on standard input. With `--slots N` or `--slots=N` each client has N node slots, from 1
     /// to 8,192; without it, one more than it has lines that may make an update.
     Run { slots: Option<u32> },
+    /// `run --pool N` or `run --pool=N`: as with `--slots`, and clients hand spare node slots to one another.
+    Pool { slots: u32 },
     /// `check`: checks a written text of the session on standard input. `--slots N` or `--slots=N` is as for `run`.
     Check { slots: Option<u32> },
     /// `sample N`: runs the generated session, with so many requests of each client, from 1 to 40,000.

@@ -66,12 +66,14 @@ fn program<'a>(alloc: Global) -> Result<Command<'a>, AllocError>
         .subcommand(sample)
 }
 
-// `run`, whose number is the value of an option.
+// `run`, whose number is the value of one of two options.
 fn run_command<'a>(alloc: Global) -> Result<Command<'a>, AllocError>
     ensures app { IfOk result (λ command. app_of command ≡ spec.run_app) }
     ensures local { IfOk result (λ command. (out-Command command).has_globals ≡ false) }
 {
-    Command::new(alloc, "run").arg(Arg::new(alloc, "number").long("slots"))
+    Command::new(alloc, "run")
+        .arg(Arg::new(alloc, "number").long("slots"))?
+        .arg(Arg::new(alloc, "pool").long("pool"))
 }
 
 // `check`, whose number is the value of an option.
@@ -91,34 +93,54 @@ fn sample_command<'a>(alloc: Global) -> Result<Command<'a>, AllocError>
 }
 
 fn form_in(matches: &ArgMatches) -> Option<Form>
-    ensures run { read_of (subcommand_rows_of matches.now) ≡ Some (codes "run", None) → result ≡ Some (Form.Run None) }
-    ensures slots { (n : ℕ) → read_of (subcommand_rows_of matches.now) ≡ Some (codes "run", Some (decimal n)) → n ≤ most_slots → result ≡ Some (Form.Run (Some n)) }
-    ensures check { read_of (subcommand_rows_of matches.now) ≡ Some (codes "check", None) → result ≡ Some (Form.Check None) }
-    ensures check_slots { (n : ℕ) → read_of (subcommand_rows_of matches.now) ≡ Some (codes "check", Some (decimal n)) → n ≤ most_slots → result ≡ Some (Form.Check (Some n)) }
-    ensures sample { (n : ℕ) → read_of (subcommand_rows_of matches.now) ≡ Some (codes "sample", Some (decimal n)) → n ≤ most_asked → result ≡ Some (Form.Sample n) }
+    ensures run { read_of (subcommand_rows_of matches.now) ≡ Some (codes "run", None, None) → result ≡ Some (Form.Run None) }
+    ensures slots { (n : ℕ) → read_of (subcommand_rows_of matches.now) ≡ Some (codes "run", Some (decimal n), None) → n ≤ most_slots → result ≡ Some (Form.Run (Some n)) }
+    ensures pool { (n : ℕ) → read_of (subcommand_rows_of matches.now) ≡ Some (codes "run", None, Some (decimal n)) → n ≤ most_slots → result ≡ Some (Form.Pool n) }
+    ensures check { read_of (subcommand_rows_of matches.now) ≡ Some (codes "check", None, None) → result ≡ Some (Form.Check None) }
+    ensures check_slots { (n : ℕ) → read_of (subcommand_rows_of matches.now) ≡ Some (codes "check", Some (decimal n), None) → n ≤ most_slots → result ≡ Some (Form.Check (Some n)) }
+    ensures sample { (n : ℕ) → read_of (subcommand_rows_of matches.now) ≡ Some (codes "sample", Some (decimal n), None) → n ≤ most_asked → result ≡ Some (Form.Sample n) }
 {
     match matches.subcommand() {
-        Some((name, inner)) => form_named(name, inner.get_str("number")),
+        Some((name, inner)) => {
+            let number = inner.get_str("number");
+            let pool = inner.get_str("pool");
+            form_named(name, number, pool)
+        }
         None => None,
     }
 }
 
-fn form_named(name: &str, number: Option<&str>) -> Option<Form>
-    ensures run { name.now ≡ codes "run" → option_map (λ s. s.now) number.entry ≡ None → result ≡ Some (Form.Run None) }
-    ensures slots { (n : ℕ) → name.now ≡ codes "run" → option_map (λ s. s.now) number.entry ≡ Some (decimal n) → n ≤ most_slots → result ≡ Some (Form.Run (Some n)) }
+fn form_named(name: &str, number: Option<&str>, pool: Option<&str>) -> Option<Form>
+    ensures run { name.now ≡ codes "run" → option_map (λ s. s.now) number.entry ≡ None → option_map (λ s. s.now) pool.entry ≡ None → result ≡ Some (Form.Run None) }
+    ensures slots { (n : ℕ) → name.now ≡ codes "run" → option_map (λ s. s.now) number.entry ≡ Some (decimal n) → option_map (λ s. s.now) pool.entry ≡ None → n ≤ most_slots → result ≡ Some (Form.Run (Some n)) }
+    ensures pool { (n : ℕ) → name.now ≡ codes "run" → option_map (λ s. s.now) pool.entry ≡ Some (decimal n) → n ≤ most_slots → result ≡ Some (Form.Pool n) }
     ensures check { name.now ≡ codes "check" → option_map (λ s. s.now) number.entry ≡ None → result ≡ Some (Form.Check None) }
     ensures check_slots { (n : ℕ) → name.now ≡ codes "check" → option_map (λ s. s.now) number.entry ≡ Some (decimal n) → n ≤ most_slots → result ≡ Some (Form.Check (Some n)) }
     ensures sample { (n : ℕ) → name.now ≡ codes "sample" → option_map (λ s. s.now) number.entry ≡ Some (decimal n) → n ≤ most_asked → result ≡ Some (Form.Sample n) }
 {
     match name {
-        "run" => Some(Form::Run {
-            slots: slots_in(number)?,
-        }),
+        "run" => run_form(number, pool),
         "check" => Some(Form::Check {
             slots: slots_in(number)?,
         }),
         "sample" => Some(Form::Sample(number_of(number?)?)),
         _ => None,
+    }
+}
+
+// The form of `run`, by the numbers of its two options.
+fn run_form(number: Option<&str>, pool: Option<&str>) -> Option<Form>
+    ensures run { option_map (λ s. s.now) number.entry ≡ None → option_map (λ s. s.now) pool.entry ≡ None → result ≡ Some (Form.Run None) }
+    ensures slots { (n : ℕ) → option_map (λ s. s.now) number.entry ≡ Some (decimal n) → option_map (λ s. s.now) pool.entry ≡ None → n ≤ most_slots → result ≡ Some (Form.Run (Some n)) }
+    ensures pool { (n : ℕ) → option_map (λ s. s.now) pool.entry ≡ Some (decimal n) → n ≤ most_slots → result ≡ Some (Form.Pool n) }
+{
+    match pool {
+        None => Some(Form::Run {
+            slots: slots_in(number)?,
+        }),
+        Some(text) => Some(Form::Pool {
+            slots: number_of(text)?,
+        }),
     }
 }
 

@@ -1,8 +1,8 @@
 // How a form is written.
-ghost use Rattle.std.specs.Prelude.{◌≡◌, ◌<◌, ◌≤◌, ◌↔◌, ◌⊎◌, [], ◌∷◌, ◌++◌, codes, IsTrue, IfOk};
+ghost use Rattle.std.specs.Prelude.{◌≡◌, ◌<◌, ◌≤◌, ◌↔◌, [], ◌∷◌, ◌++◌, codes, IsTrue, IfOk};
 ghost use Rattle.std.specs.Fmt.{decimal};
 ghost use Rattle.command_words.specs.Program.{IsForm, most_asked, most_slots};
-ghost use Rattle.command_words.specs.Words.{IsVerb, HasSlots};
+ghost use Rattle.command_words.specs.Words.{HasOption};
 
 use crate::form::Form;
 use key_names::{NoMemory, Text};
@@ -19,19 +19,12 @@ pub(crate) fn is_spelled(alloc: Global, words: &[Text], form: Form) -> Result<bo
     ensures { IfOk result (λ spelled. IsTrue spelled ↔ IsForm words.now form) }
 {
     match form {
-        Form::Run { slots } => is_verb(alloc, words, b"run", slots),
-        Form::Check { slots } => is_verb(alloc, words, b"check", slots),
+        Form::Run { slots: None } => Ok(is_alone(words, b"run")),
+        Form::Run { slots: Some(n) } => has_option(alloc, words, b"run", "--slots", n),
+        Form::Pool { slots } => has_option(alloc, words, b"run", "--pool", slots),
+        Form::Check { slots: None } => Ok(is_alone(words, b"check")),
+        Form::Check { slots: Some(n) } => has_option(alloc, words, b"check", "--slots", n),
         Form::Sample(n) => is_sample(alloc, words, n),
-    }
-}
-
-// Whether the words are the verb, alone or with this number of slots.
-fn is_verb(alloc: Global, words: &[Text], verb: &[u8], slots: Option<u32>) -> Result<bool, NoMemory>
-    ensures { IfOk result (λ spelled. IsTrue spelled ↔ IsVerb verb.now words.now slots) }
-{
-    match slots {
-        None => Ok(is_alone(words, verb)),
-        Some(n) => has_slots(alloc, words, verb, n),
     }
 }
 
@@ -44,12 +37,19 @@ fn is_alone(words: &[Text], verb: &[u8]) -> bool
     }
 }
 
-fn has_slots(alloc: Global, words: &[Text], verb: &[u8], n: u32) -> Result<bool, NoMemory>
-    ensures { IfOk result (λ spelled. IsTrue spelled ↔ HasSlots verb.now words.now n) }
+// Whether the words are the verb and this option with this number of slots.
+fn has_option(
+    alloc: Global,
+    words: &[Text],
+    verb: &[u8],
+    option: &str,
+    n: u32,
+) -> Result<bool, NoMemory>
+    ensures { IfOk result (λ spelled. IsTrue spelled ↔ HasOption verb.now option.now words.now n) }
 {
     let number = digits_of(alloc, n)?;
-    let joined = joined_of(alloc, n)?;
-    let spelled = is_triple(words, verb, b"--slots", number.bytes())
+    let joined = joined_of(alloc, option, n)?;
+    let spelled = is_triple(words, verb, option.as_bytes(), number.bytes())
         || is_pair(words, verb, joined.bytes());
     Ok(is_granted(n) && spelled)
 }
@@ -86,10 +86,10 @@ fn digits_of(alloc: Global, n: u32) -> Result<Text, NoMemory>
 }
 
 // The option and the number in one word.
-fn joined_of(alloc: Global, n: u32) -> Result<Text, NoMemory>
-    ensures { IfOk result (λ text. text ≡ codes "--slots=" ++ decimal n) }
+fn joined_of(alloc: Global, option: &str, n: u32) -> Result<Text, NoMemory>
+    ensures { IfOk result (λ text. text ≡ option.now ++ codes "=" ++ decimal n) }
 {
-    match format!(in alloc; "--slots={n}") {
+    match format!(in alloc; "{option}={n}") {
         Ok(text) => Ok(Text::from_string(text)),
         Err(_) => Err(NoMemory),
     }

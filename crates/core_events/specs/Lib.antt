@@ -9,6 +9,7 @@ pub mod UpdateMoves
 pub mod UpdateNeeds
 pub mod PlainNeeds
 pub mod PlainMoves
+pub mod Waits
 pub mod PlainWork
 pub mod LockMoves
 pub mod LockNeeds

@@ -20,9 +20,11 @@ in_section v word = record v { section_word = word; reading = nowhere v.reading 
 abbrev pub entered : ℕ → View → ℕ → View
 entered passes v word = settled passes (batch_taken (in_section v word))
 
--- leave: what was read is gone, and the snapshot is ended
+-- leave: what was read is gone, and the snapshot is ended. Nothing is pending, so that the node that the update has
+-- brought in is one of the tree like others: outside of a section the view works on it no more, as another update may
+-- take it out
 abbrev pub left : View → ℕ → View
-left v word = record v { section_word = word; reading = no_reading }
+left v word = record v { section_word = word; reading = no_reading; update = record v.update { added = None } }
 
 -- split: so many of the first free nodes move to the new view, which has no number and copies what is seen
 abbrev pub split_left : View → ℕ → View

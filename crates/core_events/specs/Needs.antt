@@ -2,14 +2,15 @@
 use Rattle.std.specs.Prelude.{ℕ, ◌+◌, List, length, Bool, true, false, not, ◌==◌, ◌&&◌, ◌||◌, Option, Some, None, is_none}
 use Rattle.std.specs.List.{list_all, slice_get}
 use Rattle.index_words.specs.declared.view.View.{View}
+use Rattle.index_words.specs.declared.view.update.Unlinking.{Unlinking}
+use Rattle.index_words.specs.declared.view.update.Updating.{Updating}
 use Rattle.index_words.specs.declared.word.Field.TheVariants.{Lock, Mark}
 use Rattle.index_words.specs.declared.word.Field.{Field}
 use Rattle.index_words.specs.declared.word.Word.{Word}
 use Rattle.index_words.specs.declared.word.Word.TheVariants.{Stamp, Section, Node, Entry}
 use Rattle.index_words.specs.Words.{Memory}
 use Rattle.key_map.specs.Lists.{has}
-use Rattle.core_grace.specs.Sections.{is_even, left_word}
-use Rattle.core_grace.specs.Batches.{is_empty, is_number}
+use Rattle.core_grace.specs.Sections.{is_even}
 
 -- outside a section, with no lock held
 abbrev pub is_outside : View → Bool
@@ -18,9 +19,19 @@ is_outside v = is_even v.section_word && length v.held.nodes == 0
 abbrev pub is_marked_node : Memory → ℕ → Bool
 is_marked_node m k = m (Node Mark k) == 1
 
--- no entry of the view is without a written number, and no node that its update took out is unmarked
+-- the node is a successor that is still to be unlinked
+abbrev pub is_successor : ℕ → Option Unlinking → Bool
+is_successor k None = false
+is_successor k (Some u) = u.successor == k
+
+-- a node that the update took out is marked, or is such a successor
+abbrev pub is_marked_out : Memory → Updating → ℕ → Bool
+is_marked_out m u k = is_marked_node m k || is_successor k u.unlinking
+
+-- no entry of the view is without a written number, and no node that its update took out is unmarked, but for a
+-- successor that is still to be unlinked
 abbrev pub nothing_pending : Memory → View → Bool
-nothing_pending m v = length v.update.pending == 0 && list_all (is_marked_node m) v.update.taken
+nothing_pending m v = length v.update.pending == 0 && list_all (is_marked_out m v.update) v.update.taken
 
 abbrev pub is_own_section : Option ℕ → Word → Bool
 is_own_section (Some n) (Section pass) = pass == n
@@ -33,21 +44,6 @@ is_stamp _ = false
 -- enter: outside a section, no lock held
 abbrev pub may_enter : View → Word → ℕ → Bool
 may_enter v w value = is_own_section v.number w && is_outside v && value == v.section_word + 1
-
--- leave: inside a section, no lock held, nothing pending. With no lock held nothing is pending under the rule, so that
--- this part refuses nothing more
-abbrev pub may_leave : Memory → View → Word → ℕ → Bool
-may_leave m v w value =
-    is_own_section v.number w && not (is_even v.section_word) && length v.held.nodes == 0 && nothing_pending m v && value == left_word v.section_word
-
--- look at a section: another pass's, from outside a section with no lock held, by a view with retired slots or a
--- batch. That it has such slots is used by no law; a test alone pins it
-abbrev pub may_look_at : View → ℕ → ℕ → Bool
-may_look_at v pass value = not (is_number pass v.number) && is_outside v && not (is_empty v.batch && is_empty v.retired) && value == 0
-
-abbrev pub may_look : View → Word → ℕ → Bool
-may_look v (Section pass) value = may_look_at v pass value
-may_look v _ value = false
 
 abbrev pub is_lock : Field → Bool
 is_lock Lock = true

@@ -1,6 +1,7 @@
 -- The needs of each kind of event that loads or stores a plain link or its tag, as computed truth values.
-use Rattle.std.specs.Prelude.{ℕ, ◌+◌, List, Bool, true, false, not, ◌==◌, ◌&&◌, Option, Some, None}
+use Rattle.std.specs.Prelude.{ℕ, ◌+◌, List, Bool, true, false, not, ◌==◌, ◌&&◌, ◌||◌, Option, Some, None}
 use Rattle.std.specs.List.{list_any}
+use Rattle.index_words.specs.declared.layout.Layout.{Layout}
 use Rattle.index_words.specs.declared.side.Side.{Side}
 use Rattle.index_words.specs.declared.view.View.{View}
 use Rattle.index_words.specs.declared.view.update.OwedTag.{OwedTag}
@@ -12,8 +13,9 @@ use Rattle.index_words.specs.declared.word.Field.TheVariants.{Link, Tag}
 use Rattle.index_words.specs.declared.word.Word.{Word}
 use Rattle.index_words.specs.declared.word.Word.TheVariants.{Node}
 use Rattle.index_words.specs.Words.{Memory, same_side}
+use Rattle.core_grace.specs.Batches.{all_passed}
 use Rattle.core_grace.specs.Sections.{is_even}
-use Rattle.core_events.specs.Needs.{nothing_pending}
+use Rattle.core_events.specs.Needs.{is_marked_node, is_successor, nothing_pending}
 use Rattle.core_events.specs.LoadMoves.{locks}
 
 abbrev pub is_plain_link : Field → Bool
@@ -58,15 +60,24 @@ sets_others k side us = list_any (λ (u : UnsetLink). not (is_link_of k side u))
 abbrev pub keeps_order : ℕ → Side → Updating → Bool
 keeps_order k side u = not (unlinks_at k side u.unlinking && sets_others k side u.unset)
 
--- set link: the seat has locked the node, nothing is pending, and its update has still to set the link to this child
-abbrev pub may_set_field : Memory → View → Field → ℕ → ℕ → Bool
-may_set_field m v (Link side) k child =
-    locks k v.held.nodes && nothing_pending m v && sets_to k side child v.update.unset && keeps_order k side v.update
-may_set_field m v _ k child = false
+-- a successor may be unlinked: it is marked, and every other pass was passed since its copy was linked
+abbrev pub may_unlink : Layout → Memory → View → Option Unlinking → Bool
+may_unlink z m v None = true
+may_unlink z m v (Some u) = is_marked_node m u.successor && all_passed z.passes v.number v.update.waiting.passed
 
-abbrev pub may_set_link : Memory → View → Word → ℕ → Bool
-may_set_link m v (Node field k) child = may_set_field m v field k child
-may_set_link m v _ child = false
+-- the link is not the one to a successor, or that may be unlinked
+abbrev pub may_unlink_at : Layout → Memory → View → ℕ → Side → Bool
+may_unlink_at z m v k side = not (unlinks_at k side v.update.unlinking) || may_unlink z m v v.update.unlinking
+
+-- set link: the seat has locked the node, nothing is pending, and its update has still to set the link to this child
+abbrev pub may_set_field : Layout → Memory → View → Field → ℕ → ℕ → Bool
+may_set_field z m v (Link side) k child =
+    locks k v.held.nodes && nothing_pending m v && sets_to k side child v.update.unset && keeps_order k side v.update && may_unlink_at z m v k side
+may_set_field z m v _ k child = false
+
+abbrev pub may_set_link : Layout → Memory → View → Word → ℕ → Bool
+may_set_link z m v (Node field k) child = may_set_field z m v field k child
+may_set_link z m v _ child = false
 
 abbrev pub is_owed_at : ℕ → Side → OwedTag → Bool
 is_owed_at k side o = o.node == k && same_side o.side side
@@ -84,7 +95,8 @@ abbrev pub may_set_tag : Memory → View → Word → ℕ → Bool
 may_set_tag m v (Node field k) value = may_raise_tag m v field k value
 may_set_tag m v _ value = false
 
--- the update has set all links of the node and raised all its tags
+-- the update has set all links of the node and raised all its tags, and the node is no successor that is still to be
+-- unlinked
 abbrev pub is_done_at : ℕ → Updating → Bool
 is_done_at k u =
-    not (list_any (λ (x : UnsetLink). x.node == k) u.unset) && not (list_any (λ (o : OwedTag). o.node == k) u.owed)
+    not (list_any (λ (x : UnsetLink). x.node == k) u.unset) && not (list_any (λ (o : OwedTag). o.node == k) u.owed) && not (is_successor k u.unlinking)

@@ -11,12 +11,13 @@ use Rattle.index_words.specs.declared.word.Word.{Word}
 use Rattle.index_words.specs.declared.word.Word.TheVariants.{Section, Announced, Node, Entry}
 use Rattle.index_words.specs.Words.{Memory, memory, word_at}
 use Rattle.index_words.specs.Views.{spent_view}
-use Rattle.core_grace.specs.Batches.{is_number, looked}
+use Rattle.core_grace.specs.Batches.{is_number}
 use Rattle.core_events.specs.declared.event.Event.{Event}
 use Rattle.core_events.specs.declared.event.Kind.{Kind}
 use Rattle.core_events.specs.declared.event.Kind.TheVariants.{MakeSeat, SplitSeat, JoinSeat, Enter, Leave, LookSec, Fill, LoadStamp, LoadHead, LoadTs, LoadPtr, LoadNext, Prepare, Raise, Finalise, TryLock, Unlock, LoadMark, Mark, LoadKeyOrVal, Announce, LookAnn, Cut, LoadLink, SetLink, LoadTag, SetTag}
 use Rattle.core_events.specs.Tables.{Table, held_by}
-use Rattle.core_events.specs.Needs.{may_enter, may_leave, may_look, may_fill, may_split, may_join}
+use Rattle.core_events.specs.Needs.{may_enter, may_fill, may_split, may_join}
+use Rattle.core_events.specs.Waits.{may_leave, may_look, looked_by}
 use Rattle.core_events.specs.LoadNeeds.{may_load_stamp, may_load_head, may_load_part, may_load_next}
 use Rattle.core_events.specs.UpdateNeeds.{may_prepare, may_raise, may_finalise}
 use Rattle.core_events.specs.LockNeeds.{may_try_lock, may_unlock, may_load_mark, may_mark, may_load_pair}
@@ -60,7 +61,7 @@ needs Announce z m views seat v w value update = may_announce v w value
 needs LookAnn z m views seat v w value update = may_look_ann v w value
 needs Cut z m views seat v w value update = may_cut z m views v w value
 needs LoadLink z m views seat v w value update = may_load_link v w value
-needs SetLink z m views seat v w value update = may_set_link m v w value
+needs SetLink z m views seat v w value update = may_set_link z m v w value
 needs LoadTag z m views seat v w value update = may_load_tag v w value
 needs SetTag z m views seat v w value update = may_set_tag m v w value
 
@@ -87,7 +88,7 @@ join_found views seat v other (Some w) = slice_set (slice_set views seat (joined
 
 -- the view of the seat after an event at a word that was found to hold `x`
 abbrev pub look_from : Layout → View → Word → ℕ → View
-look_from z v (Section pass) x = looked z.passes v pass x
+look_from z v (Section pass) x = looked_by z.passes v pass x
 look_from z v _ x = v
 
 -- `number` is the written number of the entry found

@@ -1,5 +1,5 @@
 -- What idle views hold, and what the rule says of two views with numbers.
-use Rattle.std.proofs.Common.{◌≡◌, ℕ, ◌+◌, ◌<◌, ◌≤◌, cond, List, [], Bool, true, false, eqb, ltb, arith, refl, ap, subst, inl, inr, Option, Some, None}
+use Rattle.std.proofs.Common.{◌≡◌, ℕ, ◌+◌, ◌<◌, ◌≤◌, ◌⊎◌, cond, List, [], Bool, true, false, eqb, ltb, arith, refl, ap, subst, inl, inr, Option, Some, None, is_some}
 use Rattle.std.proofs.lemmas.Bool.Decides.{nat_tests}
 use Rattle.std.proofs.lemmas.Bool.{eq-eqb}
 use Rattle.index_words.specs.declared.layout.Layout.{Layout}
@@ -13,7 +13,7 @@ use Rattle.core_grace.specs.Holds.{Bundles, held_nodes, work_nodes, ReadsAt, Hol
 use Rattle.core_grace.specs.Slots.{HoldsNone}
 use Rattle.core_events.specs.Moves.{own_number}
 use Rattle.core_invariant.specs.Numbers.{number_count, NumbersRight}
-use Rattle.core_invariant.specs.SectionRule.{IsIdle, IsOwnWord, SectionRight}
+use Rattle.core_invariant.specs.SectionRule.{IsIdle, IsWaiting, IsOwnWord, SectionRight}
 
 pub idle_work : (v : View) → IsIdle v → work_nodes v ≡ []
 idle_work v idle = rw idle.held (rw idle.update refl)
@@ -35,14 +35,25 @@ own_none : (word : ℕ → ℕ) (number : Option ℕ) (held : ℕ) → number �
 own_none word None held is own = own
 own_none word (Some n) held is own = cc
 
--- a view outside a section is idle
-pub outside_idle : (s a : ℕ → ℕ) (v : View) → SectionRight s a v → is_even v.section_word ≡ true → IsIdle v
-outside_idle s a v right even = record { reading = right.outside even; held = right.unlocked even; update = right.done (right.unlocked even) }
+-- a view outside a section is idle, or waits
+pub outside_cases : (s a : ℕ → ℕ) (v : View) → SectionRight s a v → is_even v.section_word ≡ true → IsIdle v ⊎ IsWaiting v
+outside_cases s a v right even =
+    elim (right.unlocked even) as (λ _. IsIdle v ⊎ IsWaiting v) [
+      | inl none ↦ inl (record { reading = right.outside even; held = none; update = right.done none })
+      | inr waits ↦ inr waits
+    ]
 
--- so is one without a number
+-- one without a number is idle
 pub nameless_idle : (s a : ℕ → ℕ) (v : View) → SectionRight s a v → v.number ≡ None → IsIdle v
 nameless_idle s a v right none =
-    outside_idle s a v right (ap is_even (own_none s v.number v.section_word none right.section))
+    elim (outside_cases s a v right (ap is_even (own_none s v.number v.section_word none right.section))) as (λ _. IsIdle v) [
+      | inl idle ↦ idle
+      | inr waits ↦ absurd (nameless v.number none waits.named)
+    ]
+  where
+    nameless : (o : Option ℕ) → o ≡ None → is_some o ≡ true → ⊥
+    nameless None is some = cc
+    nameless (Some n) is some = cc
 
 own_some : (word : ℕ → ℕ) (number : Option ℕ) (n held : ℕ) → number ≡ Some n → IsOwnWord word number held → word n ≡ held
 own_some word None n held is own = cc

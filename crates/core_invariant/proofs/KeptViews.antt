@@ -16,6 +16,7 @@ use Rattle.core_grace.specs.Batches.{is_empty, batch_taken, batch_freed, all_pas
 use Rattle.core_events.specs.declared.event.Kind.{Kind}
 use Rattle.core_events.specs.declared.event.Kind.TheVariants.{MakeSeat, SplitSeat, JoinSeat, Enter, Leave, LookSec, Fill, LoadStamp, LoadHead, LoadTs, LoadPtr, LoadNext, Prepare, Raise, Finalise, TryLock, Unlock, LoadMark, Mark as MarkNode, LoadKeyOrVal, Announce, LookAnn, Cut, LoadLink, SetLink, LoadTag, SetTag}
 use Rattle.core_events.specs.Moves.{in_section, entered}
+use Rattle.core_events.specs.Waits.{has_no_lock, looked_waiting}
 use Rattle.core_grace.specs.Sections.{is_even}
 use Rattle.core_events.specs.FillMoves.{filled_with, with_filled, known_before, used_view, filled_view}
 use Rattle.core_events.specs.LoadMoves.{next_at}
@@ -62,7 +63,7 @@ looked_part passes v pass word =
     settled_part passes (record taken { grace = looked_at taken.grace pass word }) ∙ taken_part v
 
 look_part : (z : Layout) (v : View) (w : Word) (x : ℕ) → part_of (look_from z v w x) ≡ part_of v
-look_part z v (Section pass) x = looked_part z.passes v pass x
+look_part z v (Section pass) x = either_part (has_no_lock v) (part_of v) (looked z.passes v pass x) (looked_waiting v pass x) (looked_part z.passes v pass x) refl
 look_part z v Stamp x = refl
 look_part z v (Announced k) x = refl
 look_part z v (Node f k) x = refl

@@ -24,6 +24,10 @@ pub mod SlotLinks
 pub mod Fronts
 -- A node that a view has locked and found unmarked is the root or in the tree, but for one that its update took out.
 pub mod Locked
+-- A view that waits outside of a section holds nothing of any batch.
+pub mod Waits
+-- What the needs of a leave, of a look at a section and of a set link say.
+pub mod WaitNeeds
 -- An entry of a linked node stands in no other bundle of a live node.
 pub mod Apart
 -- The nodes of a tree, as a list in the order of their keys.
@@ -54,7 +58,8 @@ pub mod HeldFacts
 pub mod LiveHeads
 -- The longest history that a view knows is the whole one.
 pub mod Longest
--- A view that stands at another place, remembers other links, and has loaded more of the same locked nodes keeps the rule.
+-- A view that stands at another place, remembers other links, and has loaded more of the same locked nodes keeps the
+-- rule.
 pub mod ReadMoves
 -- What a seat knows that stands at an entry: the entry is in the bundle, and its number, and what is selected.
 pub mod AtEntries

@@ -15,7 +15,7 @@ use Rattle.index_words.specs.declared.word.Word.TheVariants.{Stamp, Section, Ann
 use Rattle.index_words.specs.Views.{no_slots, no_looks}
 use Rattle.index_words.specs.Words.{Memory}
 use Rattle.key_map.specs.Lists.{count, Every, IsItem}
-use Rattle.index_words.proofs.Seats.{sum_kept, at_item, all_moved}
+use Rattle.index_words.proofs.Seats.{Beside, sum_kept, at_item, all_moved}
 use Rattle.key_map.proofs.Counting.{count-append}
 use Rattle.core_grace.specs.Sections.{is_even}
 use Rattle.core_grace.specs.Batches.{is_empty, batch_taken, batch_freed, settled, looked_at, all_passed, is_number, both, apart_from}
@@ -34,7 +34,7 @@ use Rattle.core_invariant.specs.Rule.{Rule}
 use Rattle.core_invariant.specs.LinkLaw.{IsRead}
 use Rattle.core_invariant.proofs.Frames.{live_moved, pending_moved, bundle_weaker, knows_moved}
 use Rattle.core_invariant.proofs.Pairs.{pairs_same}
-use Rattle.core_invariant.proofs.Idle.{idle_none, outside_idle, nameless_idle, section_of, number_low, number_apart}
+use Rattle.core_invariant.proofs.Idle.{idle_none, nameless_idle, section_of, number_low, number_apart}
 use Rattle.std.proofs.lemmas.Option.{slice_get_within, get_or_from_slice_get}
 
 -- putting an item at its own place
@@ -81,6 +81,7 @@ module _ (z : Layout) (m : Memory) (vs : List View) (g : Meaning) where
     outside = right.outside;
     unlocked = right.unlocked;
     done = right.done;
+    waits = right.waits;
   }
 
   slots_seat : (v : View) (f r b : Slots) (l : Looks) (n : Slots) → MarksRight (λ k. m (Node Mark k)) (with_slots v f r b l n) → Every (FilledRight m f v.update) v.reading.filled
@@ -199,10 +200,12 @@ module _ (z : Layout) (m : Memory) (vs : List View) (g : Meaning) where
   not_both n None is other = cc
   not_both n (Some k) is other = let same : k ≡ n = cc in cc (eq-eqb k n same)
 
-  -- a look that found the section word of another pass keeps the rule
+  -- a look that found the section word of another pass keeps the rule, where a pass outside a section holds nothing of
+  -- the batch
   pub look_right : (i : ℕ) (v : View) (pass : ℕ) → IsItem vs i v → Rule z m vs g → is_number pass v.number ≡ false
+      → ((u : View) → Beside vs i u → is_even u.section_word ≡ true → HoldsNone HoldsNode (HoldsEntry g.bundles) v.batch u)
       → Rule z m (set vs i (record v { grace = looked_at v.grace pass (m (Section pass)) })) g
-  look_right i v pass at rule other =
+  look_right i v pass at rule other none =
       let l : Looks = looked_at v.grace pass (m (Section pass)) in
       let w : View = with_slots v v.free v.retired v.batch l v.unused in
       let s : ℕ → ℕ = λ n. m (Section n) in
@@ -215,7 +218,7 @@ module _ (z : Layout) (m : Memory) (vs : List View) (g : Meaning) where
       (λ u beside known.
       let right : SectionRight s a u = (seat_at beside.place u beside.at rule).section in
       look_row z (linked_by g) HoldsNode (HoldsEntry g.bundles) v u pass (m (Section pass)) (λ is. sym (section_of s a u pass right is))
-      (λ is even. idle_none g.bundles v.batch u (outside_idle s a u right (ap is_even (sym (section_of s a u pass right is)) ∙ even))) known))
+      (λ is even. none u beside (ap is_even (sym (section_of s a u pass right is)) ∙ even)) known))
 
   -- that other slots are known as never used keeps the rule
   pub used_right : (i : ℕ) (v : View) (n : Slots) → IsItem vs i v → Rule z m vs g → Rule z m (set vs i (record v { unused = n })) g

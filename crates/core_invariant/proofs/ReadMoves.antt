@@ -1,4 +1,5 @@
--- A view that stands at another place, remembers other links, and has loaded more of the same locked nodes keeps the rule.
+-- A view that stands at another place, remembers other links, and has loaded more of the same locked nodes keeps the
+-- rule.
 use Rattle.std.proofs.Common.{◌≡◌, ℕ, ◌<◌, ◌⊎◌, List, [], ◌∷◌, ◌++◌, length, Bool, true, false, set, arith, refl, ap, ◌∙◌, sym, subst, inl, inr, Option, Some, None}
 use Rattle.std.specs.Prelude.{IfSome}
 use Rattle.index_words.specs.declared.layout.Layout.{Layout}
@@ -126,7 +127,7 @@ module _ (z : Layout) (m : Memory) (vs : List View) (g : Meaning) (rule : Rule z
         quiet_kept z m vs g rule i v at w.history w.counts w.reading w.held (pairs_same vs i v w at refl rule.pairs) (record { mine = refl; ended = refl; ended_places = refl; left = refl }) (λ known. known) same moved_holds
         (record {
           layout = seat.layout;
-          section = record { section = seat.section.section; announced = seat.section.announced; outside = λ even. absurd (inside_only v inside even); unlocked = λ even. absurd (inside_only v inside even); done = λ none. seat.section.done (none_held none) };
+          section = record { section = seat.section.section; announced = seat.section.announced; outside = λ even. absurd (inside_only v inside even); unlocked = λ even. absurd (inside_only v inside even); done = λ none. seat.section.done (none_held none); waits = seat.section.waits };
           seen = seat.seen;
           update = seat.update;
           version = record { past = seat.version.past; opened = seat.version.opened; bare = seat.version.bare; there = seat.version.there };

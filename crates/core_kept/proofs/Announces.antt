@@ -43,6 +43,7 @@ module _ (z : Layout) (m : Memory) (vs : List View) (g : Meaning) (rule : Rule z
       outside = own.section.outside;
       unlocked = own.section.unlocked;
       done = own.section.done;
+      waits = own.section.waits;
     };
     seen = own.seen;
     update = own.update;
@@ -68,6 +69,7 @@ module _ (z : Layout) (m : Memory) (vs : List View) (g : Meaning) (rule : Rule z
       outside = of.section.outside;
       unlocked = of.section.unlocked;
       done = of.section.done;
+      waits = of.section.waits;
     };
     seen = of.seen;
     update = of.update;

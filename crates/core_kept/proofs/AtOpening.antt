@@ -1,5 +1,5 @@
 -- The table with the first view alone, which has all slots, calls and numbers, meets the rule.
-use Rattle.std.proofs.Common.{◌≡◌, ℕ, ◌+◌, zero, suc, cond, List, [], ◌∷◌, length, take, ◌<◌, Bool, true, false, eqb, ltb, leb, ◌&&◌, get_or, arith, refl, ap, ◌∙◌, sym, subst, Option, Some, None, replicate, slice_index}
+use Rattle.std.proofs.Common.{◌≡◌, ℕ, ◌+◌, zero, suc, cond, List, [], ◌∷◌, length, take, ◌<◌, Bool, true, false, eqb, ltb, leb, ◌&&◌, get_or, arith, refl, ap, ◌∙◌, sym, subst, Option, Some, None, replicate, slice_index, inl}
 use Rattle.std.specs.List.{All, sum_by, slice_get}
 use Rattle.std.proofs.lemmas.Bool.Decides.{nat_tests}
 use Rattle.std.proofs.lemmas.List.{length-replicate}
@@ -156,8 +156,9 @@ module _ (z : Layout) (vs : List View) (starts : StartsWith z vs) where
     section = zero_word (λ n. memory z ws (Section n)) v.number v.section_word (λ n. zero_memory z (word_count z) (Section n)) fresh.section_word;
     announced = zero_word (λ n. memory z ws (Announced n)) v.number v.announced (λ n. zero_memory z (word_count z) (Announced n)) fresh.announced;
     outside = λ even. fresh.idle.reading;
-    unlocked = λ even. fresh.idle.held;
+    unlocked = λ even. inl fresh.idle.held;
     done = λ _. fresh.idle.update;
+    waits = λ odd. ap (λ (u : Updating). u.waiting) fresh.idle.update;
   }
 
   seat_right : (v : View) → IsFresh z v → SeatRight z (memory z ws) nothing_linked v

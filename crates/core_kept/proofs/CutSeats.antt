@@ -1,5 +1,6 @@
 -- A cut keeps the rule: the bundle ends with the entry, and no seat reads, holds or knows of what stood behind it.
 use Rattle.std.proofs.Common.{◌≡◌, ℕ, suc, ◌<◌, ◌≤◌, ◌⊎◌, cond, List, [], ◌∷◌, ◌++◌, Bool, true, false, eqb, not, filter, map, set, arith, refl, ap, ◌∙◌, sym, subst, inl, inr, Option, Some, None}
+use Rattle.index_words.specs.declared.view.reading.Reading.{Reading}
 use Rattle.std.specs.Prelude.{IfSome}
 use Rattle.std.proofs.lemmas.Bool.{eq-eqb, eqb-true, cases_lt}
 use Rattle.std.proofs.lemmas.Bool.Decides.{eqb_tells}
@@ -22,7 +23,7 @@ use Rattle.index_words.proofs.Seats.{Beside, sum_kept, all_moved}
 use Rattle.core_grace.specs.Holds.{Bundles, HoldsNode, HoldsEntry, held_slots, tree_slots, entries_of}
 use Rattle.core_grace.specs.Slots.{SlotRule, nodes_of, own_free}
 use Rattle.core_links.specs.Bundle.{IsChain, no_number}
-use Rattle.core_events.specs.CutMoves.{next_cut, cut_view}
+use Rattle.core_events.specs.CutMoves.{next_cut, place_cut, cut_view}
 use Rattle.core_events.specs.Numbered.{shown}
 use Rattle.core_events.specs.Versions.{slots_of}
 use Rattle.core_events.proofs.Tests.{not_true}
@@ -273,9 +274,10 @@ module _ (z : Layout) (m : Memory) (vs : List View) (g : Meaning) (rule : Rule z
     section = record {
       section = own.section.section;
       announced = own.section.announced;
-      outside = λ even. absurd (holds_lock (own.section.unlocked even));
+      outside = λ even. ap (λ (r : Reading). record r { place = place_cut back r.place }) (own.section.outside even);
       unlocked = own.section.unlocked;
       done = own.section.done;
+      waits = own.section.waits;
     };
     seen = own.seen;
     update = own.update;
@@ -298,7 +300,7 @@ module _ (z : Layout) (m : Memory) (vs : List View) (g : Meaning) (rule : Rule z
   other_seat : (u : View) → Beside vs i u → SeatRight z m g u → SeatRight z m' g' u
   other_seat u beside of = record {
     layout = of.layout;
-    section = record { section = of.section.section; announced = of.section.announced; outside = of.section.outside; unlocked = of.section.unlocked; done = of.section.done };
+    section = record { section = of.section.section; announced = of.section.announced; outside = of.section.outside; unlocked = of.section.unlocked; done = of.section.done; waits = of.section.waits };
     seen = of.seen;
     update = of.update;
     version = of.version;

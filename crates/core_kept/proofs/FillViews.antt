@@ -42,7 +42,7 @@ knows_filled z m vs g rule i v at fs inside right =
     (record { nodes = λ k holds. inl holds; entries = λ x holds. inl holds })
     (record {
       layout = seat.layout;
-      section = record { section = seat.section.section; announced = seat.section.announced; outside = λ even. absurd (inside_only z m vs g rule v inside even); unlocked = seat.section.unlocked; done = seat.section.done };
+      section = record { section = seat.section.section; announced = seat.section.announced; outside = λ even. absurd (inside_only z m vs g rule v inside even); unlocked = seat.section.unlocked; done = seat.section.done; waits = seat.section.waits };
       seen = seat.seen;
       update = seat.update;
       version = record { past = seat.version.past; opened = seat.version.opened; bare = seat.version.bare; there = seat.version.there };

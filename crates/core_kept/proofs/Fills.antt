@@ -99,7 +99,7 @@ module _ (z : Layout) (m : Memory) (vs : List View) (g : Meaning) (rule : Rule z
       ) in
       record {
         layout = seat.layout;
-        section = record { section = seat.section.section; announced = seat.section.announced; outside = seat.section.outside; unlocked = seat.section.unlocked; done = seat.section.done };
+        section = record { section = seat.section.section; announced = seat.section.announced; outside = seat.section.outside; unlocked = seat.section.unlocked; done = seat.section.done; waits = seat.section.waits };
         seen = seat.seen;
         update = seat.update;
         version = seat.version;
@@ -266,7 +266,7 @@ module _ (z : Layout) (m : Memory) (vs : List View) (g : Meaning) (rule : Rule z
         let locked : (k : ℕ) → 0 < lock_count k u → IsLive z vs k = λ k some. held_live z vs g rule.slots n k u of (held_holds u k some) (seat.locks k some).0 in
         record {
           layout = seat.layout;
-          section = record { section = seat.section.section; announced = seat.section.announced; outside = seat.section.outside; unlocked = seat.section.unlocked; done = seat.section.done };
+          section = record { section = seat.section.section; announced = seat.section.announced; outside = seat.section.outside; unlocked = seat.section.unlocked; done = seat.section.done; waits = seat.section.waits };
           seen = seat.seen;
           update = seat.update;
           version = seat.version;

@@ -1,5 +1,5 @@
 -- Finalise keeps the rule: the number of the raise is written into a pending entry.
-use Rattle.std.proofs.Common.{◌≡◌, ℕ, ◌<◌, ◌≤◌, cond, List, [], ◌∷◌, set, arith, refl, ap, ◌∙◌, sym, subst, inl, inr, Option, Some, None}
+use Rattle.std.proofs.Common.{◌≡◌, ℕ, ◌<◌, ◌≤◌, cond, List, [], ◌∷◌, set, arith, refl, ap, ◌∙◌, sym, subst, inl, inr, Option, Some, None, true}
 use Rattle.std.specs.Prelude.{IfSome}
 use Rattle.std.proofs.lemmas.Bool.{eq-eqb}
 use Rattle.std.proofs.lemmas.Bool.Decides.{eqb_tells}
@@ -21,6 +21,7 @@ use Rattle.index_words.specs.Words.{Memory, written}
 use Rattle.index_words.specs.Views.{no_update}
 use Rattle.key_map.specs.Lists.{count, Every, IsItem}
 use Rattle.index_words.proofs.Seats.{Beside, sum_moved, sum_kept, two_terms, at_item, all_moved}
+use Rattle.core_grace.specs.Sections.{is_even}
 use Rattle.core_grace.specs.Holds.{HoldsNode, HoldsEntry, work_nodes}
 use Rattle.core_grace.proofs.RuleMoves.{quiet, same_looks}
 use Rattle.core_events.specs.Numbered.{shown}
@@ -41,6 +42,7 @@ use Rattle.core_invariant.proofs.Owned.{held_live}
 use Rattle.core_invariant.proofs.Filled.{entry_other, every_filled, entry_apart}
 use Rattle.core_invariant.proofs.HeldFacts.{work_holds}
 use Rattle.core_invariant.proofs.LiveHeads.{head_apart}
+use Rattle.core_kept.proofs.WaitingLocks.{pending_inside}
 
 entry_same : (m : Memory) (e x : ℕ) → written m (Entry Number e) x (Entry Number e) ≡ x
 entry_same m e x = ap (λ b. cond b x (m (Entry Number e))) (eq-eqb e e refl)
@@ -196,15 +198,20 @@ module _ (z : Layout) (m : Memory) (vs : List View) (g : Meaning) (rule : Rule z
   own_apart (Section n) is = absurd is
   own_apart (Announced n) is = absurd is
 
+  inside : is_even v.section_word ≡ true → ⊥
+  inside even =
+      pending_inside v (λ none. not_done e v.update some (own.section.done none)) (λ none. omega (arith, some, ap (count e) none)) (own.section.unlocked even)
+
   own_kept : SeatRight z m' g w
   own_kept = record {
     layout = own.layout;
     section = record {
       section = own.section.section;
       announced = own.section.announced;
-      outside = λ even. absurd (not_done e v.update some (own.section.done (own.section.unlocked even)));
-      unlocked = own.section.unlocked;
+      outside = λ even. absurd (inside even);
+      unlocked = λ even. absurd (inside even);
       done = λ none. absurd (not_done e v.update some (own.section.done none));
+      waits = own.section.waits;
     };
     seen = own.seen;
     update = record { raised = own.update.raised; first = own.update.first };
@@ -230,7 +237,7 @@ module _ (z : Layout) (m : Memory) (vs : List View) (g : Meaning) (rule : Rule z
   other_kept : (u : View) → Beside vs i u → SeatRight z m g u → SeatRight z m' g u
   other_kept u beside of = record {
     layout = of.layout;
-    section = record { section = of.section.section; announced = of.section.announced; outside = of.section.outside; unlocked = of.section.unlocked; done = of.section.done };
+    section = record { section = of.section.section; announced = of.section.announced; outside = of.section.outside; unlocked = of.section.unlocked; done = of.section.done; waits = of.section.waits };
     seen = of.seen;
     update = of.update;
     version = of.version;

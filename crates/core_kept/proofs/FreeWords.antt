@@ -26,9 +26,9 @@ use Rattle.core_events.specs.CutNeeds.{may_cut}
 use Rattle.core_events.specs.LoadMoves.{locks}
 use Rattle.core_events.specs.Announcing.{is_own_announced, is_announcement}
 use Rattle.core_events.specs.LockNeeds.{is_mark, may_try_lock, may_unlock, may_mark}
-use Rattle.core_events.specs.PlainNeeds.{sets_to, keeps_order, owes, may_set_link, may_set_tag}
+use Rattle.core_events.specs.PlainNeeds.{owes, may_set_link, may_set_tag}
 use Rattle.core_events.specs.LoadNeeds.{is_part}
-use Rattle.core_events.specs.Needs.{is_lock, nothing_pending}
+use Rattle.core_events.specs.Needs.{is_lock}
 use Rattle.core_events.specs.Steps.{needs, words_after}
 use Rattle.core_events.specs.UpdateMoves.{without_all}
 use Rattle.core_events.specs.UpdateNeeds.{may_prepare, may_prepare_head, may_raise, may_finalise}
@@ -43,6 +43,7 @@ use Rattle.core_invariant.proofs.Cuts.{IsCutAt, cut_at}
 use Rattle.core_invariant.proofs.Filled.{stamp_apart, section_apart, announced_apart, lock_apart, node_apart, entry_apart}
 use Rattle.core_invariant.proofs.Frames.{every_at, count-middle}
 use Rattle.core_invariant.proofs.HeldFacts.{work_holds, locks-count}
+use Rattle.core_invariant.proofs.WaitNeeds.{can_set}
 use Rattle.core_invariant.proofs.LiveHeads.{head_apart}
 use Rattle.core_invariant.proofs.Locked.{locked_live}
 use Rattle.core_invariant.proofs.Needed.{ready_is, OwnSection, OwnAnnounced, own_announced}
@@ -232,14 +233,9 @@ module _ (z : Layout) (words : List ℕ) (vs : List View) (right : InRule z word
   mark_stores (Announced k) met = absurd (never met)
   mark_stores (Entry p e) met = absurd (never met)
 
-  set_link_stores : (u : Word) → may_set_link m v u value ≡ true → Stores u
+  set_link_stores : (u : Word) → may_set_link z m v u value ≡ true → Stores u
   set_link_stores (Node (Link side) k) met =
-      let a = locks k v.held.nodes in
-      let b = nothing_pending m v in
-      let c = sets_to k side value v.update.unset in
-      let one = and_parts (a && b && c) (keeps_order k side v.update) met in
-      let two = and_parts (a && b) c one.0 in
-      locked_stores (Link side) k (locks-count k v.held.nodes (and_parts a b two.0).0)
+      locked_stores (Link side) k (can_set z m v k side value met).locked
   set_link_stores (Node Key k) met = absurd (never met)
   set_link_stores (Node Val k) met = absurd (never met)
   set_link_stores (Node Lock k) met = absurd (never met)

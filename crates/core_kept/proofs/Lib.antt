@@ -1,16 +1,20 @@
 -- Each view knows where its own updates stand, after every event.
 pub mod OwnPlaces
+-- The slots of a view that wait, after the kinds of events that move none of them.
+pub mod WaitingLoads
 -- Each view's slots wait as they should, after every event.
 pub mod WaitingSlots
 -- What events store to words of free slots: none but a fill stores to one.
 pub mod FreeWords
 -- The slots that a view never used hold 0, after every event.
 pub mod UnusedSlots
--- The section words and the announcements of passes: an enter, a leave and an announcement alone store to one, and to their own.
+-- The section words and the announcements of passes: an enter, a leave and an announcement alone store to one, and to
+-- their own.
 pub mod SectionWords
 -- No event makes what a seat has seen shorter.
 pub mod SeenLaw
--- What an event does to the section words and the announcements of passes: an enter makes the own section word odd, a leave even.
+-- What an event does to the section words and the announcements of passes: an enter makes the own section word odd, a
+-- leave even.
 pub mod SectionLaw
 -- A store to the own section word keeps the rule.
 pub mod Stores
@@ -24,6 +28,10 @@ pub mod FillViews
 pub mod TwoViews
 -- Each kind of event keeps the rule where its needs are met.
 pub mod EachKind
+-- A leave keeps the rule: with no lock held, and at the wait of a removal with the locks that it keeps.
+pub mod Leaves
+-- What is known of a view that holds locks outside of a section stays, where it keeps them.
+pub mod WaitingLocks
 -- A seat that is made: the rule is kept.
 pub mod MadeViews
 -- The seats of the opening, made one after another.
@@ -32,13 +40,15 @@ pub mod MadeSeats
 pub mod AtOpening
 -- The first view of a table put behind the others: the rule stays, since it names no seat by its place.
 pub mod LastView
--- The table of the opening meets the rule: the seats of the passes are made one after another from the first view, which then
+-- The table of the opening meets the rule: the seats of the passes are made one after another from the first view,
+-- which then stands behind them.
 pub mod Opened
 -- The laws on how seats are made, and on what a view knows that has every number.
 pub mod SeatLaws
 -- An event of a seat, or of its free slots, that is allowed keeps the rule.
 pub mod StepSeats
--- A load of the stamp keeps the rule: a seat that has announced reads from then on, and any other one knows the history alone.
+-- A load of the stamp keeps the rule: a seat that has announced reads from then on, and any other one knows the history
+-- alone.
 pub mod StampLoads
 -- Loads of heads and of the stamps of entries keep the rule.
 pub mod HeadLoads
@@ -84,9 +94,11 @@ pub mod TreeAfter
 pub mod TreeNeeds
 -- How often slots stand in a tree, in the bundles of its nodes, and in a list without others.
 pub mod RaiseCounts
--- A move of one view that brings some of its free slots in: the rule on one kind of slots, and what the others know of a batch.
+-- A move of one view that brings some of its free slots in: the rule on one kind of slots, and what the others know of
+-- a batch.
 pub mod RaiseMoves
--- The node that a raise brings in, and the entries of its bundles: they were free, so nothing of the rule spoke of them.
+-- The node that a raise brings in, and the entries of its bundles: they were free, so nothing of the rule spoke of
+-- them.
 pub mod RaiseNew
 -- A raise keeps the rule on slots.
 pub mod RaiseSlots

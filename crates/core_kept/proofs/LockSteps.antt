@@ -1,6 +1,5 @@
 -- What the needs of events that lock, unlock or mark say, and so what each of these events keeps.
-use Rattle.std.proofs.Common.{◌≡◌, ℕ, ◌+◌, ◌<◌, ◌≤◌, cond, List, [], ◌∷◌, length, Bool, true, false, eqb, ◌&&◌, not, set, arith, refl, sym, subst, Option, Some, None}
-use Rattle.std.specs.List.{list_all}
+use Rattle.std.proofs.Common.{◌≡◌, ℕ, ◌+◌, ◌≤◌, List, true, eqb, ◌&&◌, not, set, refl, sym, subst, Option, Some, None}
 use Rattle.std.proofs.lemmas.Bool.{eqb-true, and_parts}
 use Rattle.index_words.specs.declared.layout.Layout.{Layout}
 use Rattle.index_words.specs.declared.view.View.{View}
@@ -9,11 +8,11 @@ use Rattle.index_words.specs.declared.word.Field.TheVariants.{Key, Val, Lock, Ma
 use Rattle.index_words.specs.declared.word.Part.TheVariants.{Child}
 use Rattle.index_words.specs.declared.word.Word.TheVariants.{Stamp, Node, Entry}
 use Rattle.index_words.specs.Words.{Memory, written}
-use Rattle.key_map.specs.Lists.{count, has, IsItem}
+use Rattle.key_map.specs.Lists.{has, IsItem}
 use Rattle.key_map.proofs.Counting.{has-count}
 use Rattle.core_grace.specs.Sections.{is_even}
 use Rattle.core_invariant.specs.Meanings.{Meaning}
-use Rattle.core_events.specs.Needs.{is_lock, is_marked_node, nothing_pending}
+use Rattle.core_events.specs.Needs.{is_lock, nothing_pending}
 use Rattle.core_events.specs.LoadMoves.{locks, raised_if}
 use Rattle.core_events.specs.LoadNeeds.{is_reachable}
 use Rattle.core_events.specs.PlainNeeds.{is_done_at}
@@ -24,6 +23,7 @@ use Rattle.core_invariant.specs.LinkLaw.{Kept}
 use Rattle.core_invariant.proofs.HeldFacts.{locks-count}
 use Rattle.core_events.proofs.Tests.{never, not_true}
 use Rattle.core_invariant.proofs.Needed.{reach_is}
+use Rattle.core_invariant.proofs.WaitNeeds.{nothing_is, unlinked_is}
 use Rattle.core_kept.proofs.TryLocks.{lock_kept, met_kept}
 use Rattle.core_kept.proofs.Unlocks.{unlock_kept}
 use Rattle.core_kept.proofs.Marks.{slots_marked, load_mark_kept, mark_kept}
@@ -40,21 +40,6 @@ record OwnLock (number : Option ℕ) (word : ℕ) : Type 0 where
 own_lock : (number : Option ℕ) (word : ℕ) → names_pass number word ≡ true → OwnLock number word
 own_lock None word met = absurd (never met)
 own_lock (Some n) word met = record { n = n; named = refl; is = eqb-true word (n + 1) met }
-
-empty_of : {X : Type 0} (xs : List X) → eqb (length xs) 0 ≡ true → xs ≡ []
-empty_of [] e = refl
-empty_of (x ∷ xs) e = let none : length (x ∷ xs) ≡ 0 = eqb-true (length (x ∷ xs)) 0 e in absurd (omega arith)
-
-marked_step : (m : Memory) (j x : ℕ) (b : Bool) (rest : ℕ) → eqb x j ≡ b → m (Node Mark x) ≡ 1 → (0 < rest → m (Node Mark j) ≡ 1) → 0 < cond b 1 0 + rest → m (Node Mark j) ≡ 1
-marked_step m j x true rest is here later some = subst (λ k. m (Node Mark k) ≡ 1) (eqb-true x j is) here
-marked_step m j x false rest is here later some = later (omega (arith, some))
-
--- each of the nodes that are all marked
-all_marked : (m : Memory) (xs : List ℕ) → list_all (is_marked_node m) xs ≡ true → (j : ℕ) → 0 < count j xs → m (Node Mark j) ≡ 1
-all_marked m [] all j some = absurd (omega (arith, some))
-all_marked m (x ∷ xs) all j some =
-    let parts = and_parts (is_marked_node m x) (list_all (is_marked_node m) xs) all in
-    marked_step m j x (eqb x j) (count j xs) refl (eqb-true (m (Node Mark x)) 1 parts.0) (all_marked m xs parts.1 j) some
 
 module _ (z : Layout) (m : Memory) (vs : List View) (g : Meaning) (rule : Rule z m vs g) (i : ℕ) (v : View) (at : IsItem vs i v) where
   -- a lock that is free
@@ -98,10 +83,10 @@ module _ (z : Layout) (m : Memory) (vs : List View) (g : Meaning) (rule : Rule z
       let one = and_parts (is_lock Lock && b && nothing_pending m v && c) (eqb value 0) met in
       let some = and_parts (is_lock Lock && b && nothing_pending m v) c one.0 in
       let two = and_parts (is_lock Lock && b) (nothing_pending m v) some.0 in
-      let none = and_parts (eqb (length v.update.pending) 0) (list_all (is_marked_node m) v.update.taken) two.1 in
+      let none = nothing_is m v two.1 in
       subst (λ x. Kept z m vs g (written m (Node Lock k) x) (set vs i (unlocked_view v k))) (sym (eqb-true value 0 one.1))
       (kept_same z m vs g (written m (Node Lock k) 0) (set vs i (unlocked_view v k))
-      (unlock_kept z m vs g rule i k v at (locks-count k v.held.nodes (and_parts (is_lock Lock) b two.0).1) (empty_of v.update.pending none.0) (all_marked m v.update.taken none.1))
+      (unlock_kept z m vs g rule i k v at (locks-count k v.held.nodes (and_parts (is_lock Lock) b two.0).1) none.pending none.marked (unlinked_is k v.update some.1))
       (plain_unlocked (λ t j. m (Node (Link t) j)) (λ t j. m (Node (Tag t) j)) (child_at (λ e. m (Entry Child e)) g.bundles (m Stamp)) (greatest_of g.bundles (m Stamp)) g.tree vs i k v at some.1))
   unlock_by Key k value met = absurd (never met)
   unlock_by Val k value met = absurd (never met)

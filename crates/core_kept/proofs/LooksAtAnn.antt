@@ -118,6 +118,7 @@ module _ (z : Layout) (m : Memory) (vs : List View) (g : Meaning) (rule : Rule z
           outside = λ even. absurd (inside even);
           unlocked = seat.section.unlocked;
           done = seat.section.done;
+          waits = seat.section.waits;
         };
         seen = seat.seen;
         update = seat.update;

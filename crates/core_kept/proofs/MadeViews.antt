@@ -64,6 +64,7 @@ module _ (z : Layout) (m : Memory) (vs : List View) (g : Meaning) where
         outside = seat.section.outside;
         unlocked = seat.section.unlocked;
         done = seat.section.done;
+        waits = seat.section.waits;
       };
       seen = record { seen = seat.seen.seen; told = seat.seen.told; known = seat.seen.known; found = seat.seen.found; given = seat.seen.given };
       update = seat.update;
@@ -80,7 +81,7 @@ module _ (z : Layout) (m : Memory) (vs : List View) (g : Meaning) where
     },
     record {
       layout = λ _. seat.layout live;
-      section = record { section = none.0; announced = none.1; outside = λ even. refl; unlocked = λ even. refl; done = λ _. refl };
+      section = record { section = none.0; announced = none.1; outside = λ even. refl; unlocked = λ even. inl refl; done = λ _. refl; waits = λ odd. refl };
       seen = record { seen = refl; told = refl; known = omega arith; found = omega arith; given = tt };
       update = record { raised = tt; first = λ _. refl };
       version = record { past = tt; opened = tt; bare = λ _. refl; there = λ k some. absurd (omega (arith, some)) };

@@ -23,6 +23,7 @@ use Rattle.core_invariant.specs.Meanings.{Meaning, linked_by}
 use Rattle.core_invariant.specs.Numbers.{number_count}
 use Rattle.core_invariant.specs.Locks.{lock_count, IsNodeAt, IsTakenOut}
 use Rattle.core_invariant.specs.BundleRule.{IsPendingAt, IsPending, pending_count}
+use Rattle.core_invariant.specs.SectionRule.{IsKeptLock}
 use Rattle.core_invariant.specs.SeatRule.{SeatRight}
 use Rattle.core_events.specs.LockMoves.{mark_known, with_mark, pair_known, pair_loaded}
 use Rattle.core_invariant.specs.Rule.{Rule}
@@ -32,6 +33,7 @@ use Rattle.core_invariant.proofs.Owned.{once_node, free_not_live}
 use Rattle.core_invariant.proofs.Filled.{node_other, every_filled, node_apart}
 use Rattle.core_invariant.proofs.Locked.{locked_apart, locked_live}
 use Rattle.core_invariant.proofs.ReadMoves.{read_kept, place_back, links_back, nexts_back, work_same, holds_same}
+use Rattle.core_kept.proofs.WaitingLocks.{still_waits}
 
 node_by : (b : Bool) (x : ℕ) (h : HeldNode) → (cond b (record h { mark = Some x }) h).node ≡ h.node
 node_by true x h = refl
@@ -197,15 +199,21 @@ module _ (z : Layout) (m : Memory) (vs : List View) (g : Meaning) (rule : Rule z
   unfree : (j : ℕ) (u : View) → IsItem vs j u → 0 < count k u.free.nodes → ⊥
   unfree j u of free = free_not_live z vs g rule.slots j k u of free (locked_live z m vs g rule i k v at locked)
 
+  -- the node was taken out, so that its lock may still be kept
+  mark_keeps : (h : HeldNode) (b : Bool) → eqb h.node k ≡ b → IsKeptLock v.update.taken h → IsKeptLock v.update.taken (cond b (record h { mark = Some 1 }) h)
+  mark_keeps h true is kept = inl (subst (λ j. 0 < count j v.update.taken) (sym (eqb-true h.node k is)) taken)
+  mark_keeps h false is kept = kept
+
   own_now : SeatRight z m' g w
   own_now = record {
     layout = seat.layout;
     section = record {
       section = seat.section.section;
       announced = seat.section.announced;
-      outside = λ even. absurd (omega (arith, locked, ap (λ (hs : List HeldNode). count k (held_slots hs)) (seat.section.unlocked even)));
-      unlocked = λ even. absurd (omega (arith, locked, ap (λ (hs : List HeldNode). count k (held_slots hs)) (seat.section.unlocked even)));
+      outside = seat.section.outside;
+      unlocked = λ even. still_waits v nodes (λ none. omega (arith, locked, ap (λ (hs : List HeldNode). count k (held_slots hs)) none)) (every_mapped (IsKeptLock v.update.taken) (IsKeptLock v.update.taken) (mark_known k 1) v.held.nodes (λ h is. mark_keeps h (eqb h.node k) refl is)) (seat.section.unlocked even);
       done = λ none. absurd (omega (arith, locked, ap (count k) locks_same, ap (λ (hs : List HeldNode). count k (held_slots hs)) none));
+      waits = seat.section.waits;
     };
     seen = seat.seen;
     update = seat.update;
@@ -240,7 +248,7 @@ module _ (z : Layout) (m : Memory) (vs : List View) (g : Meaning) (rule : Rule z
   other_now : (u : View) → Beside vs i u → SeatRight z m g u → SeatRight z m' g u
   other_now u beside of = record {
     layout = of.layout;
-    section = record { section = of.section.section; announced = of.section.announced; outside = of.section.outside; unlocked = of.section.unlocked; done = of.section.done };
+    section = record { section = of.section.section; announced = of.section.announced; outside = of.section.outside; unlocked = of.section.unlocked; done = of.section.done; waits = of.section.waits };
     seen = of.seen;
     update = of.update;
     version = of.version;

@@ -1,5 +1,5 @@
 -- What is said of plain links after the kinds of events that set no plain link and raise no stamp.
-use Rattle.std.proofs.Common.{◌≡◌, ℕ, ◌<◌, ◌≤◌, cond, List, [], ◌∷◌, ◌++◌, length, Bool, true, false, not, eqb, set, arith, refl, ap, ◌∙◌, sym, subst, inl, inr, filter}
+use Rattle.std.proofs.Common.{◌≡◌, ℕ, ◌<◌, ◌≤◌, cond, List, [], ◌∷◌, ◌++◌, length, Bool, true, false, not, eqb, ◌&&◌, set, arith, refl, ap, ◌∙◌, sym, subst, inl, inr, filter}
 use Rattle.std.specs.List.{list_any}
 use Rattle.std.proofs.lemmas.Bool.{and_parts, eq-eqb, eqb-true}
 use Rattle.index_words.specs.declared.layout.Layout.{Layout}
@@ -31,7 +31,8 @@ use Rattle.core_events.specs.FillMoves.{known_before, used_view, filled_with, wi
 use Rattle.core_events.specs.LoadMoves.{next_at}
 use Rattle.core_events.specs.LockMoves.{locked_view, other_nodes, other_nexts, unlocked_view}
 use Rattle.core_events.specs.Moves.{nowhere, in_section, entered}
-use Rattle.core_events.specs.Needs.{is_lock, may_fill}
+use Rattle.core_events.specs.Needs.{is_lock, is_successor, may_fill}
+use Rattle.core_events.specs.Waits.{has_no_lock, looked_waiting, looked_by}
 use Rattle.core_events.specs.PlainNeeds.{is_link_of, is_owed_at, is_done_at}
 use Rattle.core_events.proofs.Tests.{never}
 use Rattle.core_invariant.specs.BundleRule.{IsLive}
@@ -74,11 +75,15 @@ entered_work passes value v =
     let taken = taken_work u in
     settled_work passes v (batch_taken u) (record { unset = taken.unset; owed = taken.owed; raised = taken.raised; locks = taken.locks })
 
-pub looked_work : (passes pass word : ℕ) (v : View) → HasSameWork v (looked passes v pass word)
-looked_work passes pass word v =
+looked_slots : (passes pass word : ℕ) (v : View) → HasSameWork v (looked passes v pass word)
+looked_slots passes pass word v =
     let u : View = batch_taken v in
     let taken = taken_work v in
     settled_work passes v (record u { grace = looked_at u.grace pass word }) (record { unset = taken.unset; owed = taken.owed; raised = taken.raised; locks = taken.locks })
+
+pub looked_work : (passes pass word : ℕ) (v : View) → HasSameWork v (looked_by passes v pass word)
+looked_work passes pass word v =
+    work_by (has_no_lock v) v (looked passes v pass word) (looked_waiting v pass word) (looked_slots passes pass word v) (quiet_work v (looked_waiting v pass word) refl refl refl refl)
 
 filled_work : (v : View) (w : Word) (value : ℕ) → HasSameWork v (filled_view v w value)
 filled_work v w value =
@@ -190,8 +195,14 @@ module _ (link tag child greatest : Side → ℕ → ℕ) (tree : NamedTree) (vs
   seat : SeatPlain link child tree v
   seat = seat_at link tag child greatest tree vs i v v at right
 
-  parts : (not (list_any (λ (x : UnsetLink). eqb x.node k) v.update.unset) ≡ true) × (not (list_any (λ (o : OwedTag). eqb o.node k) v.update.owed) ≡ true)
-  parts = and_parts (not (list_any (λ (x : UnsetLink). eqb x.node k) v.update.unset)) (not (list_any (λ (o : OwedTag). eqb o.node k) v.update.owed)) done
+  abbrev all_set : Bool
+  all_set = not (list_any (λ (x : UnsetLink). eqb x.node k) v.update.unset)
+
+  abbrev all_raised : Bool
+  all_raised = not (list_any (λ (o : OwedTag). eqb o.node k) v.update.owed)
+
+  parts : (all_set ≡ true) × (all_raised ≡ true)
+  parts = and_parts all_set all_raised (and_parts (all_set && all_raised) (not (is_successor k v.update.unlinking)) done).0
 
   still_locked : (j : ℕ) → (j ≡ k → ⊥) → 0 < count j (held_slots v.held.nodes) → 0 < count j (held_slots others)
   still_locked j apart some = omega (arith, some, ap (count j) (slots_other k v.held.nodes), count-without_other j k (held_slots v.held.nodes) apart)

@@ -1,9 +1,11 @@
--- A view whose update has still to set other links and to raise other tags keeps the rule.
-use Rattle.std.proofs.Common.{◌≡◌, ℕ, List, [], set, arith, refl, ◌∙◌, inl, Option}
+-- A view whose update has still to set other links and to raise other tags, or has looked at others at a wait, keeps
+-- the rule.
+use Rattle.std.proofs.Common.{◌≡◌, ℕ, List, [], false, set, arith, refl, ◌∙◌, inl, Option}
 use Rattle.index_words.specs.declared.layout.Layout.{Layout}
 use Rattle.index_words.specs.declared.view.View.{View}
 use Rattle.index_words.specs.declared.view.reading.Place.{Place}
 use Rattle.index_words.specs.declared.view.reading.Place.TheVariants.{Nowhere, Entry as AtEntry, Node as AtNode, Gap}
+use Rattle.index_words.specs.declared.view.slots.Looks.{Looks}
 use Rattle.index_words.specs.declared.view.update.OwedTag.{OwedTag}
 use Rattle.index_words.specs.declared.view.update.Unlinking.{Unlinking}
 use Rattle.index_words.specs.declared.view.update.UnsetLink.{UnsetLink}
@@ -11,8 +13,10 @@ use Rattle.index_words.specs.declared.word.Word.{Word}
 use Rattle.index_words.specs.declared.word.Part.TheVariants.{Stamp as Number}
 use Rattle.index_words.specs.declared.word.Word.TheVariants.{Stamp, Section, Announced, Node, Entry}
 use Rattle.index_words.specs.Words.{Memory}
+use Rattle.index_words.specs.Views.{no_looks}
 use Rattle.key_map.specs.Lists.{IsItem}
 use Rattle.index_words.proofs.Seats.{sum_kept, all_moved}
+use Rattle.core_grace.specs.Sections.{is_even}
 use Rattle.core_grace.specs.Holds.{HoldsNode, HoldsEntry}
 use Rattle.core_grace.proofs.RuleMoves.{quiet, same_looks}
 use Rattle.core_invariant.proofs.Pairs.{pairs_same}
@@ -28,14 +32,14 @@ use Rattle.core_invariant.proofs.Frames.{live_moved, pending_moved, bundle_weake
 use Rattle.core_invariant.proofs.OneView.{history_kept, seat_at}
 use Rattle.core_invariant.proofs.Filled.{every_filled}
 
--- a view whose update has other links to set and other tags to raise
-abbrev pub with_work : View → List UnsetLink → List OwedTag → Option Unlinking → View
-with_work v us os u = record v { update = record v.update { unset = us; owed = os; unlinking = u } }
+-- a view whose update has other links to set and other tags to raise, and has looked at others at a wait
+abbrev pub with_work : View → List UnsetLink → List OwedTag → Option Unlinking → Looks → View
+with_work v us os u l = record v { update = record v.update { unset = us; owed = os; unlinking = u; waiting = l } }
 
-module _ (z : Layout) (m : Memory) (vs : List View) (g : Meaning) (rule : Rule z m vs g) (i : ℕ) (v : View) (at : IsItem vs i v) (us : List UnsetLink) (os : List OwedTag) (ul : Option Unlinking)
-    (holds : v.held.nodes ≡ [] → ⊥) where
+module _ (z : Layout) (m : Memory) (vs : List View) (g : Meaning) (rule : Rule z m vs g) (i : ℕ) (v : View) (at : IsItem vs i v) (us : List UnsetLink) (os : List OwedTag) (ul : Option Unlinking) (l : Looks)
+    (holds : v.held.nodes ≡ [] → ⊥) (fresh : is_even v.section_word ≡ false → l ≡ no_looks) where
   abbrev y : View
-  y = with_work v us os ul
+  y = with_work v us os ul l
 
   seat : SeatRight z m g v
   seat = seat_at z m vs g i v at rule
@@ -49,6 +53,7 @@ module _ (z : Layout) (m : Memory) (vs : List View) (g : Meaning) (rule : Rule z
       outside = seat.section.outside;
       unlocked = seat.section.unlocked;
       done = λ none. absurd (holds none);
+      waits = fresh;
     };
     seen = seat.seen;
     update = record { raised = seat.update.raised; first = seat.update.first };
@@ -77,7 +82,7 @@ module _ (z : Layout) (m : Memory) (vs : List View) (g : Meaning) (rule : Rule z
       place_by (Gap node side) right = tt
       place_by (AtEntry node side entry found) right = record { reach = right.reach; stands = right.stands }
 
-  -- no part of the rule speaks of what is still to be set and to be raised
+  -- no part of the rule speaks of what is still to be set and to be raised, nor of looks at a wait
   pub work_kept : Rule z m (set vs i y) g
   work_kept = record {
     numbers = λ n. sum_kept (number_count n) vs i v y at refl ∙ rule.numbers n;

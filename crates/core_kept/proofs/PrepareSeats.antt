@@ -56,6 +56,7 @@ use Rattle.core_kept.proofs.PrepareBundles.{not_pending, pending_same, new_pendi
 use Rattle.core_grace.specs.Slots.{nodes_of, own_free}
 use Rattle.core_invariant.proofs.TreeNow.{stamp_low}
 use Rattle.core_kept.proofs.PlainKept.{quiet_work, plain_quiet, plain_same}
+use Rattle.core_kept.proofs.WaitingLocks.{unraised_inside}
 
 -- the heads that are known of a locked node once one of them is stored
 node_now : (m : Memory) (side : Side) (k e : ℕ) (h : HeldNode) (c : Bool) → eqb h.node k ≡ c → IsNodeAt m h
@@ -277,9 +278,10 @@ module _ (z : Layout) (m : Memory) (vs : List View) (g : Meaning) (rule : Rule z
         section = record {
           section = own.section.section;
           announced = own.section.announced;
-          outside = λ even. absurd (held_there (own.section.unlocked even));
-          unlocked = λ even. absurd (held_there (own.section.unlocked even));
+          outside = λ even. absurd (unraised_inside v held_there ready.raised (own.section.unlocked even));
+          unlocked = λ even. absurd (unraised_inside v held_there ready.raised (own.section.unlocked even));
           done = λ none. absurd (lock_there v'.held.nodes (subst (λ xs. 0 < count k xs) (sym locks_same) ready.locked) none);
+          waits = own.section.waits;
         };
         seen = own.seen;
         update = record { raised = own.update.raised; first = own.update.first };
@@ -339,7 +341,7 @@ module _ (z : Layout) (m : Memory) (vs : List View) (g : Meaning) (rule : Rule z
   other_now : (u : View) → Beside vs i u → SeatRight z m g u → SeatRight z m' g' u
   other_now u beside of = record {
     layout = of.layout;
-    section = record { section = of.section.section; announced = of.section.announced; outside = of.section.outside; unlocked = of.section.unlocked; done = of.section.done };
+    section = record { section = of.section.section; announced = of.section.announced; outside = of.section.outside; unlocked = of.section.unlocked; done = of.section.done; waits = of.section.waits };
     seen = of.seen;
     update = of.update;
     version = of.version;

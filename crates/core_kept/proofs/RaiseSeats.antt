@@ -20,6 +20,7 @@ use Rattle.index_words.specs.Words.{Memory, written}
 use Rattle.key_map.specs.Lists.{count, has, Every, IsItem}
 use Rattle.index_words.proofs.Seats.{Beside, one_term, two_terms}
 use Rattle.key_map.proofs.Counting.{count-append, has-count}
+use Rattle.core_grace.specs.Sections.{is_even}
 use Rattle.core_grace.specs.Holds.{entries_of, listed}
 use Rattle.core_grace.specs.Slots.{nodes_of, own, is_slot}
 use Rattle.core_trees.specs.NamedTree.{NamedTree}
@@ -47,6 +48,7 @@ use Rattle.core_kept.proofs.RaiseNew.{live_bundle, none_pending}
 use Rattle.core_kept.proofs.RaiseNumbers.{numbered_now, above_still, selects}
 use Rattle.core_kept.proofs.RaiseBundles.{works_more, works_added}
 use Rattle.core_kept.proofs.RaiseTrees.{tree_now}
+use Rattle.core_kept.proofs.WaitingLocks.{unraised_inside}
 
 -- what holds of the items of both lists
 every_both : (P : ℕ → Type 0) (xs ys : List ℕ) → Every P xs → Every P ys → Every P (xs ++ ys)
@@ -214,15 +216,19 @@ module _ (z : Layout) (m : Memory) (vs : List View) (g : Meaning) (rule : Rule z
     taken = λ k some. omega (arith, some, count-append k v.retired.nodes move.taken);
   }
 
+  inside : is_even v.section_word ≡ true → ⊥
+  inside even = unraised_inside v (λ none. not_done can.entry v.update can.some (own_seat.section.done none)) can.raised (own_seat.section.unlocked even)
+
   pub own_now : SeatRight z m' g' v'
   own_now = record {
     layout = own_seat.layout;
     section = record {
       section = own_seat.section.section;
       announced = own_seat.section.announced;
-      outside = λ even. absurd (not_done can.entry v.update can.some (own_seat.section.done (own_seat.section.unlocked even)));
-      unlocked = own_seat.section.unlocked;
+      outside = λ even. absurd (inside even);
+      unlocked = λ even. absurd (inside even);
       done = λ none. absurd (not_done can.entry v.update can.some (own_seat.section.done none));
+      waits = own_seat.section.waits;
     };
     seen = own_seen z m vs g rule i v u known move at can all;
     update = record { raised = (omega arith, omega arith); first = λ none. cc };
@@ -288,7 +294,7 @@ module _ (z : Layout) (m : Memory) (vs : List View) (g : Meaning) (rule : Rule z
   pub other_now : (y : View) → Beside vs i y → SeatRight z m g y → SeatRight z m' g' y
   other_now y beside of = record {
     layout = of.layout;
-    section = record { section = of.section.section; announced = of.section.announced; outside = of.section.outside; unlocked = of.section.unlocked; done = of.section.done };
+    section = record { section = of.section.section; announced = of.section.announced; outside = of.section.outside; unlocked = of.section.unlocked; done = of.section.done; waits = of.section.waits };
     seen = seen_more z m vs g rule i v u known move at can all y.history of.seen;
     update = record { raised = IfSome_then y.update.raised of.update.raised (λ r is. (is.0, omega (arith, is.1))); first = of.update.first };
     announced = announced_same s (s + 1) y y (omega arith) refl of.announced;

@@ -1,4 +1,5 @@
--- What an event does to the section words and the announcements of passes: an enter makes the own section word odd, a leave even.
+-- What an event does to the section words and the announcements of passes: an enter makes the own section word odd, a
+-- leave even.
 use Rattle.std.proofs.Common.{◌≡◌, ℕ, ◌+◌, List, cond, Bool, true, false, not, eqb, ◌&&◌, length, set, refl, ap, ◌∙◌, sym, subst, inl, inr, Option, Some, None}
 use Rattle.std.specs.List.{slice_get}
 use Rattle.std.proofs.lemmas.Bool.{and_parts, eqb-true, eq-eqb}
@@ -9,23 +10,25 @@ use Rattle.index_words.specs.declared.word.Word.TheVariants.{Section, Announced}
 use Rattle.index_words.specs.Words.{Memory, memory, written, word_at}
 use Rattle.key_map.specs.Lists.{IsItem}
 use Rattle.index_words.proofs.Store.{stored_at}
-use Rattle.core_grace.specs.Sections.{is_even, left_word}
+use Rattle.core_grace.specs.Sections.{is_even}
 use Rattle.core_grace.specs.Batches.{is_number}
 use Rattle.core_grace.proofs.Parity.{odd_next, even_left}
 use Rattle.core_events.specs.declared.event.Event.{Event}
 use Rattle.core_events.specs.declared.event.Kind.{Kind}
 use Rattle.core_events.specs.declared.event.Kind.TheVariants.{Enter, Leave}
-use Rattle.core_events.specs.Needs.{is_outside, is_own_section, may_enter, may_leave, nothing_pending}
+use Rattle.core_events.specs.Needs.{is_outside, is_own_section, may_enter}
+use Rattle.core_events.specs.Waits.{may_leave}
+use Rattle.core_invariant.proofs.WaitNeeds.{can_leave}
 use Rattle.core_events.specs.Tables.{Table, held_by}
 use Rattle.core_invariant.specs.Rule.{IsRight}
 use Rattle.core_events.specs.Steps.{needs, carries, allowed, allowed_at, after, after_at, words_after}
 use Rattle.core_kept.specs.SectionMoves.{section_of, MovesSections}
-use Rattle.core_events.proofs.Tests.{never, not_true}
+use Rattle.core_events.proofs.Tests.{never}
 use Rattle.core_invariant.proofs.Needed.{OwnSection}
 use Rattle.core_invariant.proofs.OneView.{item_from_get, seat_at}
 use Rattle.core_invariant.proofs.Frames.{same_item}
 use Rattle.core_invariant.proofs.Idle.{section_of as own_word}
-use Rattle.core_kept.proofs.SectionWords.{same_words, own_enter, own_leave}
+use Rattle.core_kept.proofs.SectionWords.{same_words, own_enter}
 
 module _ (t : Table) (e : Event) (right : IsRight t) (v : View) (at : IsItem t.views e.seat v) (w : Word) (found : word_at t.layout e.word ≡ Some w) where
   -- the own word holds what the view says, and what is stored to it is what is found after
@@ -52,15 +55,9 @@ module _ (t : Table) (e : Event) (right : IsRight t) (v : View) (at : IsItem t.v
 
   left_own : (n : ℕ) → v.number ≡ Some n → may_leave (held_by t) v w e.value ≡ true → (is_even (section_of t n) ≡ false) × (is_even (memory t.layout (set t.words e.word e.value) (Section n)) ≡ true)
   left_own n named met =
-      let a = is_own_section v.number w in
-      let b = not (is_even v.section_word) in
-      let c = eqb (length v.held.nodes) 0 in
-      let d = nothing_pending (held_by t) v in
-      let one = and_parts (a && b && c && d) (eqb e.value (left_word v.section_word)) met in
-      let odd : is_even v.section_word ≡ false = not_true (is_even v.section_word) (and_parts a b (and_parts (a && b) c (and_parts (a && b && c) d one.0).0).0).1 in
-      let value : e.value ≡ left_word v.section_word = eqb-true e.value (left_word v.section_word) one.1 in (
-        ap is_even (own_held n named) ∙ odd,
-        ap is_even (own_after n e.value named (own_leave (held_by t) v w e.value met) ∙ value) ∙ even_left v.section_word odd,
+      let can = can_leave (held_by t) v w e.value met in (
+        ap is_even (own_held n named) ∙ can.inside,
+        ap is_even (own_after n e.value named can.own ∙ can.value_is) ∙ even_left v.section_word can.inside,
       )
 
 moves_at : (t : Table) (e : Event) (a : Option View) (b : Option Word) → slice_get t.views e.seat ≡ a → word_at t.layout e.word ≡ b → IsRight t → allowed_at t e a b ≡ true → MovesSections t e (after_at t e a b)

@@ -1,5 +1,6 @@
--- The section words and the announcements of passes: an enter, a leave and an announcement alone store to one, and to their own.
-use Rattle.std.proofs.Common.{◌≡◌, ◌≢◌, ℕ, ◌+◌, ◌<◌, ◌⊎◌, cond, List, [], ◌∷◌, length, Bool, true, false, not, eqb, ltb, ◌&&◌, set, arith, refl, ap, ◌∙◌, sym, subst, inl, inr, Option, Some, None, slice_index}
+-- The section words and the announcements of passes: an enter, a leave and an announcement alone store to one, and to
+-- their own.
+use Rattle.std.proofs.Common.{◌≡◌, ◌≢◌, ℕ, ◌+◌, ◌<◌, ◌⊎◌, cond, List, [], ◌∷◌, length, Bool, true, false, eqb, ltb, ◌&&◌, set, arith, refl, ap, ◌∙◌, sym, subst, inl, inr, Option, Some, None, slice_index}
 use Rattle.std.specs.List.{All, slice_get}
 use Rattle.std.proofs.lemmas.Bool.{and_parts, eqb-true, eq-eqb}
 use Rattle.std.proofs.lemmas.Bool.Decides.{eqb_tells}
@@ -16,12 +17,13 @@ use Rattle.index_words.specs.Views.{spent_view}
 use Rattle.key_map.specs.Lists.{count, Every, IsItem}
 use Rattle.index_words.proofs.Store.{stored_at}
 use Rattle.index_words.proofs.Seats.{at_item, all_moved, one_term, two_terms}
-use Rattle.core_grace.specs.Sections.{is_even, left_word}
 use Rattle.core_grace.specs.Batches.{is_number}
 use Rattle.core_events.specs.declared.event.Kind.{Kind}
 use Rattle.core_events.specs.declared.event.Kind.TheVariants.{MakeSeat, SplitSeat, JoinSeat, Enter, Leave, Fill, Prepare, Raise, Finalise, TryLock, Unlock, Mark as MarkNode, Announce, Cut, SetLink, SetTag}
 use Rattle.core_events.specs.Moves.{split_left, split_right, joined_with}
-use Rattle.core_events.specs.Needs.{is_outside, is_own_section, may_enter, may_leave, may_fill, nothing_pending}
+use Rattle.core_events.specs.Needs.{is_outside, is_own_section, may_enter, may_fill}
+use Rattle.core_events.specs.Waits.{may_leave}
+use Rattle.core_invariant.proofs.WaitNeeds.{can_leave}
 use Rattle.core_invariant.specs.Numbers.{number_count, IsSpare}
 use Rattle.core_events.specs.Announcing.{is_own_announced, is_announcement}
 use Rattle.core_events.specs.CutNeeds.{may_cut}
@@ -88,12 +90,12 @@ unlock_apart m v (Section k) x met = absurd (never met)
 unlock_apart m v (Announced k) x met = absurd (never met)
 unlock_apart m v (Entry p e) x met = absurd (never met)
 
-set_link_apart : (m : Memory) (v : View) (w : Word) (x : ℕ) → may_set_link m v w x ≡ true → IsApart w
-set_link_apart m v (Node f k) x met = node_apart f k
-set_link_apart m v Stamp x met = absurd (never met)
-set_link_apart m v (Section k) x met = absurd (never met)
-set_link_apart m v (Announced k) x met = absurd (never met)
-set_link_apart m v (Entry p e) x met = absurd (never met)
+set_link_apart : (z : Layout) (m : Memory) (v : View) (w : Word) (x : ℕ) → may_set_link z m v w x ≡ true → IsApart w
+set_link_apart z m v (Node f k) x met = node_apart f k
+set_link_apart z m v Stamp x met = absurd (never met)
+set_link_apart z m v (Section k) x met = absurd (never met)
+set_link_apart z m v (Announced k) x met = absurd (never met)
+set_link_apart z m v (Entry p e) x met = absurd (never met)
 
 set_tag_apart : (m : Memory) (v : View) (w : Word) (x : ℕ) → may_set_tag m v w x ≡ true → IsApart w
 set_tag_apart m v (Node f k) x met = node_apart f k
@@ -122,13 +124,7 @@ own_enter v w value met =
     own_section v.number w (and_parts (is_own_section v.number w) (is_outside v) parts.0).0
 
 pub own_leave : (m : Memory) (v : View) (w : Word) (value : ℕ) → may_leave m v w value ≡ true → OwnSection v.number w
-own_leave m v w value met =
-    let a = is_own_section v.number w in
-    let b = not (is_even v.section_word) in
-    let c = eqb (length v.held.nodes) 0 in
-    let d = nothing_pending m v in
-    let one = and_parts (a && b && c && d) (eqb value (left_word v.section_word)) met in
-    own_section v.number w (and_parts a b (and_parts (a && b) c (and_parts (a && b && c) d one.0).0).0).0
+own_leave m v w value met = (can_leave m v w value met).own
 
 -- two memories say the same of the section words of some passes, and of the announcements of some
 pub record SameWords (sections announced : ℕ → Type 0) (m m' : Memory) : Type 0 where
@@ -212,7 +208,7 @@ module _ (z : Layout) (words : List ℕ) (vs : List View) (i : ℕ) (v : View) (
   same_words MarkNode met = stored MarkNode value (mark_apart v w value met)
   same_words Announce met = announced_stored value (own_announced v.number w (and_parts (is_own_announced v.number w) (is_announcement v value) met).0)
   same_words Cut met = stored Cut value (cut_apart z m vs v w value met)
-  same_words SetLink met = stored SetLink value (set_link_apart m v w value met)
+  same_words SetLink met = stored SetLink value (set_link_apart z m v w value met)
   same_words SetTag met = stored SetTag value (set_tag_apart m v w value met)
   same_words kind met = unchanged kind
 

@@ -1,4 +1,5 @@
--- A load of the stamp keeps the rule: a seat that has announced reads from then on, and any other one knows the history alone.
+-- A load of the stamp keeps the rule: a seat that has announced reads from then on, and any other one knows the history
+-- alone.
 use Rattle.std.proofs.Common.{◌≡◌, ℕ, ◌+◌, ◌<◌, ◌≤◌, ◌⊎◌, cond, List, [], ◌∷◌, length, Bool, true, false, eqb, leb, set, arith, refl, ap, ◌∙◌, sym, subst, inl, inr, Option, Some, None}
 use Rattle.std.specs.Prelude.{IfSome, IsSomeAnd}
 use Rattle.std.proofs.lemmas.Bool.{cases_lt}
@@ -139,6 +140,7 @@ module _ (z : Layout) (m : Memory) (vs : List View) (g : Meaning) (rule : Rule z
           outside = λ even. absurd (inside_only z m vs g rule v inside even);
           unlocked = λ even. absurd (inside_only z m vs g rule v inside even);
           done = seat.section.done;
+          waits = seat.section.waits;
         };
         seen = stamp_seen v known fixes nodes seat all;
         update = seat.update;
@@ -177,6 +179,7 @@ module _ (z : Layout) (m : Memory) (vs : List View) (g : Meaning) (rule : Rule z
           outside = λ even. absurd (inside_only z m vs g rule v inside even);
           unlocked = λ even. absurd (inside_only z m vs g rule v inside even);
           done = seat.section.done;
+          waits = seat.section.waits;
         };
         seen = stamp_seen v known fixes nodes seat all;
         update = seat.update;

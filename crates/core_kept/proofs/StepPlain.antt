@@ -17,8 +17,7 @@ use Rattle.core_grace.specs.Sections.{is_even}
 use Rattle.core_grace.specs.Holds.{held_slots}
 use Rattle.core_events.specs.declared.event.Kind.TheVariants.{LoadLink, SetLink, LoadTag, SetTag}
 use Rattle.core_events.specs.LoadMoves.{locks}
-use Rattle.core_events.specs.Needs.{nothing_pending}
-use Rattle.core_events.specs.PlainNeeds.{sets_to, keeps_order, owes, may_look_under, may_load_link, may_load_tag, may_set_field, may_set_link, may_raise_tag, may_set_tag}
+use Rattle.core_events.specs.PlainNeeds.{owes, may_look_under, may_load_link, may_load_tag, may_set_field, may_set_link, may_raise_tag, may_set_tag}
 use Rattle.core_events.specs.PlainMoves.{link_loaded, tag_loaded, link_set, tag_set, other_links, other_tags, still_unlinking}
 use Rattle.core_events.specs.Steps.{link_at, tag_at, set_at, raised_tag_at, views_after}
 use Rattle.core_events.proofs.Tests.{never, not_true}
@@ -27,6 +26,8 @@ use Rattle.core_invariant.specs.Locks.{lock_count}
 use Rattle.core_invariant.specs.Rule.{Rule, InRule}
 use Rattle.core_invariant.specs.KeptRule.{After, KeepsRuleAt}
 use Rattle.core_invariant.proofs.HeldFacts.{locks-count}
+use Rattle.core_invariant.proofs.OneView.{seat_at}
+use Rattle.core_invariant.proofs.WaitNeeds.{can_set}
 use Rattle.core_invariant.proofs.StepGives.{kept_same, store_right, load_right}
 use Rattle.core_kept.proofs.PlainKept.{quiet_work, plain_quiet}
 use Rattle.core_kept.proofs.PlainSets.{plain_set, plain_tagged}
@@ -46,7 +47,7 @@ module _ (z : Layout) (m : Memory) (vs : List View) (g : Meaning) (rule : Rule z
       let some : 0 < lock_count k w = subst (λ ks. 0 < count k ks) (sym (slots_link k side x v.held.nodes)) locked in
       subst (λ (ws : List View). Rule z m' ws g) (set-set vs i w (link_set v k side x))
       (work_kept z m' (set vs i w) g (link_store_kept z m vs g rule i k side x v at locked) i w (item_set vs i v w at) (other_links k side v.update.unset) v.update.owed
-      (still_unlinking k side v.update.unlinking) (none_locked k w.held.nodes some))
+      (still_unlinking k side v.update.unlinking) v.update.waiting (none_locked k w.held.nodes some) (seat_at z m vs g i v at rule).section.waits)
 
   tag_set_kept : (k : ℕ) (side : Side) (x : ℕ) → 0 < lock_count k v → Rule z (written m (Node (Tag side) k) x) (set vs i (tag_set v k side x)) g
   tag_set_kept k side x locked =
@@ -55,7 +56,7 @@ module _ (z : Layout) (m : Memory) (vs : List View) (g : Meaning) (rule : Rule z
       let some : 0 < lock_count k w = subst (λ ks. 0 < count k ks) (sym (slots_tag k side x v.held.nodes)) locked in
       subst (λ (ws : List View). Rule z m' ws g) (set-set vs i w (tag_set v k side x))
       (work_kept z m' (set vs i w) g (tag_store_kept z m vs g rule i k side x v at locked) i w (item_set vs i v w at) v.update.unset (other_tags k side v.update.owed)
-      v.update.unlinking (none_locked k w.held.nodes some))
+      v.update.unlinking v.update.waiting (none_locked k w.held.nodes some) (seat_at z m vs g i v at rule).section.waits)
 
 module _ (z : Layout) (words : List ℕ) (vs : List View) (right : InRule z words vs) (i : ℕ) (v : View) (at : IsItem vs i v) (n : ℕ) (value : ℕ) where
   abbrev m : Memory
@@ -107,18 +108,13 @@ module _ (z : Layout) (words : List ℕ) (vs : List View) (right : InRule z word
   load_tag_found (Announced j) met = absurd (never met)
   load_tag_found (Entry p e) met = absurd (never met)
 
-  set_link_field : (f : Field) (k : ℕ) → word_at z n ≡ Some (Node f k) → may_set_field m v f k value ≡ true → Gives (set words n value) (set vs i (set_at v f k value))
+  set_link_field : (f : Field) (k : ℕ) → word_at z n ≡ Some (Node f k) → may_set_field z m v f k value ≡ true → Gives (set words n value) (set vs i (set_at v f k value))
   set_link_field (Link side) k is met =
-      let a = locks k v.held.nodes in
-      let b = nothing_pending m v in
-      let c = sets_to k side value v.update.unset in
-      let one = and_parts (a && b && c) (keeps_order k side v.update) met in
-      let two = and_parts (a && b) c one.0 in
-      let locked : 0 < lock_count k v = locks-count k v.held.nodes (and_parts a b two.0).0 in
+      let can = can_set z m v k side value met in
       store_right z words vs n value (Node (Link side) k) right (set vs i (link_set v k side value)) is
       (kept_same z m vs right.meaning (written m (Node (Link side) k) value) (set vs i (link_set v k side value))
-      (link_set_kept z m vs right.meaning right.rule i v at k side value locked)
-      (λ plain. plain_set z m vs right.meaning right.rule i k side value v at locked plain two.1))
+      (link_set_kept z m vs right.meaning right.rule i v at k side value can.locked)
+      (λ plain. plain_set z m vs right.meaning right.rule i k side value v at can.locked plain can.sets))
   set_link_field Key k is met = absurd (never met)
   set_link_field Val k is met = absurd (never met)
   set_link_field Lock k is met = absurd (never met)
@@ -126,7 +122,7 @@ module _ (z : Layout) (words : List ℕ) (vs : List View) (right : InRule z word
   set_link_field (Head side) k is met = absurd (never met)
   set_link_field (Tag side) k is met = absurd (never met)
 
-  set_link_found : (u : Word) → word_at z n ≡ Some u → may_set_link m v u value ≡ true → Gives (set words n value) (views_after SetLink z m vs i v u value None)
+  set_link_found : (u : Word) → word_at z n ≡ Some u → may_set_link z m v u value ≡ true → Gives (set words n value) (views_after SetLink z m vs i v u value None)
   set_link_found (Node f k) is met = set_link_field f k is met
   set_link_found Stamp is met = absurd (never met)
   set_link_found (Section j) is met = absurd (never met)

@@ -1,7 +1,7 @@
 -- An event of a seat, or of its free slots, that is allowed keeps the rule.
-use Rattle.std.proofs.Common.{◌≡◌, ℕ, ◌+◌, ◌<◌, List, [], ◌∷◌, ◌++◌, length, Bool, true, false, not, eqb, cond, ◌≤◌, arith, ap, ◌&&◌, ◌||◌, inl, inr, set, refl, sym, subst, Option, Some, None, is_none}
+use Rattle.std.proofs.Common.{◌≡◌, ℕ, ◌+◌, ◌<◌, List, [], ◌∷◌, ◌++◌, length, Bool, true, false, not, eqb, cond, ◌≤◌, arith, ap, ◌&&◌, ◌||◌, inl, inr, set, refl, ◌∙◌, sym, subst, Option, Some, None, is_none, is_some, ◌⊎◌}
 use Rattle.std.specs.List.{slice_get}
-use Rattle.std.proofs.lemmas.Bool.{and_parts, eqb-true}
+use Rattle.std.proofs.lemmas.Bool.{and_parts, eqb-true, and_from}
 use Rattle.index_words.specs.declared.view.reading.Reading.{Reading}
 use Rattle.index_words.specs.declared.layout.Layout.{Layout}
 use Rattle.index_words.specs.declared.view.View.{View}
@@ -9,28 +9,32 @@ use Rattle.index_words.specs.declared.view.slots.Slots.{Slots}
 use Rattle.index_words.specs.declared.word.Word.{Word}
 use Rattle.index_words.specs.declared.word.Word.TheVariants.{Stamp, Section, Announced, Node, Entry}
 use Rattle.index_words.specs.Words.{Memory, memory, written, word_at}
-use Rattle.key_map.specs.Lists.{count, has, IsItem}
+use Rattle.key_map.specs.Lists.{count, has, Every, IsItem}
 use Rattle.key_map.proofs.Counting.{has-count}
 use Rattle.index_words.proofs.Seats.{at_item}
 use Rattle.index_words.specs.Views.{spent_view}
-use Rattle.core_grace.specs.Sections.{is_even, left_word}
-use Rattle.core_grace.specs.Batches.{is_number, is_empty, looked}
+use Rattle.core_grace.specs.Sections.{is_even}
+use Rattle.core_grace.specs.Batches.{looked}
 use Rattle.core_events.specs.declared.event.Kind.TheVariants.{SplitSeat, JoinSeat, Enter, Leave, LookSec, Fill, Announce}
-use Rattle.core_events.specs.Needs.{is_outside, is_own_section, may_enter, may_leave, may_look, may_fill, may_join, may_join_found, may_join_view, nothing_pending, is_stamp, is_lock}
+use Rattle.core_events.specs.Needs.{is_outside, is_own_section, may_enter, may_fill, may_join, may_join_found, may_join_view, is_stamp, is_lock}
+use Rattle.core_events.specs.Waits.{has_no_lock, looked_by, looked_waiting, may_leave, may_look}
 use Rattle.core_events.specs.FillMoves.{filled_view}
 use Rattle.core_events.specs.Announcing.{may_announce, is_own_announced, is_announcement, announced_view}
 use Rattle.core_events.specs.Moves.{entered, left, split_left, split_right, joined_with}
 use Rattle.core_invariant.specs.Rule.{Rule, InRule}
 use Rattle.core_invariant.specs.LinkLaw.{Kept}
 use Rattle.core_events.specs.Steps.{views_after, join_found}
-use Rattle.core_invariant.specs.SectionRule.{IsIdle}
 use Rattle.core_invariant.specs.UnusedSlots.{UnusedRight}
 use Rattle.core_invariant.proofs.OneView.{item_from_get, seat_at}
 use Rattle.core_events.proofs.Tests.{never, not_equal, either_true, not_true, none_of}
 use Rattle.core_invariant.proofs.Needed.{own_section, own_announced, outside_idle}
 use Rattle.core_invariant.proofs.Joins.{begins-le}
 use Rattle.core_kept.proofs.Announces.{announce_kept}
-use Rattle.core_kept.proofs.EachKind.{enter_kept, leave_kept, look_kept}
+use Rattle.core_kept.proofs.EachKind.{enter_kept, look_kept, look_waiting_kept}
+use Rattle.core_kept.proofs.Leaves.{leave_kept}
+use Rattle.core_invariant.specs.SectionRule.{IsIdle, IsKeptLock}
+use Rattle.core_invariant.proofs.WaitNeeds.{NoLockOrWait, CanLook, can_leave, can_look, nothing_is, waiting_is}
+use Rattle.index_words.specs.declared.view.update.HeldNode.{HeldNode}
 use Rattle.core_invariant.proofs.Idle.{nameless_idle}
 use Rattle.core_kept.proofs.Fills.{node_stored, entry_stored}
 use Rattle.core_kept.proofs.FillViews.{fill_kept, node_zeros, entry_zeros}
@@ -66,20 +70,20 @@ module _ (z : Layout) (words : List ℕ) (vs : List View) (right : InRule z word
       (enter_kept z m vs right.meaning i own.n value v at right.rule own.named first.1))
       (word_plain (Section own.n) (entered z.passes v value) own.word (plain_quiet m right.meaning vs i v (entered z.passes v value) at (entered_work z.passes value v))))
 
+  -- each lock that is held at a leave is one of those that are kept
+  leaves_with : NoLockOrWait v → Every (IsKeptLock v.update.taken) v.held.nodes × ((v.held.nodes ≡ []) ⊎ (is_some v.update.raised ≡ true))
+  leaves_with (inl none) = (subst (Every (IsKeptLock v.update.taken)) (sym none) tt, inl none)
+  leaves_with (inr waits) = let wait = waiting_is v waits in (wait.kept, inr wait.raised)
+
   pub leave_right : may_leave m v w value ≡ true → Gives (set words n value) (set vs i (left v value))
   leave_right met =
-      let a = is_own_section v.number w in
-      let b = not (is_even v.section_word) in
-      let c = eqb (length v.held.nodes) 0 in
-      let d = nothing_pending m v in
-      let one = and_parts (a && b && c && d) (eqb value (left_word v.section_word)) met in
-      let two = and_parts (a && b && c) d one.0 in
-      let three = and_parts (a && b) c two.0 in
-      let own = own_section v.number w (and_parts a b three.0).0 in
+      let can = can_leave m v w value met in
+      let own = can.own in
+      let ready = leaves_with can.may in
       store_right z words vs n value w right (set vs i (left v value)) found
       (one_kept (written m w value) (set vs i (left v value))
       (subst (λ u. Rule z (written m u value) (set vs i (left v value)) right.meaning) (sym own.word)
-      (leave_kept z m vs right.meaning i own.n value v at right.rule own.named three.1))
+      (leave_kept z m vs right.meaning right.rule i own.n value v at own.named can.inside (nothing_is m v can.nothing).pending ready.0 ready.1))
       (word_plain (Section own.n) (left v value) own.word (plain_quiet m right.meaning vs i v (left v value) at (quiet_work v (left v value) refl refl refl refl))))
 
   announce_by : (even : Bool) → is_even v.section_word ≡ even → cond even (eqb value 0) (is_none v.reading.section && eqb value (length v.history.seen + 1)) ≡ true
@@ -103,17 +107,18 @@ module _ (z : Layout) (words : List ℕ) (vs : List View) (right : InRule z word
       (announce_kept z m vs right.meaning right.rule i own.n value v at own.named may.0 may.1))
       (word_plain (Announced own.n) (announced_view v value) own.word (plain_quiet m right.meaning vs i v (announced_view v value) at (quiet_work v (announced_view v value) refl refl refl refl))))
 
+  look_by : (pass : ℕ) → CanLook v pass → (b : Bool) → has_no_lock v ≡ b
+      → Rule z m (set vs i (cond b (looked z.passes v pass (m (Section pass))) (looked_waiting v pass (m (Section pass))))) right.meaning
+  look_by pass can true none = look_kept z m vs right.meaning i pass v at right.rule can.other (and_from (is_even v.section_word) (has_no_lock v) can.even none)
+  look_by pass can false some =
+      look_waiting_kept z m vs right.meaning i pass v at right.rule can.even
+      (λ none. never (sym some ∙ ap (λ (hs : List HeldNode). eqb (length hs) 0) none))
+
   pub look_found : (u : Word) → may_look v u value ≡ true → Gives words (views_after LookSec z m vs i v u value None)
   look_found (Section pass) met =
-      let a = not (is_number pass v.number) in
-      let b = is_outside v in
-      let c = not (is_empty v.batch && is_empty v.retired) in
-      let one = and_parts (a && b && c) (eqb value 0) met in
-      let two = and_parts (a && b) c one.0 in
-      let three = and_parts a b two.0 in
-      load_right z words vs right (set vs i (looked z.passes v pass (m (Section pass))))
-      (look_kept z m vs right.meaning i pass v at right.rule (not_true (is_number pass v.number) three.0) three.1)
-      (plain_quiet m right.meaning vs i v (looked z.passes v pass (m (Section pass))) at (looked_work z.passes pass (m (Section pass)) v))
+      let can = can_look v pass value met in
+      load_right z words vs right (set vs i (looked_by z.passes v pass (m (Section pass)))) (look_by pass can (has_no_lock v) refl)
+      (plain_quiet m right.meaning vs i v (looked_by z.passes v pass (m (Section pass))) at (looked_work z.passes pass (m (Section pass)) v))
   look_found Stamp met = absurd (never met)
   look_found (Announced k) met = absurd (never met)
   look_found (Node f k) met = absurd (never met)

@@ -1,10 +1,11 @@
 -- A store to the own section word keeps the rule.
-use Rattle.std.proofs.Common.{◌≡◌, ℕ, ◌+◌, ◌≤◌, cond, List, false, eqb, set, arith, refl, ap, ◌∙◌, sym, subst, inr, Option, Some, None}
+use Rattle.std.proofs.Common.{◌≡◌, ℕ, ◌+◌, ◌≤◌, cond, List, false, eqb, set, arith, refl, ap, ◌∙◌, sym, subst, inl, inr, Option, Some, None}
 use Rattle.std.proofs.lemmas.Bool.{eq-eqb}
 use Rattle.std.proofs.lemmas.Bool.Decides.{nat_tests}
 use Rattle.index_words.specs.declared.layout.Layout.{Layout}
 use Rattle.index_words.specs.declared.view.View.{View}
 use Rattle.index_words.specs.declared.view.reading.Reading.{Reading}
+use Rattle.index_words.specs.declared.view.update.Updating.{Updating}
 use Rattle.index_words.specs.declared.word.Word.TheVariants.{Section, Entry, Stamp}
 use Rattle.index_words.specs.declared.word.Part.TheVariants.{Child, Stamp as Number}
 use Rattle.index_words.specs.Words.{Memory, written}
@@ -100,7 +101,7 @@ module _ (z : Layout) (m : Memory) (vs : List View) (g : Meaning) where
         seats = all_moved (SeatRight z m g) (SeatRight z m' g) vs i v w at rule.seats
             (record {
               layout = own.layout;
-              section = record { section = own_stored (λ k. m (Section k)) v.number n word named; announced = own.section.announced; outside = λ even. idle.reading; unlocked = λ even. idle.held; done = own.section.done };
+              section = record { section = own_stored (λ k. m (Section k)) v.number n word named; announced = own.section.announced; outside = λ even. idle.reading; unlocked = λ even. inl idle.held; done = own.section.done; waits = λ odd. ap (λ (u : Updating). u.waiting) idle.update };
               seen = own.seen;
               update = own.update;
               version = idle_version (m Stamp) w idle;
@@ -123,6 +124,7 @@ module _ (z : Layout) (m : Memory) (vs : List View) (g : Meaning) where
                 outside = of.section.outside;
                 unlocked = of.section.unlocked;
                 done = of.section.done;
+                waits = of.section.waits;
               };
               seen = of.seen;
               update = of.update;

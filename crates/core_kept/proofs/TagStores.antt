@@ -22,6 +22,7 @@ use Rattle.core_invariant.specs.Meanings.{Meaning, linked_by}
 use Rattle.core_invariant.specs.Numbers.{number_count}
 use Rattle.core_invariant.specs.Locks.{lock_count, IsNodeAt, IsTakenOut}
 use Rattle.core_invariant.specs.BundleRule.{IsPendingAt, IsPending, pending_count}
+use Rattle.core_invariant.specs.SectionRule.{IsKeptLock}
 use Rattle.core_invariant.specs.SeatRule.{SeatRight}
 use Rattle.core_events.specs.PlainMoves.{tag_known, tag_known_at, tag_loaded}
 use Rattle.core_invariant.specs.Rule.{Rule}
@@ -31,6 +32,7 @@ use Rattle.core_invariant.proofs.Owned.{free_not_live}
 use Rattle.core_invariant.proofs.Filled.{node_other, every_filled, node_apart}
 use Rattle.core_invariant.proofs.Locked.{locked_apart, locked_live}
 use Rattle.core_invariant.proofs.ReadMoves.{read_kept, place_back, links_back, nexts_back, work_same, holds_same}
+use Rattle.core_kept.proofs.WaitingLocks.{still_waits, tag_keeps}
 
 tag_by : (side : Side) (b : Bool) (x : ℕ) (h : HeldNode) → (cond b (tag_known side x h) h).node ≡ h.node
 tag_by Left true x h = refl
@@ -150,9 +152,10 @@ module _ (z : Layout) (m : Memory) (vs : List View) (g : Meaning) (rule : Rule z
     section = record {
       section = seat.section.section;
       announced = seat.section.announced;
-      outside = λ even. absurd (omega (arith, locked, ap (λ (hs : List HeldNode). count k (held_slots hs)) (seat.section.unlocked even)));
-      unlocked = λ even. absurd (omega (arith, locked, ap (λ (hs : List HeldNode). count k (held_slots hs)) (seat.section.unlocked even)));
+      outside = seat.section.outside;
+      unlocked = λ even. still_waits v nodes (λ none. omega (arith, locked, ap (λ (hs : List HeldNode). count k (held_slots hs)) none)) (every_mapped (IsKeptLock v.update.taken) (IsKeptLock v.update.taken) (tag_known_at k side x) v.held.nodes (λ h is. tag_keeps v.update.taken side (eqb h.node k) x h is)) (seat.section.unlocked even);
       done = λ none. absurd (omega (arith, locked, ap (count k) locks_same, ap (λ (hs : List HeldNode). count k (held_slots hs)) none));
+      waits = seat.section.waits;
     };
     seen = seat.seen;
     update = seat.update;
@@ -192,7 +195,7 @@ module _ (z : Layout) (m : Memory) (vs : List View) (g : Meaning) (rule : Rule z
   other_now : (u : View) → Beside vs i u → SeatRight z m g u → SeatRight z m' g u
   other_now u beside of = record {
     layout = of.layout;
-    section = record { section = of.section.section; announced = of.section.announced; outside = of.section.outside; unlocked = of.section.unlocked; done = of.section.done };
+    section = record { section = of.section.section; announced = of.section.announced; outside = of.section.outside; unlocked = of.section.unlocked; done = of.section.done; waits = of.section.waits };
     seen = of.seen;
     update = of.update;
     version = of.version;

@@ -252,6 +252,7 @@ module _ (z : Layout) (m : Memory) (vs : List View) (g : Meaning) (rule : Rule z
       outside = λ even. absurd (inside_only z m vs g rule v inside even);
       unlocked = λ even. absurd (inside_only z m vs g rule v inside even);
       done = λ none. absurd (omega (arith, locked_here, ap (λ (hs : List HeldNode). count k (held_slots hs)) none));
+      waits = own_seat.section.waits;
     };
     seen = own_seat.seen;
     update = own_seat.update;
@@ -294,7 +295,7 @@ module _ (z : Layout) (m : Memory) (vs : List View) (g : Meaning) (rule : Rule z
   other_now : (u : View) → Beside vs i u → SeatRight z m g u → SeatRight z m' g u
   other_now u beside of = record {
     layout = of.layout;
-    section = record { section = of.section.section; announced = of.section.announced; outside = of.section.outside; unlocked = of.section.unlocked; done = of.section.done };
+    section = record { section = of.section.section; announced = of.section.announced; outside = of.section.outside; unlocked = of.section.unlocked; done = of.section.done; waits = of.section.waits };
     seen = of.seen;
     update = of.update;
     version = of.version;

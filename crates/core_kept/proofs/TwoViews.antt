@@ -79,6 +79,7 @@ module _ (z : Layout) (m : Memory) (vs : List View) (g : Meaning) where
         outside = seat.section.outside;
         unlocked = seat.section.unlocked;
         done = seat.section.done;
+        waits = seat.section.waits;
       };
       seen = seat.seen;
       update = seat.update;
@@ -95,7 +96,7 @@ module _ (z : Layout) (m : Memory) (vs : List View) (g : Meaning) where
     },
     record {
       layout = λ _. seat.layout live;
-      section = record { section = refl; announced = refl; outside = λ even. refl; unlocked = λ even. refl; done = λ _. refl };
+      section = record { section = refl; announced = refl; outside = λ even. refl; unlocked = λ even. inl refl; done = λ _. refl; waits = λ odd. refl };
       seen = record { seen = seat.seen.seen; told = refl; known = omega arith; found = omega arith; given = tt };
       update = record { raised = tt; first = λ _. refl };
       version = record { past = tt; opened = tt; bare = λ _. refl; there = λ k some. absurd (omega (arith, some)) };
@@ -184,6 +185,7 @@ module _ (z : Layout) (m : Memory) (vs : List View) (g : Meaning) where
       outside = λ even. ap (λ (r : Reading). record r { filled = [] }) (seat.section.outside even);
       unlocked = seat.section.unlocked;
       done = seat.section.done;
+      waits = seat.section.waits;
     };
     seen = seen_joined g.updates v.history u.history u.number seat.seen other.seen;
     update = seat.update;
@@ -202,7 +204,7 @@ module _ (z : Layout) (m : Memory) (vs : List View) (g : Meaning) where
   spent_seat : SeatRight z m g spent_view
   spent_seat = record {
     layout = λ live. cc;
-    section = record { section = refl; announced = refl; outside = λ even. refl; unlocked = λ even. refl; done = λ _. refl };
+    section = record { section = refl; announced = refl; outside = λ even. refl; unlocked = λ even. inl refl; done = λ _. refl; waits = λ odd. refl };
     seen = record { seen = refl; told = refl; known = omega arith; found = omega arith; given = tt };
     update = record { raised = tt; first = λ _. refl };
     version = record { past = tt; opened = tt; bare = λ _. refl; there = λ k some. absurd (omega (arith, some)) };

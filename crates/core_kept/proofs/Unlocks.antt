@@ -1,5 +1,5 @@
 -- Unlock keeps the rule: the lock word is 0, and the view has forgotten the node.
-use Rattle.std.proofs.Common.{◌≡◌, ℕ, ◌<◌, ◌≤◌, ◌⊎◌, cond, List, [], ◌∷◌, length, Bool, true, false, eqb, not, filter, set, arith, refl, ap, ◌∙◌, sym, subst, inl, inr, Option}
+use Rattle.std.proofs.Common.{◌≡◌, ℕ, ◌<◌, ◌≤◌, ◌⊎◌, cond, List, [], ◌∷◌, length, Bool, true, false, eqb, not, filter, set, arith, refl, ap, ◌∙◌, sym, subst, inl, inr, Option, is_some}
 use Rattle.std.specs.List.{sum_by}
 use Rattle.std.proofs.lemmas.Bool.{eq-eqb}
 use Rattle.std.proofs.lemmas.Bool.Decides.{eqb_tells}
@@ -12,7 +12,7 @@ use Rattle.index_words.specs.declared.word.Field.TheVariants.{Lock, Mark, Head}
 use Rattle.index_words.specs.declared.word.Part.TheVariants.{Stamp as Number}
 use Rattle.index_words.specs.declared.word.Word.TheVariants.{Stamp, Node, Entry}
 use Rattle.index_words.specs.Words.{Memory, written}
-use Rattle.index_words.specs.Views.{no_update}
+use Rattle.index_words.specs.Views.{no_update, no_looks}
 use Rattle.key_map.specs.Lists.{count, Every, IsItem}
 use Rattle.index_words.proofs.Seats.{Beside, sum_moved, sum_kept, one_term, all_moved}
 use Rattle.key_map.proofs.Counting.{count-append}
@@ -23,7 +23,10 @@ use Rattle.core_invariant.specs.Meanings.{Meaning, linked_by}
 use Rattle.core_invariant.specs.Numbers.{number_count}
 use Rattle.core_invariant.specs.Locks.{NamesHolder, lock_count, IsNodeAt, IsNextAt, IsTakenOut}
 use Rattle.core_invariant.specs.BundleRule.{IsPendingAt, IsPending, UpdateRight, pending_count}
+use Rattle.core_invariant.specs.SectionRule.{IsKeptLock, Waits, IsWaiting}
 use Rattle.core_invariant.specs.SeatRule.{SeatRight}
+use Rattle.core_events.specs.Moves.{nowhere}
+use Rattle.core_events.specs.Needs.{is_successor}
 use Rattle.core_events.specs.UpdateMoves.{without}
 use Rattle.core_events.specs.LockMoves.{other_nodes, update_until, unlocked_view}
 use Rattle.core_invariant.specs.Rule.{Rule}
@@ -32,6 +35,7 @@ use Rattle.core_invariant.proofs.Without.{count-without_same, count-without_othe
 use Rattle.core_invariant.proofs.OneView.{history_kept, seat_at}
 use Rattle.core_invariant.proofs.Filled.{node_other, every_filled, lock_apart}
 use Rattle.core_invariant.proofs.Locked.{locked_apart}
+use Rattle.core_invariant.proofs.Needed.{length_empty}
 
 -- what holds of each item that a test keeps
 pub every_filter : {X : Type 0} (P Q : X → Type 0) (f : X → Bool) (xs : List X) → ((x : X) → f x ≡ true → P x → Q x) → Every P xs → Every Q (filter f xs)
@@ -62,6 +66,14 @@ until_by P hs u none some = until_when (eqb (length hs) 0)
 until_none : (hs : List HeldNode) (u : Updating) → hs ≡ [] → update_until hs u ≡ no_update
 until_none hs u is = ap (λ (xs : List HeldNode). update_until xs u) is
 
+until_some : (hs : List HeldNode) (u : Updating) → (hs ≡ [] → ⊥) → update_until hs u ≡ u
+until_some [] u some = absurd (some refl)
+until_some (h ∷ hs) u some = by (eqb (length (h ∷ hs)) 0) refl
+  where
+    by : (b : Bool) → eqb (length (h ∷ hs)) 0 ≡ b → cond b no_update u ≡ u
+    by true is = absurd (some (length_empty (h ∷ hs) is))
+    by false is = refl
+
 not_equal : (a b : ℕ) → not (eqb a b) ≡ true → a ≡ b → ⊥
 not_equal a b off same = apart (eqb a b) off (eq-eqb a b same)
   where
@@ -69,7 +81,8 @@ not_equal a b off same = apart (eqb a b) off (eq-eqb a b same)
     apart true f t = cc
     apart false f t = cc
 
-module _ (z : Layout) (m : Memory) (vs : List View) (g : Meaning) (rule : Rule z m vs g) (i k : ℕ) (v : View) (at : IsItem vs i v) (locked : 0 < lock_count k v) (nothing : v.update.pending ≡ []) (marked : (j : ℕ) → 0 < count j v.update.taken → m (Node Mark j) ≡ 1) where
+module _ (z : Layout) (m : Memory) (vs : List View) (g : Meaning) (rule : Rule z m vs g) (i k : ℕ) (v : View) (at : IsItem vs i v) (locked : 0 < lock_count k v) (nothing : v.update.pending ≡ []) (marked : (j : ℕ) → 0 < count j v.update.taken → (m (Node Mark j) ≡ 1) ⊎ (is_successor j v.update.unlinking ≡ true))
+    (unlinked : is_successor k v.update.unlinking ≡ false) where
   abbrev m' : Memory
   m' = written m (Node Lock k) 0
 
@@ -160,15 +173,56 @@ module _ (z : Layout) (m : Memory) (vs : List View) (g : Meaning) (rule : Rule z
   held_there : v.held.nodes ≡ [] → ⊥
   held_there none = omega (arith, locked, ap (λ (hs : List HeldNode). count k (held_slots hs)) none)
 
+  -- a view that waits goes on to wait with the locks that are left
+  waits_by : IsWaiting v → (b : Bool) → eqb (length rest) 0 ≡ b
+      → (rest ≡ []) ⊎ Waits v.number rest (cond b no_update v.update).raised (cond b no_update v.update).added (cond b no_update v.update).pending (cond b no_update v.update).taken
+  waits_by waits true is = inl (length_empty rest is)
+  waits_by waits false is =
+      inr (record {
+        named = waits.named;
+        past = waits.past;
+        bare = waits.bare;
+        done = waits.done;
+        kept = every_filter (IsKeptLock v.update.taken) (IsKeptLock v.update.taken) (λ (h : HeldNode). not (eqb h.node k)) v.held.nodes (λ h off is. is) waits.kept;
+      })
+
+  waits_now : (v.held.nodes ≡ []) ⊎ IsWaiting v → (rest ≡ []) ⊎ IsWaiting w
+  waits_now (inl none) = absurd (held_there none)
+  waits_now (inr waits) = waits_by waits (eqb (length rest) 0) refl
+
+  -- the successor that is still to be unlinked stays locked
+  still_out : (j : ℕ) → is_successor j v.update.unlinking ≡ true → IsTakenOut v j → IsTakenOut w j
+  still_out j is out =
+      let other : j ≡ k → ⊥ = λ same. apart (is_successor k v.update.unlinking) unlinked (subst (λ x. is_successor x v.update.unlinking ≡ true) same is) in
+      let locked_now : 0 < lock_count j w = omega (arith, out.2, locked_other j other) in
+      let some : rest ≡ [] → ⊥ = λ none. omega (arith, locked_now, ap (λ (hs : List HeldNode). count j (held_slots hs)) none) in
+      let same : update_until rest v.update ≡ v.update = until_some rest v.update some in (
+        subst (λ (u : Updating). is_some u.raised ≡ true) (sym same) out.0,
+        subst (λ (u : Updating). 0 < count j u.taken) (sym same) out.1,
+        locked_now,
+      )
+    where
+      apart : (b : Bool) → b ≡ false → b ≡ true → ⊥
+      apart true off on = cc
+      apart false off on = cc
+
+  out_now : (j : ℕ) → IsTakenOut v j → (m (Node Mark j) ≡ 1) ⊎ IsTakenOut w j
+  out_now j out =
+      elim (marked j out.1) as (λ _. (m (Node Mark j) ≡ 1) ⊎ IsTakenOut w j) [
+        | inl is ↦ inl is
+        | inr successor ↦ inr (still_out j successor out)
+      ]
+
   own_now : SeatRight z m' g w
   own_now = record {
     layout = own_seat.layout;
     section = record {
       section = own_seat.section.section;
       announced = own_seat.section.announced;
-      outside = λ even. absurd (held_there (own_seat.section.unlocked even));
-      unlocked = λ even. absurd (held_there (own_seat.section.unlocked even));
+      outside = λ even. ap nowhere (own_seat.section.outside even);
+      unlocked = λ even. waits_now (own_seat.section.unlocked even);
       done = until_none rest v.update;
+      waits = λ odd. until_by (λ (u : Updating). u.waiting ≡ no_looks) rest v.update refl (own_seat.section.waits odd);
     };
     seen = own_seat.seen;
     update = until_by (UpdateRight (m Stamp)) rest v.update (record { raised = tt; first = λ _. refl }) own_seat.update;
@@ -185,7 +239,7 @@ module _ (z : Layout) (m : Memory) (vs : List View) (g : Meaning) (rule : Rule z
     marks = record {
       retired = λ j waits. elim (own_seat.marks.retired j waits) as (λ _. (m (Node Mark j) ≡ 1) ⊎ IsTakenOut w j) [
         | inl is ↦ inl is
-        | inr out ↦ inl (marked j out.1)
+        | inr out ↦ out_now j out
       ];
       batch = own_seat.marks.batch;
       taken = until_by (λ (u : Updating). (j : ℕ) → 0 < count j u.taken → 0 < count j v.retired.nodes) rest v.update (λ j some. absurd (omega (arith, some))) own_seat.marks.taken;
@@ -199,7 +253,7 @@ module _ (z : Layout) (m : Memory) (vs : List View) (g : Meaning) (rule : Rule z
   other_now : (u : View) → Beside vs i u → SeatRight z m g u → SeatRight z m' g u
   other_now u beside of = record {
     layout = of.layout;
-    section = record { section = of.section.section; announced = of.section.announced; outside = of.section.outside; unlocked = of.section.unlocked; done = of.section.done };
+    section = record { section = of.section.section; announced = of.section.announced; outside = of.section.outside; unlocked = of.section.unlocked; done = of.section.done; waits = of.section.waits };
     seen = of.seen;
     update = of.update;
     version = of.version;

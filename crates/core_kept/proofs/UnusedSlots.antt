@@ -1,6 +1,7 @@
--- The slots that a view never used hold 0, after every event: none but a fill stores to a word of a free slot, and a fill to
--- one of the seat's own, which is used from then on.
+-- The slots that a view never used hold 0, after every event: none but a fill stores to a word of a free slot, and a
+-- fill to one of the seat's own, which is used from then on.
 use Rattle.std.proofs.Common.{◌≡◌, ◌≢◌, ℕ, ◌<◌, cond, List, [], ◌∷◌, ◌++◌, Bool, true, false, not, eqb, set, arith, refl, ◌∙◌, sym, subst, Option, Some, None}
+use Rattle.core_events.specs.Waits.{has_no_lock, looked_waiting}
 use Rattle.std.specs.List.{All, slice_get}
 use Rattle.std.proofs.lemmas.Bool.{and_parts}
 use Rattle.std.proofs.lemmas.List.Elements.{All-set, All-push}
@@ -17,7 +18,7 @@ use Rattle.key_map.specs.Lists.{count, has, IsItem}
 use Rattle.key_map.proofs.Counting.{has-count}
 use Rattle.index_words.proofs.Seats.{Beside, at_item, all_moved, two_terms}
 use Rattle.index_words.proofs.Store.{stored_at}
-use Rattle.core_grace.specs.Batches.{batch_taken, all_passed, is_empty, looked_at}
+use Rattle.core_grace.specs.Batches.{batch_taken, all_passed, is_empty, looked_at, looked}
 use Rattle.core_grace.specs.Slots.{own, nodes_of, entries_in}
 use Rattle.core_grace.specs.Sections.{is_even}
 use Rattle.core_events.specs.declared.event.Kind.{Kind}
@@ -71,13 +72,20 @@ module _ (z : Layout) (words : List ℕ) (vs : List View) (right : InRule z word
   same : Less v
   same y is yet = (is, yet)
 
-  look_less : (u : Word) (x : ℕ) → Less (look_from z v u x)
-  look_less (Section pass) x =
+  looked_less : (pass x : ℕ) → Less (looked z.passes v pass x)
+  looked_less pass x =
       λ y is yet.
       let taken : View = batch_taken v in
       let u : View = record taken { grace = looked_at taken.grace pass x } in
       let old = settled_less (all_passed z.passes u.number u.grace.passed) u y is yet in
       taken_less (is_empty v.batch) v y old.0 old.1
+
+  look_by : (pass x : ℕ) (b : Bool) → Less (cond b (looked z.passes v pass x) (looked_waiting v pass x))
+  look_by pass x true = looked_less pass x
+  look_by pass x false = same
+
+  look_less : (u : Word) (x : ℕ) → Less (look_from z v u x)
+  look_less (Section pass) x = look_by pass x (has_no_lock v)
   look_less Stamp x = same
   look_less (Announced k) x = same
   look_less (Node f k) x = same

@@ -2,7 +2,7 @@
 -- pass number no slot of it waits.
 use Rattle.std.proofs.Common.{◌≡◌, ℕ, ◌+◌, ◌<◌, ◌≤◌, ◌⊎◌, cond, List, [], ◌∷◌, ◌++◌, map, Bool, true, false, not, eqb, ◌&&◌, set, arith, refl, ap, ◌∙◌, sym, subst, inl, inr, Option, Some, None}
 use Rattle.std.specs.List.{All, slice_get}
-use Rattle.std.proofs.lemmas.Bool.{and_parts, cases_lt, eqb-true}
+use Rattle.std.proofs.lemmas.Bool.{and_parts, cases_lt, eqb-true, and_from}
 use Rattle.std.proofs.lemmas.List.Elements.{All-set, All-push}
 use Rattle.index_words.specs.declared.layout.Layout.{Layout}
 use Rattle.key_map.specs.declared.update.Update.{Update}
@@ -10,8 +10,6 @@ use Rattle.index_words.specs.declared.view.View.{View}
 use Rattle.index_words.specs.declared.view.slots.Slots.{Slots}
 use Rattle.index_words.specs.declared.view.history.SeenHistory.{SeenHistory}
 use Rattle.index_words.specs.declared.view.reading.Reading.{Reading}
-use Rattle.index_words.specs.declared.view.reading.Place.{Place}
-use Rattle.index_words.specs.declared.view.reading.Place.TheVariants.{Nowhere, Entry as AtEntry, Node as AtNode, Gap}
 use Rattle.index_words.specs.declared.view.update.Updating.{Updating}
 use Rattle.index_words.specs.declared.word.Field.{Field}
 use Rattle.index_words.specs.declared.word.Field.TheVariants.{Key, Val, Lock, Mark, Head, Link, Tag}
@@ -22,8 +20,8 @@ use Rattle.index_words.specs.Views.{spent_view, no_slots}
 use Rattle.key_map.specs.Lists.{count, IsItem}
 use Rattle.key_map.proofs.Counting.{count-append}
 use Rattle.index_words.proofs.Seats.{at_item, one_term}
-use Rattle.core_grace.specs.Batches.{batch_taken, batch_freed, all_passed, is_empty, looked_at, is_number, both}
-use Rattle.core_grace.specs.Holds.{ReadsNode, held_nodes, held_slots, tree_slots, work_nodes, listed}
+use Rattle.core_grace.specs.Batches.{batch_taken, batch_freed, all_passed, is_empty, looked_at, both, looked}
+use Rattle.core_grace.specs.Holds.{ReadsNode, held_slots, tree_slots, work_nodes, listed}
 use Rattle.core_grace.specs.Slots.{own, nodes_of}
 use Rattle.core_grace.specs.Sections.{is_even}
 use Rattle.core_events.specs.declared.event.Kind.{Kind}
@@ -33,35 +31,33 @@ use Rattle.core_events.specs.Announcing.{announced_view, has_announced}
 use Rattle.core_events.specs.CutNeeds.{may_cut, may_cut_by}
 use Rattle.core_events.specs.FillMoves.{filled_view, filled_with, with_filled, known_before, used_view}
 use Rattle.core_events.specs.LoadMoves.{head_loaded, ts_loaded, ptr_loaded, next_at, node_known, found_at, longest, stamp_history, stamp_reading, stamp_loaded}
-use Rattle.core_events.specs.LockMoves.{locked_view, met_lock, unlocked_view, other_nodes, just_locked, with_mark, mark_known, pair_known, pair_loaded, mark_loaded, update_until}
+use Rattle.core_events.specs.LockMoves.{locked_view, met_lock, unlocked_view, other_nodes, just_locked, update_until}
 use Rattle.core_events.specs.LockNeeds.{may_try_lock, may_lock, names_pass}
 use Rattle.core_events.specs.Moves.{in_section, entered, left, split_left, split_right, joined_with, own_number}
-use Rattle.core_events.specs.Needs.{is_outside, is_lock, is_own_section, may_enter, may_look}
+use Rattle.core_events.specs.Needs.{is_outside, is_lock, is_own_section, may_enter}
+use Rattle.core_events.specs.Waits.{has_no_lock, looked_waiting, may_look}
+use Rattle.core_invariant.proofs.WaitNeeds.{can_look}
 use Rattle.core_events.specs.SpelledNow.{tree_now}
-use Rattle.core_events.specs.Steps.{needs, carries, is_own_update, views_after, join_found, look_from, head_at, head_from, ts_from, ptr_from, next_from, prepared_at, prepared_from, raised_from, finalised_from, tried_from, unlocked_from, mark_from, marked_from, pair_from, ann_from, cut_from, link_at, link_from, tag_at, tag_from, set_at, set_from, raised_tag_at, raised_tag_from}
+use Rattle.core_events.specs.Steps.{needs, carries, is_own_update, views_after, join_found, look_from, ts_from, ptr_from, next_from, prepared_at, prepared_from, raised_from, finalised_from, tried_from, unlocked_from, mark_from, marked_from, pair_from, ann_from, cut_from, link_from, tag_from, set_from, raised_tag_from}
 use Rattle.core_events.specs.TreeMoves.{is_tree_step, tree_move}
-use Rattle.core_events.specs.UpdateMoves.{prepared, finalised, known_at, without}
+use Rattle.core_events.specs.UpdateMoves.{prepared, known_at, without}
 use Rattle.core_events.specs.UpdateNeeds.{may_raise, may_raise_number}
 use Rattle.core_events.specs.Versions.{slots_of, tree_nodes}
 use Rattle.core_events.proofs.Tests.{never, node_there}
 use Rattle.core_invariant.specs.SectionRule.{IsIdle}
 use Rattle.core_invariant.specs.Rule.{InRule}
 use Rattle.core_invariant.specs.WaitingSlots.{IsNameless, HasNoneWaiting, WaitsRight}
-use Rattle.core_invariant.proofs.Fronts.{held-known, held-found}
+use Rattle.core_invariant.proofs.Fronts.{held-known}
 use Rattle.core_invariant.proofs.Idle.{idle_nodes, nameless_idle}
 use Rattle.core_invariant.proofs.Needed.{outside_idle, reach_is, can_raise}
 use Rattle.core_invariant.proofs.OneView.{item_from_get, seat_at}
 use Rattle.core_invariant.proofs.Owned.{once_node}
 use Rattle.core_invariant.proofs.TreeNow.{tree_is}
-use Rattle.core_kept.proofs.HeadLoads.{side_node}
-use Rattle.core_kept.proofs.Marks.{slots_marked, slots_paired}
-use Rattle.core_kept.proofs.LinkStores.{slots_link}
-use Rattle.core_kept.proofs.TagStores.{slots_tag}
-use Rattle.core_events.specs.PlainMoves.{link_known_at, tag_known_at, link_loaded, tag_loaded, link_set, tag_set}
 use Rattle.core_kept.proofs.RaiseNew.{waiting_old}
 use Rattle.core_kept.proofs.TreeNeeds.{moves_tree}
 use Rattle.core_kept.proofs.TryLocks.{slots_push}
 use Rattle.core_kept.proofs.Unlocks.{slots_other, until_by}
+use Rattle.core_kept.proofs.WaitingLoads.{less, same, held_with, load_head_waits, ts_waits, ptr_waits, next_waits, finalise_waits, load_mark_waits, mark_waits, pair_waits, load_link_waits, set_link_waits, load_tag_waits, set_tag_waits, look_ann_waits}
 
 -- a list that is empty with another one behind it
 both_empty : {X : Type 0} (xs ys : List X) → xs ++ ys ≡ [] → (xs ≡ []) × (ys ≡ [])
@@ -106,19 +102,6 @@ module _ (z : Layout) (words : List ℕ) (vs : List View) (right : InRule z word
   none_read : IsIdle v → (k : ℕ) → ReadsNode v k → ⊥
   none_read idle k holds = omega (arith, holds, ap (count k) (idle_nodes v idle))
 
-  -- a view with the same slots that reads and works on no other node
-  less : (u : View) → u.number ≡ v.number → u.history.ended ≡ v.history.ended → u.retired ≡ v.retired → u.batch ≡ v.batch → ((k : ℕ) → ReadsNode u k → ReadsNode v k) → WaitsRight u
-  less u number ended retired batch reads = record {
-    apart = λ k some holds. own_right.apart k (subst (λ (s : Slots). 0 < count k s.nodes) batch some) (reads k holds);
-    owned = λ nameless. let none = own_right.owned (sym number ∙ nameless.0, sym ended ∙ nameless.1) in (retired ∙ none.0, batch ∙ none.1);
-  }
-
-  same : (u : View) → u.number ≡ v.number → u.history.ended ≡ v.history.ended → u.retired ≡ v.retired → u.batch ≡ v.batch → held_nodes u ≡ held_nodes v → WaitsRight u
-  same u number ended retired batch nodes = less u number ended retired batch (λ k some. subst (λ (ks : List ℕ). 0 < count k ks) nodes some)
-
-  held_with : (ns : List ℕ) → ns ≡ held_slots v.held.nodes → tree_slots v.reading.tree ++ (ns ++ listed v.update.added) ≡ held_nodes v
-  held_with ns is = ap (λ (xs : List ℕ). tree_slots v.reading.tree ++ (xs ++ listed v.update.added)) is
-
   -- enter and look at a section
   entered_rests : IsIdle v → Rests (in_section v value)
   entered_rests idle = record { none = none_read idle; owned = own_right.owned }
@@ -129,16 +112,18 @@ module _ (z : Layout) (words : List ℕ) (vs : List View) (right : InRule z word
       let taken = rests_taken (is_empty u.batch) u (entered_rests (idle_if out)) in
       rests_settled (all_passed z.passes (batch_taken u).number (batch_taken u).grace.passed) (batch_taken u) taken
 
-  look_waits : (u : Word) (x : ℕ) → may_look v u value ≡ true → WaitsRight (look_from z v u x)
-  look_waits (Section pass) x met =
-      let a = not (is_number pass v.number) in
-      let c = not (is_empty v.batch && is_empty v.retired) in
-      let one = and_parts (a && is_outside v && c) (eqb value 0) met in
-      let two = and_parts (a && is_outside v) c one.0 in
-      let idle = idle_if (and_parts a (is_outside v) two.0).1 in
+  slots_looked : (pass x : ℕ) → IsIdle v → WaitsRight (looked z.passes v pass x)
+  slots_looked pass x idle =
       let taken = rests_taken (is_empty v.batch) v (record { none = none_read idle; owned = own_right.owned }) in
       let u : View = record (batch_taken v) { grace = looked_at (batch_taken v).grace pass x } in
       rests_settled (all_passed z.passes u.number u.grace.passed) u (record { none = taken.none; owned = taken.owned })
+
+  look_by : (pass x : ℕ) → is_even v.section_word ≡ true → (b : Bool) → has_no_lock v ≡ b → WaitsRight (cond b (looked z.passes v pass x) (looked_waiting v pass x))
+  look_by pass x even true none = slots_looked pass x (idle_if (and_from (is_even v.section_word) (has_no_lock v) even none))
+  look_by pass x even false some = same v own_right (looked_waiting v pass x) refl refl refl refl refl
+
+  look_waits : (u : Word) (x : ℕ) → may_look v u value ≡ true → WaitsRight (look_from z v u x)
+  look_waits (Section pass) x met = look_by pass x (can_look v pass value met).even (has_no_lock v) refl
   look_waits Stamp x met = absurd (never met)
   look_waits (Announced k) x met = absurd (never met)
   look_waits (Node f k) x met = absurd (never met)
@@ -150,11 +135,13 @@ module _ (z : Layout) (words : List ℕ) (vs : List View) (right : InRule z word
       (and_parts a (is_outside v) (and_parts (a && is_outside v) (eqb value (v.section_word + 1)) met).0).1
 
   leave_waits : WaitsRight (left v value)
-  leave_waits = less (left v value) refl refl refl refl (λ k holds. omega (arith, holds, count-append k (tree_slots v.reading.tree) (work_nodes v)))
+  leave_waits =
+      less v own_right (left v value) refl refl refl refl
+      (λ k holds. omega (arith, holds, count-append k (held_slots v.held.nodes) [], count-append k (held_slots v.held.nodes) (listed v.update.added), count-append k (tree_slots v.reading.tree) (work_nodes v)))
 
   fill_waits : (b : Bool) (u : Word) → WaitsRight (cond b (used_view v u) (with_filled (used_view v u) (filled_with (known_before v u) u value)))
-  fill_waits true u = same (used_view v u) refl refl refl refl refl
-  fill_waits false u = same (with_filled (used_view v u) (filled_with (known_before v u) u value)) refl refl refl refl refl
+  fill_waits true u = same v own_right (used_view v u) refl refl refl refl refl
+  fill_waits false u = same v own_right (with_filled (used_view v u) (filled_with (known_before v u) u value)) refl refl refl refl refl
 
   -- a load of the stamp
   reads_with : (h : SeenHistory) (r : Reading) → h.ended ≡ v.history.ended → ((k : ℕ) → 0 < count k v.batch.nodes → count k (tree_slots r.tree) ≡ 0) → WaitsRight (record v { history = h; reading = r })
@@ -185,56 +172,11 @@ module _ (z : Layout) (words : List ℕ) (vs : List View) (right : InRule z word
       announced_by true = reads_with (stamp_history known v.history x fixes) (stamp_reading v.reading true x fixes (tree_nodes (tree_now z m vs))) refl new_tree
       announced_by false = reads_with (stamp_history known v.history x fixes) (stamp_reading v.reading false x fixes (tree_nodes (tree_now z m vs))) refl old_tree
 
-  -- the other loads
-  head_waits : (f : Field) (k x number : ℕ) → WaitsRight (head_at v f k x number)
-  head_waits (Head side) k x number =
-      same (head_loaded v k side x number) refl refl refl refl (held_with (held_slots (map (found_at k side x) v.held.nodes)) (held-found k side x v.held.nodes))
-  head_waits Key k x number = own_right
-  head_waits Val k x number = own_right
-  head_waits Lock k x number = own_right
-  head_waits Mark k x number = own_right
-  head_waits (Link side) k x number = own_right
-  head_waits (Tag side) k x number = own_right
-
-  load_head_waits : (u : Word) (x number : ℕ) → WaitsRight (head_from v u x number)
-  load_head_waits (Node f k) x number = head_waits f k x number
-  load_head_waits Stamp x number = own_right
-  load_head_waits (Section k) x number = own_right
-  load_head_waits (Announced k) x number = own_right
-  load_head_waits (Entry p e) x number = own_right
-
-  ts_waits : (u : Word) (x : ℕ) → WaitsRight (ts_from v u x)
-  ts_waits (Entry p e) x = same (ts_loaded v e x) refl refl refl refl (held_with (held_slots (map (node_known e x) v.held.nodes)) (side_node e x v.held.nodes))
-  ts_waits Stamp x = own_right
-  ts_waits (Section k) x = own_right
-  ts_waits (Announced k) x = own_right
-  ts_waits (Node f k) x = own_right
-
-  ptr_waits : (u : Word) (x : ℕ) → WaitsRight (ptr_from v u x)
-  ptr_waits (Entry p e) x = same (ptr_loaded v x) refl refl refl refl refl
-  ptr_waits Stamp x = own_right
-  ptr_waits (Section k) x = own_right
-  ptr_waits (Announced k) x = own_right
-  ptr_waits (Node f k) x = own_right
-
-  next_at_waits : (p : Place) (e x : ℕ) → WaitsRight (next_at v p e x)
-  next_at_waits (AtEntry node side entry seen) e x = same (next_at v (AtEntry node side entry seen) e x) refl refl refl refl refl
-  next_at_waits Nowhere e x = own_right
-  next_at_waits (AtNode node key) e x = own_right
-  next_at_waits (Gap node side) e x = own_right
-
-  next_waits : (u : Word) (x : ℕ) → WaitsRight (next_from v u x)
-  next_waits (Entry p e) x = next_at_waits v.reading.place e x
-  next_waits Stamp x = own_right
-  next_waits (Section k) x = own_right
-  next_waits (Announced k) x = own_right
-  next_waits (Node f k) x = own_right
-
   -- the kinds of an update
   prepare_at_waits : (f : Field) (k e : ℕ) → WaitsRight (prepared_at v f k e)
   prepare_at_waits (Head side) k e =
-      same (prepared v side k e) refl refl refl refl
-      (held_with (held_slots (map (known_at k side (record { entry = e; stamp = None })) v.held.nodes)) (held-known k side (record { entry = e; stamp = None }) v.held.nodes))
+      same v own_right (prepared v side k e) refl refl refl refl
+      (held_with v own_right (held_slots (map (known_at k side (record { entry = e; stamp = None })) v.held.nodes)) (held-known k side (record { entry = e; stamp = None }) v.held.nodes))
   prepare_at_waits Key k e = own_right
   prepare_at_waits Val k e = own_right
   prepare_at_waits Lock k e = own_right
@@ -272,13 +214,6 @@ module _ (z : Layout) (words : List ℕ) (vs : List View) (right : InRule z word
             );
         owned = λ nameless. cc (sym can.number ∙ nameless.0);
       }
-
-  finalise_waits : (u : Word) → WaitsRight (finalised_from v u)
-  finalise_waits (Entry p e) = same (finalised v e) refl refl refl refl refl
-  finalise_waits Stamp = own_right
-  finalise_waits (Section k) = own_right
-  finalise_waits (Announced k) = own_right
-  finalise_waits (Node f k) = own_right
 
   -- locks and marks
   locked_waits : (k : ℕ) → (k ≡ 0) ⊎ ReadsNode v k → WaitsRight (locked_view v k)
@@ -335,14 +270,14 @@ module _ (z : Layout) (words : List ℕ) (vs : List View) (right : InRule z word
     where
       tried_by : (b : Bool) → (k ≡ 0) ⊎ ReadsNode v k → WaitsRight (cond b (locked_view v k) (met_lock v value x))
       tried_by true reach = locked_waits k reach
-      tried_by false reach = same (met_lock v value x) refl refl refl refl refl
+      tried_by false reach = same v own_right (met_lock v value x) refl refl refl refl refl
   lock_waits Stamp x is met = absurd (never met)
   lock_waits (Section k) x is met = absurd (never met)
   lock_waits (Announced k) x is met = absurd (never met)
   lock_waits (Entry p e) x is met = absurd (never met)
 
   unlock_waits : (u : Word) → WaitsRight (unlocked_from v u)
-  unlock_waits (Node f k) = less (unlocked_view v k) refl refl refl refl read_less
+  unlock_waits (Node f k) = less v own_right (unlocked_view v k) refl refl refl refl read_less
     where
       added_less : (j : ℕ) → count j (listed (update_until (other_nodes k v.held.nodes) v.update).added) ≤ count j (listed v.update.added)
       added_less j = until_by (λ (u : Updating). count j (listed u.added) ≤ count j (listed v.update.added)) (other_nodes k v.held.nodes) v.update (omega arith) (omega arith)
@@ -368,99 +303,7 @@ module _ (z : Layout) (words : List ℕ) (vs : List View) (right : InRule z word
   unlock_waits (Announced k) = own_right
   unlock_waits (Entry p e) = own_right
 
-  load_mark_waits : (u : Word) (x : ℕ) → WaitsRight (mark_from v u x)
-  load_mark_waits (Node f k) x = same (mark_loaded v k x) refl refl refl refl (held_with (held_slots (map (mark_known k x) v.held.nodes)) (slots_marked k x v.held.nodes))
-  load_mark_waits Stamp x = own_right
-  load_mark_waits (Section k) x = own_right
-  load_mark_waits (Announced k) x = own_right
-  load_mark_waits (Entry p e) x = own_right
-
-  mark_waits : (u : Word) → WaitsRight (marked_from v u)
-  mark_waits (Node f k) = same (with_mark v k 1) refl refl refl refl (held_with (held_slots (map (mark_known k 1) v.held.nodes)) (slots_marked k 1 v.held.nodes))
-  mark_waits Stamp = own_right
-  mark_waits (Section k) = own_right
-  mark_waits (Announced k) = own_right
-  mark_waits (Entry p e) = own_right
-
-  pair_waits : (u : Word) (x : ℕ) → WaitsRight (pair_from v u x)
-  pair_waits (Node f k) x = same (pair_loaded v f k x) refl refl refl refl (held_with (held_slots (map (pair_known f k x) v.held.nodes)) (slots_paired f k x v.held.nodes))
-  pair_waits Stamp x = own_right
-  pair_waits (Section k) x = own_right
-  pair_waits (Announced k) x = own_right
-  pair_waits (Entry p e) x = own_right
-
-  load_link_field : (f : Field) (k x : ℕ) → WaitsRight (link_at v f k x)
-  load_link_field (Link side) k x = same (link_loaded v k side x) refl refl refl refl (held_with (held_slots (map (link_known_at k side x) v.held.nodes)) (slots_link k side x v.held.nodes))
-  load_link_field Key k x = own_right
-  load_link_field Val k x = own_right
-  load_link_field Lock k x = own_right
-  load_link_field Mark k x = own_right
-  load_link_field (Head side) k x = own_right
-  load_link_field (Tag side) k x = own_right
-
-  load_link_waits : (u : Word) (x : ℕ) → WaitsRight (link_from v u x)
-  load_link_waits (Node f k) x = load_link_field f k x
-  load_link_waits Stamp x = own_right
-  load_link_waits (Section k) x = own_right
-  load_link_waits (Announced k) x = own_right
-  load_link_waits (Entry p e) x = own_right
-
-  set_link_field : (f : Field) (k x : ℕ) → WaitsRight (set_at v f k x)
-  set_link_field (Link side) k x = same (link_set v k side x) refl refl refl refl (held_with (held_slots (map (link_known_at k side x) v.held.nodes)) (slots_link k side x v.held.nodes))
-  set_link_field Key k x = own_right
-  set_link_field Val k x = own_right
-  set_link_field Lock k x = own_right
-  set_link_field Mark k x = own_right
-  set_link_field (Head side) k x = own_right
-  set_link_field (Tag side) k x = own_right
-
-  set_link_waits : (u : Word) (x : ℕ) → WaitsRight (set_from v u x)
-  set_link_waits (Node f k) x = set_link_field f k x
-  set_link_waits Stamp x = own_right
-  set_link_waits (Section k) x = own_right
-  set_link_waits (Announced k) x = own_right
-  set_link_waits (Entry p e) x = own_right
-
-  load_tag_field : (f : Field) (k x : ℕ) → WaitsRight (tag_at v f k x)
-  load_tag_field (Tag side) k x = same (tag_loaded v k side x) refl refl refl refl (held_with (held_slots (map (tag_known_at k side x) v.held.nodes)) (slots_tag k side x v.held.nodes))
-  load_tag_field Key k x = own_right
-  load_tag_field Val k x = own_right
-  load_tag_field Lock k x = own_right
-  load_tag_field Mark k x = own_right
-  load_tag_field (Head side) k x = own_right
-  load_tag_field (Link side) k x = own_right
-
-  load_tag_waits : (u : Word) (x : ℕ) → WaitsRight (tag_from v u x)
-  load_tag_waits (Node f k) x = load_tag_field f k x
-  load_tag_waits Stamp x = own_right
-  load_tag_waits (Section k) x = own_right
-  load_tag_waits (Announced k) x = own_right
-  load_tag_waits (Entry p e) x = own_right
-
-  set_tag_field : (f : Field) (k x : ℕ) → WaitsRight (raised_tag_at v f k x)
-  set_tag_field (Tag side) k x = same (tag_set v k side x) refl refl refl refl (held_with (held_slots (map (tag_known_at k side x) v.held.nodes)) (slots_tag k side x v.held.nodes))
-  set_tag_field Key k x = own_right
-  set_tag_field Val k x = own_right
-  set_tag_field Lock k x = own_right
-  set_tag_field Mark k x = own_right
-  set_tag_field (Head side) k x = own_right
-  set_tag_field (Link side) k x = own_right
-
-  set_tag_waits : (u : Word) (x : ℕ) → WaitsRight (raised_tag_from v u x)
-  set_tag_waits (Node f k) x = set_tag_field f k x
-  set_tag_waits Stamp x = own_right
-  set_tag_waits (Section k) x = own_right
-  set_tag_waits (Announced k) x = own_right
-  set_tag_waits (Entry p e) x = own_right
-
   -- announcements and cuts
-  look_ann_waits : (u : Word) (x : ℕ) → WaitsRight (ann_from v u x)
-  look_ann_waits (Announced k) x = same (ann_from v (Announced k) x) refl refl refl refl refl
-  look_ann_waits Stamp x = own_right
-  look_ann_waits (Section k) x = own_right
-  look_ann_waits (Node f k) x = own_right
-  look_ann_waits (Entry p e) x = own_right
-
   -- who cuts has a pass number
   cut_named : (u : Word) → may_cut z m vs v u value ≡ true → v.number ≡ None → ⊥
   cut_named (Entry part e) met none =
@@ -513,7 +356,7 @@ module _ (z : Layout) (words : List ℕ) (vs : List View) (right : InRule z word
   split_waits : All WaitsRight (set vs i (split_left v value) ++ split_right v value ∷ [])
   split_waits =
       All-push WaitsRight (set vs i (split_left v value)) (split_right v value)
-      (moved (split_left v value) (same (split_left v value) refl refl refl refl refl)) (nothing_waits (split_right v value) refl refl)
+      (moved (split_left v value) (same v own_right (split_left v value) refl refl refl refl refl)) (nothing_waits (split_right v value) refl refl)
 
   -- each view's slots wait as they should after an event whose needs are met
   pub waits_after : (kind : Kind) (o : Option Update) → carries kind v o ≡ true → needs kind z m vs i v w value o ≡ true → All WaitsRight (views_after kind z m vs i v w value o)
@@ -525,22 +368,22 @@ module _ (z : Layout) (words : List ℕ) (vs : List View) (right : InRule z word
   waits_after LookSec o named met = moved (look_from z v w (m w)) (look_waits w (m w) met)
   waits_after Fill o named met = moved (filled_view v w value) (fill_waits (is_even v.section_word) w)
   waits_after LoadStamp o named met = moved _ (stamp_waits (longest vs) (m w) (eqb value 1))
-  waits_after LoadHead o named met = moved _ (load_head_waits w (m w) _)
-  waits_after LoadTs o named met = moved (ts_from v w (m w)) (ts_waits w (m w))
-  waits_after LoadPtr o named met = moved (ptr_from v w (m w)) (ptr_waits w (m w))
-  waits_after LoadNext o named met = moved (next_from v w (m w)) (next_waits w (m w))
+  waits_after LoadHead o named met = moved _ (load_head_waits v own_right w (m w) _)
+  waits_after LoadTs o named met = moved (ts_from v w (m w)) (ts_waits v own_right w (m w))
+  waits_after LoadPtr o named met = moved (ptr_from v w (m w)) (ptr_waits v own_right w (m w))
+  waits_after LoadNext o named met = moved (next_from v w (m w)) (next_waits v own_right w (m w))
   waits_after Prepare o named met = moved (prepared_from v w value) (prepare_waits w value)
   waits_after Raise o named met = moved _ (raise_waits (m w) o named met)
-  waits_after Finalise o named met = moved (finalised_from v w) (finalise_waits w)
+  waits_after Finalise o named met = moved (finalised_from v w) (finalise_waits v own_right w)
   waits_after TryLock o named met = moved (tried_from v w value (m w)) (lock_waits w (m w) found met)
   waits_after Unlock o named met = moved (unlocked_from v w) (unlock_waits w)
-  waits_after LoadMark o named met = moved (mark_from v w (m w)) (load_mark_waits w (m w))
-  waits_after MarkNode o named met = moved (marked_from v w) (mark_waits w)
-  waits_after LoadKeyOrVal o named met = moved (pair_from v w (m w)) (pair_waits w (m w))
-  waits_after Announce o named met = moved (announced_view v value) (same (announced_view v value) refl refl refl refl refl)
-  waits_after LookAnn o named met = moved (ann_from v w (m w)) (look_ann_waits w (m w))
+  waits_after LoadMark o named met = moved (mark_from v w (m w)) (load_mark_waits v own_right w (m w))
+  waits_after MarkNode o named met = moved (marked_from v w) (mark_waits v own_right w)
+  waits_after LoadKeyOrVal o named met = moved (pair_from v w (m w)) (pair_waits v own_right w (m w))
+  waits_after Announce o named met = moved (announced_view v value) (same v own_right (announced_view v value) refl refl refl refl refl)
+  waits_after LookAnn o named met = moved (ann_from v w (m w)) (look_ann_waits v own_right w (m w))
   waits_after Cut o named met = moved (cut_from z m v w) (cut_waits w met)
-  waits_after LoadLink o named met = moved (link_from v w (m w)) (load_link_waits w (m w))
-  waits_after SetLink o named met = moved (set_from v w value) (set_link_waits w value)
-  waits_after LoadTag o named met = moved (tag_from v w (m w)) (load_tag_waits w (m w))
-  waits_after SetTag o named met = moved (raised_tag_from v w value) (set_tag_waits w value)
+  waits_after LoadLink o named met = moved (link_from v w (m w)) (load_link_waits v own_right w (m w))
+  waits_after SetLink o named met = moved (set_from v w value) (set_link_waits v own_right w value)
+  waits_after LoadTag o named met = moved (tag_from v w (m w)) (load_tag_waits v own_right w (m w))
+  waits_after SetTag o named met = moved (raised_tag_from v w value) (set_tag_waits v own_right w value)

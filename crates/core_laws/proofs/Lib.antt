@@ -18,6 +18,8 @@ pub mod AnnounceNeeds
 pub mod CutNeeds
 -- A seat whose view shows that it may load or set a plain link, or its tag, may do so.
 pub mod PlainNeeds
+-- A seat whose view shows that it may leave at the wait of a removal, or look at another pass there, may do so.
+pub mod Waits
 -- An allowed cut takes no entry that a section number selects, now or later.
 pub mod Unread
 -- A lock word that is found held by a seat that has not locked the node names another pass.

@@ -18,8 +18,8 @@ use Rattle.key_map.specs.Lists.{count, has, IsItem}
 use Rattle.key_map.proofs.Counting.{has-count}
 use Rattle.core_grace.specs.Slots.{own_free, nodes_of, entries_in, own}
 use Rattle.core_grace.specs.Batches.{is_number}
-use Rattle.core_grace.specs.Sections.{is_even, left_word}
 use Rattle.core_links.proofs.Chains.{chain-same}
+use Rattle.core_grace.specs.Sections.{is_even}
 use Rattle.core_events.specs.declared.event.Event.{Event}
 use Rattle.core_events.specs.declared.event.Kind.{Kind}
 use Rattle.core_events.specs.declared.event.Kind.TheVariants.{Enter, Leave, Fill, Prepare, Raise, Finalise, TryLock, Unlock, Mark as MarkNode, Announce, Cut, SetLink, SetTag}
@@ -31,9 +31,10 @@ use Rattle.core_invariant.specs.Readers.{IsLocked, IsReachable}
 use Rattle.core_invariant.specs.Rule.{Rule, InRule, IsRight}
 use Rattle.core_events.specs.LoadMoves.{locks}
 use Rattle.core_events.specs.LoadNeeds.{is_part, is_reachable}
-use Rattle.core_events.specs.PlainNeeds.{is_done_at, sets_to, keeps_order, owes, may_set_field, may_set_link, may_raise_tag, may_set_tag}
+use Rattle.core_events.specs.PlainNeeds.{is_done_at, owes, may_set_field, may_set_link, may_raise_tag, may_set_tag}
 use Rattle.core_events.specs.LockNeeds.{is_mark, names_pass, may_try_lock, may_unlock, may_mark}
-use Rattle.core_events.specs.Needs.{is_lock, is_outside, is_own_section, nothing_pending, may_enter, may_leave, may_fill}
+use Rattle.core_events.specs.Needs.{is_lock, is_outside, is_own_section, nothing_pending, may_enter, may_fill}
+use Rattle.core_events.specs.Waits.{may_leave}
 use Rattle.core_events.specs.Announcing.{is_own_announced, is_announcement, may_announce}
 use Rattle.core_events.specs.CutNeeds.{may_cut}
 use Rattle.core_invariant.proofs.Apart.{in_one_bundle}
@@ -45,6 +46,7 @@ use Rattle.core_invariant.proofs.Frames.{every_at, count-middle}
 use Rattle.core_invariant.proofs.OneView.{item_from_get, seat_at}
 use Rattle.core_events.proofs.Tests.{never, not_true, node_there}
 use Rattle.core_invariant.proofs.Needed.{own_section, own_announced, reach_is, ready_is}
+use Rattle.core_invariant.proofs.WaitNeeds.{can_leave, can_set}
 use Rattle.core_invariant.proofs.Idle.{number_apart}
 use Rattle.core_invariant.proofs.Owned.{once_node, once_entry, held_live, not_in_bundle, in_entries, free_not_live, reachable_live}
 use Rattle.core_invariant.proofs.HeldFacts.{work_holds, locks-count}
@@ -218,11 +220,8 @@ module _ (z : Layout) (words : List ℕ) (vs : List View) (right : InRule z word
 
   leave_writes : may_leave m v w value ≡ true → W w
   leave_writes met =
-      let a = is_own_section v.number w in
-      let b = not (is_even v.section_word) in
-      let c = eqb (length v.held.nodes) 0 in
-      let d = nothing_pending m v in
-      own_writes w (and_parts a b (and_parts (a && b) c (and_parts (a && b && c) d (and_parts (a && b && c && d) (eqb value (left_word v.section_word)) met).0).0).0).0
+      let own = (can_leave m v w value met).own in
+      subst W (sym own.word) own.named
 
   fill_field : (f : Field) (k : ℕ) → is_lock f ≡ false → HasFreeNode v k → W (Node f k)
   fill_field Key k is free = free
@@ -342,14 +341,9 @@ module _ (z : Layout) (words : List ℕ) (vs : List View) (right : InRule z word
   mark_writes (Announced k) met = absurd (never met)
   mark_writes (Entry p e) met = absurd (never met)
 
-  set_link_at : (f : Field) (k : ℕ) → may_set_field m v f k value ≡ true → W (Node f k)
+  set_link_at : (f : Field) (k : ℕ) → may_set_field z m v f k value ≡ true → W (Node f k)
   set_link_at (Link side) k met =
-      let a = locks k v.held.nodes in
-      let b = nothing_pending m v in
-      let c = sets_to k side value v.update.unset in
-      let one = and_parts (a && b && c) (keeps_order k side v.update) met in
-      let two = and_parts (a && b) c one.0 in
-      inr (locks-count k v.held.nodes (and_parts a b two.0).0)
+      inr (can_set z m v k side value met).locked
   set_link_at Key k met = absurd (never met)
   set_link_at Val k met = absurd (never met)
   set_link_at Lock k met = absurd (never met)
@@ -357,7 +351,7 @@ module _ (z : Layout) (words : List ℕ) (vs : List View) (right : InRule z word
   set_link_at (Head side) k met = absurd (never met)
   set_link_at (Tag side) k met = absurd (never met)
 
-  set_link_writes : (u : Word) → may_set_link m v u value ≡ true → W u
+  set_link_writes : (u : Word) → may_set_link z m v u value ≡ true → W u
   set_link_writes (Node f k) met = set_link_at f k met
   set_link_writes Stamp met = absurd (never met)
   set_link_writes (Section k) met = absurd (never met)

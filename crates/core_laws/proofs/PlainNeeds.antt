@@ -1,5 +1,5 @@
 -- A seat whose view shows that it may load or set a plain link, or its tag, may do so.
-use Rattle.std.proofs.Common.{◌≡◌, ℕ, ◌+◌, List, true, not, eqb, ◌&&◌, refl, ap, sym, subst, inr, Option, Some}
+use Rattle.std.proofs.Common.{◌≡◌, ℕ, ◌+◌, List, Bool, true, false, not, eqb, ◌&&◌, ◌||◌, refl, ap, sym, subst, inr, Option, Some, None}
 use Rattle.std.specs.Prelude.{IfSome}
 use Rattle.std.specs.List.{slice_get}
 use Rattle.std.proofs.lemmas.Bool.{eq-eqb}
@@ -8,15 +8,17 @@ use Rattle.index_words.specs.declared.side.Side.{Side}
 use Rattle.index_words.specs.declared.side.Side.TheVariants.{Left, Right}
 use Rattle.index_words.specs.declared.view.View.{View}
 use Rattle.index_words.specs.declared.view.update.HeldNode.{HeldNode}
-use Rattle.index_words.specs.declared.word.Field.TheVariants.{Link, Tag}
+use Rattle.index_words.specs.declared.view.update.Unlinking.{Unlinking}
+use Rattle.index_words.specs.declared.word.Field.TheVariants.{Mark, Link, Tag}
 use Rattle.index_words.specs.declared.word.Word.TheVariants.{Node}
 use Rattle.index_words.specs.Words.{Memory, memory}
 use Rattle.key_map.specs.Lists.{IsItem}
+use Rattle.core_grace.specs.Batches.{all_passed}
 use Rattle.core_grace.specs.Sections.{is_even}
 use Rattle.core_events.specs.declared.event.Kind.TheVariants.{LoadLink, SetLink, LoadTag, SetTag}
 use Rattle.core_events.specs.LoadMoves.{locks}
-use Rattle.core_events.specs.Needs.{nothing_pending}
-use Rattle.core_events.specs.PlainNeeds.{sets_to, keeps_order, owes}
+use Rattle.core_events.specs.Needs.{is_marked_node, nothing_pending}
+use Rattle.core_events.specs.PlainNeeds.{sets_to, keeps_order, may_unlink, may_unlink_at, unlinks_at, owes}
 use Rattle.core_events.specs.Steps.{allowed}
 use Rattle.core_events.specs.Tables.{Table}
 use Rattle.core_events.specs.UpdateNeeds.{side_of}
@@ -26,9 +28,9 @@ use Rattle.core_invariant.specs.Rule.{InRule}
 use Rattle.core_invariant.proofs.HeldFacts.{locks-count, count-locks}
 use Rattle.core_invariant.proofs.Needed.{found_held}
 use Rattle.core_invariant.proofs.OneView.{item_from_get, seat_at}
-use Rattle.core_laws.specs.PlainNeeds.{MayReadLink, MaySetLink, MaySetTag, ReadLinkLaw, ReadTagLaw, SetLinkLaw, SetTagLaw}
+use Rattle.core_laws.specs.PlainNeeds.{MayReadLink, MayUnlink, MaySetLink, MaySetTag, ReadLinkLaw, ReadTagLaw, SetLinkLaw, SetTagLaw}
 use Rattle.core_laws.specs.ViewNeeds.{event_at}
-use Rattle.core_laws.proofs.ViewTests.{both, not_of, found-locks}
+use Rattle.core_laws.proofs.ViewTests.{both, left_of, not_of, right_of, found-locks}
 use Rattle.core_laws.proofs.ViewNeeds.{locked_alive, allowed_by, reach_there, done_by}
 
 module _ (z : Layout) (words : List ℕ) (vs : List View) (right : InRule z words vs) (i : ℕ) (v : View) (is : slice_get vs i ≡ Some v) where
@@ -54,6 +56,23 @@ module _ (z : Layout) (words : List ℕ) (vs : List View) (right : InRule z word
       (reach_there z words vs right i v is (Tag side) k (inr (inr may.locked))) refl
       (both (true && (a && b)) (eqb 0 0) (both true (a && b) refl (both a b (not_of (is_even v.section_word) may.inside) (count-locks k v.held.nodes may.locked))) refl)
 
+  -- what the view shows of a successor
+  unlink_by : (u : Unlinking) → v.joined ≡ false → MayUnlink v u → (is_marked_node m u.successor && all_passed z.passes v.number v.update.waiting.passed) ≡ true
+  unlink_by u live may =
+      let seat = seat_at z m vs right.meaning i v (item_from_get vs i v is) right.rule in
+      let held = found_held (IsNodeAt m) u.successor may.node v.held.nodes seat.loaded.nodes may.locked in
+      let marked : m (Node Mark may.node.node) ≡ 1 = subst (λ (o : Option ℕ). IfSome o (λ x. m (Node Mark may.node.node) ≡ x)) may.marked held.known.mark in
+      both (is_marked_node m u.successor) (all_passed z.passes v.number v.update.waiting.passed)
+      (eq-eqb (m (Node Mark u.successor)) 1 (subst (λ j. m (Node Mark j) ≡ 1) held.same marked))
+      (subst (λ (y : Layout). all_passed y.passes v.number v.update.waiting.passed ≡ true) (seat.layout live) may.passed)
+
+  unlink_may : (k : ℕ) (side : Side) → v.joined ≡ false → (o : Option Unlinking) → v.update.unlinking ≡ o → (b : Bool) → unlinks_at k side o ≡ b
+      → ((u : Unlinking) → v.update.unlinking ≡ Some u → unlinks_at k side (Some u) ≡ true → MayUnlink v u)
+      → (not (unlinks_at k side o) || may_unlink z m v o) ≡ true
+  unlink_may k side live None at b here may = refl
+  unlink_may k side live (Some u) at false here may = left_of (not (unlinks_at k side (Some u))) (may_unlink z m v (Some u)) (not_of (unlinks_at k side (Some u)) here)
+  unlink_may k side live (Some u) at true here may = right_of (not (unlinks_at k side (Some u))) (may_unlink z m v (Some u)) (unlink_by u live (may u at here))
+
   set_link_may : (k : ℕ) (side : Side) (child : ℕ) → MaySetLink v k side child → allowed t (event_at z i SetLink (Node (Link side) k) child) ≡ true
   set_link_may k side child may =
       let a = locks k v.held.nodes in
@@ -61,8 +80,10 @@ module _ (z : Layout) (words : List ℕ) (vs : List View) (right : InRule z word
       let c = sets_to k side child v.update.unset in
       allowed_by z words vs right i v is SetLink (Node (Link side) k) child (locked_alive z words vs right i v is k may.locked)
       (reach_there z words vs right i v is (Link side) k (inr (inr may.locked))) refl
+      (both (a && b && c && keeps_order k side v.update) (may_unlink_at z m v k side)
       (both (a && b && c) (keeps_order k side v.update)
       (both (a && b) c (both a b (count-locks k v.held.nodes may.locked) (done_by z words vs right i v is may.done may.marked)) may.unset) may.order)
+      (unlink_may k side (locked_alive z words vs right i v is k may.locked) v.update.unlinking refl (unlinks_at k side v.update.unlinking) refl may.waited))
 
   -- a tag that is known is what the word holds
   tag_by : (s : Side) (h : HeldNode) (tag : ℕ) → IsNodeAt m h → (side_of s h).tag ≡ Some tag → m (Node (Tag s) h.node) ≡ tag

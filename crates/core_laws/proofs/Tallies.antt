@@ -16,6 +16,7 @@ use Rattle.core_grace.specs.Sections.{is_even}
 use Rattle.core_events.specs.FillMoves.{filled_view, filled_with, with_filled, known_before, used_view}
 use Rattle.core_events.specs.LoadMoves.{next_at}
 use Rattle.core_events.specs.Moves.{in_section}
+use Rattle.core_events.specs.Waits.{has_no_lock, looked_waiting}
 use Rattle.core_events.specs.Steps.{look_from, ptr_from, next_from, prepared_at, prepared_from, raised_from, finalised_from, unlocked_from, marked_from, pair_from, ann_from, cut_from, link_from, set_from, tag_from, raised_tag_from}
 
 -- what of a view a count is
@@ -47,7 +48,8 @@ looked_tally passes v pass word =
     on_tally v noted (settled passes noted) (record { counts = one.counts; looks = one.looks }) (settled_tally passes noted)
 
 pub look_tally : (z : Layout) (v : View) (w : Word) (x : ℕ) → Tally v (look_from z v w x)
-look_tally z v (Section pass) x = looked_tally z.passes v pass x
+look_tally z v (Section pass) x =
+    either_tally (has_no_lock v) v (looked z.passes v pass x) (looked_waiting v pass x) (looked_tally z.passes v pass x) (record { counts = refl; looks = refl })
 look_tally z v Stamp x = same_tally v
 look_tally z v (Announced k) x = same_tally v
 look_tally z v (Node f k) x = same_tally v

@@ -1,5 +1,5 @@
 -- A seat whose view meets the need of an event may make it, in every table that meets the rule.
-use Rattle.std.proofs.Common.{◌≡◌, ◌≢◌, ℕ, ◌+◌, ◌<◌, ◌≤◌, ◌⊎◌, List, [], length, true, false, not, eqb, ◌&&◌, ◌||◌, arith, refl, ap, ◌∙◌, sym, subst, inl, inr, Option, Some, None, is_none}
+use Rattle.std.proofs.Common.{◌≡◌, ◌≢◌, ℕ, ◌+◌, ◌<◌, ◌≤◌, ◌⊎◌, cond, List, [], length, Bool, true, false, not, eqb, ◌&&◌, ◌||◌, arith, refl, ap, ◌∙◌, sym, subst, inl, inr, Option, Some, None, is_none}
 use Rattle.std.specs.Prelude.{IfSome, nat_lt, nat_le}
 use Rattle.std.specs.List.{slice_get, list_all}
 use Rattle.std.proofs.lemmas.Bool.{eq-eqb, ne_eqb}
@@ -39,13 +39,14 @@ use Rattle.core_events.specs.LoadMoves.{locks, is_above}
 use Rattle.core_events.specs.LoadNeeds.{is_reachable, stands_at, may_go_on, is_part}
 use Rattle.core_events.specs.LockNeeds.{is_pair, names_pass}
 use Rattle.core_events.specs.PlainNeeds.{is_done_at}
-use Rattle.core_events.specs.Needs.{is_lock, is_outside, is_marked_node, is_own_section, is_stamp, nothing_pending, may_join_found}
+use Rattle.core_events.specs.Needs.{is_lock, is_outside, is_marked_node, is_marked_out, is_own_section, is_stamp, is_successor, nothing_pending, may_join_found}
+use Rattle.core_events.specs.Waits.{has_no_lock, has_to_look, is_waiting}
 use Rattle.core_laws.specs.Owners.{HasFreeNode, HasFreeEntry}
 use Rattle.core_events.specs.Steps.{needs, allowed, allowed_at, carries}
 use Rattle.core_invariant.specs.FilledRule.{FilledRight}
 use Rattle.core_events.specs.UpdateNeeds.{held_at, is_next_of, is_ready, is_slot_number, is_written, side_of}
 use Rattle.core_laws.proofs.Remembered.{every_item}
-use Rattle.core_laws.specs.ViewNeeds.{event_at, IsInside, IsInReach, IsAtEntry, MayEnter, MayLeave, MayLook, MayFill, MayReadHead, MayReadNumber, MayReadChild, MayReadNext, HasFilled, MayPrepare, MayFinalise, MayLock, MayUnlock, MayReadMark, MayReadPair, MayMark, MaySplit, MayJoin, EnterLaw, LeaveLaw, LookLaw, FillLaw, LoadStampLaw, FixLaw, ReadHeadLaw, ReadNumberLaw, ReadChildLaw, ReadNextLaw, PrepareLaw, FinaliseLaw, LockLaw, UnlockLaw, ReadMarkLaw, MarkLaw, ReadKeyLaw, ReadValLaw, SplitLaw, JoinLaw}
+use Rattle.core_laws.specs.ViewNeeds.{event_at, IsInside, IsKnownMarked, IsInReach, IsAtEntry, MayEnter, MayLeave, MayLook, MayFill, MayReadHead, MayReadNumber, MayReadChild, MayReadNext, HasFilled, MayPrepare, MayFinalise, MayLock, MayUnlock, MayReadMark, MayReadPair, MayMark, MaySplit, MayJoin, EnterLaw, LeaveLaw, LookLaw, FillLaw, LoadStampLaw, FixLaw, ReadHeadLaw, ReadNumberLaw, ReadChildLaw, ReadNextLaw, PrepareLaw, FinaliseLaw, LockLaw, UnlockLaw, ReadMarkLaw, MarkLaw, ReadKeyLaw, ReadValLaw, SplitLaw, JoinLaw}
 use Rattle.core_invariant.proofs.OneView.{item_from_get, seat_at}
 use Rattle.core_invariant.proofs.Frames.{every_at, every_map}
 use Rattle.core_invariant.proofs.HeldFacts.{work_holds, locks-count, count-locks}
@@ -94,7 +95,7 @@ module _ (z : Layout) (words : List ℕ) (vs : List View) (right : InRule z word
   pub reach_there : (f : Field) (k : ℕ) → IsInReach v k → is_there z (Node f k) ≡ true
   reach_there f k reach = at_most k z.nodes (node_high k reach)
 
-  section_there : (n : ℕ) → n < v.layout.passes → v.joined ≡ false → is_there z (Section n) ≡ true
+  pub section_there : (n : ℕ) → n < v.layout.passes → v.joined ≡ false → is_there z (Section n) ≡ true
   section_there n low live = below n z.passes (subst (λ (y : Layout). n < y.passes) (seat.layout live) low)
 
   own_there : (n : ℕ) → v.number ≡ Some n → is_there z (Section n) ≡ true
@@ -102,13 +103,13 @@ module _ (z : Layout) (words : List ℕ) (vs : List View) (right : InRule z word
 
   -- nothing pending, where no lock is held
   nothing_by : v.held.nodes ≡ [] → nothing_pending m v ≡ true
-  nothing_by none = ap (λ (u : Updating). eqb (length u.pending) 0 && list_all (is_marked_node m) u.taken) (seat.section.done none)
+  nothing_by none = ap (λ (u : Updating). eqb (length u.pending) 0 && list_all (is_marked_out m u) u.taken) (seat.section.done none)
 
   -- nor where what is pending is none, and each locked node that was taken out is marked
-  taken_marked : Every (λ (h : HeldNode). 0 < count h.node v.update.taken → h.mark ≡ Some 1) v.held.nodes → (k : ℕ) → 0 < count k v.update.taken → is_marked_node m k ≡ true
+  taken_marked : Every (IsKnownMarked v.update) v.held.nodes → (k : ℕ) → 0 < count k v.update.taken → is_marked_out m v.update k ≡ true
   taken_marked marked k taken =
-      elim (seat.marks.retired k (seat.marks.taken k taken)) as (λ _. is_marked_node m k ≡ true) [
-        | inl one ↦ eq-eqb (m (Node Mark k)) 1 one
+      elim (seat.marks.retired k (seat.marks.taken k taken)) as (λ _. is_marked_out m v.update k ≡ true) [
+        | inl one ↦ left_of (is_marked_node m k) (is_successor k v.update.unlinking) (eq-eqb (m (Node Mark k)) 1 one)
         | inr out ↦ locked_marked out
       ]
     where
@@ -118,20 +119,25 @@ module _ (z : Layout) (words : List ℕ) (vs : List View) (right : InRule z word
       mark_is : (h : HeldNode) → Loaded h → h.mark ≡ Some 1 → m (Node Mark h.node) ≡ 1
       mark_is h loaded is = subst (λ (o : Option ℕ). IfSome o (λ x. m (Node Mark h.node) ≡ x)) is loaded
 
-      locked_marked : IsTakenOut v k → is_marked_node m k ≡ true
+      one_marked : (h : HeldNode) → Loaded h → (h.mark ≡ Some 1) ⊎ (is_successor h.node v.update.unlinking ≡ true) → is_marked_out m v.update h.node ≡ true
+      one_marked h loaded (inl known) =
+          left_of (is_marked_node m h.node) (is_successor h.node v.update.unlinking) (eq-eqb (m (Node Mark h.node)) 1 (mark_is h loaded known))
+      one_marked h loaded (inr successor) = right_of (is_marked_node m h.node) (is_successor h.node v.update.unlinking) successor
+
+      locked_marked : IsTakenOut v k → is_marked_out m v.update k ≡ true
       locked_marked out =
-          let held = held_item (λ (h : HeldNode). Loaded h × (0 < count h.node v.update.taken → h.mark ≡ Some 1)) k v.held.nodes
-          (every_two Loaded (λ (h : HeldNode). 0 < count h.node v.update.taken → h.mark ≡ Some 1) v.held.nodes loaded_marks marked) out.2 in
-          eq-eqb (m (Node Mark k)) 1
-          (subst (λ j. m (Node Mark j) ≡ 1) held.same (mark_is held.item held.has_it.0 (held.has_it.1 (subst (λ j. 0 < count j v.update.taken) (sym held.same) taken))))
+          let held = held_item (λ (h : HeldNode). Loaded h × IsKnownMarked v.update h) k v.held.nodes
+          (every_two Loaded (IsKnownMarked v.update) v.held.nodes loaded_marks marked) out.2 in
+          subst (λ j. is_marked_out m v.update j ≡ true) held.same
+          (one_marked held.item held.has_it.0 (held.has_it.1 (subst (λ j. 0 < count j v.update.taken) (sym held.same) taken)))
         where
           loaded_marks : Every Loaded v.held.nodes
           loaded_marks = every_map (IsNodeAt m) Loaded v.held.nodes (λ h known. known.mark) seat.loaded.nodes
 
-  pub done_by : v.update.pending ≡ [] → Every (λ (h : HeldNode). 0 < count h.node v.update.taken → h.mark ≡ Some 1) v.held.nodes → nothing_pending m v ≡ true
+  pub done_by : v.update.pending ≡ [] → Every (IsKnownMarked v.update) v.held.nodes → nothing_pending m v ≡ true
   done_by none marked =
-      both (eqb (length v.update.pending) 0) (list_all (is_marked_node m) v.update.taken) (empty_length v.update.pending none)
-      (all_tested (is_marked_node m) v.update.taken (taken_marked marked))
+      both (eqb (length v.update.pending) 0) (list_all (is_marked_out m v.update) v.update.taken) (empty_length v.update.pending none)
+      (all_tested (is_marked_out m v.update) v.update.taken (taken_marked marked))
 
   pub enter_may : (n : ℕ) → MayEnter v n → allowed t (event_at z i Enter (Section n) (v.section_word + 1)) ≡ true
   enter_may n may =
@@ -139,26 +145,35 @@ module _ (z : Layout) (words : List ℕ) (vs : List View) (right : InRule z word
       (both (is_own_section v.number (Section n) && is_outside v) (eqb (v.section_word + 1) (v.section_word + 1))
       (both (is_own_section v.number (Section n)) (is_outside v) (own_section_is n v.number may.own) (outside_is v may.outside)) (eq-eqb (v.section_word + 1) (v.section_word + 1) refl))
 
-  pub leave_may : (n : ℕ) → MayLeave v n → allowed t (event_at z i Leave (Section n) (left_word v.section_word)) ≡ true
-  leave_may n may =
+  pub leave_by : (n : ℕ) → v.number ≡ Some n → IsInside v → (has_no_lock v || is_waiting v) ≡ true → nothing_pending m v ≡ true
+      → allowed t (event_at z i Leave (Section n) (left_word v.section_word)) ≡ true
+  leave_by n own inside may nothing =
       let a = is_own_section v.number (Section n) in
       let b = not (is_even v.section_word) in
-      let c = eqb (length v.held.nodes) 0 in
+      let c = has_no_lock v || is_waiting v in
       let d = nothing_pending m v in
-      allowed_by Leave (Section n) (left_word v.section_word) (named_alive n may.own) (own_there n may.own) refl
+      allowed_by Leave (Section n) (left_word v.section_word) (named_alive n own) (own_there n own) refl
       (both (a && b && c && d) (eqb (left_word v.section_word) (left_word v.section_word))
-      (both (a && b && c) d (both (a && b) c (both a b (own_section_is n v.number may.own) (not_of (is_even v.section_word) may.inside)) (empty_length v.held.nodes may.unlocked)) (nothing_by may.unlocked))
+      (both (a && b && c) d (both (a && b) c (both a b (own_section_is n v.number own) (not_of (is_even v.section_word) inside)) may) nothing)
       (eq-eqb (left_word v.section_word) (left_word v.section_word) refl))
+
+  pub leave_may : (n : ℕ) → MayLeave v n → allowed t (event_at z i Leave (Section n) (left_word v.section_word)) ≡ true
+  leave_may n may = leave_by n may.own may.inside (left_of (has_no_lock v) (is_waiting v) (empty_length v.held.nodes may.unlocked)) (nothing_by may.unlocked)
+
+  pub look_by : (pass : ℕ) → v.joined ≡ false → pass < v.layout.passes → v.number ≢ Some pass → is_even v.section_word ≡ true → has_to_look v ≡ true
+      → allowed t (event_at z i LookSec (Section pass) 0) ≡ true
+  look_by pass live there other even looks =
+      let a = not (is_number pass v.number) in
+      let b = is_even v.section_word in
+      let c = has_to_look v in
+      allowed_by LookSec (Section pass) 0 live (section_there pass there live) refl
+      (both (a && b && c) (eqb 0 0) (both (a && b) c (both a b (not_of (is_number pass v.number) (other_number pass v.number other)) even) looks) refl)
 
   pub look_may : (pass : ℕ) → MayLook v pass → allowed t (event_at z i LookSec (Section pass) 0) ≡ true
   look_may pass may =
-      let a = not (is_number pass v.number) in
-      let b = is_outside v in
       let c = not (is_empty v.batch && is_empty v.retired) in
-      let live = alive (λ (x : View). (is_empty x.batch && is_empty x.retired) ≡ false) may.waiting (λ none. cc) in
-      allowed_by LookSec (Section pass) 0 live (section_there pass may.there live) refl
-      (both (a && b && c) (eqb 0 0)
-      (both (a && b) c (both a b (not_of (is_number pass v.number) (other_number pass v.number may.other)) (outside_is v may.outside)) (not_of (is_empty v.batch && is_empty v.retired) may.waiting)) refl)
+      look_by pass (alive (λ (x : View). (is_empty x.batch && is_empty x.retired) ≡ false) may.waiting (λ none. cc)) may.there may.other may.outside.even
+      (ap (λ (b : Bool). cond b c (is_waiting v)) (empty_length v.held.nodes may.outside.unlocked) ∙ not_of (is_empty v.batch && is_empty v.retired) may.waiting)
 
   fill_node : (f : Field) (k value : ℕ) → is_lock f ≡ false → HasFreeNode v k → allowed t (event_at z i Fill (Node f k) value) ≡ true
   fill_node f k value other free =

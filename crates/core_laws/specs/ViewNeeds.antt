@@ -8,6 +8,7 @@ use Rattle.index_words.specs.declared.view.View.{View}
 use Rattle.index_words.specs.declared.view.reading.Place.TheVariants.{Entry as AtEntry}
 use Rattle.index_words.specs.declared.view.update.HeldNode.{HeldNode}
 use Rattle.index_words.specs.declared.view.update.LoadedHead.{LoadedHead}
+use Rattle.index_words.specs.declared.view.update.Updating.{Updating}
 use Rattle.index_words.specs.declared.word.Field.TheVariants.{Key, Val, Lock, Mark, Head}
 use Rattle.index_words.specs.declared.word.Part.TheVariants.{Child, Stamp as Number, Next}
 use Rattle.index_words.specs.declared.word.Word.{Word}
@@ -20,7 +21,7 @@ use Rattle.core_grace.specs.Sections.{is_even, left_word}
 use Rattle.core_events.specs.declared.event.Event.{Event}
 use Rattle.core_events.specs.declared.event.Kind.{Kind}
 use Rattle.core_events.specs.declared.event.Kind.TheVariants.{SplitSeat, JoinSeat, Enter, Leave, LookSec, Fill, LoadStamp, LoadHead, LoadTs, LoadPtr, LoadNext, Prepare, Finalise, TryLock, Unlock, LoadMark, Mark as MarkNode, LoadKeyOrVal, Announce, LookAnn}
-use Rattle.core_events.specs.Needs.{is_lock}
+use Rattle.core_events.specs.Needs.{is_lock, is_successor}
 use Rattle.core_events.specs.LoadMoves.{is_above}
 use Rattle.core_events.specs.PlainNeeds.{is_done_at}
 use Rattle.core_laws.specs.Owners.{HasFreeNode, HasFreeEntry}
@@ -133,8 +134,8 @@ pub record HasFilled (v : View) (w : Word) (x : ℕ) : Type 0 where
   pub is : IsItem v.reading.filled place (record { word = w; value = x })
 
 -- prepare: before the raise, at a node that the seat has locked and found unmarked, whose head it has loaded under the
--- lock: 0, or an entry with a written number. The entry is a free one of its own, into which it has put no number, and the
--- old head as the next
+-- lock: 0, or an entry with a written number. The entry is a free one of its own, into which it has put no number, and
+-- the old head as the next
 pub record MayPrepare (v : View) (k : ℕ) (side : Side) (e : ℕ) : Type 0 where
   pub unraised : v.update.raised ≡ None
   pub node : HeldNode
@@ -160,12 +161,17 @@ pub record MayLock (v : View) (n k : ℕ) : Type 0 where
   pub reach : IsInReach v k
   pub unlocked : ¬ IsLocked v k
 
+-- a locked node that the update took out is known to be marked, or is a successor that is still to be unlinked
+abbrev pub IsKnownMarked : Updating → HeldNode → Type 0
+IsKnownMarked u h = 0 < count h.node u.taken → (h.mark ≡ Some 1) ⊎ (is_successor h.node u.unlinking ≡ true)
+
 -- unlock: a node that it has locked, where nothing is pending, each locked node that its update took out is known to be
--- marked, and each plain link of the node is set, and its tag raised, that its update has to
+-- marked, but for a successor that is still to be unlinked, and each plain link of the node is set, and its tag raised,
+-- that its update has to. The node itself is no such successor
 pub record MayUnlock (v : View) (k : ℕ) : Type 0 where
   pub locked : IsLocked v k
   pub done : v.update.pending ≡ []
-  pub marked : Every (λ (h : HeldNode). 0 < count h.node v.update.taken → h.mark ≡ Some 1) v.held.nodes
+  pub marked : Every (IsKnownMarked v.update) v.held.nodes
   pub set : is_done_at k v.update ≡ true
 
 -- loads of a mark, and of a key or a value: inside a section. That they are inside one is used by no law; a test

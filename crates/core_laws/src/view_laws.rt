@@ -8,6 +8,7 @@ ghost use Rattle.core_laws.specs.Owners.{OwnersLaw};
 ghost use Rattle.core_laws.specs.PlainNeeds.{ReadLinkLaw, SetLinkLaw, ReadTagLaw, SetTagLaw};
 ghost use Rattle.core_laws.specs.PlainTrees.{PlainTreeLaw, PlainLinkLaw, PlainTagLaw, TagRoomLaw};
 ghost use Rattle.core_laws.specs.SlotSums.{SlotSumLaw};
+ghost use Rattle.core_laws.specs.Waits.{LeaveWaitingLaw, LookWaitingLaw, NoLooksLaw, LockedStaysLaw};
 ghost use Rattle.core_laws.specs.ViewNeeds.{EnterLaw, LeaveLaw, LookLaw, FillLaw, LoadStampLaw, FixLaw, AnnounceLaw, TakeBackLaw, LookAnnLaw, ReadHeadLaw, ReadNumberLaw, ReadChildLaw, ReadNextLaw, PrepareLaw, FinaliseLaw, LockLaw, UnlockLaw, ReadMarkLaw, MarkLaw, ReadKeyLaw, ReadValLaw, SplitLaw, JoinLaw};
 
 /// Who writes what. An event of one seat changes no word that another seat alone changes: its section word and its
@@ -24,6 +25,8 @@ pub fn needs_of_views()
     ensures enter { EnterLaw }
     ensures leave { LeaveLaw }
     ensures look { LookLaw }
+    ensures leave_waiting { LeaveWaitingLaw }
+    ensures look_waiting { LookWaitingLaw }
     ensures fill { FillLaw }
     ensures load_stamp { LoadStampLaw }
     ensures fix { FixLaw }
@@ -49,6 +52,14 @@ pub fn needs_of_views()
     ensures read_val { ReadValLaw }
     ensures split { SplitLaw }
     ensures join { JoinLaw }
+{}
+
+/// What the wait of a removal may rely on. Its looks begin with none: inside a section a view has none. While a view
+/// waits, as always, no event of another seat changes the lock, the mark, the heads, the plain links or the tags of a
+/// node that the view has locked.
+pub fn what_a_wait_keeps()
+    ensures begins { NoLooksLaw }
+    ensures stays { LockedStaysLaw }
 {}
 
 /// What a cut takes is read by nobody. The section number of a seat selects no entry behind the one at which an allowed

@@ -4,7 +4,7 @@ use std::alloc::{AllocError, Global};
 use std::fmt::Debug;
 
 /// The names of all parts.
-const PARTS: [&str; 42] = [
+const PARTS: [&str; 43] = [
     "number",
     "joined",
     "to_give",
@@ -37,6 +37,7 @@ const PARTS: [&str; 42] = [
     "unset",
     "owed",
     "unlinking",
+    "waited",
     "free_nodes",
     "free_entries",
     "retired_nodes",
@@ -118,6 +119,7 @@ fn list_named<'v>(view: &'v View, name: &str) -> Option<&'v [u32]> {
         "looked" => view.reading.looked.as_slice(),
         "taken" => view.update.taken.as_slice(),
         "pending" => view.update.pending.as_slice(),
+        "waited" => view.update.waiting.passed.as_slice(),
         "free_nodes" => view.free.nodes.as_slice(),
         "free_entries" => view.free.entries.as_slice(),
         "retired_nodes" => view.retired.nodes.as_slice(),

@@ -1,7 +1,7 @@
 // Words of the table and links of its tree, by name: `stamp`, `section:0`, `announced:0`; of node 3 `key:3`, `val:3`,
-// `lock:3`, `mark:3`, `left:3` and `right:3` (the heads of its bundles), `left_link:3` and `right_link:3` (its plain links),
-// `left_tag:3` and `right_tag:3` (their tags); of entry 2 `child:2`, `number:2`, `next:2`.
-// A word may also be given by its number.
+// `lock:3`, `mark:3`, `left:3` and `right:3` (the heads of its bundles), `left_link:3` and `right_link:3` (its plain
+// links), `left_tag:3` and `right_tag:3` (their tags); of entry 2 `child:2`, `number:2`, `next:2`. A word may also be
+// given by its number.
 use index_words::{Field, Layout, Part, Side, Word};
 
 /// A link of a node.

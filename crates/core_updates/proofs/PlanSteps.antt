@@ -9,6 +9,7 @@ use Rattle.index_words.specs.declared.word.Part.TheVariants.{Child, Stamp as Num
 use Rattle.index_words.specs.declared.word.Word.TheVariants.{Node, Entry}
 use Rattle.key_map.specs.Lists.{count, Every}
 use Rattle.core_events.specs.declared.event.Kind.TheVariants.{Prepare}
+use Rattle.core_events.specs.Needs.{is_successor}
 use Rattle.core_events.specs.UpdateNeeds.{held_at, is_written}
 use Rattle.core_laws.specs.ViewNeeds.{May, IsInReach, event_at, HasFilled}
 use Rattle.core_laws.proofs.CountFacts.{other_head, taken_law}
@@ -16,6 +17,7 @@ use Rattle.core_laws.proofs.Counts.{counts_law}
 use Rattle.core_laws.proofs.NumberLoads.{watches}
 use Rattle.core_invariant.proofs.OneView.{item_from_get}
 use Rattle.core_laws.proofs.ViewNeeds.{may_leave_law, may_fill_law, may_read_head_law, may_prepare_law, may_finalise_law, may_lock_law, may_unlock_law, may_read_mark_law, may_mark_law, may_read_key_law, may_read_val_law}
+use Rattle.core_laws.proofs.Waits.{may_leave_waiting_law}
 use Rattle.core_updates.specs.declared.plan.Plan.{Plan}
 use Rattle.core_updates.specs.declared.plan.Plan.TheVariants.{Grow, Replace, Lift, Join}
 use Rattle.core_updates.specs.declared.plan.JoinPlan.{JoinPlan}
@@ -125,6 +127,11 @@ module _ (z : Layout) (v : View) (seat : ℕ) where
         unnumbered = d.filled.1.0;
       }) words vs right is
 
+-- what is known of the nodes that go out by the plan, where these are the ones that the update took out
+known : (v : View) {ks os : List ℕ} → os ≡ ks → Every (λ (h : HeldNode). 0 < count h.node os → (h.mark ≡ Some 1) ⊎ (is_successor h.node v.update.unlinking ≡ true)) v.held.nodes
+    → Every (λ (h : HeldNode). 0 < count h.node ks → (h.mark ≡ Some 1) ⊎ (is_successor h.node v.update.unlinking ≡ true)) v.held.nodes
+known v is marked = subst (λ ks. Every (λ (h : HeldNode). 0 < count h.node ks → (h.mark ≡ Some 1) ⊎ (is_successor h.node v.update.unlinking ≡ true)) v.held.nodes) is marked
+
 pub events_law : EventsLaw
 events_law z v seat n plan slots r = record {
   lock = every_to (λ k reach unlocked. may_lock_law z v seat n k (record { own = r.own; inside = r.inside; reach = reach; unlocked = unlocked }))
@@ -148,9 +155,11 @@ events_law z v seat n plan slots r = record {
     locked = locked;
     done = done;
     set = set;
-    marked = subst (λ ks. Every (λ (h : HeldNode). 0 < count h.node ks → h.mark ≡ Some 1) v.held.nodes) (sym taken) marked;
+    marked = known v (sym taken) marked;
   });
   leave = λ unlocked. may_leave_law z v seat n (record { own = r.own; inside = r.inside; unlocked = unlocked });
+  wait = λ taken done marked waiting.
+      may_leave_waiting_law z v seat n (record { own = r.own; inside = r.inside; waiting = waiting; done = done; marked = known v (sym taken) marked });
 }
 
 pub meets_law : MeetsLaw

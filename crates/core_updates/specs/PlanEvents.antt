@@ -1,5 +1,5 @@
--- The events of a plan before and behind its raise: what it changes is locked, what it locks is in reach, each of its events
--- is allowed whatever others do, and where a look fails the count rises that the answer needs.
+-- The events of a plan before and behind its raise: what it changes is locked, what it locks is in reach, each of its
+-- events is allowed whatever others do, and where a look fails the count rises that the answer needs.
 use Rattle.std.specs.Prelude.{◌≡◌, ℕ, ◌+◌, ◌^◌, ◌<◌, ◌≤◌, ◌⊎◌, [], true, false, Some, IfSome, Option, MatchOption}
 use Rattle.std.specs.List.{slice_get}
 use Rattle.index_words.specs.declared.layout.Layout.{Layout}
@@ -19,7 +19,9 @@ use Rattle.core_events.specs.declared.event.Event.{Event}
 use Rattle.core_events.specs.declared.event.Kind.TheVariants.{Leave, Fill, LoadHead, LoadTs, Prepare, Finalise, TryLock, Unlock, LoadMark, Mark as MarkNode, LoadKeyOrVal}
 use Rattle.core_laws.specs.Counts.{MeetsLock, FindsNoNumber, FindsOtherHead, FindsMark, RemembersOther}
 use Rattle.core_events.specs.LoadMoves.{risen}
+use Rattle.core_events.specs.Needs.{is_successor}
 use Rattle.core_events.specs.PlainNeeds.{is_done_at}
+use Rattle.core_events.specs.Waits.{is_waiting}
 use Rattle.core_invariant.specs.Readers.{IsLocked}
 use Rattle.core_invariant.specs.Rule.{IsRight}
 use Rattle.core_events.specs.Steps.{allowed, after}
@@ -79,8 +81,8 @@ pub record HasSlots (v : View) (slots : PlanSlots) : Type 0 where
   pub right : 0 < count slots.right v.free.entries
   pub next : 0 < count slots.next v.free.entries
 
--- an entry may be put in front: its link was held by a look, with the head 0 or an entry whose number was loaded, and the entry
--- is a free one that is filled with that head behind it
+-- an entry may be put in front: its link was held by a look, with the head 0 or an entry whose number was loaded, and
+-- the entry is a free one that is filled with that head behind it
 pub record IsDue (v : View) (f : Front) (child : ℕ) : Type 0 where
   pub look : HoldsLink v f.at.node f.at.side child
   pub numbered : (look.now ≡ 0) ⊎ (is_written look.head.loaded.stamp ≡ true)
@@ -91,12 +93,13 @@ pub record IsDue (v : View) (f : Front) (child : ℕ) : Type 0 where
 abbrev pub MayFillAll : Layout → View → ℕ → (Filled → Type 0)
 MayFillAll z v seat f = May z v (event_at z seat Fill f.word f.value)
 
--- the locked nodes that go out by the plan are known to be marked
+-- the locked nodes that go out by the plan are known to be marked, but for a successor that is still to be unlinked
 abbrev pub KnowsMarked : View → Plan → Type 0
-KnowsMarked v plan = Every (λ (h : HeldNode). 0 < count h.node (out_of plan) → h.mark ≡ Some 1) v.held.nodes
+KnowsMarked v plan =
+    Every (λ (h : HeldNode). 0 < count h.node (out_of plan) → (h.mark ≡ Some 1) ⊎ (is_successor h.node v.update.unlinking ≡ true)) v.held.nodes
 
--- the events of the plan that the seat may make: its locks and looks, its fills, what is due, and behind the raise the numbers,
--- the marks, and what gives back the locks and leaves the section
+-- the events of the plan that the seat may make: its locks and looks, its fills, what is due, and behind the raise the
+-- numbers, the marks, and what gives back the locks and leaves the section, with two locks kept where it waits
 pub record AllowsPlan (z : Layout) (v : View) (seat n : ℕ) (plan : Plan) (slots : PlanSlots) : Type 0 where
   pub lock : Every (λ k. ¬ IsLocked v k → May z v (event_at z seat TryLock (Node Lock k) (n + 1))) (locks_of plan)
   pub head : Every (λ k. (side : Side) → May z v (event_at z seat LoadHead (Node (Head side) k) 0)) (locks_of plan)
@@ -112,6 +115,7 @@ pub record AllowsPlan (z : Layout) (v : View) (seat n : ℕ) (plan : Plan) (slot
   pub mark : (k : ℕ) → v.update.taken ≡ out_of plan → 0 < count k (out_of plan) → IsLocked v k → May z v (event_at z seat MarkNode (Node Mark k) 1)
   pub unlock : (k : ℕ) → v.update.taken ≡ out_of plan → v.update.pending ≡ [] → KnowsMarked v plan → is_done_at k v.update ≡ true → IsLocked v k → May z v (event_at z seat Unlock (Node Lock k) 0)
   pub leave : v.held.nodes ≡ [] → May z v (event_at z seat Leave (Section n) (left_word v.section_word))
+  pub wait : v.update.taken ≡ out_of plan → v.update.pending ≡ [] → KnowsMarked v plan → is_waiting v ≡ true → May z v (event_at z seat Leave (Section n) (left_word v.section_word))
 
 abbrev pub EventsLaw : Type 0
 EventsLaw = (z : Layout) (v : View) (seat n : ℕ) (plan : Plan) (slots : PlanSlots) → ReadsPlan v n plan → AllowsPlan z v seat n plan slots
@@ -123,8 +127,9 @@ pub record ReadsOwn (v : View) : Type 0 where
   pub own : Every (λ at. at ≤ number) v.history.mine
   pub idle : v.update.pending ≡ []
 
--- where a try fails it has met that for which a count rises: an entry without a number that it has not pending, a head that is
--- another one than the remembered one and that it has not stored, or a mark on a node of the plan that it has not taken out
+-- where a try fails it has met that for which a count rises: an entry without a number that it has not pending, a head
+-- that is another one than the remembered one and that it has not stored, or a mark on a node of the plan that it has
+-- not taken out
 pub record MeetsFailures (t : Table) (e : Event) (v : View) (plan : Plan) : Type 0 where
   pub number : (entry : ℕ) → e.kind ≡ LoadTs → word_at t.layout e.word ≡ Some (Entry Number entry) → held_by t (Entry Number entry) ≡ 0
       → FindsNoNumber t e v
@@ -154,8 +159,8 @@ FailuresLaw =
     (t : Table) (e : Event) (v w : View) (n : ℕ) (plan : Plan) → IsRight t → allowed t e ≡ true → slice_get t.views e.seat ≡ Some v
     → slice_get (after t e).views e.seat ≡ Some w → ReadsPlan v n plan → ReadsOwn v → CountsFailures t e v w plan
 
--- what the search gives along the list of nodes that a seat has read is told of the seat's own tree: that tree names each of its
--- nodes once
+-- what the search gives along the list of nodes that a seat has read is told of the seat's own tree: that tree names
+-- each of its nodes once
 abbrev pub ViewPlanLaw : Type 0
 ViewPlanLaw =
     (t : Table) (i n key : ℕ) (v : View) (change : Change) (result : Option Plan) → IsRight t → IsItem t.views i v

@@ -50,6 +50,8 @@ pub(crate) struct Gates {
     pub(crate) done: Gate,
     /// Raised by each reader that comes no more, and by each writer that has made its last updates.
     pub(crate) ended: Gate,
+    /// Raised by each pass whose removal has returned.
+    pub(crate) back: Gate,
 }
 
 impl Gates {
@@ -59,6 +61,7 @@ impl Gates {
             gone: Gate::new(),
             done: Gate::new(),
             ended: Gate::new(),
+            back: Gate::new(),
         }
     }
 }

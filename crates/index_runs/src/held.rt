@@ -1,9 +1,11 @@
-// One pass makes updates while all others are held inside snapshots.
+// One pass makes updates while all others are held inside snapshots. A removal that had to wait for these would never
+// return, so the keys that it removes then are least ones, which have no child to their left.
 ghost use Rattle.index_runs.specs.Runs.{GoesOn, IsClosed};
 
 use crate::gate::Gates;
-use crate::plan::Run;
-use crate::work::{Event, read, update, work};
+use crate::plan::{Asked, Run};
+use crate::random::Random;
+use crate::work::{Event, first_from, read, update, work};
 use bucket_terms::KeyPass;
 use shared_index::IndexPass;
 use std::alloc::{AllocError, Global};
@@ -75,6 +77,28 @@ fn work_meanwhile<R: Wait>(
     Ok(events)
 }
 
+/// A random update. A key that is removed is the least one of the map, or one below it, which is not there.
+fn asked_meanwhile<R: Wait>(
+    rt: &R,
+    pass: &mut IndexPass<'_>,
+    run: &Run,
+    line: u32,
+    random: &mut Random,
+) -> Asked
+    requires { IsClosed pass.old }
+    ensures { GoesOn pass.old pass.new }
+{
+    match run.asked(0, line, random) {
+        Asked::Remove { key } => match first_from(rt, pass, 0) {
+            Some(least) => Asked::Remove {
+                key: least.key.min(key),
+            },
+            None => Asked::Remove { key },
+        },
+        asked => asked,
+    }
+}
+
 /// Makes updates, with a try to settle behind each of them.
 fn update_and_settle<R: Wait>(
     rt: &R,
@@ -89,7 +113,7 @@ fn update_and_settle<R: Wait>(
     let mut random = run.random(0);
     'updates: for step in 0..run.meanwhile {
         let line = run.requests.wrapping_add(step).wrapping_add(1);
-        let asked = run.asked(0, line, &mut random);
+        let asked = asked_meanwhile(rt, pass, run, line, &mut random);
         events.push(update(rt, pass, asked, line, gates))?;
         events.push(Event::Tried(pass.try_settle()))?;
     }

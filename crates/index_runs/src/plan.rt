@@ -20,6 +20,10 @@ pub(crate) enum Task {
     Visits,
     /// They have few slots, empty the map when all is done, and tell which of their slots are free.
     Few,
+    /// Some remove a key whose successor hangs further down, while readers are held inside snapshots.
+    Far,
+    /// One puts all keys, and then all remove.
+    Deep,
     /// Four of them enter and leave sections of the table, and look at each other.
     Sections,
     /// All but one wait for that one, which stops in the middle of an update.
@@ -37,6 +41,8 @@ impl Task {
             "tries" => Task::Tries,
             "visits" => Task::Visits,
             "few" => Task::Few,
+            "far" => Task::Far,
+            "deep" => Task::Deep,
             "sections" => Task::Sections,
             "waits" => Task::Waits,
             _ => return None,

@@ -6,6 +6,7 @@ use crate::turns::Found;
 use crate::work::Event;
 use index_words::{Change, Update};
 use key_map::Done;
+use link_check::Unlike;
 use shared_index::Settling;
 use std::fmt::Write;
 use std::io;
@@ -28,6 +29,7 @@ pub(crate) fn print_outcome(rt: &HostRuntime, outcome: &Outcome) -> io::Result<(
             for (number, events) in ran.events.iter().enumerate() {
                 print_events(rt, number, events.as_slice())?;
             }
+            print_links(rt, ran.links)?;
             print_history(rt, ran.history.as_slice())
         }
         Outcome::Timed => println!(rt; "made"),
@@ -73,6 +75,7 @@ fn print_event(rt: &HostRuntime, number: usize, event: &Event) -> io::Result<()>
         Event::Tried(Settling::Held { seat, word }) => {
             println!(rt; "T {number} held {seat} {word}")
         }
+        Event::Back(back) => println!(rt; "B {number} {back}"),
         Event::Met(met) => println!(rt; "C {number} {} {} {}", met.busy, met.moved, met.pending),
         Event::Free { nodes, entries } => {
             println!(rt; "F {number} node{}", listed(rt, nodes.as_slice())?)?;
@@ -93,6 +96,14 @@ fn print_answer(
         Asked::Put { key, val } => println!(rt; "P {number} {line} {at} {key} {val} {was}"),
         Asked::PutNew { key, val } => println!(rt; "I {number} {line} {at} {key} {val} {was}"),
         Asked::Remove { key } => println!(rt; "R {number} {line} {at} {key} {was}"),
+    }
+}
+
+/// How many plain links the tree has, or the first one that is not the tree's.
+fn print_links(rt: &HostRuntime, links: Result<u64, Unlike>) -> io::Result<()> {
+    match links {
+        Ok(links) => println!(rt; "X {links}"),
+        Err(unlike) => println!(rt; "X {unlike:?}"),
     }
 }
 

@@ -1,8 +1,12 @@
 // A run: passes at work at once, each on a thread of its own, over one index, to the index's end.
 ghost use Rattle.std.specs.Prelude.{◌≡◌, map, IfOk};
 ghost use Rattle.shared_index.specs.Keys.{AreAllKeys, IsKeyOf};
+ghost use Rattle.table_steps.specs.Passes.{IsPassOf};
 ghost use Rattle.index_runs.specs.Runs.{GoesOn, IsClosed, IsLaidDown, LaidDown, key_of};
+ghost use Rattle.index_runs.specs.Sections.{IsBack};
 
+use crate::deep::plant_or_remove;
+use crate::far::remove_or_look_on;
 use crate::free::tell_free;
 use crate::gate::Gates;
 use crate::held::work_or_be_held;
@@ -11,15 +15,19 @@ use crate::tries::try_puts;
 use crate::visits::work_or_visit;
 use crate::work::{Event, work};
 use index_words::Update;
+use link_check::{Unlike, compare_links};
 use shared_index::{IndexPass, OpenError, PassKey, SharedIndex};
 use std::alloc::{AllocError, Global};
 use std::sync::Wait;
 use std::thread::{Threads, map_vec};
+use table_steps::SharedTable;
 
-/// What a run came to: what each pass was answered, and the history.
+/// What a run came to: what each pass was answered, how many plain links were those of the tree at the end, and the
+/// history.
 #[derive(Drop)]
 pub(crate) struct Ran {
     pub(crate) events: Vec<Vec<Event>>,
+    pub(crate) links: Result<u64, Unlike>,
     pub(crate) history: Vec<Update>,
 }
 
@@ -71,6 +79,8 @@ fn do_task<R: Wait>(
         Task::Held | Task::HeldPuts => work_or_be_held(rt, alloc, pass, run, gates),
         Task::Visits | Task::Few => work_or_visit(rt, alloc, pass, run, gates),
         Task::Tries => try_puts(alloc, pass, run),
+        Task::Far => remove_or_look_on(rt, alloc, pass, run, gates),
+        Task::Deep => plant_or_remove(rt, alloc, pass, run, gates),
         _ => work(rt, alloc, pass, run, gates),
     }
 }
@@ -152,6 +162,33 @@ fn work_all<R: Threads + Wait + Sync>(
     Ok((back, events))
 }
 
+/// Takes up a pass over the table, and compares the plain links with the tree.
+fn compare_by(alloc: Global, table: &SharedTable, key: PassKey) -> (PassKey, Result<u64, Unlike>)
+    requires of { IsPassOf table.now key }
+    ensures back { IsBack table.now key result.0 }
+{
+    let mut pass = table.attach(key);
+    let links = compare_links(alloc, &mut pass);
+    (pass.detach(), links)
+}
+
+/// Compares the plain links with the tree when all passes are laid down, by the pass of the last key.
+fn compared(
+    alloc: Global,
+    index: &SharedIndex,
+    mut keys: Vec<PassKey>,
+) -> Result<(Vec<PassKey>, Result<u64, Unlike>), AllocError>
+    requires all { AreAllKeys index.now keys.items }
+    ensures all { IfOk result (λ c. AreAllKeys index.now c.0.items) }
+{
+    let Some(last) = keys.pop() else {
+        return Ok((keys, Ok(0)));
+    };
+    let (key, links) = compare_by(alloc, index.table(), last);
+    keys.push(key)?;
+    Ok((keys, links))
+}
+
 /// Makes a run, and takes its index to the end.
 pub(crate) fn make_run<R: Threads + Wait + Sync>(
     rt: &R,
@@ -160,8 +197,13 @@ pub(crate) fn make_run<R: Threads + Wait + Sync>(
 ) -> Result<Ran, Stopped> {
     let (index, keys) = opened(alloc, run)?;
     let (keys, events) = work_all(rt, alloc, &index, keys, run)?;
+    let (keys, links) = compared(alloc, &index, keys)?;
     match index.finish(alloc, keys) {
-        Ok(history) => Ok(Ran { events, history }),
+        Ok(history) => Ok(Ran {
+            events,
+            links,
+            history,
+        }),
         Err(_) => Err(Stopped::NoMemory),
     }
 }

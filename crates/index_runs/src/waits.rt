@@ -2,6 +2,7 @@
 // key.
 ghost use Rattle.std.specs.Prelude.{◌≡◌, ◌<◌, ℕ, All, IfOk, Some};
 ghost use Rattle.core_updates.specs.PlanEvents.{HasSlots};
+ghost use Rattle.plan_laws.specs.PlainLinks.{SetsAtOnce};
 ghost use Rattle.plan_laws.specs.Fills.{AreApart};
 ghost use Rattle.plan_laws.specs.Raises.{HasFinalised};
 ghost use Rattle.plan_laws.specs.Tries.{IsSearched};
@@ -64,6 +65,7 @@ impl Meeting {
 fn end_update(pass: &mut TablePass<'_>, number: u64, plan: &Plan, slots: &PlanSlots)
     requires raised { (at : ℕ) × HasFinalised pass.old.view pass.old.number plan.now slots.now at 0 }
     requires apart { AreApart slots.now }
+    requires near { SetsAtOnce plan.now }
     requires least { pass.old.view.reading.least ≡ Some number }
     ensures rest { AtRest pass.new.view }
 {
@@ -87,6 +89,7 @@ fn carry_slowly(
     heads: &[u32; 9],
 ) -> bool
     requires searched { IsSearched pass.old.view pass.old.number plan.now heads.now }
+    requires near { SetsAtOnce plan.now }
     requires free { HasSlots pass.old.view slots.now }
     requires apart { AreApart slots.now }
     requires node { 0 < slots.now.node }

@@ -42,6 +42,8 @@ pub(crate) enum Event {
     Tried(Settling),
     /// What the tries that were not made have met.
     Met(Met),
+    /// So many removals had returned while readers were held.
+    Back(u64),
     /// The free slots of the pass.
     Free {
         nodes: Vec<u32>,
@@ -192,6 +194,17 @@ fn listing<R: Wait>(
         page,
         pairs,
     })
+}
+
+/// The first pair from a key on, in a snapshot of its own.
+pub(crate) fn first_from<R: Wait>(rt: &R, pass: &mut IndexPass<'_>, key: u64) -> Option<Pair>
+    requires { IsClosed pass.old }
+    ensures { GoesOn pass.old pass.new }
+{
+    pass.begin();
+    let found = pass.next_from(rt, key);
+    pass.end();
+    found
 }
 
 // Reads so many pairs of the open snapshot, as far as there are so many.

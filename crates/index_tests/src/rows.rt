@@ -168,8 +168,9 @@ fn held<R: Wait>(rt: &R, zero: &mut IndexPass<'_>, one: &mut IndexPass<'_>) -> (
     (at, right, look)
 }
 
-/// Another pass's snapshot holds what a removal has taken out. The successor of the second key that goes out is the
-/// right child itself.
+/// Another pass's snapshot holds what a removal has taken out. The successor of the first key that goes out is the right
+/// child itself, so that its removal waits for nobody; that of the second one hangs further down, and no snapshot is
+/// open then.
 #[test]
 fn a_snapshot_holds_the_slots_of_a_removal(rt: HostRuntime) -> Result<(), Fail> {
     let Some((index, first, second)) = opened(rt.alloc(), &[size(8, 32, 16), size(1, 4, 8)]) else {
@@ -181,21 +182,22 @@ fn a_snapshot_holds_the_slots_of_a_removal(rt: HostRuntime) -> Result<(), Fail> 
         Row::Put(4, 40, done(1, false)),
         Row::Put(2, 20, done(2, false)),
         Row::Put(6, 60, done(3, false)),
-        Row::Put(5, 50, done(4, false)),
+        Row::Put(8, 80, done(4, false)),
     ];
     assert_eq!(rt; answered(&mut zero, &rt, &rows), 4);
     assert_eq!(rt; held(&rt, &mut zero, &mut one), (4, 2, found(4, 40)));
     let rows = [
         Row::TrySettle(Settling::Settled),
-        Row::Remove(5, done(6, true)),
-        Row::TryNext(3, found(6, 60)),
-        Row::TryNext(7, Look::Nothing),
+        Row::Put(7, 70, done(6, false)),
+        Row::Remove(6, done(7, true)),
+        Row::TryNext(3, found(7, 70)),
+        Row::TryNext(9, Look::Nothing),
     ];
-    assert_eq!(rt; answered(&mut zero, &rt, &rows), 4);
+    assert_eq!(rt; answered(&mut zero, &rt, &rows), 5);
     let rows = [
-        Row::Put(8, 80, done(7, false)),
-        Row::Put(8, 81, Err(PassError::NoSlot)),
-        Row::Remove(8, Err(PassError::NoSlot)),
+        Row::Put(9, 90, done(8, false)),
+        Row::Put(9, 91, Err(PassError::NoSlot)),
+        Row::Remove(9, Err(PassError::NoSlot)),
     ];
     assert_eq!(rt; answered(&mut one, &rt, &rows), 3);
     Ok(())

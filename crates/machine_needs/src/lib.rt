@@ -11,3 +11,4 @@ mod plain_needs;
 mod seat_needs;
 pub mod step;
 mod update_needs;
+mod wait_needs;

@@ -5,12 +5,14 @@ ghost use Rattle.index_words.specs.Words.{memory, same_side as same_sides};
 ghost use Rattle.index_words.specs.declared.view.update.OwedTag.{OwedTag as Owed};
 ghost use Rattle.index_words.specs.declared.view.update.UnsetLink.{UnsetLink as Unset};
 ghost use Rattle.core_events.specs.declared.event.Kind.TheVariants.{LoadLink, SetLink, LoadTag, SetTag};
-ghost use Rattle.core_events.specs.PlainNeeds.{may_look_under as look_under_needs, may_load_link as load_link_needs, may_load_tag as load_tag_needs, is_link_of as link_of, sets_to as sets_link_to, unlinks_at as unlinks, sets_others as sets_other_links, keeps_order as order_kept, may_set_link as set_link_needs, is_owed_at as owed_at, owes as owes_tag, may_set_tag as set_tag_needs, is_done_at as done_at};
+ghost use Rattle.core_events.specs.PlainNeeds.{may_look_under as look_under_needs, may_load_link as load_link_needs, may_load_tag as load_tag_needs, is_link_of as link_of, sets_to as sets_link_to, unlinks_at as unlinks, sets_others as sets_other_links, keeps_order as order_kept, may_unlink as unlink_needs, may_unlink_at as unlink_needs_at, may_set_link as set_link_needs, is_owed_at as owed_at, owes as owes_tag, may_set_tag as set_tag_needs, is_done_at as done_at};
 ghost use Rattle.machine_needs.specs.StepParts.{IsStep};
 
-use crate::seat_needs::is_pending_free;
+use crate::seat_needs::{is_marked, is_pending_free};
 use crate::step::{Load, Step, Store};
+use crate::wait_needs::is_successor;
 use core_events::reads::{held, is_locked};
+use core_grace::has_all_others;
 use index_words::{Field, Layout, OwedTag, Side, Unlinking, UnsetLink, Updating, View, Word};
 
 fn same_side(one: Side, other: Side) -> bool
@@ -69,7 +71,7 @@ fn sets_to(links: &[UnsetLink], node: u32, side: Side, child: u64) -> bool
 }
 
 /// Whether another link is to be set.
-fn sets_others(links: &[UnsetLink], node: u32, side: Side) -> bool
+pub(crate) fn sets_others(links: &[UnsetLink], node: u32, side: Side) -> bool
     ensures { result ≡ sets_other_links node side links.now }
 {
     links.iter().any(|link| !is_link_of(node, side, *link))
@@ -91,6 +93,30 @@ fn keeps_order(update: &Updating, node: u32, side: Side) -> bool
     !(unlinks_at(update.unlinking, node, side) && sets_others(update.unset.as_slice(), node, side))
 }
 
+/// Whether a successor may be unlinked: it is marked, and every other pass was passed since its copy was linked.
+fn may_unlink(layout: &Layout, words: &[u64], view: &View) -> bool
+    ensures { result ≡ unlink_needs layout.now (memory layout.now words.now) view.now view.now.update.unlinking }
+{
+    match view.update.unlinking {
+        None => true,
+        Some(unlinking) => {
+            is_marked(layout, words, unlinking.successor)
+                && has_all_others(
+                    layout.passes,
+                    view.number,
+                    view.update.waiting.passed.as_slice(),
+                )
+        }
+    }
+}
+
+/// Whether the link is not the one to a successor, or that may be unlinked.
+fn may_unlink_at(layout: &Layout, words: &[u64], view: &View, node: u32, side: Side) -> bool
+    ensures { result ≡ unlink_needs_at layout.now (memory layout.now words.now) view.now node side }
+{
+    !unlinks_at(view.update.unlinking, node, side) || may_unlink(layout, words, view)
+}
+
 pub(crate) fn set_link(
     layout: &Layout,
     words: &[u64],
@@ -98,7 +124,7 @@ pub(crate) fn set_link(
     word: Word,
     value: u64,
 ) -> Option<Step>
-    ensures met { is_some result ≡ set_link_needs (memory layout.now words.now) view.now word value }
+    ensures met { is_some result ≡ set_link_needs layout.now (memory layout.now words.now) view.now word value }
     ensures step { IfSome result (IsStep SetLink word value) }
 {
     let Word::Node(Field::Link(side), node) = word else {
@@ -108,6 +134,7 @@ pub(crate) fn set_link(
         && is_pending_free(layout, words, view)
         && sets_to(view.update.unset.as_slice(), node, side, value)
         && keeps_order(&view.update, node, side)
+        && may_unlink_at(layout, words, view, node, side)
     {
         return Some(Step::Store(Store::Link {
             node,
@@ -179,9 +206,12 @@ fn owes_at(owed: &[OwedTag], node: u32) -> bool
     owed.iter().any(|tag| tag.node == node)
 }
 
-/// Whether the update has set all plain links of the node, and raised all their tags.
+/// Whether the update has set all plain links of the node, and raised all their tags, and the node is no successor that
+/// is still to be unlinked.
 pub(crate) fn is_done_at(update: &Updating, node: u32) -> bool
     ensures { result ≡ done_at node update.now }
 {
-    !sets_at(update.unset.as_slice(), node) && !owes_at(update.owed.as_slice(), node)
+    !sets_at(update.unset.as_slice(), node)
+        && !owes_at(update.owed.as_slice(), node)
+        && !is_successor(update.unlinking, node)
 }

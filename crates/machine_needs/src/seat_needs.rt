@@ -1,17 +1,19 @@
 // The needs of events that split or join seats, move a section, or fill a word: the step, where they are met.
-ghost use Rattle.std.specs.Prelude.{◌≡◌, ◌==◌, ◌&&◌, not, length, IfSome, is_some};
+ghost use Rattle.std.specs.Prelude.{◌≡◌, ◌&&◌, ◌||◌, not, IfSome, is_some};
 ghost use Rattle.std.specs.List.{list_all, slice_get};
 ghost use Rattle.index_words.specs.Words.{memory};
 ghost use Rattle.index_words.specs.declared.word.Word.TheVariants.{Section};
 ghost use Rattle.core_grace.specs.Sections.{is_even};
 ghost use Rattle.core_events.specs.declared.event.Kind.TheVariants.{SplitSeat, JoinSeat, Enter, Leave, LookSec, Fill};
-ghost use Rattle.core_events.specs.Needs.{is_outside as outside_of, is_marked_node, nothing_pending, is_own_section as own_section, is_lock, may_enter as enter_needs, may_leave as leave_needs, may_look as look_needs, may_fill as fill_needs, may_split as split_needs, may_join as join_needs, may_join_view, may_join_found};
+ghost use Rattle.core_events.specs.Needs.{is_outside as outside_of, is_marked_node, is_marked_out as marked_out, nothing_pending, is_own_section as own_section, is_lock, may_enter as enter_needs, may_fill as fill_needs, may_split as split_needs, may_join as join_needs, may_join_view, may_join_found};
+ghost use Rattle.core_events.specs.Waits.{has_no_lock, is_waiting as waits, may_leave as leave_needs, may_look as look_needs};
 ghost use Rattle.machine_needs.specs.StepParts.{IsStep};
 
 use crate::step::{Load, Step, Store};
+use crate::wait_needs::{has_to_look, is_successor, is_waiting};
 use core_events::reads::{held, is_in};
 use core_grace::{is_own, left_word};
-use index_words::{Field, Layout, View, Word};
+use index_words::{Field, Layout, Updating, View, Word};
 
 fn is_outside(view: &View) -> bool
     ensures { result ≡ outside_of view.now }
@@ -19,23 +21,33 @@ fn is_outside(view: &View) -> bool
     view.section_word % 2 == 0 && view.held.nodes.is_empty()
 }
 
-fn is_marked(layout: &Layout, words: &[u64], node: u32) -> bool
+pub(crate) fn is_marked(layout: &Layout, words: &[u64], node: u32) -> bool
     ensures { result ≡ is_marked_node (memory layout.now words.now) node }
 {
     held(layout, words, Word::Node(Field::Mark, node)) == 1
 }
 
-fn are_marked(layout: &Layout, words: &[u64], nodes: &[u32]) -> bool
-    ensures { result ≡ list_all (is_marked_node (memory layout.now words.now)) nodes.now }
+/// Whether a node that the update took out is marked, or is a successor that is still to be unlinked.
+fn is_marked_out(layout: &Layout, words: &[u64], update: &Updating, node: u32) -> bool
+    ensures { result ≡ marked_out (memory layout.now words.now) update.now node }
 {
-    nodes.iter().all(|node| is_marked(layout, words, *node))
+    is_marked(layout, words, node) || is_successor(update.unlinking, node)
+}
+
+fn are_marked(layout: &Layout, words: &[u64], update: &Updating) -> bool
+    ensures { result ≡ list_all (marked_out (memory layout.now words.now) update.now) update.now.taken }
+{
+    let nodes = update.taken.as_slice();
+    nodes
+        .iter()
+        .all(|node| is_marked_out(layout, words, update, *node))
 }
 
 /// Whether nothing of the view is pending.
 pub(crate) fn is_pending_free(layout: &Layout, words: &[u64], view: &View) -> bool
     ensures { result ≡ nothing_pending (memory layout.now words.now) view.now }
 {
-    view.update.pending.is_empty() && are_marked(layout, words, view.update.taken.as_slice())
+    view.update.pending.is_empty() && are_marked(layout, words, &view.update)
 }
 
 fn is_lock_word(field: Field) -> bool
@@ -70,11 +82,11 @@ pub(crate) fn enter(view: &View, word: Word, value: u64) -> Option<Step>
 }
 
 fn is_left_by(layout: &Layout, words: &[u64], view: &View, pass: u32) -> bool
-    ensures { result ≡ (own_section view.now.number (Section pass) && not (is_even view.now.section_word) && length view.now.held.nodes == 0 && nothing_pending (memory layout.now words.now) view.now) }
+    ensures { result ≡ (own_section view.now.number (Section pass) && not (is_even view.now.section_word) && (has_no_lock view.now || waits view.now) && nothing_pending (memory layout.now words.now) view.now) }
 {
     is_own_section(view.number, pass)
         && !(view.section_word % 2 == 0)
-        && view.held.nodes.is_empty()
+        && (view.held.nodes.is_empty() || is_waiting(view))
         && is_pending_free(layout, words, view)
 }
 
@@ -104,11 +116,7 @@ pub(crate) fn look(view: &View, word: Word, value: u64) -> Option<Step>
     let Word::Section(pass) = word else {
         return None;
     };
-    if !is_own(view.number, pass)
-        && is_outside(view)
-        && !(view.batch.is_empty() && view.retired.is_empty())
-        && value == 0
-    {
+    if !is_own(view.number, pass) && view.section_word % 2 == 0 && has_to_look(view) && value == 0 {
         return Some(Step::Load(Load::Section { pass }));
     }
     None

@@ -5,7 +5,6 @@ use Rattle.index_words.specs.declared.word.Field.TheVariants.{Key, Val, Mark, He
 use Rattle.index_words.specs.declared.word.Part.TheVariants.{Child, Stamp as Number, Next}
 use Rattle.index_words.specs.declared.word.Word.TheVariants.{Section, Announced, Node, Entry}
 use Rattle.index_words.specs.Words.{Memory}
-use Rattle.core_grace.specs.Batches.{looked}
 use Rattle.core_events.specs.Announcing.{announced_view, ann_loaded}
 use Rattle.core_events.specs.FillMoves.{filled_view}
 use Rattle.core_events.specs.LoadMoves.{head_loaded, ts_loaded, ptr_loaded, next_loaded}
@@ -13,6 +12,7 @@ use Rattle.core_events.specs.LockMoves.{unlocked_view, with_mark, mark_loaded, p
 use Rattle.core_events.specs.Moves.{entered, left}
 use Rattle.core_events.specs.PlainMoves.{link_loaded, tag_loaded, link_set, tag_set}
 use Rattle.core_events.specs.UpdateMoves.{prepared, finalised}
+use Rattle.core_events.specs.Waits.{looked_by}
 use Rattle.machine_needs.specs.declared.step.Load.{Load}
 use Rattle.machine_needs.specs.declared.step.Load.TheVariants as load
 use Rattle.machine_needs.specs.declared.step.Store.{Store}
@@ -20,7 +20,7 @@ use Rattle.machine_needs.specs.declared.step.Store.TheVariants as store
 
 -- for a table of so many passes, whose words are `m`
 abbrev pub loaded : Load → ℕ → Memory → View → View
-loaded (load.Section pass) passes m v = looked passes v pass (m (Section pass))
+loaded (load.Section pass) passes m v = looked_by passes v pass (m (Section pass))
 loaded (load.Announced pass) passes m v = ann_loaded v pass (m (Announced pass))
 loaded (load.Head node side) passes m v = head_loaded v node side (m (Node (Head side) node)) (m (Entry Number (m (Node (Head side) node))))
 loaded (load.Number entry) passes m v = ts_loaded v entry (m (Entry Number entry))

@@ -1,6 +1,7 @@
 // The view of a seat after each kind of event.
 ghost use Rattle.std.specs.Prelude.{◌≡◌, ◌≤◌, ◌++◌, OnOk, OnErr, IfOk, length, take, Some};
 ghost use Rattle.core_grace.specs.Batches.{apart_from, both, looked};
+ghost use Rattle.core_events.specs.Waits.{looked_by, looked_waiting};
 ghost use Rattle.machine_views.specs.Gains.{with_gain};
 ghost use Rattle.core_events.specs.Moves.{nowhere, entered, left, split_left, split_right, longer, own_number, own_ended, joined_with};
 
@@ -33,17 +34,16 @@ pub fn enter(alloc: Global, view: &mut View, passes: u32, word: u64) -> Result<(
     Ok(())
 }
 
-/// The view outside of its section: what it read there is gone.
+/// The view outside of its section: what it read there is gone, and it works at no node that it has brought in.
 pub fn leave(alloc: Global, view: &mut View, word: u64)
     ensures { view.new ≡ left view.old word }
 {
     view.section_word = word;
     view.reading = Reading::none(alloc);
+    view.update.added = None;
 }
 
-/// The view after a look that found this number in the section word of another pass. After a refusal the view
-/// is unchanged.
-pub fn look(
+fn look_for_slots(
     alloc: Global,
     view: &mut View,
     passes: u32,
@@ -56,6 +56,31 @@ pub fn look(
     let mut looks = current_looks(alloc, view)?;
     look_at(&mut looks, pass, found)?;
     settle(alloc, view, looks, passes)
+}
+
+fn look_waiting(view: &mut View, pass: u32, found: u64) -> Result<(), NoMemory>
+    ensures ok { OnOk result (view.new ≡ looked_waiting view.old pass found) }
+    ensures err { OnErr result (view.new ≡ view.old) }
+{
+    look_at(&mut view.update.waiting, pass, found)
+}
+
+/// The view after a look that found this number in the section word of another pass: for its slots, or with locks held
+/// for the wait of its removal. After a refusal the view is unchanged.
+pub fn look(
+    alloc: Global,
+    view: &mut View,
+    passes: u32,
+    pass: u32,
+    found: u64,
+) -> Result<(), NoMemory>
+    ensures ok { OnOk result (view.new ≡ looked_by passes view.old pass found) }
+    ensures err { OnErr result (view.new ≡ view.old) }
+{
+    if view.held.nodes.is_empty() {
+        return look_for_slots(alloc, view, passes, pass, found);
+    }
+    look_waiting(view, pass, found)
 }
 
 fn first_nodes(alloc: Global, nodes: &[u32], count: u64) -> Result<Items<u32>, NoMemory>

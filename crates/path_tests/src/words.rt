@@ -18,6 +18,10 @@ fn run(slots: Option<u32>) -> Result<Option<Form>, NoMemory> {
     Ok(Some(Form::Run { slots }))
 }
 
+fn pool(slots: u32) -> Result<Option<Form>, NoMemory> {
+    Ok(Some(Form::Pool { slots }))
+}
+
 #[test]
 fn forms_are_read(rt: HostRuntime) {
     let alloc = rt.alloc();
@@ -26,6 +30,8 @@ fn forms_are_read(rt: HostRuntime) {
     assert_eq!(rt; form(alloc, &["run", "--slots=1"]), run(Some(1)));
     assert_eq!(rt; form(alloc, &["run", "--slots", "8192"]), run(Some(8192)));
     assert_eq!(rt; form(alloc, &["run", "--slots=8192"]), run(Some(8192)));
+    assert_eq!(rt; form(alloc, &["run", "--pool", "1"]), pool(1));
+    assert_eq!(rt; form(alloc, &["run", "--pool=8192"]), pool(8192));
     assert_eq!(rt; form(alloc, &["check"]), check(None));
     assert_eq!(rt; form(alloc, &["check", "--slots", "1"]), check(Some(1)));
     assert_eq!(rt; form(alloc, &["check", "--slots=8192"]), check(Some(8192)));
@@ -39,7 +45,7 @@ fn forms_are_read(rt: HostRuntime) {
 #[test]
 fn other_words_are_none(rt: HostRuntime) {
     let alloc = rt.alloc();
-    let others: [&[&str]; 22] = [
+    let others: [&[&str]; 29] = [
         &[],
         &["--help"],
         &["run", "now"],
@@ -53,10 +59,17 @@ fn other_words_are_none(rt: HostRuntime) {
         &["run", "--slots=8193"],
         &["run", "--slots=1", "--slots=1"],
         &["--slots=1", "run"],
+        &["run", "--pool"],
+        &["run", "--pool", "0"],
+        &["run", "--pool=01"],
+        &["run", "--pool=8193"],
+        &["run", "--pool", "1", "--slots", "1"],
+        &["run", "--slots=1", "--pool=1"],
         &["check", "now"],
         &["check", "--slots"],
         &["check", "--slots=0"],
         &["check", "--slots", "8193"],
+        &["check", "--pool=1"],
         &["check", "run"],
         &["sample", "--slots=1"],
         &["sample", "01"],

@@ -1,5 +1,5 @@
 -- What follows the raise.
-use Rattle.std.proofs.Common.{◌≡◌, ℕ, zero, suc, ◌+◌, ◌<◌, ◌≤◌, List, [], ◌∷◌, ◌++◌, take, drop, map, Bool, true, false, not, cond, eqb, refl, ap, sym, ◌∙◌, subst, arith, Some, None}
+use Rattle.std.proofs.Common.{◌≡◌, ℕ, zero, suc, ◌+◌, ◌<◌, ◌≤◌, List, [], ◌∷◌, ◌++◌, take, drop, map, Bool, true, false, not, cond, eqb, refl, ap, sym, ◌∙◌, subst, arith, Some, None, is_some}
 use Rattle.std.specs.Prelude.{◌==◌}
 use Rattle.std.proofs.lemmas.Bool.Decides.{nat_tests}
 use Rattle.std.proofs.lemmas.List.{drop_all}
@@ -167,6 +167,7 @@ finalise_end v n plan slots place done h none' = record {
   inside = h.inside;
   once = h.once;
   locked = h.locked;
+  raised = ap is_some h.raised;
   taken = h.taken;
   idle = h.pending ∙ drop_all done (raised_entries plan slots) (got-none (raised_entries plan slots) done none');
   reads = h.reads;

@@ -25,6 +25,9 @@ pub mod Raises
 pub mod Prunes
 -- The plain links are set.
 pub mod PlainLinks
+-- A removal ends in two halves around its wait.
+pub mod PartedHeld
+pub mod Parting
 -- What follows the raise.
 pub mod Finals
 -- The tree that a seat reads names each of its nodes once.

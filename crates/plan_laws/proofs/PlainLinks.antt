@@ -1,5 +1,5 @@
 -- The plain links of an update are set, and the tags of those are raised that a removal has made null.
-use Rattle.std.proofs.Common.{◌≡◌, ℕ, zero, suc, ◌+◌, ◌<◌, ◌≤◌, ◌⊎◌, inl, inr, List, [], ◌∷◌, ◌++◌, length, drop, map, Bool, true, false, not, cond, eqb, ◌||◌, ◌&&◌, refl, ap, sym, ◌∙◌, subst, arith, Option, Some, None}
+use Rattle.std.proofs.Common.{◌≡◌, ℕ, zero, suc, ◌+◌, ◌<◌, ◌≤◌, List, [], ◌∷◌, ◌++◌, length, drop, map, Bool, true, false, not, cond, eqb, ◌||◌, ◌&&◌, refl, ap, sym, ◌∙◌, subst, arith, Option, Some, None}
 use Rattle.std.specs.Prelude.{◌==◌, filter}
 use Rattle.std.specs.List.{slice_get, list_any}
 use Rattle.std.proofs.lemmas.Bool.{eq-eqb, and_from}
@@ -34,6 +34,7 @@ use Rattle.plan_laws.specs.Places.{LocksOnce}
 use Rattle.plan_laws.specs.PlainLinks.{LeavesLinks, IsSetting, owes_tag, is_removal, SetStepLaw, SetEndLaw, TagStepLaw, TagPassLaw, TagEndLaw}
 use Rattle.plan_laws.proofs.Fills.{got-none}
 use Rattle.plan_laws.proofs.Items.{drop-got, got-every, map-keeps}
+use Rattle.plan_laws.proofs.Releases.{known-marked}
 
 -- what is known of a locked node beside a link or a tag stays
 pub link-node : (k x : ℕ) (side : Side) (h : HeldNode) → (link_known_at k side x h).node ≡ h.node
@@ -44,7 +45,7 @@ link-node k x side h = by (eqb h.node k) side
     by true Right = refl
     by false side = refl
 
-link-mark : (k x : ℕ) (side : Side) (h : HeldNode) → (link_known_at k side x h).mark ≡ h.mark
+pub link-mark : (k x : ℕ) (side : Side) (h : HeldNode) → (link_known_at k side x h).mark ≡ h.mark
 link-mark k x side h = by (eqb h.node k) side
   where
     by : (b : Bool) (side : Side) → (cond b (link_known side x h) h).mark ≡ h.mark
@@ -52,7 +53,7 @@ link-mark k x side h = by (eqb h.node k) side
     by true Right = refl
     by false side = refl
 
-tag-node : (k x : ℕ) (side : Side) (h : HeldNode) → (tag_known_at k side x h).node ≡ h.node
+pub tag-node : (k x : ℕ) (side : Side) (h : HeldNode) → (tag_known_at k side x h).node ≡ h.node
 tag-node k x side h = by (eqb h.node k) side
   where
     by : (b : Bool) (side : Side) → (cond b (tag_known side x h) h).node ≡ h.node
@@ -60,7 +61,7 @@ tag-node k x side h = by (eqb h.node k) side
     by true Right = refl
     by false side = refl
 
-tag-mark : (k x : ℕ) (side : Side) (h : HeldNode) → (tag_known_at k side x h).mark ≡ h.mark
+pub tag-mark : (k x : ℕ) (side : Side) (h : HeldNode) → (tag_known_at k side x h).mark ≡ h.mark
 tag-mark k x side h = by (eqb h.node k) side
   where
     by : (b : Bool) (side : Side) → (cond b (tag_known side x h) h).mark ≡ h.mark
@@ -73,15 +74,15 @@ module _ (f : HeldNode → HeldNode) (node : (h : HeldNode) → (f h).node ≡ h
   pub slots-stay : (hs : List HeldNode) → held_slots (map f hs) ≡ held_slots hs
   slots-stay hs = map-keeps (λ (h : HeldNode). h.node) f node hs
 
-  marks-stay : (out : List ℕ) → ((h : HeldNode) → (f h).mark ≡ h.mark) → (hs : List HeldNode) → Every (λ (h : HeldNode). 0 < count h.node out → h.mark ≡ Some 1) hs
+  pub marks-stay : (out : List ℕ) → ((h : HeldNode) → (f h).mark ≡ h.mark) → (hs : List HeldNode) → Every (λ (h : HeldNode). 0 < count h.node out → h.mark ≡ Some 1) hs
       → Every (λ (h : HeldNode). 0 < count h.node out → h.mark ≡ Some 1) (map f hs)
   marks-stay out mark [] all = tt
   marks-stay out mark (h ∷ hs) all = (λ some. mark h ∙ all.0 (subst (λ k. 0 < count k out) (node h) some), marks-stay out mark hs all.1)
 
-same-node : (a : ℕ) → eqb a a ≡ true
+pub same-node : (a : ℕ) → eqb a a ≡ true
 same-node a = grind (arith, nat_tests)
 
-own-side : (s : Side) → same_side s s ≡ true
+pub own-side : (s : Side) → same_side s s ≡ true
 own-side Left = refl
 own-side Right = refl
 
@@ -169,72 +170,25 @@ sets-rest (u ∷ us) f rest e all =
     ap (λ b. map set_of (cond (not b) (u ∷ other_links f.at.node f.at.side us) (other_links f.at.node f.at.side us))) (is-link u f same)
     ∙ ap (map set_of) (others-stay f.at.node f.at.side us (subst (AreOthers f.at.node) (sym more) all)) ∙ more
 
--- the successor's link is the last one
-last-alone : (us : List UnsetLink) (f : Front) → map set_of us ≡ set_by f ∷ [] → sets_others f.at.node f.at.side us ≡ false
-last-alone [] f e = cc
-last-alone (u ∷ []) f e = let same : set_of u ≡ set_by f = cc in ap (λ b. not b || false) (is-link u f same)
-last-alone (u ∷ w ∷ us) f e = cc
-
-not-and : (a b : Bool) → b ≡ false → not (a && b) ≡ true
-not-and true b is = ap not is
-not-and false b is = refl
-
-pub one-order : (f : Front) (us : List UnsetLink) (o : Option Unlinking) → o ≡ None → not (unlinks_at f.at.node f.at.side o && sets_others f.at.node f.at.side us) ≡ true
-one-order f us o is = ap (λ (x : Option Unlinking). not (unlinks_at f.at.node f.at.side x && sets_others f.at.node f.at.side us)) is
-
-join-order : (p : JoinPlan) (slots : PlanSlots) (near : Bool) → (near ≡ false → eqb p.next.at.node p.at.node ≡ false) → (done : ℕ) (f : Front)
-    → slice_get (record { at = p.at; entry = slots.at; child = slots.node } ∷ cond near [] (record { at = p.next.at; entry = slots.next; child = p.next.right } ∷ [])) done ≡ Some f → (us : List UnsetLink)
-    → map set_of us ≡ drop done (map set_by (record { at = p.at; entry = slots.at; child = slots.node } ∷ cond near [] (record { at = p.next.at; entry = slots.next; child = p.next.right } ∷ [])))
-    → not (unlinks_at f.at.node f.at.side (cond near None (Some (record { successor = p.next.node; parent = p.next.at.node; side = p.next.at.side; replaced = p.node }))) && sets_others f.at.node f.at.side us) ≡ true
-join-order p slots true apart done f is us e = refl
-join-order p slots false apart zero f is us e =
-    let x : Front = record { at = p.at; entry = slots.at; child = slots.node } in
-    let same : x ≡ f = cc in
-    subst (λ (g : Front). not ((eqb p.next.at.node g.at.node && same_side p.next.at.side g.at.side) && sets_others g.at.node g.at.side us) ≡ true) same
-    (ap (λ b. not ((b && same_side p.next.at.side p.at.side) && sets_others p.at.node p.at.side us)) (apart refl))
-join-order p slots false apart (suc zero) f is us e =
-    let y : Front = record { at = p.next.at; entry = slots.next; child = p.next.right } in
-    let same : y ≡ f = cc in
-    not-and (eqb p.next.at.node f.at.node && same_side p.next.at.side f.at.side) (sets_others f.at.node f.at.side us)
-    (last-alone us f (e ∙ ap (λ (g : Front). set_by g ∷ []) same))
-join-order p slots false apart (suc (suc i)) f is us e = cc
-
-in-order : (plan : Plan) (slots : PlanSlots) → LocksOnce plan → (done : ℕ) (f : Front) → slice_get (fronts_of plan slots) done ≡ Some f → (us : List UnsetLink)
-    → map set_of us ≡ drop done (sets_of plan slots) → not (unlinks_at f.at.node f.at.side (unlinks_of plan) && sets_others f.at.node f.at.side us) ≡ true
-in-order (Grow p) slots once done f is us e = refl
-in-order (Replace p) slots once done f is us e = refl
-in-order (Lift p) slots once done f is us e = refl
-in-order (Join p) slots once done f is us e = join-order p slots (p.next.at.node == p.node) (nodes-apart p once) done f is us e
-
-still-last : (plan : Plan) (k : ℕ) (side : Side) (o : Option Unlinking) → (o ≡ None) ⊎ (o ≡ unlinks_of plan)
-    → (still_unlinking k side o ≡ None) ⊎ (still_unlinking k side o ≡ unlinks_of plan)
-still-last plan k side o last = by (unlinks_at k side o)
-  where
-    by : (b : Bool) → (cond b None o ≡ None) ⊎ (cond b None o ≡ unlinks_of plan)
-    by true = inl refl
-    by false = last
-
 front-locked : (v : View) (plan : Plan) (slots : PlanSlots) (done : ℕ) (f : Front) → held_slots v.held.nodes ≡ locks_of plan → slice_get (fronts_of plan slots) done ≡ Some f → IsLocked v f.at.node
 front-locked v plan slots done f locked is =
     subst (λ ks. 0 < count f.at.node ks) (sym locked) (got-every (λ (g : Front). IsLockOf plan g.at.node) (fronts_of plan slots) done f (locks_law plan slots).fronts is)
 
 pub set_step : SetStepLaw
-set_step v n plan slots done tags f h is =
+set_step v n plan slots done tags f at_once h is =
     let k : ℕ = f.at.node in
     let side : Side = f.at.side in
     let here : map set_of v.update.unset ≡ set_by f ∷ drop (done + 1) (sets_of plan slots)
     = h.links.unset_are ∙ drop-got (sets_of plan slots) done (set_by f) (got-set (fronts_of plan slots) done f is) in
+    let none : v.update.unlinking ≡ None = h.links.last ∙ at_once in
     record {
       may = record {
         locked = front-locked v plan slots done f h.locked is;
         done = h.idle;
-        marked = h.marked;
+        marked = known-marked v.update v.held.nodes h.marked;
         unset = sets-first v.update.unset f (drop (done + 1) (sets_of plan slots)) here;
-        order = elim h.links.last as (λ _. keeps_order k side v.update ≡ true) [
-          | inl none ↦ one-order f v.update.unset v.update.unlinking none
-          | inr last ↦ ap (λ (o : Option Unlinking). not (unlinks_at k side o && sets_others k side v.update.unset)) last
-              ∙ in-order plan slots h.once done f is v.update.unset h.links.unset_are
-        ];
+        order = ap (λ (o : Option Unlinking). not (unlinks_at k side o && sets_others k side v.update.unset)) none;
+        waited = λ u is_it at_it. cc;
       };
       set = record {
         live = h.live;
@@ -247,7 +201,7 @@ set_step v n plan slots done tags f h is =
         links = record {
           unset_are = sets-rest v.update.unset f (drop (done + 1) (sets_of plan slots)) here (rest-others plan slots h.once done f is);
           owed_are = h.links.owed_are;
-          last = still-last plan k side v.update.unlinking h.links.last;
+          last = ap (still_unlinking k side) none ∙ sym at_once;
         };
       };
       keeps = record { layout = refl; joined = refl; number = refl; history = refl; counts = refl; free = refl; retired = refl; batch = refl };
@@ -302,11 +256,11 @@ tags-stay Remove k side ss all = nulls-stay k side ss all
 own-tag : (k : ℕ) (side : Side) → is_owed_at k side (record { node = k; side = side }) ≡ true
 own-tag k side = and_from (eqb k k) (same_side side side) (same-node k) (own-side side)
 
-owes-first : (k : ℕ) (side : Side) (os rest : List OwedTag) → os ≡ record { node = k; side = side } ∷ rest → owes k side os ≡ true
+pub owes-first : (k : ℕ) (side : Side) (os rest : List OwedTag) → os ≡ record { node = k; side = side } ∷ rest → owes k side os ≡ true
 owes-first k side os rest is =
     ap (owes k side) is ∙ or-first (is_owed_at k side (record { node = k; side = side })) (owes k side rest) (own-tag k side)
 
-tags-rest : (k : ℕ) (side : Side) (os rest : List OwedTag) → os ≡ record { node = k; side = side } ∷ rest → other_tags k side rest ≡ rest → other_tags k side os ≡ rest
+pub tags-rest : (k : ℕ) (side : Side) (os rest : List OwedTag) → os ≡ record { node = k; side = side } ∷ rest → other_tags k side rest ≡ rest → other_tags k side os ≡ rest
 tags-rest k side os rest is stay =
     ap (other_tags k side) is
     ∙ ap (λ b. cond (not b) (record { node = k; side = side } ∷ other_tags k side rest) (other_tags k side rest)) (own-tag k side) ∙ stay
@@ -316,7 +270,7 @@ known-node : (side : Side) (x : ℕ) (h : HeldNode) → (tag_known side x h).nod
 known-node Left x h = refl
 known-node Right x h = refl
 
-known-tag : (side : Side) (x : ℕ) (h : HeldNode) → (side_of side (tag_known side x h)).tag ≡ Some x
+pub known-tag : (side : Side) (x : ℕ) (h : HeldNode) → (side_of side (tag_known side x h)).tag ≡ Some x
 known-tag Left x h = refl
 known-tag Right x h = refl
 
@@ -407,10 +361,10 @@ some-lock (Lift p) e = cc
 some-lock (Join p) e = cc
 
 pub tag_end : TagEndLaw
-tag_end v n plan slots done h none = record {
+tag_end v n plan slots done at_once h none = record {
   live = h.live;
   own = h.own;
-  inside = h.inside;
+  word = h.inside;
   once = h.once;
   locked = h.locked;
   done = h.idle;
@@ -418,6 +372,7 @@ tag_end v n plan slots done h none = record {
   set = (
     no-links v.update.unset h.links.unset_are,
     h.links.owed_are ∙ ap (owed_of (change_of plan)) (none-left (fronts_of plan slots) done none) ∙ no-tags (change_of plan),
+    h.links.last ∙ at_once,
   );
   ended = λ e. absurd (some-lock plan e);
 }

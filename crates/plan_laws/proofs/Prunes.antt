@@ -37,6 +37,7 @@ numbered-kept f v w n plan slots maps mark keeps h = record {
   inside = cc;
   once = h.once;
   locked = slots-kept f v w maps ∙ h.locked;
+  raised = ap (λ (u : Updating). is_some u.raised) keeps.update ∙ h.raised;
   taken = ap (λ (u : Updating). u.taken) keeps.update ∙ h.taken;
   idle = ap (λ (u : Updating). u.pending) keeps.update ∙ h.idle;
   reads = ap is_some keeps.section ∙ h.reads;

@@ -93,7 +93,7 @@ raise_step t seat n line v plan slots right at r apart can =
         taken = moves.taken_is;
         reads = subst (λ (o : Option ℕ). is_some o ≡ true) (sym r.making.section) refl;
         unmarked = λ place front is. as-raised t n line v plan front (front-unmarked v plan slots r.ready.looks place front is);
-        links = record { unset_are = moves.leaves.unset; owed_are = moves.leaves.owed; last = inr moves.leaves.last };
+        links = record { unset_are = moves.leaves.unset; owed_are = moves.leaves.owed; last = moves.leaves.last };
         pending = (λ i. r.ready.pending i ++ (moves.entries_are ∙ entries-are t right seat v at slots apart plan r.ready.new) i);
       };
     }

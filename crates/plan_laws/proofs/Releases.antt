@@ -1,12 +1,13 @@
 -- A pass gives its locks back, leaves its section, and takes its announcement back.
 use Rattle.std.specs.List.{slice_get, list_any}
 use Rattle.std.proofs.lemmas.List.{drop_all}
-use Rattle.std.proofs.Common.{◌≡◌, ℕ, zero, suc, ◌+◌, ◌<◌, ◌≤◌, List, [], ◌∷◌, length, take, drop, Bool, true, false, not, cond, eqb, ◌&&◌, refl, ap, sym, ◌∙◌, subst, arith, Some, None}
+use Rattle.std.proofs.Common.{◌≡◌, ℕ, zero, suc, ◌+◌, ◌<◌, ◌≤◌, List, [], ◌∷◌, length, take, drop, Bool, true, false, not, cond, eqb, ◌&&◌, refl, ap, sym, ◌∙◌, subst, arith, inl, Option, Some, None}
 use Rattle.std.specs.Prelude.{◌==◌}
 use Rattle.std.proofs.lemmas.Bool.Decides.{nat_tests}
 use Rattle.index_words.specs.declared.view.View.{View}
 use Rattle.index_words.specs.declared.view.update.HeldNode.{HeldNode}
 use Rattle.index_words.specs.declared.view.update.OwedTag.{OwedTag}
+use Rattle.index_words.specs.declared.view.update.Unlinking.{Unlinking}
 use Rattle.index_words.specs.declared.view.update.UnsetLink.{UnsetLink}
 use Rattle.index_words.specs.declared.view.update.Updating.{Updating}
 use Rattle.index_words.specs.Views.{no_update}
@@ -14,9 +15,11 @@ use Rattle.key_map.specs.Lists.{count, Every}
 use Rattle.core_grace.specs.Holds.{held_slots}
 use Rattle.core_grace.specs.Sections.{is_even, left_word}
 use Rattle.core_events.specs.LockMoves.{unlocked_view, other_nodes, update_until}
+use Rattle.core_events.specs.Needs.{is_successor}
 use Rattle.core_events.specs.PlainNeeds.{is_done_at}
 use Rattle.core_laws.proofs.AnnounceNeeds.{may_take_back_law}
 use Rattle.core_laws.proofs.ViewNeeds.{may_leave_law, may_unlock_law}
+use Rattle.core_laws.specs.ViewNeeds.{IsKnownMarked}
 use Rattle.core_updates.specs.declared.plan.Plan.{Plan}
 use Rattle.core_updates.specs.Plans.{locks_of}
 use Rattle.plan_laws.specs.Tries.{IsTrying}
@@ -39,12 +42,12 @@ gives-up : (v : View) (n : ℕ) (plan : Plan) (entries nodes : List ℕ) → ((k
 gives-up v n plan entries nodes once t = record {
   live = t.making.reads.live;
   own = t.making.reads.own;
-  inside = t.making.reads.inside;
+  word = t.making.reads.inside;
   once = once;
   locked = t.locked;
   done = ap (λ (u : Updating). u.pending) t.idle;
   marked = subst (λ (u : Updating). Every (λ (h : HeldNode). 0 < count h.node u.taken → h.mark ≡ Some 1) v.held.nodes) (sym t.idle) (none-taken v.held.nodes);
-  set = (ap (λ (u : Updating). u.unset) t.idle, ap (λ (u : Updating). u.owed) t.idle);
+  set = (ap (λ (u : Updating). u.unset) t.idle, ap (λ (u : Updating). u.owed) t.idle, ap (λ (u : Updating). u.unlinking) t.idle);
   ended = λ none'. t.idle;
 }
 
@@ -83,7 +86,7 @@ first-gone node rest (h ∷ hs) is none' =
     ∙ others
 
 -- what holds of each holds of those that are left
-others-every : (P : HeldNode → Type 0) (k : ℕ) (hs : List HeldNode) → Every P hs → Every P (other_nodes k hs)
+pub others-every : (P : HeldNode → Type 0) (k : ℕ) (hs : List HeldNode) → Every P hs → Every P (other_nodes k hs)
 others-every P k [] all = tt
 others-every P k (h ∷ hs) all = by (eqb h.node k) (others-every P k hs all.1)
   where
@@ -100,26 +103,32 @@ until-taken : (b : Bool) (u : Updating) (k : ℕ) → 0 < count k (cond b no_upd
 until-taken true u k some = absurd (omega (arith, some))
 until-taken false u k some = some
 
-until-set : (b : Bool) (u : Updating) → (u.unset ≡ []) × (u.owed ≡ []) → ((cond b no_update u).unset ≡ []) × ((cond b no_update u).owed ≡ [])
-until-set true u set = (refl, refl)
+until-set : (b : Bool) (u : Updating) → (u.unset ≡ []) × (u.owed ≡ []) × (u.unlinking ≡ None)
+    → ((cond b no_update u).unset ≡ []) × ((cond b no_update u).owed ≡ []) × ((cond b no_update u).unlinking ≡ None)
+until-set true u set = (refl, refl, refl)
 until-set false u set = set
 
 -- with nothing to be set and no tag to be raised a node is done with
-pub all-done : (k : ℕ) (u : Updating) → (u.unset ≡ []) × (u.owed ≡ []) → is_done_at k u ≡ true
+pub all-done : (k : ℕ) (u : Updating) → (u.unset ≡ []) × (u.owed ≡ []) × (u.unlinking ≡ None) → is_done_at k u ≡ true
 all-done k u set =
-    ap (λ (xs : List UnsetLink). not (list_any (λ (x : UnsetLink). eqb x.node k) xs) && not (list_any (λ (o : OwedTag). eqb o.node k) u.owed)) set.0
-    ∙ ap (λ (os : List OwedTag). true && not (list_any (λ (o : OwedTag). eqb o.node k) os)) set.1
+    ap (λ (xs : List UnsetLink). not (list_any (λ (x : UnsetLink). eqb x.node k) xs) && not (list_any (λ (o : OwedTag). eqb o.node k) u.owed) && not (is_successor k u.unlinking)) set.0
+    ∙ ap (λ (os : List OwedTag). true && not (list_any (λ (o : OwedTag). eqb o.node k) os) && not (is_successor k u.unlinking)) set.1
+    ∙ ap (λ (x : Option Unlinking). true && true && not (is_successor k x)) set.2
 
 pub every-by : (P Q : HeldNode → Type 0) (hs : List HeldNode) → ((h : HeldNode) → P h → Q h) → Every P hs → Every Q hs
 every-by P Q [] f all = tt
 every-by P Q (h ∷ hs) f all = (f h all.0, every-by P Q hs f all.1)
+
+-- what the update took out is known to be marked
+pub known-marked : (u : Updating) (hs : List HeldNode) → Every (λ (h : HeldNode). 0 < count h.node u.taken → h.mark ≡ Some 1) hs → Every (IsKnownMarked u) hs
+known-marked u hs all = every-by (λ (h : HeldNode). 0 < count h.node u.taken → h.mark ≡ Some 1) (IsKnownMarked u) hs (λ h marked some. inl (marked some)) all
 
 pub no-node : (hs : List HeldNode) → held_slots hs ≡ [] → hs ≡ []
 no-node [] is = refl
 no-node (h ∷ hs) is = cc
 
 pub unlock_step : UnlockStepLaw
-unlock_step z v seat n node rest r =
+unlock_step even z v seat n node rest r =
     let w = unlocked_view v node in
     let gone : count node rest ≡ 0 = last node (count node rest) (r.once node) in
     let left_over : held_slots (other_nodes node v.held.nodes) ≡ rest = first-gone node rest v.held.nodes r.locked gone in
@@ -127,13 +136,13 @@ unlock_step z v seat n node rest r =
       may = may_unlock_law z v seat node (record {
         locked = subst (λ ks. 0 < count node ks) (sym r.locked) (first node (count node rest));
         done = r.done;
-        marked = r.marked;
+        marked = known-marked v.update v.held.nodes r.marked;
         set = all-done node v.update r.set;
       });
       released = record {
         live = r.live;
         own = r.own;
-        inside = r.inside;
+        word = r.word;
         once = λ k. omega (arith, r.once k);
         locked = left_over;
         done = until-pending (length (other_nodes node v.held.nodes) == 0) v.update r.done;
@@ -159,14 +168,14 @@ pub leave_step : LeaveStepLaw
 leave_step z v seat n r =
     let bare : v.held.nodes ≡ [] = no-node v.held.nodes r.locked in
     record {
-      may = may_leave_law z v seat n (record { own = r.own; inside = r.inside; unlocked = bare });
+      may = may_leave_law z v seat n (record { own = r.own; inside = r.word; unlocked = bare });
       has_left = record {
         live = r.live;
         own = r.own;
-        outside = left_even v.section_word r.inside;
+        outside = left_even v.section_word r.word;
         reading = refl;
         unlocked = bare;
-        update = r.ended refl;
+        update = ap (λ (u : Updating). record u { added = None }) (r.ended refl);
       };
       keeps = record { layout = refl; joined = refl; number = refl; history = refl; counts = refl; free = refl; retired = refl; batch = refl };
     }
@@ -185,18 +194,18 @@ pub nothing_locked : NothingLockedLaw
 nothing_locked v n live own inside bare idle = record {
   live = live;
   own = own;
-  inside = inside;
+  word = inside;
   once = λ k. omega arith;
   locked = ap held_slots bare;
   done = ap (λ (u : Updating). u.pending) idle;
   marked = subst (λ (hs : List HeldNode). Every (λ (h : HeldNode). 0 < count h.node v.update.taken → h.mark ≡ Some 1) hs) (sym bare) tt;
-  set = (ap (λ (u : Updating). u.unset) idle, ap (λ (u : Updating). u.owed) idle);
+  set = (ap (λ (u : Updating). u.unset) idle, ap (λ (u : Updating). u.owed) idle, ap (λ (u : Updating). u.unlinking) idle);
   ended = λ none'. idle;
 }
 
 pub unlock_place : UnlockPlaceLaw
 unlock_place z v seat n node place nodes r is =
-    unlock_step z v seat n node (drop (place + 1) nodes) (subst (IsReleasing v n) (drop-got nodes place node is) r)
+    unlock_step false z v seat n node (drop (place + 1) nodes) (subst (IsReleasing v n) (drop-got nodes place node is) r)
 
 pub unlock_end : UnlockEndLaw
 unlock_end v n place nodes r none' = subst (IsReleasing v n) (drop_all place nodes (got-none nodes place none')) r

@@ -12,3 +12,4 @@ pub mod PlainLinks
 pub mod Prunes
 pub mod Raises
 pub mod Answers
+pub mod Parting

@@ -1,7 +1,7 @@
 -- The plain links of an update, behind its marks. Those at which the tree has another child since the raise are set, one after
--- another: that to the copy of a removed node before that to its old successor. Then the tags of those that a removal has made null
--- are raised. Until both are done no lock is given back.
-use Rattle.std.specs.Prelude.{◌≡◌, ℕ, ◌+◌, ◌<◌, ◌⊎◌, List, [], Bool, true, false, drop, map, ◌==◌, ◌&&◌, Option, Some, None}
+-- another. Then the tags of those that a removal has made null are raised. Until both are done no lock is given back. A removal with
+-- a far successor ends otherwise, in two halves around a wait.
+use Rattle.std.specs.Prelude.{◌≡◌, ℕ, ◌+◌, ◌<◌, List, [], Bool, true, false, drop, map, ◌==◌, ◌&&◌, Option, Some, None}
 use Rattle.std.specs.List.{slice_get}
 use Rattle.index_words.specs.declared.view.View.{View}
 use Rattle.index_words.specs.declared.view.update.HeldNode.{HeldNode}
@@ -28,7 +28,11 @@ use Rattle.plan_laws.specs.Releases.{IsReleasing}
 pub record LeavesLinks (unset : List UnsetLink) (owed : List OwedTag) (unlinking : Option Unlinking) (plan : Plan) (sets tags : List SetLink) : Type 0 where
   pub unset_are : map set_of unset ≡ sets
   pub owed_are : owed ≡ owed_of (change_of plan) tags
-  pub last : (unlinking ≡ None) ⊎ (unlinking ≡ unlinks_of plan)
+  pub last : unlinking ≡ unlinks_of plan
+
+-- all links are set in one section, since no successor is unlinked behind a wait
+abbrev pub SetsAtOnce : Plan → Type 0
+SetsAtOnce plan = unlinks_of plan ≡ None
 
 -- a pass whose update has raised and is done with its entries and its marks: all nodes of the plan are locked
 pub record IsSetting (v : View) (n : ℕ) (plan : Plan) (sets tags : List SetLink) : Type 0 where
@@ -50,7 +54,8 @@ pub record SetsNext (v : View) (n : ℕ) (plan : Plan) (slots : PlanSlots) (done
 abbrev pub SetStepLaw : Type 0
 SetStepLaw =
     (v : View) (n : ℕ) (plan : Plan) (slots : PlanSlots) (done : ℕ) (tags : List SetLink) (f : Front)
-    → IsSetting v n plan (drop done (sets_of plan slots)) tags → slice_get (fronts_of plan slots) done ≡ Some f → SetsNext v n plan slots done tags f
+    → SetsAtOnce plan → IsSetting v n plan (drop done (sets_of plan slots)) tags → slice_get (fronts_of plan slots) done ≡ Some f
+    → SetsNext v n plan slots done tags f
 
 -- behind the last one none is left
 abbrev pub SetEndLaw : Type 0
@@ -95,5 +100,5 @@ TagPassLaw =
 -- behind the last one the locks may be given back
 abbrev pub TagEndLaw : Type 0
 TagEndLaw =
-    (v : View) (n : ℕ) (plan : Plan) (slots : PlanSlots) (done : ℕ) → IsSetting v n plan [] (drop done (sets_of plan slots))
+    (v : View) (n : ℕ) (plan : Plan) (slots : PlanSlots) (done : ℕ) → SetsAtOnce plan → IsSetting v n plan [] (drop done (sets_of plan slots))
     → slice_get (fronts_of plan slots) done ≡ None → IsReleasing v n (locks_of plan)

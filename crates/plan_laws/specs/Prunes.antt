@@ -31,6 +31,7 @@ pub record HasNumbered (v : View) (n : ℕ) (plan : Plan) (slots : PlanSlots) : 
   pub inside : IsInside v
   pub once : LocksOnce plan
   pub locked : held_slots v.held.nodes ≡ locks_of plan
+  pub raised : is_some v.update.raised ≡ true
   pub taken : v.update.taken ≡ out_of plan
   pub idle : v.update.pending ≡ []
   pub reads : is_some v.reading.section ≡ true

@@ -1,6 +1,6 @@
 -- The end of an update, and of a try that fails: the locks are given back, one after another, the section is left, and the
 -- announcement is taken back.
-use Rattle.std.specs.Prelude.{◌≡◌, ℕ, ◌+◌, ◌<◌, ◌≤◌, List, [], ◌∷◌, take, drop, true, false, Some, None}
+use Rattle.std.specs.Prelude.{◌≡◌, ℕ, ◌+◌, ◌<◌, ◌≤◌, List, [], ◌∷◌, take, drop, Bool, true, false, Some, None}
 use Rattle.std.specs.List.{slice_get}
 use Rattle.index_words.specs.declared.layout.Layout.{Layout}
 use Rattle.index_words.specs.declared.view.View.{View}
@@ -21,19 +21,23 @@ use Rattle.core_updates.specs.Plans.{locks_of}
 use Rattle.plan_laws.specs.Frames.{KeepsOwned}
 use Rattle.plan_laws.specs.Tries.{HasLocked, HasLockedAll}
 
--- a pass inside a section still has these nodes locked, in this order, and no others. Nothing is pending, and of these nodes those that
--- its update took out are known to be marked; no plain link is to be set any more, and no tag to be raised. With the last lock the
--- update has ended
-pub record IsReleasing (v : View) (n : ℕ) (nodes : List ℕ) : Type 0 where
+-- a pass still has these nodes locked, in this order, and no others, inside a section, or behind one with a wait. Nothing is pending, and of
+-- these nodes those that its update took out are known to be marked; no plain link is to be set any more, no tag to be raised, and no
+-- successor to be unlinked. With the last lock the update has ended
+pub record IsGivingBack (even : Bool) (v : View) (n : ℕ) (nodes : List ℕ) : Type 0 where
   pub live : v.joined ≡ false
   pub own : v.number ≡ Some n
-  pub inside : IsInside v
+  pub word : is_even v.section_word ≡ even
   pub once : (k : ℕ) → count k nodes ≤ 1
   pub locked : held_slots v.held.nodes ≡ nodes
   pub done : v.update.pending ≡ []
   pub marked : Every (λ (h : HeldNode). 0 < count h.node v.update.taken → h.mark ≡ Some 1) v.held.nodes
-  pub set : (v.update.unset ≡ []) × (v.update.owed ≡ [])
+  pub set : (v.update.unset ≡ []) × (v.update.owed ≡ []) × (v.update.unlinking ≡ None)
   pub ended : nodes ≡ [] → v.update ≡ no_update
+
+-- inside a section
+abbrev pub IsReleasing : View → ℕ → List ℕ → Type 0
+IsReleasing = IsGivingBack false
 
 -- a try may give up at each of its steps before it fills its slots
 abbrev pub GiveUpLaw : Type 0
@@ -49,19 +53,20 @@ NothingLockedLaw =
     (v : View) (n : ℕ) → v.joined ≡ false → v.number ≡ Some n → IsInside v → v.held.nodes ≡ [] → v.update ≡ no_update → IsReleasing v n []
 
 -- the first of the locks may be given back, and then the others are left
-pub record UnlocksNext (z : Layout) (v : View) (seat n node : ℕ) (rest : List ℕ) : Type 0 where
+pub record GivesBackNext (even : Bool) (z : Layout) (v : View) (seat n node : ℕ) (rest : List ℕ) : Type 0 where
   pub may : May z v (event_at z seat Unlock (Node Lock node) 0)
-  pub released : IsReleasing (unlocked_view v node) n rest
+  pub released : IsGivingBack even (unlocked_view v node) n rest
   pub keeps : KeepsOwned v (unlocked_view v node)
 
 abbrev pub UnlockStepLaw : Type 0
-UnlockStepLaw = (z : Layout) (v : View) (seat n node : ℕ) (rest : List ℕ) → IsReleasing v n (node ∷ rest) → UnlocksNext z v seat n node rest
+UnlockStepLaw =
+    (even : Bool) (z : Layout) (v : View) (seat n node : ℕ) (rest : List ℕ) → IsGivingBack even v n (node ∷ rest) → GivesBackNext even z v seat n node rest
 
 -- the same by the lock's place in a list of nodes, of which those in front are given back already
 abbrev pub UnlockPlaceLaw : Type 0
 UnlockPlaceLaw =
     (z : Layout) (v : View) (seat n node place : ℕ) (nodes : List ℕ) → IsReleasing v n (drop place nodes) → slice_get nodes place ≡ Some node
-    → UnlocksNext z v seat n node (drop (place + 1) nodes)
+    → GivesBackNext false z v seat n node (drop (place + 1) nodes)
 
 -- behind the last one none is left
 abbrev pub UnlockEndLaw : Type 0

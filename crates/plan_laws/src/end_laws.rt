@@ -2,6 +2,7 @@
 // what is proved.
 ghost use Rattle.plan_laws.specs.Answers.{AnswerLaw, PreparedOwnsLaw, FourEntriesLaw};
 ghost use Rattle.plan_laws.specs.Frames.{StepsKeepLaw, KeepsPassLaw, KeepsTryLaw, KeepsOwnedLaw};
+ghost use Rattle.plan_laws.specs.Parting.{StartPartingLaw, LinkCopyLaw, LoadFarTagLaw, UnlockUpperLaw, LeavePartedLaw, LookPartedLaw, MarkFarLaw, UnlinkFarLaw};
 ghost use Rattle.plan_laws.specs.PlainLinks.{SetStepLaw, SetEndLaw, TagStepLaw, TagPassLaw, TagEndLaw};
 ghost use Rattle.plan_laws.specs.Prunes.{PruneStepLaw, KeepsPrunedLaw, OwnedIsPrunedLaw};
 ghost use Rattle.plan_laws.specs.Raises.{RaiseStepLaw, FinaliseStepLaw, FinaliseEndLaw, MarkStartLaw, MarkStepLaw, MarkEndLaw};
@@ -26,6 +27,19 @@ pub fn plain_links_are_set()
     ensures raise_tag { TagStepLaw }
     ensures pass { TagPassLaw }
     ensures done { TagEndLaw }
+{}
+
+/// A removal with a far successor ends in two halves around its wait. Before it the copy is linked, and the section is
+/// left with two locks. Behind it the successor is marked and unlinked, and these locks are given back.
+pub fn removals_wait()
+    ensures start { StartPartingLaw }
+    ensures copy { LinkCopyLaw }
+    ensures tag { LoadFarTagLaw }
+    ensures unlock { UnlockUpperLaw }
+    ensures leave { LeavePartedLaw }
+    ensures look { LookPartedLaw }
+    ensures mark { MarkFarLaw }
+    ensures unlink { UnlinkFarLaw }
 {}
 
 /// Between the numbers and the marks the bundles that the update changed may be cut. No step of that takes anything

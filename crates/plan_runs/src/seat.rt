@@ -95,6 +95,14 @@ pub(crate) enum PlainStep {
     Tag(usize),
     /// Raises the tag that was loaded.
     Raise(Link),
+    /// Looks at the section of a pass and of those behind it, until the successor may be unlinked.
+    Wait(u32),
+    /// Marks the successor.
+    Last,
+    /// Sets the link to the successor.
+    Unlink,
+    /// Raises the tag of that link where it is null.
+    LastTag,
 }
 
 /// How a try has ended.

@@ -25,10 +25,19 @@ pub(crate) fn turn(
         None => {
             if begins {
                 begin(machine, seat)?;
+            } else if is_reading(machine, seat.number) {
+                seat.then(&[Step::Leave, Step::TakeBack])?;
             }
             Ok(None)
         }
     }
+}
+
+// A snapshot that is still open at the end is closed, so that no update waits for it.
+fn is_reading(machine: &Machine, number: u32) -> bool {
+    machine
+        .view(number)
+        .is_some_and(|view| view.reading.opened.is_some())
 }
 
 fn begin(machine: &Machine, seat: &mut Seat) -> Result<(), Stop> {

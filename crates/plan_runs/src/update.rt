@@ -1,11 +1,12 @@
 // The steps of an update, by its plan.
 use crate::machine::{Machine, Stop};
+use crate::plain::last_of;
 use crate::seat::{Outcome, PlainStep, PruneStep, Report, Seat, Step, UpdateStep, WalkStep};
 use crate::walk::remembered_link;
 use core_rule::Kind;
 use core_trees::Link;
 use core_updates::{Look, Plan};
-use index_words::{Change, Field, Filled, Part, Place, Side, Word};
+use index_words::{Change, Field, Filled, Part, Place, Side, Unlinking, Word};
 use std::alloc::Global;
 
 /// Makes the plan of the update from the tree that the view reads.
@@ -321,6 +322,7 @@ fn raise(
         Step::Tell(Outcome::Done),
         Step::Leave,
         Step::TakeBack,
+        Step::Plain(PlainStep::Wait(0)),
     ])?;
     Ok(Some(Report::Raised {
         at: machine.word(Word::Stamp),
@@ -356,16 +358,31 @@ fn mark(
     let Some(node) = plan.out(place) else {
         return Ok(());
     };
+    if last_of(machine, seat.number).is_some_and(|last| last.successor == node) {
+        return Ok(());
+    }
     let word = Word::Node(Field::Mark, node);
     machine.step(alloc, seat.number, Kind::Mark, word, 1)?;
     seat.then(&[Step::Update(UpdateStep::Mark(place.saturating_add(1)))])
+}
+
+/// Whether the lock is kept until the successor is unlinked.
+fn is_kept(last: Option<Unlinking>, node: u32) -> bool {
+    last.is_some_and(|last| last.successor == node || last.parent == node)
 }
 
 fn unlock(alloc: Global, machine: &mut Machine, seat: &mut Seat) -> Result<(), Stop> {
     let Some(view) = machine.view(seat.number) else {
         return Ok(());
     };
-    let Some(held) = view.held.nodes.as_slice().first() else {
+    let last = view.update.unlinking;
+    let Some(held) = view
+        .held
+        .nodes
+        .as_slice()
+        .iter()
+        .find(|held| !is_kept(last, held.node))
+    else {
         return Ok(());
     };
     let word = Word::Node(Field::Lock, held.node);

@@ -4,11 +4,10 @@ use Rattle.std.proofs.lemmas.Option.{same_Some}
 use Rattle.run_laws.proofs.Determined.{one_session, one_directory}
 use Rattle.request_lines.specs.declared.session.Session.{Session}
 use Rattle.request_lines.specs.declared.session_error.InputError.{InputError}
-use Rattle.request_lines.specs.CheckInput.{IsCheckInput, check_refusal, session_part, text_part}
-use Rattle.request_lines.specs.Input.{refusal_of}
+use Rattle.request_lines.specs.CheckInput.{IsCheckInput, check_refusal, session_part}
 use Rattle.replay_check.specs.declared.verdict.Verdict.{Verdict}
 use Rattle.replay_check.specs.declared.verdict.Verdict.TheVariants.{Legal, Wrong}
-use Rattle.serve_session.specs.Checks.{IsVerdictOn, IsVerdictOf, HasVerdict}
+use Rattle.serve_session.specs.Checks.{IsVerdictOn, IsVerdictOf}
 use Rattle.serve_session.specs.OneText.{OneVerdictLaw, RefusedOrCheckedLaw}
 
 same_verdict : (named : Option ℕ) (dir : List (List ℕ)) (session : Session) (text : List ℕ) (v w : Verdict) → IsVerdictOn named dir session text v → IsVerdictOn named dir session text w → v ≡ w

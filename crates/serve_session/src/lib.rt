@@ -6,6 +6,7 @@
 #![tactic(auto)]
 
 mod checking;
+mod input;
 mod laws;
 mod running;
 mod sample;

@@ -5,11 +5,12 @@ ghost use Rattle.request_lines.specs.SessionLaws.{HasNames, HasRequests, HasLine
 ghost use Rattle.serve_session.specs.Served.{HoldsOfSession, HoldsOfRun};
 ghost use Rattle.serve_session.specs.Taken.{TookBy, TookStart};
 ghost use Rattle.client_threads.specs.ClientSlots.{IsNamable};
+ghost use Rattle.client_threads.specs.Pools.{named};
 ghost use Rattle.client_threads.specs.Sizes.{CanServe};
 
 use crate::writing::{write_last, write_run};
 use client_run::Gate;
-use client_threads::{Runner, history_of};
+use client_threads::{NodeSlots, Runner, history_of};
 use key_names::Directory;
 use outside_io::Sink;
 use request_lines::Session;
@@ -22,20 +23,20 @@ use std::thread::Threads;
 pub(crate) fn run_session<K: Sink, G: Gate + Sync, R: Runner<G>, Rt: Threads + Wait + Sync>(
     rt: &Rt,
     alloc: Global,
-    slots: Option<u32>,
+    slots: NodeSlots,
     mut session: Session,
     sink: &mut K,
     gate: &G,
     runner: &mut R,
 ) -> Result<(), Stop>
-    requires slots { IsNamable slots }
+    requires slots { IsNamable (named slots) }
     requires names { HasNames session }
     requires requests { HasRequests session }
     requires lines { HasLines session }
     requires small { IsSmall session }
-    ensures wrote { OnOk result (HoldsOfSession slots session (TookBy K.taken sink.old sink.new R.runs R.replied runner.old runner.new)) }
-    ensures start { IsErrOf result Stop.Fault → HoldsOfSession slots session (TookStart K.taken sink.old sink.new) }
-    ensures no_memory { IsErrOf result Stop.NoMemory → (sink.new ≡ sink.old) ⊎ HoldsOfSession slots session (TookStart K.taken sink.old sink.new) }
+    ensures wrote { OnOk result (HoldsOfSession (named slots) session (TookBy K.taken sink.old sink.new R.runs R.replied runner.old runner.new)) }
+    ensures start { IsErrOf result Stop.Fault → HoldsOfSession (named slots) session (TookStart K.taken sink.old sink.new) }
+    ensures no_memory { IsErrOf result Stop.NoMemory → (sink.new ≡ sink.old) ⊎ HoldsOfSession (named slots) session (TookStart K.taken sink.old sink.new) }
     ensures fault { IsErrOf result Stop.Fault → K.faults sink.new ≡ one_more (K.faults sink.old) }
     ensures quiet { ¬ (IsErrOf result Stop.Fault) → K.faults sink.new ≡ K.faults sink.old }
 {
@@ -50,18 +51,18 @@ pub(crate) fn run_session<K: Sink, G: Gate + Sync, R: Runner<G>, Rt: Threads + W
 fn run_clients<K: Sink, G: Gate + Sync, R: Runner<G>, Rt: Threads + Wait + Sync>(
     rt: &Rt,
     alloc: Global,
-    slots: Option<u32>,
+    slots: NodeSlots,
     session: &Session,
     dir: &Directory,
     sink: &mut K,
     gate: &G,
     runner: &mut R,
 ) -> Result<(), Stop>
-    requires slots { IsNamable slots }
+    requires slots { IsNamable (named slots) }
     requires can { CanServe dir.now session.now }
-    ensures wrote { OnOk result (HoldsOfRun slots dir.now session.now.records session.now.clients (TookBy K.taken sink.old sink.new R.runs R.replied runner.old runner.new)) }
-    ensures start { IsErrOf result Stop.Fault → HoldsOfRun slots dir.now session.now.records session.now.clients (TookStart K.taken sink.old sink.new) }
-    ensures no_memory { IsErrOf result Stop.NoMemory → (sink.new ≡ sink.old) ⊎ HoldsOfRun slots dir.now session.now.records session.now.clients (TookStart K.taken sink.old sink.new) }
+    ensures wrote { OnOk result (HoldsOfRun (named slots) dir.now session.now.records session.now.clients (TookBy K.taken sink.old sink.new R.runs R.replied runner.old runner.new)) }
+    ensures start { IsErrOf result Stop.Fault → HoldsOfRun (named slots) dir.now session.now.records session.now.clients (TookStart K.taken sink.old sink.new) }
+    ensures no_memory { IsErrOf result Stop.NoMemory → (sink.new ≡ sink.old) ⊎ HoldsOfRun (named slots) dir.now session.now.records session.now.clients (TookStart K.taken sink.old sink.new) }
     ensures fault { IsErrOf result Stop.Fault → K.faults sink.new ≡ one_more (K.faults sink.old) }
     ensures quiet { ¬ (IsErrOf result Stop.Fault) → K.faults sink.new ≡ K.faults sink.old }
 {

@@ -16,7 +16,7 @@ use crate::Status;
 use crate::summary::summary_line;
 use bucket_terms::Summary;
 use client_run::Gate;
-use client_threads::{Runner, history_of, summary_of};
+use client_threads::{NodeSlots, Runner, history_of, summary_of};
 use key_names::NoMemory;
 use outside_io::{Sink, write_all};
 use request_lines::{Session, SessionError, read_session, sample_input};
@@ -97,7 +97,7 @@ fn run_summed<G: Gate + Sync, R: Runner<G>, Rt: Threads + Wait + Sync>(
     ensures ran { OnOk result (HoldsOfSampleRun n (IsRunOf (R.runs runner.old) (R.runs runner.new) (R.replied runner.new))) }
 {
     let dir = session.take_directory();
-    let updates = history_of(rt, alloc, None, &session, &dir, gate, runner)?;
+    let updates = history_of(rt, alloc, NodeSlots::AsAsked, &session, &dir, gate, runner)?;
     // The summary is the same in every schedule.
     sample_laws::sample_session();
     summary_of::<G, R>(alloc, session.clients.len() as u32, runner, &updates)

@@ -11,19 +11,16 @@ ghost use Rattle.serve_session.specs.Summaries.{summary_text};
 ghost use Rattle.serve_session.specs.Checks.{Told, RefusedCheck};
 ghost use Rattle.replay_check.specs.declared.verdict.Verdict.{Verdict};
 ghost use Rattle.replay_check.specs.declared.verdict.Verdict.TheVariants.{Legal as IsLegal, Wrong as IsWrong};
-ghost use Rattle.client_threads.specs.ClientSlots.{IsNamable};
 
 use crate::Status;
 use crate::checking::serve_check;
-use crate::running::run_session;
+use crate::input::serve_input;
 use crate::sample::serve_sample;
 use client_run::Gate;
-use client_threads::Runner;
+use client_threads::{NodeSlots, Runner};
 use command_words::{Form, form_of};
 use key_names::Text;
-use outside_io::{ReadError, Sink, Source, read_all};
-use request_lines::{MAX_INPUT_BYTES, SessionError, read_session};
-use run_text::Stop;
+use outside_io::{Sink, Source};
 use std::alloc::Global;
 use std::sync::Wait;
 use std::thread::Threads;
@@ -32,10 +29,11 @@ use std::thread::Threads;
 /// over one shared index and write its text; the form `sample` runs the generated session and writes its summary. The
 /// forms `check` read a session and a written text, and write whether the text is that of a legal run of the session.
 /// With `--slots N` each client of the session has N node slots, else one more than it has PUT, PUTNEW and DELETE
-/// lines. The runner runs the clients. The gate is told of each request before and after it is answered. After `Done`
-/// the text of one legal run of the input's session was written, or the line of the summary, or of the verdict that a
-/// text is legal, and after `Illegal` that of the verdict which names its first wrong line; after `WriteFault` a start
-/// of such a text or line; after `NoMemory` nothing or a start of one. Each other end comes before anything is written.
+/// lines. With `run --pool N` it has N too, and clients hand one another those that they have to spare. The runner runs
+/// the clients. The gate is told of each request before and after it is answered. After `Done` the text of one legal
+/// run of the input's session was written, or the line of the summary, or of the verdict that a text is legal, and
+/// after `Illegal` that of the verdict which names its first wrong line; after `WriteFault` a start of such a text or
+/// line; after `NoMemory` nothing or a start of one. Each other end comes before anything is written.
 ///
 /// ```
 /// // with the one word `run`
@@ -94,59 +92,17 @@ pub fn serve<S: Source, K: Sink, G: Gate + Sync, R: Runner<G>, Rt: Threads + Wai
     ensures sample_no_memory { (n : ℕ) → IsSample words.now n → result ≡ Status.NoMemory → sink.new ≡ sink.old }
 {
     match form_of(alloc, words) {
-        Ok(Some(Form::Run { slots })) => serve_input(rt, alloc, slots, source, sink, gate, runner),
+        Ok(Some(Form::Run { slots })) => {
+            let slots = NodeSlots::of_named(slots);
+            serve_input(rt, alloc, slots, source, sink, gate, runner)
+        }
+        Ok(Some(Form::Pool { slots })) => {
+            let pooled = NodeSlots::Pooled(slots);
+            serve_input(rt, alloc, pooled, source, sink, gate, runner)
+        }
         Ok(Some(Form::Check { slots })) => serve_check(alloc, slots, source, sink),
         Ok(Some(Form::Sample(n))) => serve_sample(rt, alloc, n, sink, gate, runner),
         Ok(None) => Status::BadWords,
         Err(_) => Status::NoMemory,
-    }
-}
-
-// Reads a session, runs its clients and writes its text.
-fn serve_input<S: Source, K: Sink, G: Gate + Sync, R: Runner<G>, Rt: Threads + Wait + Sync>(
-    rt: &Rt,
-    alloc: Global,
-    slots: Option<u32>,
-    source: &mut S,
-    sink: &mut K,
-    gate: &G,
-    runner: &mut R,
-) -> Status
-    requires slots { IsNamable slots }
-    ensures headline { result ≡ IsDone → Wrote IsTaken slots S.rest source.old source.new K.taken sink.old sink.new }
-    ensures runner { result ≡ IsDone → WroteBy slots S.rest source.old source.new K.taken sink.old sink.new R.runs R.replied runner.old runner.new }
-
-    // An end before anything is written.
-    ensures reads { ¬ (result ≡ HasBadWords) }
-    ensures checks_nothing { (line : ℕ) → ¬ (result ≡ Status.Illegal line) }
-    ensures nothing_written { ¬ (result ≡ IsDone) → ¬ (result ≡ Status.WriteFault) → ¬ (result ≡ Status.NoMemory) → sink.new ≡ sink.old }
-    ensures bad_input { (e : InputError) → result ≡ Status.BadInput e → RefusedInput (S.rest source.old) (S.rest source.new) e }
-    ensures too_long { result ≡ Status.TooLong → Gave (S.rest source.old) (S.rest source.new) (IsOver most_input_bytes) }
-
-    // Faults and want of memory.
-    ensures read_fault { result ≡ Status.ReadFault → Gave (S.rest source.old) (S.rest source.new) (λ n. n ≤ most_input_bytes) }
-    ensures read_fault_only_where_faulted { result ≡ Status.ReadFault → S.faults source.new ≡ one_more (S.faults source.old) }
-    ensures no_other_read_fault { ¬ (result ≡ Status.ReadFault) → S.faults source.new ≡ S.faults source.old }
-    ensures write_fault { result ≡ Status.WriteFault → Wrote TakesStart slots S.rest source.old source.new K.taken sink.old sink.new }
-    ensures write_fault_only_where_faulted { result ≡ Status.WriteFault → K.faults sink.new ≡ one_more (K.faults sink.old) }
-    ensures no_other_write_fault { ¬ (result ≡ Status.WriteFault) → K.faults sink.new ≡ K.faults sink.old }
-    ensures no_memory_source { result ≡ Status.NoMemory → Gave (S.rest source.old) (S.rest source.new) (λ n. n ≤ most_input_bytes) }
-    ensures no_memory { result ≡ Status.NoMemory → (sink.new ≡ sink.old) ⊎ Wrote TakesStart slots S.rest source.old source.new K.taken sink.old sink.new }
-{
-    let input = match read_all(alloc, source, MAX_INPUT_BYTES) {
-        Ok(input) => input,
-        Err(ReadError::Fault) => return Status::ReadFault,
-        Err(ReadError::TooLong) => return Status::TooLong,
-        Err(ReadError::NoMemory) => return Status::NoMemory,
-    };
-    let session = match read_session(alloc, &input) {
-        Ok(session) => session,
-        Err(SessionError::Input(error)) => return Status::BadInput(error),
-        Err(SessionError::NoMemory) => return Status::NoMemory,
-    };
-    match run_session(rt, alloc, slots, session, sink, gate, runner) {
-        Ok(()) => Status::Done,
-        Err(Stop::Fault) => Status::WriteFault,
-        Err(Stop::NoMemory) => Status::NoMemory,
     }
 }

@@ -14,6 +14,13 @@ use std::test::Fail;
 use std::thread;
 use std::thread::Threads;
 
+// A line of one of two clients, which is held until that line of the other one was answered.
+#[derive(Clone, Copy)]
+pub(super) struct Held {
+    pub(super) line: u32,
+    pub(super) until: u32,
+}
+
 // Which requests are held, and until when.
 #[derive(Clone, Copy)]
 pub(super) enum Holds {
@@ -22,6 +29,8 @@ pub(super) enum Holds {
     FirstClient { until: u32 },
     // Each, until so many have come.
     UntilCome(u32),
+    // A line of client 0, and one of client 1.
+    Both { first: Held, second: Held },
 }
 
 // Counts the requests that come and those that are answered. A request that is held for too many turns goes on.
@@ -35,7 +44,8 @@ pub(super) struct Watch {
     pub(super) astray: AtomicBool,
     // For each client the line that has come and is not answered, or 0.
     at_work: Vec<AtomicU32>,
-    // The last line of client 1 that was answered.
+    // The last lines of clients 0 and 1 that were answered.
+    first_at: AtomicU32,
     second_at: AtomicU32,
     holds: Holds,
 }
@@ -57,18 +67,21 @@ impl Watch {
             given_up: AtomicBool::new(false),
             astray: AtomicBool::new(false),
             at_work,
+            first_at: AtomicU32::new(0),
             second_at: AtomicU32::new(0),
             holds,
         })
     }
 
-    fn is_held(&self, client: u32) -> bool {
+    fn is_held(&self, client: u32, line: u32) -> bool {
         match self.holds {
             Holds::Nothing => false,
-            Holds::FirstClient { until } => {
-                client == 0 && self.second_at.load(Ordering::SeqCst) != until
-            }
+            Holds::FirstClient { until } => client == 0 && is_before(&self.second_at, until),
             Holds::UntilCome(count) => self.come.load(Ordering::SeqCst) < count,
+            Holds::Both { first, second } => {
+                line == first.line && is_before(&self.second_at, first.until)
+                    || line == second.line && is_before(&self.first_at, second.until)
+            }
         }
     }
 
@@ -84,12 +97,17 @@ impl Watch {
     }
 }
 
+// Whether this line of a client, whose last answered one is told, is still to be answered.
+fn is_before(answered: &AtomicU32, line: u32) -> bool {
+    answered.load(Ordering::SeqCst) < line
+}
+
 impl Gate for Watch {
     fn before(&self, client: u32, line: u32) {
         self.goes_on(client, 0, line);
         self.come.fetch_add(1, Ordering::SeqCst);
         for _ in 0..MOST_TURNS {
-            if !self.is_held(client) {
+            if !self.is_held(client, line) {
                 return;
             }
             thread::yield_now();
@@ -100,8 +118,10 @@ impl Gate for Watch {
     fn after(&self, client: u32, line: u32) {
         self.goes_on(client, line, 0);
         self.answered.fetch_add(1, Ordering::SeqCst);
-        if client == 1 {
-            self.second_at.store(line, Ordering::SeqCst);
+        match client {
+            0 => self.first_at.store(line, Ordering::SeqCst),
+            1 => self.second_at.store(line, Ordering::SeqCst),
+            _ => {}
         }
     }
 }
@@ -122,6 +142,21 @@ impl Runner<Watch> for Threaded {
         gate: &Watch,
     ) -> Result<Vec<PassKey>, NoMemory> {
         self.run_on_threads(rt, alloc, index, keys, session, dir, gate)
+    }
+
+    fn run_pool<Rt: Threads + Wait + Sync>(
+        &mut self,
+        rt: &Rt,
+        alloc: Global,
+        index: &SharedIndex,
+        keys: Vec<PassKey>,
+        session: &Session,
+        dir: &Directory,
+        gate: &Watch,
+        own: u32,
+        room: u32,
+    ) -> Result<Vec<PassKey>, NoMemory> {
+        self.pool_on_threads(rt, alloc, index, keys, session, dir, gate, own, room)
     }
 
     fn replies(&self, client: u32) -> &[Placed] {

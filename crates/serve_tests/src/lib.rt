@@ -12,4 +12,6 @@ mod gates;
 #[cfg(test)]
 mod others;
 #[cfg(test)]
+mod pools;
+#[cfg(test)]
 mod sessions;

@@ -5,6 +5,7 @@ ghost use Rattle.shared_index.specs.Keys.{AreAllKeys, AreFresh, IsKeyOf};
 
 use crate::facts::own_facts;
 use crate::pass::IndexPass;
+use bucket_terms::Homed;
 use index_words::{Layout, NoMemory, PassSize};
 use snapshot_read::Way;
 use std::alloc::Global;
@@ -23,6 +24,12 @@ impl Model for SharedIndex {
     ghost Value = { Home };
 
     ghost view = { λ x. x.table };
+}
+
+impl Homed for SharedIndex {
+    ghost use Rattle.shared_index.specs.Keys.{home_of_index};
+
+    ghost home = { home_of_index };
 }
 
 /// Why no index was opened.

@@ -60,6 +60,9 @@ impl<'t> KeyPass for IndexPass<'t> {
         answer
     }
 
+    /// It may wait where `put` does, and in one case more: where the node of the key has two children and its successor
+    /// hangs further down, it returns only once each other pass was outside a section since the removal took effect. So
+    /// it does not return while another pass keeps a snapshot open; reads, and updates at other nodes, go on meanwhile.
     fn remove<Rt: Wait>(&mut self, rt: &Rt, line: u32, key: u64) -> Result<Done, PassError>
         requires closed { (shown self.old).opened ≡ None }
         ensures made { IfOk result (AnsweredRemoval (shown self.old) (shown self.new) line key) }

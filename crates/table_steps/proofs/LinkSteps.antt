@@ -25,7 +25,7 @@ use Rattle.core_invariant.proofs.Frames.{every_mapped}
 use Rattle.core_invariant.proofs.Needed.{found_held}
 use Rattle.core_invariant.proofs.OneView.{seat_at}
 use Rattle.core_laws.specs.PlainNeeds.{MayReadLink, MaySetLink, MaySetTag}
-use Rattle.core_laws.specs.ViewNeeds.{event_at, May}
+use Rattle.core_laws.specs.ViewNeeds.{event_at}
 use Rattle.core_laws.proofs.PlainTrees.{tag_room_law}
 use Rattle.core_laws.proofs.PlainNeeds.{may_read_link_law, may_set_link_law, may_read_tag_law, may_set_tag_law}
 use Rattle.table_rule.specs.Homes.{Home, Sat, IsOf, Asks, IsLiveView}

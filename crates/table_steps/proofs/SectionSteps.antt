@@ -1,6 +1,6 @@
 -- Each step of a section: that it may be made, what it leaves in the view, and that what is kept at run time still is what
 -- the view says.
-use Rattle.std.proofs.Common.{◌≡◌, ◌≢◌, ℕ, ◌+◌, ◌<◌, ◌≤◌, cond, Bool, true, false, ltb, ◌&&◌, arith, refl, ap, ◌∙◌, sym, subst, Option, Some, None}
+use Rattle.std.proofs.Common.{◌≡◌, ◌≢◌, ℕ, ◌+◌, ◌<◌, ◌≤◌, cond, List, length, eqb, Bool, true, false, ltb, ◌&&◌, arith, refl, ap, ◌∙◌, sym, subst, Option, Some, None}
 use Rattle.std.proofs.lemmas.Bool.Decides.{nat_tests}
 use Rattle.index_words.specs.declared.layout.Layout.{Layout}
 use Rattle.index_words.specs.declared.view.View.{View}
@@ -14,8 +14,11 @@ use Rattle.core_events.specs.declared.event.Event.{Event}
 use Rattle.core_events.specs.declared.event.Kind.TheVariants.{Enter, Leave, LookSec, Fill}
 use Rattle.core_events.specs.FillMoves.{filled_view, filled_with, with_filled, known_before, used_view}
 use Rattle.core_events.specs.Moves.{entered, left, in_section, nowhere}
+use Rattle.core_events.specs.Waits.{has_no_lock, looked_by, looked_waiting}
 use Rattle.core_laws.specs.ViewNeeds.{event_at, IsOutside, May, MayFill}
 use Rattle.core_invariant.proofs.KeptViews.{SeatPart, part_of, entered_part}
+use Rattle.core_laws.specs.Waits.{MayLeaveWaiting, MayLookWaiting}
+use Rattle.core_laws.proofs.Waits.{may_leave_waiting_law, may_look_waiting_law}
 use Rattle.core_laws.proofs.ViewNeeds.{may_enter_law, may_leave_law, may_look_law, may_fill_law}
 use Rattle.pass_slots.specs.Owned.{KeptSlots, KeepsSlots, HasRoomOf}
 use Rattle.table_rule.specs.Homes.{Home, Sat, IsOf, Asks}
@@ -23,7 +26,7 @@ use Rattle.table_rule.specs.Running.{Happened, Stored}
 use Rattle.table_rule.proofs.Happens.{happened_view, happened_word}
 use Rattle.std.specs.Prelude.{IfSome, []}
 use Rattle.index_words.specs.declared.view.update.Held.{Held as ViewHeld}
-use Rattle.index_words.specs.declared.view.update.Updating.{Updating}
+use Rattle.index_words.specs.declared.view.update.HeldNode.{HeldNode}
 use Rattle.core_grace.proofs.RuleMoves.{every_weaker}
 use Rattle.table_steps.specs.HeldWords.{KeepsHeld, KeepsNode}
 use Rattle.table_steps.specs.Kept.{Keeps}
@@ -34,7 +37,7 @@ use Rattle.table_steps.proofs.Views.{Work, IsStill, work_still, entered_work, lo
 use Rattle.core_grace.proofs.Parity.{odd_next, even_left}
 
 pub still_raised : (v w : View) (k : Kept) → IsStill v w → Keeps v k → IfSome w.update.raised (λ at. at ≡ k.raised)
-still_raised v w k still keeps = subst (λ (u : Updating). IfSome u.raised (λ at. at ≡ k.raised)) (sym still.update) keeps.raised
+still_raised v w k still keeps = subst (λ (o : Option ℕ). IfSome o (λ at. at ≡ k.raised)) (sym still.raised) keeps.raised
 
 pub still_held : (v w : View) (k : Kept) → w.layout ≡ v.layout → IsStill v w → Keeps v k → KeepsHeld w.layout w.held k.held
 still_held v w k layout still keeps = subst (λ (z : Layout). KeepsHeld z w.held k.held) (sym layout) (subst (λ (h : ViewHeld). KeepsHeld v.layout h k.held) (sym still.held) keeps.held)
@@ -188,14 +191,40 @@ module _ (home : Home) (s : Sat) (k : Kept) (keeps : Keeps s.view k) (of : IsOf 
         unlocked = ap (λ (u : View). u.held.nodes) is ∙ inside.unlocked;
       }
 
+  -- a view outside of its section, with the locks that it had
+  left_kept : (word : ℕ) → Keeps (left v word) (record { number = k.number; section_word = word; left = k.left; opened = None; slots = k.slots; updates = k.updates; raised = k.raised; held = k.held })
+  left_kept word =
+      let kept : KeepsSlots (left v word) k.slots = record { free = keeps.slots.free; batch = keeps.slots.batch; retired = keeps.slots.retired; looks = keeps.slots.looks } in
+      keeps_opened v (left v word) k word None k.slots keeps refl kept (same_room k.slots) (record { held = refl; raised = refl })
+
   pub leave_keeps : Inside v → (w : View) → Stored z leave_event v w
       → Keeps w (record { number = k.number; section_word = left_word k.section_word; left = k.left; opened = None; slots = k.slots; updates = k.updates; raised = k.raised; held = record k.held { any = false } })
   leave_keeps inside w h =
       let word : ℕ = left_word k.section_word in
-      let kept : KeepsSlots (left v word) k.slots = record { free = keeps.slots.free; batch = keeps.slots.batch; retired = keeps.slots.retired; looks = keeps.slots.looks } in
       subst (λ (u : View). Keeps u (record { number = k.number; section_word = word; left = k.left; opened = None; slots = k.slots; updates = k.updates; raised = k.raised; held = record k.held { any = false } })) (sym (leave_view w h))
       (cleared (left v word) (record { number = k.number; section_word = word; left = k.left; opened = None; slots = k.slots; updates = k.updates; raised = k.raised; held = k.held })
-      (keeps_opened v (left v word) k word None k.slots keeps refl kept (same_room k.slots) (record { held = refl; update = refl })) inside.unlocked)
+      (left_kept word) inside.unlocked)
+
+  -- leave at the wait of a removal
+  pub leave_waiting_asks : MayLeaveWaiting v k.number → Asks home s (Section k.number) leave_event
+  leave_waiting_asks may = record {
+    of = of;
+    there = own_there;
+    seat = refl;
+    word = refl;
+    may = subst (λ n. May z v (event_at z s.seat Leave (Section k.number) (left_word n))) keeps.word (may_leave_waiting_law z v s.seat k.number may);
+  }
+
+  pub leave_waiting_even : MayLeaveWaiting v k.number → (w : View) → Stored z leave_event v w → is_even w.section_word ≡ true
+  leave_waiting_even may w h =
+      ap (λ (u : View). is_even u.section_word) (leave_view w h) ∙ even_left k.section_word (subst (λ n. is_even n ≡ false) keeps.word may.inside)
+
+  pub leave_waiting_keeps : (w : View) → Stored z leave_event v w
+      → Keeps w (record { number = k.number; section_word = left_word k.section_word; left = k.left; opened = None; slots = k.slots; updates = k.updates; raised = k.raised; held = k.held })
+  leave_waiting_keeps w h =
+      let word : ℕ = left_word k.section_word in
+      subst (λ (u : View). Keeps u (record { number = k.number; section_word = word; left = k.left; opened = None; slots = k.slots; updates = k.updates; raised = k.raised; held = k.held })) (sym (leave_view w h))
+      (left_kept word)
 
   -- look
   module _ (other : ℕ) (there : other < v.layout.passes) where
@@ -222,32 +251,52 @@ module _ (home : Home) (s : Sat) (k : Kept) (keeps : Keeps s.view k) (of : IsOf 
         some_number : (a b : ℕ) → Some a ≡ Some b → a ≡ b
         some_number a b is = cc
 
-    pub look_view : (w : View) (n : ℕ) → Happened z look_event v n w → w ≡ looked z.passes v other n
-    look_view w n h =
+    looks : (w : View) (n : ℕ) → Happened z look_event v n w → w ≡ looked_by z.passes v other n
+    looks w n h =
         happened_view z look_event v w n (Section other) other_there refl tt h
-        ∙ ap (looked z.passes v other) (happened_word z look_event v w n (Section other) other_there refl tt h)
+        ∙ ap (looked_by z.passes v other) (happened_word z look_event v w n (Section other) other_there refl tt h)
 
-    look_part : (w : View) (n : ℕ) → Happened z look_event v n w → part_of w ≡ part_of v
-    look_part w n h = ap part_of (look_view w n h) ∙ looked_part z other n v
+    by_locks : (n : ℕ) (b : Bool) → has_no_lock v ≡ b → looked_by z.passes v other n ≡ cond b (looked z.passes v other n) (looked_waiting v other n)
+    by_locks n b is = ap (λ (c : Bool). cond c (looked z.passes v other n) (looked_waiting v other n)) is
+
+    pub look_view : IsOutside v → (w : View) (n : ℕ) → Happened z look_event v n w → w ≡ looked z.passes v other n
+    look_view outside w n h = looks w n h ∙ by_locks n true (ap (λ (hs : List HeldNode). eqb (length hs) 0) outside.unlocked)
+
+    look_part : IsOutside v → (w : View) (n : ℕ) → Happened z look_event v n w → part_of w ≡ part_of v
+    look_part outside w n h = ap part_of (look_view outside w n h) ∙ looked_part z other n v
 
     pub look_outside : IsOutside v → (w : View) (n : ℕ) → Happened z look_event v n w → IsOutside w
     look_outside outside w n h = record {
-      even = ap (λ (p : SeatPart). is_even p.word) (look_part w n h) ∙ outside.even;
-      unlocked = ap (λ (u : View). u.held.nodes) (look_view w n h) ∙ ap (λ (u : Work). u.held.nodes) (looked_work z.passes other n v) ∙ outside.unlocked;
+      even = ap (λ (p : SeatPart). is_even p.word) (look_part outside w n h) ∙ outside.even;
+      unlocked = ap (λ (u : View). u.held.nodes) (look_view outside w n h) ∙ ap (λ (u : Work). u.held.nodes) (looked_work z.passes other n v) ∙ outside.unlocked;
     }
 
-    pub look_announced : (w : View) (n : ℕ) → Happened z look_event v n w → w.announced ≡ v.announced
-    look_announced w n h = ap (λ (p : SeatPart). p.announced) (look_part w n h)
+    pub look_announced : IsOutside v → (w : View) (n : ℕ) → Happened z look_event v n w → w.announced ≡ v.announced
+    look_announced outside w n h = ap (λ (p : SeatPart). p.announced) (look_part outside w n h)
 
-    pub look_keeps : (w : View) (n : ℕ) (slots : KeptSlots) → Happened z look_event v n w → ((u : View) → KeepsSlots u k.slots → u.number ≡ Some k.number → KeepsSlots (looked z.passes u other n) slots) → HasRoomOf k.slots slots
+    pub look_keeps : IsOutside v → (w : View) (n : ℕ) (slots : KeptSlots) → Happened z look_event v n w → ((u : View) → KeepsSlots u k.slots → u.number ≡ Some k.number → KeepsSlots (looked z.passes u other n) slots) → HasRoomOf k.slots slots
         → Keeps w (record { number = k.number; section_word = k.section_word; left = k.left; opened = k.opened; slots = slots; updates = k.updates; raised = k.raised; held = k.held })
-    look_keeps w n slots h kept room =
+    look_keeps outside w n slots h kept room =
         let u : View = looked z.passes v other n in
-        subst (λ (x : View). Keeps x (record { number = k.number; section_word = k.section_word; left = k.left; opened = k.opened; slots = slots; updates = k.updates; raised = k.raised; held = k.held })) (sym (look_view w n h))
+        subst (λ (x : View). Keeps x (record { number = k.number; section_word = k.section_word; left = k.left; opened = k.opened; slots = slots; updates = k.updates; raised = k.raised; held = k.held })) (sym (look_view outside w n h))
         (keeps_moved v u k k.section_word slots keeps
         (looked_part z other n v ∙ ap (λ x. record (part_of v) { word = x }) keeps.word
         ∙ ap (λ (r : Work). record (part_of v) { word = k.section_word; section = r.reading.section }) (sym (looked_work z.passes other n v)))
         (kept v keeps.slots keeps.number) room (work_still v u v.reading (looked_work z.passes other n v)))
+
+    -- look at the wait of a removal
+    pub look_waiting_asks : MayLookWaiting v other → Asks home s (Section other) look_event
+    look_waiting_asks may = record { of = of; there = other_there; seat = refl; word = refl; may = may_look_waiting_law z v s.seat other may }
+
+    pub look_waiting_view : has_no_lock v ≡ false → (w : View) (n : ℕ) → Happened z look_event v n w → w ≡ looked_waiting v other n
+    look_waiting_view locked w n h = looks w n h ∙ by_locks n false locked
+
+    pub look_waiting_keeps : has_no_lock v ≡ false → (w : View) (n : ℕ) → Happened z look_event v n w → Keeps w k
+    look_waiting_keeps locked w n h =
+        let u : View = looked_waiting v other n in
+        let slots : KeepsSlots u k.slots = record { free = keeps.slots.free; batch = keeps.slots.batch; retired = keeps.slots.retired; looks = keeps.slots.looks } in
+        subst (λ (x : View). Keeps x k) (sym (look_waiting_view locked w n h))
+        (keeps_moved v u k k.section_word k.slots keeps (part_moved v u k.section_word refl keeps.word) slots (same_room k.slots) (record { held = refl; raised = refl }))
 
   -- fill
   module _ (word : Word) (value : ℕ) (there : is_there v.layout word ≡ true) where

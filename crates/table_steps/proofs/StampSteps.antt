@@ -148,7 +148,7 @@ module _ (home : Home) (s : Sat) (k : Kept) (keeps : Keeps s.view k) (of : IsOf 
     pub stamp_keeps : (opened : Option ℕ) → w.reading.opened ≡ opened → Keeps w (record k { opened = opened })
     stamp_keeps opened is =
         let layout : w.layout ≡ v.layout = ap (λ (u : View). u.layout) w_is in
-        let still : IsStill v w = record { held = ap (λ (u : View). u.held) w_is; update = ap (λ (u : View). u.update) w_is } in
+        let still : IsStill v w = record { held = ap (λ (u : View). u.held) w_is; raised = ap (λ (u : View). u.update.raised) w_is } in
         record {
           number = ap (λ (u : View). u.number) w_is ∙ keeps.number;
           there = subst (λ (y : Layout). k.number < y.passes) (sym layout) keeps.there;

@@ -7,17 +7,16 @@ use Rattle.index_words.specs.declared.view.update.Held.{Held}
 use Rattle.index_words.specs.declared.view.update.Updating.{Updating}
 use Rattle.index_words.specs.declared.view.reading.Reading.{Reading}
 use Rattle.index_words.specs.declared.word.Word.{Word}
-use Rattle.index_words.specs.declared.word.Word.TheVariants.{Section}
 use Rattle.index_words.specs.Views.{no_reading, no_slots, no_looks}
 use Rattle.index_words.specs.Words.{memory}
 use Rattle.core_grace.specs.Batches.{is_empty, batch_taken, batch_freed, all_passed, settled, looked, looked_at}
 use Rattle.core_grace.specs.Sections.{is_even}
-use Rattle.core_events.specs.declared.event.Kind.TheVariants.{LookSec, Fill}
+use Rattle.core_events.specs.declared.event.Kind.TheVariants.{Fill}
 use Rattle.core_events.specs.FillMoves.{filled_view, filled_with, with_filled, known_before, used_view}
 use Rattle.core_events.specs.Moves.{entered, in_section, nowhere}
 use Rattle.core_invariant.specs.Rule.{InRule}
 use Rattle.core_invariant.specs.SeatRule.{SeatRight}
-use Rattle.core_invariant.proofs.KeptViews.{part_of, still_kept}
+use Rattle.core_invariant.proofs.KeptViews.{SeatPart, part_of, still_kept}
 use Rattle.core_invariant.proofs.OneView.{seat_at}
 use Rattle.table_rule.specs.Homes.{IsLiveView}
 use Rattle.table_rule.specs.Running.{Stands}
@@ -32,13 +31,13 @@ pub record Work : Type 0 where
 abbrev pub work_of : View → Work
 work_of v = record { held = v.held; reading = v.reading; update = v.update }
 
--- what was locked, and the update, are as they were
+-- what was locked, and the place of the update, are as they were
 pub record IsStill (v w : View) : Type 0 where
   pub held : w.held ≡ v.held
-  pub update : w.update ≡ v.update
+  pub raised : w.update.raised ≡ v.update.raised
 
 pub work_still : (v w : View) (r : Reading) → work_of w ≡ record { held = v.held; reading = r; update = v.update } → IsStill v w
-work_still v w r is = record { held = ap (λ (u : Work). u.held) is; update = ap (λ (u : Work). u.update) is }
+work_still v w r is = record { held = ap (λ (u : Work). u.held) is; raised = ap (λ (u : Work). u.update.raised) is }
 
 either_work : (b : Bool) (u : Work) (x y : View) → work_of x ≡ u → work_of y ≡ u → work_of (cond b x y) ≡ u
 either_work true u x y one two = one
@@ -58,19 +57,31 @@ looked_work passes pass word v =
     let taken : View = batch_taken v in
     settled_work passes (record taken { grace = looked_at taken.grace pass word }) ∙ taken_work v
 
+either_part : (b : Bool) (p : SeatPart) (x y : View) → part_of x ≡ p → part_of y ≡ p → part_of (cond b x y) ≡ p
+either_part true p x y one two = one
+either_part false p x y one two = two
+
+settled_part : (passes : ℕ) (v : View) → part_of (settled passes v) ≡ part_of v
+settled_part passes v = either_part (all_passed passes v.number v.grace.passed) (part_of v) (batch_freed v) v refl refl
+
+taken_part : (v : View) → part_of (batch_taken v) ≡ part_of v
+taken_part v = either_part (is_empty v.batch) (part_of v) (record v { retired = no_slots; batch = v.retired; grace = no_looks }) v refl refl
+
 pub looked_part : (z : Layout) (pass word : ℕ) (v : View) → part_of (looked z.passes v pass word) ≡ part_of v
-looked_part z pass word v = still_kept z (λ w. 0) Rattle.std.proofs.Common.[] v (Section pass) word 0 Rattle.std.proofs.Common.None LookSec refl
+looked_part z pass word v =
+    let taken : View = batch_taken v in
+    settled_part z.passes (record taken { grace = looked_at taken.grace pass word }) ∙ taken_part v
 
 pub filled_part : (z : Layout) (v : View) (w : Word) (value : ℕ) → part_of (filled_view v w value) ≡ part_of v
 filled_part z v w value = still_kept z (λ w. 0) Rattle.std.proofs.Common.[] v w 0 value Rattle.std.proofs.Common.None Fill refl
 
--- what a fill leaves of what was locked and of the update
+-- what a fill leaves of what was locked and of the update's place
 pub filled_still : (v : View) (w : Word) (value : ℕ) → IsStill v (filled_view v w value)
 filled_still v w value = by_test (is_even v.section_word)
   where
     by_test : (b : Bool) → IsStill v (cond b (used_view v w) (with_filled (used_view v w) (filled_with (known_before v w) w value)))
-    by_test true = record { held = refl; update = refl }
-    by_test false = record { held = refl; update = refl }
+    by_test true = record { held = refl; raised = refl }
+    by_test false = record { held = refl; raised = refl }
 
 -- an even word of 64 bits has a next one
 pub even_small : (x : ℕ) → x < 2 ^ 64 → is_even x ≡ true → x + 1 < 2 ^ 64

@@ -3,10 +3,12 @@ ghost use Rattle.std.specs.Prelude.{◌≡◌, ◌≢◌, ◌<◌, ◌+◌, ◌&
 ghost use Rattle.index_words.specs.declared.word.Word.{Word as TableWord};
 ghost use Rattle.index_words.specs.Words.{is_there, word_at};
 ghost use Rattle.core_grace.specs.Batches.{is_empty, looked};
-ghost use Rattle.core_grace.specs.Sections.{left_word};
+ghost use Rattle.core_grace.specs.Sections.{is_even, left_word};
 ghost use Rattle.core_events.specs.FillMoves.{filled_view};
 ghost use Rattle.core_events.specs.Moves.{entered, left};
+ghost use Rattle.core_events.specs.Waits.{has_no_lock, looked_waiting};
 ghost use Rattle.core_laws.specs.ViewNeeds.{IsOutside, MayFill};
+ghost use Rattle.core_laws.specs.Waits.{MayLeaveWaiting, MayLookWaiting};
 ghost use Rattle.table_rule.specs.Running.{Happened, Stored};
 ghost use Rattle.table_steps.specs.Gives.{entering, leaving, looking, filling};
 ghost use Rattle.table_steps.specs.Passes.{Inside, IsSamePass};
@@ -63,6 +65,37 @@ impl<'t> TablePass<'t> {
         self.kept.section_word = word;
         forget(&mut self.kept.opened);
         self.kept.held.clear();
+    }
+
+    /// Leaves a section at the wait of a removal, with the locks of the successor and of its parent.
+    pub fn leave_waiting(&mut self)
+        requires may { MayLeaveWaiting self.old.view self.old.number }
+        ensures same { IsSamePass self.old self.new }
+        ensures event { Stored self.old.view.layout (leaving self.old) self.old.view self.new.view }
+        ensures view { self.new.view ≡ left self.old.view (left_word self.old.view.section_word) }
+        ensures announced { self.new.view.announced ≡ self.old.view.announced }
+        ensures even { is_even self.new.view.section_word ≡ true }
+    {
+        let table = self.table;
+        let next = word_after_leaving(self.kept.section_word);
+        table
+            .ruled
+            .store::<Brand>(&mut self.seat, Word::Section(self.kept.number), next);
+        self.kept.section_word = next;
+        forget(&mut self.kept.opened);
+    }
+
+    /// Looks at the section word of another pass at the wait of a removal. Of the slots nothing changes.
+    pub fn look_waiting(&mut self, other: u32) -> u64
+        requires may { MayLookWaiting self.old.view other }
+        requires locked { has_no_lock self.old.view ≡ false }
+        ensures same { IsSamePass self.old self.new }
+        ensures event { Happened self.old.view.layout (looking self.old other) self.old.view result self.new.view }
+        ensures view { self.new.view ≡ looked_waiting self.old.view other result }
+    {
+        let table = self.table;
+        let word = Word::Section(other);
+        table.ruled.load::<Brand>(&mut self.seat, word)
     }
 
     /// Looks at the section word of another pass, for the sake of the slots that wait to become free.

@@ -103,4 +103,11 @@ impl<'t> TablePass<'t> {
         // What a type's invariant says is known where a field is used.
         let _ = &self.kept;
     }
+
+    /// The table has at most 32 passes. The call does nothing.
+    pub fn passes_fact(&self)
+        ensures { self.now.view.layout.passes ≤ 32 }
+    {
+        let _ = &self.kept;
+    }
 }

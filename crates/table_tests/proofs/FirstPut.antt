@@ -1,5 +1,5 @@
 -- The first put of a table by single steps: each step may be made at its stage.
-use Rattle.std.proofs.Common.{◌≡◌, ℕ, ◌<◌, List, [], ◌∷◌, length, false, arith, refl, ap, ◌∙◌, sym, subst, inl, inr, Some, None}
+use Rattle.std.proofs.Common.{◌≡◌, ℕ, ◌<◌, List, [], ◌∷◌, length, false, not, ◌&&◌, arith, refl, ap, ◌∙◌, sym, subst, inl, inr, Option, Some, None}
 use Rattle.std.specs.List.{slice_get}
 use Rattle.std.proofs.lemmas.List.{length-append}
 use Rattle.index_words.specs.declared.side.Side.TheVariants.{Left, Right}
@@ -7,6 +7,7 @@ use Rattle.index_words.specs.declared.view.View.{View}
 use Rattle.index_words.specs.declared.view.reading.TreeNode.{TreeNode}
 use Rattle.index_words.specs.declared.view.update.HeldNode.{HeldNode}
 use Rattle.index_words.specs.declared.view.update.LoadedHead.{LoadedHead}
+use Rattle.index_words.specs.declared.view.update.Unlinking.{Unlinking}
 use Rattle.index_words.specs.declared.word.Field.TheVariants.{Key, Val, Mark, Head, Link, Tag}
 use Rattle.index_words.specs.declared.word.Part.TheVariants.{Child, Stamp as Number, Next}
 use Rattle.index_words.specs.declared.word.Word.{Word}
@@ -21,7 +22,8 @@ use Rattle.core_events.specs.FillMoves.{filled_view}
 use Rattle.core_events.specs.LoadMoves.{bundle_link, head_loaded}
 use Rattle.core_events.specs.LockMoves.{nothing_loaded}
 use Rattle.core_events.specs.Moves.{entered}
-use Rattle.core_events.specs.PlainMoves.{link_set, other_links}
+use Rattle.core_events.specs.PlainMoves.{link_set, other_links, still_unlinking}
+use Rattle.core_events.specs.PlainNeeds.{sets_others, unlinks_at}
 use Rattle.core_events.specs.UpdateMoves.{finalised, prepared, raised_view}
 use Rattle.core_laws.specs.PlainNeeds.{MaySetLink}
 use Rattle.core_laws.specs.ViewNeeds.{HasFilled, IsInside, MayFill, MayLoadStamp, MayPrepare, MayReadHead, MayUnlock}
@@ -36,7 +38,7 @@ use Rattle.table_rule.proofs.Lists.{item_at, some_same}
 use Rattle.table_steps.specs.Passes.{Pass}
 use Rattle.table_steps.specs.Stamps.{reading_at, with_seen, CanAnnounce, HasSeen, ReadsNow}
 use Rattle.table_steps.specs.Loads.{HasLoadedHead}
-use Rattle.plan_laws.proofs.PlainLinks.{no-links, one-order, sets-first, sets-rest}
+use Rattle.plan_laws.proofs.PlainLinks.{no-links, sets-first, sets-rest}
 use Rattle.plan_laws.proofs.Releases.{all-done}
 use Rattle.table_steps.specs.Raises.{HasNew, HasRaised}
 use Rattle.table_tests.specs.FirstPut.{at_start, at_seen, at_announced, at_root, at_locked_root}
@@ -246,7 +248,8 @@ module _ (v w f : View) (n place : ℕ) (is : v ≡ at_prepared) (own : v.number
     done = refl;
     marked = (λ some. absurd (omega (arith, some)), tt);
     unset = sets-first gives.plain.unset root_front [] leaves.unset;
-    order = one-order root_front gives.plain.unset gives.plain.unlinking leaves.last;
+    order = ap (λ (o : Option Unlinking). not (unlinks_at 0 Right o && sets_others 0 Right gives.plain.unset)) leaves.last;
+    waited = λ u is_it at_it. let none : gives.plain.unlinking ≡ None = leaves.last in cc;
   })
 
   -- once it is set the lock may be given back
@@ -255,5 +258,7 @@ module _ (v w f : View) (n place : ℕ) (is : v ≡ at_prepared) (own : v.number
     locked = one_above;
     done = refl;
     marked = (λ some. absurd (omega (arith, some)), tt);
-    set = all-done 0 (link_set at_numbered 0 Right 1).update (no-links (other_links 0 Right gives.plain.unset) (sets-rest gives.plain.unset root_front [] leaves.unset tt), leaves.owed);
+    set =
+        all-done 0 (link_set at_numbered 0 Right 1).update
+        (no-links (other_links 0 Right gives.plain.unset) (sets-rest gives.plain.unset root_front [] leaves.unset tt), leaves.owed, ap (still_unlinking 0 Right) leaves.last);
   })

@@ -13,6 +13,8 @@ mod moved;
 #[cfg(test)]
 mod passes;
 #[cfg(test)]
+mod plain_links;
+#[cfg(test)]
 mod pruning;
 #[cfg(test)]
 mod set_up;

@@ -1,6 +1,7 @@
 // What one pass meets at the stages of an update of another pass, which stops at each of them.
 ghost use Rattle.std.specs.Prelude.{◌≡◌, ◌<◌, ℕ, Some};
 ghost use Rattle.core_updates.specs.PlanEvents.{HasSlots};
+ghost use Rattle.plan_laws.specs.PlainLinks.{SetsAtOnce};
 ghost use Rattle.plan_laws.specs.Fills.{AreApart};
 ghost use Rattle.plan_laws.specs.Raises.{HasFinalised};
 ghost use Rattle.plan_laws.specs.Tries.{IsSearched};
@@ -86,6 +87,7 @@ fn end_in_stages(
 ) -> Behind
     requires raised { (at : ℕ) × HasFinalised pass.old.view pass.old.number plan.now slots.now at 0 }
     requires apart { AreApart slots.now }
+    requires near { SetsAtOnce plan.now }
     requires least { pass.old.view.reading.least ≡ Some number }
     requires rest { AtRest other.old.view }
 {
@@ -121,6 +123,7 @@ fn carry_in_stages(
     heads: &[u32; 9],
 ) -> Option<(Before, Behind)>
     requires searched { IsSearched pass.old.view pass.old.number plan.now heads.now }
+    requires near { SetsAtOnce plan.now }
     requires free { HasSlots pass.old.view slots.now }
     requires apart { AreApart slots.now }
     requires node { 0 < slots.now.node }

@@ -114,3 +114,32 @@ fn two_passes_see_each_others_updates(rt: HostRuntime) -> Result<(), Fail> {
     assert_eq!(rt; counts, [2, 3, 2]);
     Ok(())
 }
+
+/// Six nodes, and entries for as many updates.
+const SIX_NODES: PassSize = PassSize {
+    nodes: 6,
+    entries: 40,
+    calls: 12,
+};
+
+/// Each removal is of a node with two children, whose successor hangs further down.
+const FAR_SUCCESSORS: [Row; 11] = [
+    Row::Put(1, 10, 1, Ok(Done { at: 1, was: false })),
+    Row::Put(1, 5, 2, Ok(Done { at: 2, was: false })),
+    Row::Put(1, 20, 3, Ok(Done { at: 3, was: false })),
+    Row::Put(1, 15, 4, Ok(Done { at: 4, was: false })),
+    Row::Put(1, 12, 5, Ok(Done { at: 5, was: false })),
+    Row::Remove(10, Ok(Done { at: 6, was: true })),
+    Row::First(6, Some(Pair { key: 12, val: 5 })),
+    Row::Remove(12, Ok(Done { at: 7, was: true })),
+    Row::First(6, Some(Pair { key: 15, val: 4 })),
+    Row::Put(1, 17, 6, Ok(Done { at: 8, was: false })),
+    Row::First(16, Some(Pair { key: 17, val: 6 })),
+];
+
+#[test]
+fn a_removal_waits_and_unlinks_the_successor(rt: HostRuntime) -> Result<(), Fail> {
+    let (table, _, key) = two_passes(rt.alloc(), SIX_NODES)?;
+    assert_eq!(rt; answered(&mut table.attach(key), &rt, &FAR_SUCCESSORS), 11);
+    Ok(())
+}

@@ -9,3 +9,5 @@ pub mod Places
 pub mod TryMade
 -- A pass that is alone on its table makes each put that it tries.
 pub mod Alone
+-- How an update ends.
+pub mod Ends

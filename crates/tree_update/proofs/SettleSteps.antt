@@ -368,11 +368,13 @@ module _ (passes : ℕ) (v : View) (y : ℕ) where
         unused = ap (λ (u : View). u.unused) is ∙ ap (apart_from (batch_of v)) (taken_unused v);
       }
 
-  pub left_apart : v.reading ≡ no_reading → (e w : View) (x : ℕ) → e ≡ entered passes v y → w ≡ left e x → KeepsAllElse v w
-  left_apart rest e w x first second =
+  pub left_apart : v.reading ≡ no_reading → v.update.added ≡ None → (e w : View) (x : ℕ) → e ≡ entered passes v y → w ≡ left e x → KeepsAllElse v w
+  left_apart rest none e w x first second =
       let inside : apart_from_slots e ≡ apart_from_slots (in_section v y)
       = ap apart_from_slots first ∙ settled_apart passes (batch_taken (in_section v y)) ∙ taken_apart (in_section v y) in
-      ap apart_from_slots second ∙ ap (λ (u : View). record u { reading = no_reading }) inside ∙ ap (λ (r : Reading). record (apart_from_slots v) { reading = r }) (sym rest)
+      ap apart_from_slots second ∙ ap (λ (u : View). record u { reading = no_reading; update = record u.update { added = None } }) inside
+      ∙ ap (λ (r : Reading). record (apart_from_slots v) { reading = r; update = record v.update { added = None } }) (sym rest)
+      ∙ ap (λ (a : Option ℕ). record (apart_from_slots v) { update = record v.update { added = a } }) (sym none)
 
 -- from the start of a try over the looks so far
 module _ (v u : View) (taking : IsTaking v u) where

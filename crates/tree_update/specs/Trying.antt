@@ -1,9 +1,9 @@
 -- What one try of an update comes to.
-use Rattle.std.specs.Prelude.{◌≡◌, ℕ, ◌<◌, ◌≤◌, Bool, true, false, length}
+use Rattle.std.specs.Prelude.{◌≡◌, ℕ, ◌<◌, ◌≤◌, Bool, true, false, length, Option}
 use Rattle.index_words.specs.declared.view.View.{View}
 use Rattle.key_map.specs.declared.pass.Done.{Done}
 use Rattle.key_map.specs.declared.update.Change.{Change}
-use Rattle.key_map.specs.declared.update.Change.TheVariants.{Remove}
+use Rattle.key_map.specs.declared.update.Change.TheVariants.{Put, Remove}
 use Rattle.key_map.specs.History.{after}
 use Rattle.key_map.specs.Map.{map_has}
 use Rattle.core_updates.specs.declared.plan.PlanSlots.{PlanSlots}
@@ -13,9 +13,11 @@ use Rattle.tree_update.specs.declared.trying.Missed.{Missed}
 use Rattle.tree_update.specs.declared.trying.Missed.TheVariants.{Absent, There, Failed}
 use Rattle.tree_update.specs.declared.trying.Try.{Try}
 use Rattle.tree_update.specs.declared.trying.Try.TheVariants.{Done as Made, Busy, Moved, Pending}
-use Rattle.table_steps.specs.Passes.{IsAlone}
+use Rattle.table_steps.specs.Passes.{AtRest, IsAlone}
 use Rattle.update_try.specs.FreeSlots.{LacksFreeSlots}
+use Rattle.update_try.specs.declared.parting.Parted.{Parted}
 use Rattle.update_try.specs.Outcomes.{IsCounted}
+use Rattle.update_try.specs.Parting.{EndsAs}
 
 -- calls are left, but not the free slots that an update may take
 abbrev pub IsOutOfFreeSlots : View → Type 0
@@ -26,6 +28,11 @@ pub record OffersSlots (v : View) (slots : PlanSlots) : Type 0 where
   pub free : HasSlots v slots
   pub apart : AreApart slots
   pub node : 0 < slots.node
+
+-- a put has ended, and waits for nobody; a removal has ended, or has still to wait
+abbrev pub EndsBy : Change → View → ℕ → Option Parted → Type 0
+EndsBy (Put val) v n parted = AtRest v
+EndsBy Remove v n parted = EndsAs v n parted
 
 -- the key was not in the map after so many updates: all that the pass had seen when it began to read
 pub record WasAbsent (v w : View) (key : ℕ) : Type 0 where

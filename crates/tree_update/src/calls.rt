@@ -1,7 +1,8 @@
 //! The calls that update the map: a put, a put that is made only where the key is not there, and a removal.
 //!
 //! Each tries until a try comes through. It waits between the tries alone: outside of the section, with no lock held
-//! and nothing pending, so that no other pass waits for it meanwhile.
+//! and nothing pending, so that no other pass waits for it meanwhile. A removal may wait behind its update too, with
+//! two locks held, as `ending` says.
 ghost use Rattle.std.specs.Prelude.{◌≡◌, ◌↔◌, ◌<◌, ◌≤◌, None, is_some, IfOk, IfSome, IsErrOf, OnErr};
 ghost use Rattle.key_map.specs.Map.{value_at};
 ghost use Rattle.table_steps.specs.Passes.{AtRest, IsSamePass};
@@ -9,6 +10,7 @@ ghost use Rattle.table_steps.specs.Stamps.{IsFoundSince};
 ghost use Rattle.tree_update.specs.Calls.{StaysOn, GoesOn, MakesPut, LooksFor, AnswersPutNew, AnswersRemoval, IsPlaceOfPut, IsPlaceOfNew, IsPlaceOfRemoval, IsRefusal, IsOutOfSlots};
 ghost use Rattle.tree_update.specs.Trying.{OffersSlots};
 
+use crate::ending::end_removal;
 use crate::trying::{Missed, try_update};
 use crate::waits::{pause, wait_for_cuts, wait_for_slots};
 use core_updates::PlanSlots;
@@ -79,7 +81,10 @@ fn try_removal<R: Wait>(
     ensures goes { result ≡ None → GoesOn pass.old.view pass.new.view }
 {
     match try_update(pass, line, key, Change::Remove, false, slots) {
-        Ok(done) => Some(done),
+        Ok(taken) => {
+            end_removal(pass, rt, taken.parted);
+            Some(taken.done)
+        }
         Err(Missed::Absent) => {
             let found = look_for(pass, rt, key);
             if found.was {
@@ -114,7 +119,7 @@ fn try_new<R: Wait>(
     ensures goes { result ≡ None → GoesOn pass.old.view pass.new.view }
 {
     match try_update(pass, line, key, Change::Put(val), true, slots) {
-        Ok(done) => Some(New::Made { at: done.at }),
+        Ok(taken) => Some(New::Made { at: taken.done.at }),
         Err(Missed::There) => {
             let found = look_for(pass, rt, key);
             if found.was {
@@ -138,8 +143,8 @@ fn make_put<R: Wait>(pass: &mut TablePass<'_>, rt: &R, line: u32, key: u64, val:
     wait_for_cuts(pass);
     'tries: for _ in rt.forever() {
         let slots = wait_for_slots(pass, rt);
-        if let Ok(done) = try_update(pass, line, key, Change::Put(val), false, &slots) {
-            return done;
+        if let Ok(taken) = try_update(pass, line, key, Change::Put(val), false, &slots) {
+            return taken.done;
         }
         pause();
     }
@@ -237,6 +242,11 @@ pub fn put_new<R: Wait>(
 
 /// Takes the key out, for the request line `line`. Where it is not there, no update is made: the answer is that of a
 /// snapshot. The conditions on calls and slots are the same then.
+///
+/// It may wait where `put` does, and in one case more: where the removed node has two children and its successor hangs
+/// further down, it returns only once each other pass was outside a section since the removal took effect. So it does
+/// not return while another pass stays in a section, as one does whose snapshot is open; readers, and updates at other
+/// nodes, go on meanwhile.
 pub fn remove<R: Wait>(
     pass: &mut TablePass<'_>,
     rt: &R,

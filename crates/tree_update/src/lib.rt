@@ -3,6 +3,7 @@
 #![tactic(auto)]
 
 mod calls;
+mod ending;
 mod settle;
 mod trying;
 mod waits;

@@ -9,7 +9,8 @@ ghost use Rattle.table_steps.specs.Passes.{AtRest, IsAlone, IsSamePass};
 ghost use Rattle.table_steps.specs.Raises.{IsRaisedSince};
 ghost use Rattle.tree_update.specs.Calls.{StaysOn, HasMade, MakesPut, IsPlaceOfPut};
 ghost use Rattle.update_try.specs.Outcomes.{HasRisen, IsCounted};
-ghost use Rattle.tree_update.specs.Trying.{IsMissed, IsOutOfFreeSlots, OffersSlots, IfDone, IfBusy, IfMoved, IfPending, UnlessDone, IsMade};
+ghost use Rattle.update_try.specs.Parting.{EndsAs};
+ghost use Rattle.tree_update.specs.Trying.{EndsBy, IsMissed, IsOutOfFreeSlots, OffersSlots, IfDone, IfBusy, IfMoved, IfPending, UnlessDone, IsMade};
 ghost use Rattle.bundle_reads.specs.Links.{InsideAt};
 
 use core_updates::{Plan, PlanSlots};
@@ -17,7 +18,7 @@ use index_words::Change;
 use key_map::{Done, PassError};
 use table_steps::TablePass;
 use update_search::{Found, Planned, begin_search, find_plan};
-use update_try::{Failed, carry_out, plan_slots};
+use update_try::{Failed, Parted, carry_out, plan_slots};
 
 /// Why one try of an update was not made. It has changed nothing.
 #[derive(Clone, Copy, Debug, PartialEq, Eq)]
@@ -28,6 +29,14 @@ pub(crate) enum Missed {
     There,
     /// The count of this failure has risen, for what another pass did. A later try may come through.
     Failed(Failed),
+}
+
+/// An update that a try has made.
+#[derive(Clone, Copy, Debug, PartialEq, Eq)]
+pub(crate) struct Taken {
+    pub done: Done,
+    /// The successor that a removal has still to unlink, behind a wait. A put has none.
+    pub parted: Option<Parted>,
 }
 
 /// What one try of a put comes to.
@@ -86,31 +95,36 @@ fn carry_found(
     line: u32,
     planned: &Planned,
     slots: &PlanSlots,
-) -> Result<Done, Failed>
+) -> Result<Taken, Failed>
     requires searched { IsSearched pass.old.view pass.old.number planned.now.plan planned.now.entries }
     requires slots { OffersSlots pass.old.view slots.now }
     requires left { 0 < pass.old.view.history.left }
     requires reads { pass.old.view.reading.section ≡ Some at }
     ensures same { IsSamePass pass.old pass.new }
-    ensures rest { AtRest pass.new.view }
-    ensures made { IfOk result (HasMade pass.old.view pass.new.view pass.old.number line (key_of planned.now.plan) (change_of planned.now.plan)) }
-    ensures raise { IfOk result (λ done. IsRaisedSince pass.old (update_by pass.old.number line planned.now.plan) done.at pass.new.view) }
-    ensures was { IfOk result (λ done. done.was ≡ had_key planned.now.plan) }
+    ensures rest { IfErr result (λ failed. AtRest pass.new.view) }
+    ensures ends { IfOk result (λ taken. EndsBy (change_of planned.now.plan) pass.new.view pass.new.number taken.parted) }
+    ensures made { IfOk result (λ taken. HasMade pass.old.view pass.new.view pass.old.number line (key_of planned.now.plan) (change_of planned.now.plan) taken.done) }
+    ensures raise { IfOk result (λ taken. IsRaisedSince pass.old (update_by pass.old.number line planned.now.plan) taken.done.at pass.new.view) }
+    ensures was { IfOk result (λ taken. taken.done.was ≡ had_key planned.now.plan) }
     ensures stays { IfErr result (λ failed. StaysOn pass.old.view pass.new.view) }
     ensures counted { IfErr result (λ failed. IsCounted failed pass.old.view pass.new.view) }
     ensures alone { IfErr result (λ failed. ¬ IsAlone pass.new.view) }
 {
     match carry_out(pass, at, line, &planned.plan, slots, &planned.entries) {
-        Ok(place) => Ok(Done {
-            at: place,
-            was: was_there(&planned.plan),
+        Ok(carried) => Ok(Taken {
+            done: Done {
+                at: carried.at,
+                was: was_there(&planned.plan),
+            },
+            parted: carried.parted,
         }),
         Err(failed) => Err(failed),
     }
 }
 
 /// One try of an update, in a section of its own, with these slots. The enter takes no free slot away, so they are free
-/// still where the plan is carried out. With `only_new` it is made only where its key is not there.
+/// still where the plan is carried out. With `only_new` it is made only where its key is not there. It never waits: a
+/// removal that has to is not at rest behind it.
 pub(crate) fn try_update(
     pass: &mut TablePass<'_>,
     line: u32,
@@ -118,15 +132,16 @@ pub(crate) fn try_update(
     change: Change,
     only_new: bool,
     slots: &PlanSlots,
-) -> Result<Done, Missed>
+) -> Result<Taken, Missed>
     requires rest { AtRest pass.old.view }
     requires left { 0 < pass.old.view.history.left }
     requires slots { OffersSlots pass.old.view slots.now }
     ensures same { IsSamePass pass.old pass.new }
-    ensures rest { AtRest pass.new.view }
-    ensures made { IfOk result (HasMade pass.old.view pass.new.view pass.old.number line key change) }
-    ensures raise { IfOk result (λ done. IsRaisedSince pass.old (update_of pass.old.number line key change) done.at pass.new.view) }
-    ensures absent { IfOk result (λ done. only_new ≡ true → done.was ≡ false) }
+    ensures rest { IfErr result (λ missed. AtRest pass.new.view) }
+    ensures ends { IfOk result (λ taken. EndsBy change pass.new.view pass.new.number taken.parted) }
+    ensures made { IfOk result (λ taken. HasMade pass.old.view pass.new.view pass.old.number line key change taken.done) }
+    ensures raise { IfOk result (λ taken. IsRaisedSince pass.old (update_of pass.old.number line key change) taken.done.at pass.new.view) }
+    ensures absent { IfOk result (λ taken. only_new ≡ true → taken.done.was ≡ false) }
     ensures missed { IfErr result (IsMissed only_new key change pass.old.view pass.new.view) }
     ensures stays { IfErr result (λ missed. StaysOn pass.old.view pass.new.view) }
 {
@@ -140,7 +155,7 @@ pub(crate) fn try_update(
                 return Err(Missed::There);
             }
             match carry_found(pass, at, line, &planned, slots) {
-                Ok(done) => Ok(done),
+                Ok(taken) => Ok(taken),
                 Err(failed) => Err(Missed::Failed(failed)),
             }
         }
@@ -171,7 +186,7 @@ fn try_with(pass: &mut TablePass<'_>, line: u32, key: u64, val: u64, slots: &Pla
     ensures kept { UnlessDone result (StaysOn pass.old.view pass.new.view) }
 {
     match try_update(pass, line, key, Change::Put(val), false, slots) {
-        Ok(done) => Try::Done(done),
+        Ok(taken) => Try::Done(taken.done),
         Err(Missed::Failed(Failed::Busy)) => Try::Busy,
         Err(Missed::Failed(Failed::Moved)) => Try::Moved,
         Err(Missed::Failed(Failed::Pending)) => Try::Pending,

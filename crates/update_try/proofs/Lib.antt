@@ -15,3 +15,5 @@ pub mod Outs
 pub mod Pruned
 pub mod FreeSlots
 pub mod Done
+-- A removal ends in two halves around its wait.
+pub mod FarSteps

@@ -8,15 +8,15 @@ use Rattle.core_updates.specs.declared.plan.PlanSlots.{PlanSlots}
 use Rattle.core_updates.specs.declared.plan.Front.{Front}
 use Rattle.core_updates.specs.Plans.{fronts_of, sets_of}
 use Rattle.plan_laws.specs.Frames.{KeepsOwned}
-use Rattle.plan_laws.specs.PlainLinks.{IsSetting, IsTagNext}
+use Rattle.plan_laws.specs.PlainLinks.{IsSetting, IsTagNext, SetsAtOnce}
 use Rattle.plan_laws.proofs.PlainLinks.{set_step}
 use Rattle.table_steps.specs.Passes.{Pass}
 
-pub set_next : (v w : View) (n : ℕ) (plan : Plan) (slots : PlanSlots) (place : ℕ) (f : Front) → IsSetting v n plan (drop place (sets_of plan slots)) (sets_of plan slots)
-    → slice_get (fronts_of plan slots) place ≡ Some f → w ≡ link_set v f.at.node f.at.side f.child
+pub set_next : (v w : View) (n : ℕ) (plan : Plan) (slots : PlanSlots) (place : ℕ) (f : Front) → SetsAtOnce plan
+    → IsSetting v n plan (drop place (sets_of plan slots)) (sets_of plan slots) → slice_get (fronts_of plan slots) place ≡ Some f → w ≡ link_set v f.at.node f.at.side f.child
     → IsSetting w n plan (drop (place + 1) (sets_of plan slots)) (sets_of plan slots) × KeepsOwned v w
-set_next v w n plan slots place f h is now =
-    let next = set_step v n plan slots place (sets_of plan slots) f h is in
+set_next v w n plan slots place f near h is now =
+    let next = set_step v n plan slots place (sets_of plan slots) f near h is in
     subst (λ (u : View). IsSetting u n plan (drop (place + 1) (sets_of plan slots)) (sets_of plan slots) × KeepsOwned v u) (sym now) (next.set, next.keeps)
 
 -- the tag of this link is looked at next

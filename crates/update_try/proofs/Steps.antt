@@ -22,7 +22,7 @@ use Rattle.plan_laws.specs.Releases.{IsReleasing}
 use Rattle.plan_laws.specs.Tries.{HasLocked}
 use Rattle.plan_laws.proofs.Frames.{steps_keep}
 use Rattle.plan_laws.proofs.Items.{drop-got, got-every, not-yet, got-counts}
-use Rattle.plan_laws.proofs.Releases.{unlock_place, all-done}
+use Rattle.plan_laws.proofs.Releases.{unlock_place, all-done, known-marked}
 use Rattle.plan_laws.proofs.Tries.{lock_step}
 use Rattle.table_steps.specs.Passes.{Pass, IsSamePass}
 use Rattle.update_try.specs.Outcomes.{KeepsAll}
@@ -82,7 +82,7 @@ pub may_unlock : (v : View) (n node place : ℕ) (nodes : List ℕ) → IsReleas
 may_unlock v n node place nodes r is = record {
   locked = subst (λ ks. 0 < count node ks) (sym (r.locked ∙ drop-got nodes place node is)) (got-counts (node ∷ drop (place + 1) nodes) 0 node refl);
   done = r.done;
-  marked = r.marked;
+  marked = known-marked v.update v.held.nodes r.marked;
   set = all-done node v.update r.set;
 }
 

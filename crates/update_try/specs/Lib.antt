@@ -5,3 +5,4 @@ pub mod Preparing
 pub mod Walked
 pub mod Pruning
 pub mod Carried
+pub mod Parting

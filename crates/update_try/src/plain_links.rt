@@ -1,11 +1,11 @@
-//! The plain links of an update, behind its marks. The links come first, that to the copy of a removed node before that
-//! to its old successor, and then the tags of the links that a removal has made null. Both come before the first lock is
-//! given back: with the lock another update may change the link again.
+//! The plain links of an update without a far successor, behind its marks. The links come first, and then the tags of
+//! those that a removal has made null. Both come before the first lock is given back: with the lock another update may
+//! change the link again.
 ghost use Rattle.std.specs.Prelude.{◌≡◌, ℕ, ◌+◌, [], drop};
 ghost use Rattle.core_updates.specs.declared.plan.PlanSlots.{PlanSlots as UpdateSlots};
 ghost use Rattle.core_updates.specs.Plans.{locks_of, sets_of};
 ghost use Rattle.plan_laws.specs.Frames.{KeepsOwned};
-ghost use Rattle.plan_laws.specs.PlainLinks.{IsSetting, IsTagNext, owes_tag};
+ghost use Rattle.plan_laws.specs.PlainLinks.{IsSetting, IsTagNext, SetsAtOnce, owes_tag};
 ghost use Rattle.plan_laws.specs.Releases.{IsReleasing};
 ghost use Rattle.table_steps.specs.Passes.{IsSamePass};
 
@@ -24,6 +24,7 @@ fn is_owed(plan: &Plan, front: &Front) -> bool
 
 /// Sets the plain links in front of whose bundles the plan has put entries, to the children of these.
 pub fn set_links(pass: &mut TablePass<'_>, plan: &Plan, slots: &PlanSlots)
+    requires near { SetsAtOnce plan.now }
     requires marked { IsSetting pass.old.view pass.old.number plan.now (sets_of plan.now slots.now) (sets_of plan.now slots.now) }
     ensures same { IsSamePass pass.old pass.new }
     ensures set { IsSetting pass.new.view pass.new.number plan.now [] (sets_of plan.now slots.now) }
@@ -51,6 +52,7 @@ fn raise_tag(pass: &mut TablePass<'_>, plan: &Plan, front: &Front)
 
 /// Raises the tags of the links that a removal has made null. Then the locks may be given back.
 pub fn raise_tags(pass: &mut TablePass<'_>, plan: &Plan, slots: &PlanSlots)
+    requires near { SetsAtOnce plan.now }
     requires set { IsSetting pass.old.view pass.old.number plan.now [] (sets_of plan.now slots.now) }
     ensures same { IsSamePass pass.old pass.new }
     ensures raised { IsReleasing pass.new.view pass.new.number (locks_of plan.now) }

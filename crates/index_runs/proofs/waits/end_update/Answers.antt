@@ -9,4 +9,4 @@ pub mark_all-requires : goal.mark_all-requires
 mark_all-requires c = record { numbered = (c.args.slots.now, c.prune_all.ensures.numbered) }
 
 pub set_links-requires : goal.set_links-requires
-set_links-requires c = record { marked = c.mark_all.ensures.marked c.args.slots.now c.prune_all.ensures.numbered }
+set_links-requires c = record { near = c.requires.near; marked = c.mark_all.ensures.marked c.args.slots.now c.prune_all.ensures.numbered }

@@ -13,6 +13,7 @@ use Rattle.client_threads.specs.ClientSlots.{slots_under}
 use Rattle.client_threads.specs.Runs.{parts_of}
 use Rattle.client_threads.proofs.Clients.{each_legal}
 use Rattle.serve_session.proofs.Runs.{update_keys, all_recorded}
+use Rattle.client_threads.specs.Pools.{named}
 use Rattle.serve_session.proofs.Sessions.{written}
 use Rattle.serve_session.proofs.running.run_clients.Goals as goal
 
@@ -21,7 +22,7 @@ write_run-requires-clause-replies g c κs within =
     let parts = parts_of c.args.session.now.clients in
     let run : Run = record { updates = c.in_ok-updates.updates.items; replies = g.R.Runner.replied c.history_of.new.runner } in
     subst (λ (rs : List Record). All (All (λ (p : Placed). IsReplyOf c.args.dir.now rs p.reply)) (g.R.Runner.replied c.history_of.new.runner)) (sym c.as_slice-records.ensures)
-    (all_recorded c.args.dir.now c.args.session.now.records parts (slots_under c.args.slots parts) run c.in_ok-updates.ensures.ran
+    (all_recorded c.args.dir.now c.args.session.now.records parts (slots_under (named c.args.slots) parts) run c.in_ok-updates.ensures.ran
     (All-map (All (HasRecordBelow (length c.args.session.now.records))) request_lines c.args.session.now.clients c.requires.can.recorded))
 
 pub write_run-requires-clause-keys : goal.write_run-requires-clause-keys
@@ -29,26 +30,26 @@ write_run-requires-clause-keys g c κs within =
     let parts = parts_of c.args.session.now.clients in
     let run : Run = record { updates = c.in_ok-updates.updates.items; replies = g.R.Runner.replied c.history_of.new.runner } in
     subst (λ (us : List Update). All (λ (u : Update). u.key < length c.args.dir.now) us) (sym c.deref.ensures.value)
-    (update_keys c.args.dir.now c.args.session.now.records parts (slots_under c.args.slots parts) run (each_legal c.args.dir.now parts (slots_under c.args.slots parts) run c.in_ok-updates.ensures.ran)
+    (update_keys c.args.dir.now c.args.session.now.records parts (slots_under (named c.args.slots) parts) run (each_legal c.args.dir.now parts (slots_under (named c.args.slots) parts) run c.in_ok-updates.ensures.ran)
     (All-map (All (HasRecordBelow (length c.args.session.now.records))) request_lines c.args.session.now.clients c.requires.can.recorded))
 
 pub returns-clause-wrote : goal.returns-clause-wrote
 returns-clause-wrote g c =
     IfOk-weaker c.write_run.result _ _
     (λ done taken.
-    written c.args.slots c.args.dir.now c.args.session.now.records c.as_slice-records.result.now c.args.session.now.clients c.in_ok-updates.updates.items c.deref.result.now
+    written (named c.args.slots) c.args.dir.now c.args.session.now.records c.as_slice-records.result.now c.args.session.now.clients c.in_ok-updates.updates.items c.deref.result.now
     (g.R.Runner.replied c.history_of.new.runner) _ c.as_slice-records.ensures c.deref.ensures.value c.in_ok-updates.ensures.ran
     (taken, inr (c.in_ok-updates.ensures.runs, refl)))
     c.write_run.ensures.taken
 
 pub returns-clause-start : goal.returns-clause-start
 returns-clause-start g c = λ is.
-    written c.args.slots c.args.dir.now c.args.session.now.records c.as_slice-records.result.now c.args.session.now.clients c.in_ok-updates.updates.items c.deref.result.now
+    written (named c.args.slots) c.args.dir.now c.args.session.now.records c.as_slice-records.result.now c.args.session.now.clients c.in_ok-updates.updates.items c.deref.result.now
     (g.R.Runner.replied c.history_of.new.runner) _ c.as_slice-records.ensures c.deref.ensures.value c.in_ok-updates.ensures.ran
     (c.write_run.ensures.start Fault is)
 
 pub returns-clause-no_memory : goal.returns-clause-no_memory
 returns-clause-no_memory g c = λ is.
-    inr (written c.args.slots c.args.dir.now c.args.session.now.records c.as_slice-records.result.now c.args.session.now.clients c.in_ok-updates.updates.items c.deref.result.now
+    inr (written (named c.args.slots) c.args.dir.now c.args.session.now.records c.as_slice-records.result.now c.args.session.now.clients c.in_ok-updates.updates.items c.deref.result.now
     (g.R.Runner.replied c.history_of.new.runner) _ c.as_slice-records.ensures c.deref.ensures.value c.in_ok-updates.ensures.ran
     (c.write_run.ensures.start NoMemory is))

@@ -1,42 +1,99 @@
-use Rattle.std.proofs.Common.{ℕ, inl, inr, subst}
+use Rattle.std.proofs.Common.{ℕ, Some, inl, inr, subst}
 use Rattle.outside_io.specs.Streams.{IsTaken, TakesStart}
-use Rattle.command_words.specs.declared.form.Form.TheVariants.{Run, Check, Sample}
+use Rattle.command_words.specs.declared.form.Form.TheVariants.{Run, Pool, Check, Sample}
 use Rattle.sample_laws.specs.Sample.{sample_summary}
 use Rattle.serve_session.specs.Served.{HoldsOfSample, IsRunOf}
 use Rattle.serve_session.specs.Summaries.{summary_text}
-use Rattle.serve_session.proofs.Forms.{one_number, input_named, check_named, found_form, found_none, no_form}
+use Rattle.client_threads.specs.Pools.{named}
+use Rattle.serve_session.proofs.Forms.{one_number, input_named, check_named, run_found, pool_found, check_found, found_form, found_none, no_form}
 use Rattle.serve_session.proofs.serving.serve.Goals as goal
 
 -- the slots that were found are those that the words name
 pub returns-in-Ok-Some-Run-clause-headline : goal.returns-in-Ok-Some-Run-clause-headline
 returns-in-Ok-Some-Run-clause-headline g c = λ slots is done.
-    input_named c.args.words.now c.in-Ok-Some-Run.slots slots _ _ _
-    (found_form c.args.words.now c.in-Ok-Some-Run.field-0 (Run c.in-Ok-Some-Run.slots) (cc) c.in-Ok-Some-Run.ensures.form) is (c.serve_input.ensures.headline done)
+    input_named c.args.words.now (named c.of_named-slots.result) slots _ _ _
+    (run_found c.args.words.now c.in-Ok-Some-Run.slots (named c.of_named-slots.result) c.of_named-slots.ensures
+    (found_form c.args.words.now c.in-Ok-Some-Run.field-0 (Run c.in-Ok-Some-Run.slots) (cc) c.in-Ok-Some-Run.ensures.form)) is (c.serve_input.ensures.headline done)
 
 pub returns-in-Ok-Some-Run-clause-runner : goal.returns-in-Ok-Some-Run-clause-runner
 returns-in-Ok-Some-Run-clause-runner g c = λ slots is done.
-    input_named c.args.words.now c.in-Ok-Some-Run.slots slots _ _ _
-    (found_form c.args.words.now c.in-Ok-Some-Run.field-0 (Run c.in-Ok-Some-Run.slots) (cc) c.in-Ok-Some-Run.ensures.form) is (c.serve_input.ensures.runner done)
+    input_named c.args.words.now (named c.of_named-slots.result) slots _ _ _
+    (run_found c.args.words.now c.in-Ok-Some-Run.slots (named c.of_named-slots.result) c.of_named-slots.ensures
+    (found_form c.args.words.now c.in-Ok-Some-Run.field-0 (Run c.in-Ok-Some-Run.slots) (cc) c.in-Ok-Some-Run.ensures.form)) is (c.serve_input.ensures.runner done)
 
 pub returns-in-Ok-Some-Run-clause-write_fault : goal.returns-in-Ok-Some-Run-clause-write_fault
 returns-in-Ok-Some-Run-clause-write_fault g c = λ slots is fault.
-    input_named c.args.words.now c.in-Ok-Some-Run.slots slots _ _ _
-    (found_form c.args.words.now c.in-Ok-Some-Run.field-0 (Run c.in-Ok-Some-Run.slots) (cc) c.in-Ok-Some-Run.ensures.form) is (c.serve_input.ensures.write_fault fault)
+    input_named c.args.words.now (named c.of_named-slots.result) slots _ _ _
+    (run_found c.args.words.now c.in-Ok-Some-Run.slots (named c.of_named-slots.result) c.of_named-slots.ensures
+    (found_form c.args.words.now c.in-Ok-Some-Run.field-0 (Run c.in-Ok-Some-Run.slots) (cc) c.in-Ok-Some-Run.ensures.form)) is (c.serve_input.ensures.write_fault fault)
 
 pub returns-in-Ok-Some-Run-clause-no_memory : goal.returns-in-Ok-Some-Run-clause-no_memory
 returns-in-Ok-Some-Run-clause-no_memory g c = λ slots is none.
     elim (c.serve_input.ensures.no_memory none) [
       | inl quiet ↦ inl quiet
       | inr wrote ↦ inr
-          (input_named c.args.words.now c.in-Ok-Some-Run.slots slots _ _ _
-          (found_form c.args.words.now c.in-Ok-Some-Run.field-0 (Run c.in-Ok-Some-Run.slots) (cc) c.in-Ok-Some-Run.ensures.form) is wrote)
+          (input_named c.args.words.now (named c.of_named-slots.result) slots _ _ _
+          (run_found c.args.words.now c.in-Ok-Some-Run.slots (named c.of_named-slots.result) c.of_named-slots.ensures
+          (found_form c.args.words.now c.in-Ok-Some-Run.field-0 (Run c.in-Ok-Some-Run.slots) (cc) c.in-Ok-Some-Run.ensures.form)) is wrote)
     ]
+
+pub returns-in-Ok-Some-Run-clause-nothing_read : goal.returns-in-Ok-Some-Run-clause-nothing_read
+returns-in-Ok-Some-Run-clause-nothing_read g c = λ no_run no_check. absurd (no_run (named c.of_named-slots.result)
+    (run_found c.args.words.now c.in-Ok-Some-Run.slots (named c.of_named-slots.result) c.of_named-slots.ensures
+    (found_form c.args.words.now c.in-Ok-Some-Run.field-0 (Run c.in-Ok-Some-Run.slots) (cc) c.in-Ok-Some-Run.ensures.form)))
+
+pub returns-in-Ok-Some-Pool-clause-headline : goal.returns-in-Ok-Some-Pool-clause-headline
+returns-in-Ok-Some-Pool-clause-headline g c = λ slots is done.
+    input_named c.args.words.now (Some c.in-Ok-Some-Pool.slots) slots _ _ _
+    (pool_found c.args.words.now c.in-Ok-Some-Pool.slots (found_form c.args.words.now c.in-Ok-Some-Pool.field-0 (Pool c.in-Ok-Some-Pool.slots) (cc) c.in-Ok-Some-Pool.ensures.form)) is
+    (c.serve_input-in-Ok-Some-Pool.ensures.headline done)
+
+pub returns-in-Ok-Some-Pool-clause-runner : goal.returns-in-Ok-Some-Pool-clause-runner
+returns-in-Ok-Some-Pool-clause-runner g c = λ slots is done.
+    input_named c.args.words.now (Some c.in-Ok-Some-Pool.slots) slots _ _ _
+    (pool_found c.args.words.now c.in-Ok-Some-Pool.slots (found_form c.args.words.now c.in-Ok-Some-Pool.field-0 (Pool c.in-Ok-Some-Pool.slots) (cc) c.in-Ok-Some-Pool.ensures.form)) is
+    (c.serve_input-in-Ok-Some-Pool.ensures.runner done)
+
+pub returns-in-Ok-Some-Pool-clause-write_fault : goal.returns-in-Ok-Some-Pool-clause-write_fault
+returns-in-Ok-Some-Pool-clause-write_fault g c = λ slots is fault.
+    input_named c.args.words.now (Some c.in-Ok-Some-Pool.slots) slots _ _ _
+    (pool_found c.args.words.now c.in-Ok-Some-Pool.slots (found_form c.args.words.now c.in-Ok-Some-Pool.field-0 (Pool c.in-Ok-Some-Pool.slots) (cc) c.in-Ok-Some-Pool.ensures.form)) is
+    (c.serve_input-in-Ok-Some-Pool.ensures.write_fault fault)
+
+pub returns-in-Ok-Some-Pool-clause-no_memory : goal.returns-in-Ok-Some-Pool-clause-no_memory
+returns-in-Ok-Some-Pool-clause-no_memory g c = λ slots is none.
+    elim (c.serve_input-in-Ok-Some-Pool.ensures.no_memory none) [
+      | inl quiet ↦ inl quiet
+      | inr wrote ↦ inr
+          (input_named c.args.words.now (Some c.in-Ok-Some-Pool.slots) slots _ _ _
+          (pool_found c.args.words.now c.in-Ok-Some-Pool.slots (found_form c.args.words.now c.in-Ok-Some-Pool.field-0 (Pool c.in-Ok-Some-Pool.slots) (cc) c.in-Ok-Some-Pool.ensures.form)) is
+          wrote)
+    ]
+
+pub returns-in-Ok-Some-Pool-clause-no_form : goal.returns-in-Ok-Some-Pool-clause-no_form
+returns-in-Ok-Some-Pool-clause-no_form g c = λ none. absurd (none (inl (
+  Some c.in-Ok-Some-Pool.slots,
+  (pool_found c.args.words.now c.in-Ok-Some-Pool.slots
+      (found_form c.args.words.now c.in-Ok-Some-Pool.field-0 (Pool c.in-Ok-Some-Pool.slots) (cc) c.in-Ok-Some-Pool.ensures.form)),
+)))
+
+pub returns-in-Ok-Some-Pool-clause-nothing_read : goal.returns-in-Ok-Some-Pool-clause-nothing_read
+returns-in-Ok-Some-Pool-clause-nothing_read g c = λ no_run no_check. absurd (no_run (Some c.in-Ok-Some-Pool.slots)
+    (pool_found c.args.words.now c.in-Ok-Some-Pool.slots
+    (found_form c.args.words.now c.in-Ok-Some-Pool.field-0 (Pool c.in-Ok-Some-Pool.slots) (cc) c.in-Ok-Some-Pool.ensures.form)))
+
+pub returns-in-Ok-Some-Pool-clause-nothing_written_without_form : goal.returns-in-Ok-Some-Pool-clause-nothing_written_without_form
+returns-in-Ok-Some-Pool-clause-nothing_written_without_form g c = λ none. absurd (none (inl (
+  Some c.in-Ok-Some-Pool.slots,
+  (pool_found c.args.words.now c.in-Ok-Some-Pool.slots
+      (found_form c.args.words.now c.in-Ok-Some-Pool.field-0 (Pool c.in-Ok-Some-Pool.slots) (cc) c.in-Ok-Some-Pool.ensures.form)),
+)))
 
 pub returns-in-Ok-Some-Check-clause-check_legal : goal.returns-in-Ok-Some-Check-clause-check_legal
 returns-in-Ok-Some-Check-clause-check_legal g c = λ slots is done.
     let told = c.serve_check.ensures.legal done in (
       check_named c.args.words.now c.in-Ok-Some-Check.slots slots _ _ _
-          (found_form c.args.words.now c.in-Ok-Some-Check.field-0 (Check c.in-Ok-Some-Check.slots) (cc) c.in-Ok-Some-Check.ensures.form) is told.0,
+          (check_found c.args.words.now c.in-Ok-Some-Check.slots (found_form c.args.words.now c.in-Ok-Some-Check.field-0 (Check c.in-Ok-Some-Check.slots) (cc) c.in-Ok-Some-Check.ensures.form)) is told.0,
       told.1,
     )
 
@@ -44,7 +101,7 @@ pub returns-in-Ok-Some-Check-clause-check_wrong : goal.returns-in-Ok-Some-Check-
 returns-in-Ok-Some-Check-clause-check_wrong g c = λ slots line is wrong.
     let told = c.serve_check.ensures.wrong line wrong in (
       check_named c.args.words.now c.in-Ok-Some-Check.slots slots _ _ _
-          (found_form c.args.words.now c.in-Ok-Some-Check.field-0 (Check c.in-Ok-Some-Check.slots) (cc) c.in-Ok-Some-Check.ensures.form) is told.0,
+          (check_found c.args.words.now c.in-Ok-Some-Check.slots (found_form c.args.words.now c.in-Ok-Some-Check.field-0 (Check c.in-Ok-Some-Check.slots) (cc) c.in-Ok-Some-Check.ensures.form)) is told.0,
       told.1,
     )
 
@@ -53,7 +110,7 @@ returns-in-Ok-Some-Check-clause-check_write_fault g c = λ slots is fault.
     let told = c.serve_check.ensures.write_fault fault in
     let verdict =
     check_named c.args.words.now c.in-Ok-Some-Check.slots slots _ _ _
-    (found_form c.args.words.now c.in-Ok-Some-Check.field-0 (Check c.in-Ok-Some-Check.slots) (cc) c.in-Ok-Some-Check.ensures.form) is told.1.0 in
+    (check_found c.args.words.now c.in-Ok-Some-Check.slots (found_form c.args.words.now c.in-Ok-Some-Check.field-0 (Check c.in-Ok-Some-Check.slots) (cc) c.in-Ok-Some-Check.ensures.form)) is told.1.0 in
     (told.0, (verdict, told.1.1))
 
 pub returns-in-Ok-Some-Sample-clause-sample : goal.returns-in-Ok-Some-Sample-clause-sample

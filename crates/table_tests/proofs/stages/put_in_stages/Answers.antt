@@ -1,6 +1,8 @@
 use Rattle.std.proofs.Common.{ℕ, arith, sym, subst}
 use Rattle.plan_laws.specs.Tries.{IsSearched}
 use Rattle.bundle_reads.proofs.ReadMoves.{inside_on}
+use Rattle.update_search.proofs.ReadTrees.{reader}
+use Rattle.update_try.proofs.FarSteps.{near_put}
 use Rattle.tree_update.proofs.CallSteps.{search_stays}
 use Rattle.tree_update.proofs.TryMade.{offers_still}
 use Rattle.table_tests.proofs.stages.put_in_stages.Goals as goal
@@ -27,3 +29,11 @@ carry_in_stages-requires-clause-left c =
 pub carry_in_stages-requires-clause-reads : goal.carry_in_stages-requires-clause-reads
 carry_in_stages-requires-clause-reads c =
     (inside_on c.begin_search-at.new.pass.view c.find_plan.new.pass.view c.begin_search-at.result c.find_plan.ensures.searched.read c.begin_search-at.ensures.fresh.reads).section
+
+-- a put sets all its links in one section
+pub carry_in_stages-requires-clause-near : goal.carry_in_stages-requires-clause-near
+carry_in_stages-requires-clause-near c =
+    let b = c.begin_search-at.new.pass.view in
+    let known = reader b c.begin_search-at.result c.facts.ensures c.begin_search-at.ensures.fresh.reads in
+    let planned = c.in-Plan.ensures.found.plan known.tree known.is in
+    near_put c.in-Plan.planned.plan 51 planned.change_is

@@ -24,7 +24,7 @@ returns-in-Ok-clause-made g c =
     let stays = stays_more p.view q.view x.view c.tries.invariant.1 c.wait_for_slots-slots.ensures.stays in
     let number = c.wait_for_slots-slots.ensures.same.number ∙ c.tries.invariant.2.number in
     let made = c.in-Ok.ensures.made in
-    let done = c.in-Ok.done in
+    let done = c.in-Ok.taken.done in
     record {
       made =
           subst (λ (n : ℕ). MakesChange p.view w.view n c.args.line c.args.key (Put c.args.val) done) number
@@ -39,7 +39,7 @@ tries-preserved g c =
     let x = c.wait_for_slots-slots.new.pass in
     let w = c.try_update.new.pass in
     let stays = stays_more p.view q.view x.view c.tries.invariant.1 c.wait_for_slots-slots.ensures.stays in (
-      c.try_update.ensures.rest,
+      c.in_default.ensures.rest,
       stays_more p.view x.view w.view stays c.in_default.ensures.stays,
       same_more p x w (same_more p q x c.tries.invariant.2 c.wait_for_slots-slots.ensures.same) c.try_update.ensures.same,
     )
@@ -52,5 +52,5 @@ returns-in-Ok-clause-place g c =
     let w = c.try_update.new.pass.view in
     let stays = stays_more p.view q.view x.view c.tries.invariant.1 c.wait_for_slots-slots.ensures.stays in
     let same = same_more p q x c.tries.invariant.2 c.wait_for_slots-slots.ensures.same in
-    raised_later p x (update_of p.number c.args.line c.args.key (Put c.args.val)) c.in-Ok.done.at w same stays.goes.mine
-    (subst (λ (n : ℕ). IsRaisedSince x (update_of n c.args.line c.args.key (Put c.args.val)) c.in-Ok.done.at w) same.number c.in-Ok.ensures.raise)
+    raised_later p x (update_of p.number c.args.line c.args.key (Put c.args.val)) c.in-Ok.taken.done.at w same stays.goes.mine
+    (subst (λ (n : ℕ). IsRaisedSince x (update_of n c.args.line c.args.key (Put c.args.val)) c.in-Ok.taken.done.at w) same.number c.in-Ok.ensures.raise)

@@ -1,14 +1,23 @@
-use Rattle.std.proofs.Common.{subst, Bool, false}
+use Rattle.std.proofs.Common.{ap, subst, Bool, false}
+use Rattle.index_words.specs.declared.view.history.SeenHistory.{SeenHistory}
+use Rattle.key_map.specs.declared.update.Change.TheVariants.{Remove}
+use Rattle.core_updates.specs.Ready.{update_of}
 use Rattle.tree_update.specs.Calls.{LooksFor}
 use Rattle.tree_update.proofs.CallSteps.{goes_more, looked_more}
 use Rattle.tree_update.proofs.CallsMade.{removal_answers}
 use Rattle.tree_update.proofs.Places.{removal_raised}
-use Rattle.table_steps.proofs.Places.{found_later}
+use Rattle.table_steps.proofs.Places.{found_later, raised_before}
+use Rattle.tree_update.proofs.Ends.{made_kept}
 use Rattle.tree_update.proofs.calls.try_removal.Goals as goal
 
 pub returns-in-Ok-clause-answered : goal.returns-in-Ok-clause-answered
 returns-in-Ok-clause-answered g c =
-    removal_answers c.args.pass.now.view c.try_update.new.pass.view c.args.pass.now.number c.args.line c.args.key c.in-Ok.done c.in-Ok.ensures.made.0
+    let v = c.args.pass.now.view in
+    let n = c.args.pass.now.number in
+    let u = c.try_update.new.pass.view in
+    let w = c.end_removal.new.pass.view in
+    let done = c.in-Ok.taken.done in
+    removal_answers v w n c.args.line c.args.key done (made_kept u w c.end_removal.ensures.keeps v n c.args.line c.args.key Remove done c.in-Ok.ensures.made.0)
 
 pub returns-else-found-clause-answered : goal.returns-else-found-clause-answered
 returns-else-found-clause-answered g c =
@@ -25,7 +34,13 @@ returns-then-found-clause-goes g c = λ _.
 
 pub returns-in-Ok-clause-place : goal.returns-in-Ok-clause-place
 returns-in-Ok-clause-place g c =
-    removal_raised c.args.pass.now c.args.line c.args.key c.in-Ok.done c.args.pass.now.view c.try_update.new.pass.view c.args.pass.now.number c.in-Ok.ensures.made.0 c.in-Ok.ensures.raise
+    let p = c.args.pass.now in
+    let u = c.try_update.new.pass.view in
+    let w = c.end_removal.new.pass.view in
+    let done = c.in-Ok.taken.done in
+    removal_raised p c.args.line c.args.key done p.view w p.number
+    (made_kept u w c.end_removal.ensures.keeps p.view p.number c.args.line c.args.key Remove done c.in-Ok.ensures.made.0)
+    (raised_before p (update_of p.number c.args.line c.args.key Remove) done.at u w (ap (λ (h : SeenHistory). h.mine) c.end_removal.ensures.keeps.history) c.in-Ok.ensures.raise)
 
 pub returns-else-found-clause-place : goal.returns-else-found-clause-place
 returns-else-found-clause-place g c =

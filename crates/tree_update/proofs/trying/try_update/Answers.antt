@@ -10,6 +10,7 @@ use Rattle.key_map.specs.declared.update.Change.{Change}
 use Rattle.table_steps.proofs.Places.{raised_later}
 use Rattle.table_steps.specs.Raises.{IsRaisedSince}
 use Rattle.tree_update.proofs.TryMade.{offers_still, try_counted, search_waited, was_absent}
+use Rattle.tree_update.specs.Trying.{EndsBy}
 use Rattle.update_search.proofs.ReadTrees.{reader, absent_there}
 use Rattle.update_try.proofs.Alone.{others_stay}
 use Rattle.tree_update.proofs.trying.try_update.Goals as goal
@@ -46,8 +47,8 @@ returns-in-Ok-clause-made c =
     let known = reader b c.begin_search-at.result c.facts.ensures c.begin_search-at.ensures.fresh.reads in
     let planned = c.in-Plan.ensures.found.plan known.tree known.is in
     let number = c.find_plan.ensures.same.number ∙ c.begin_search-at.ensures.same.number in
-    has_made_more v x.view w c.args.pass.now.number c.args.line c.args.key c.args.change c.in-Ok.done stays
-    (made_as x.view w x.number c.args.pass.now.number c.args.line c.args.key c.args.change c.in-Plan.planned.plan c.in-Ok.done number planned.key_is planned.change_is c.in-Ok.ensures.made)
+    has_made_more v x.view w c.args.pass.now.number c.args.line c.args.key c.args.change c.in-Ok.taken.done stays
+    (made_as x.view w x.number c.args.pass.now.number c.args.line c.args.key c.args.change c.in-Plan.planned.plan c.in-Ok.taken.done number planned.key_is planned.change_is c.in-Ok.ensures.made)
 
 pub returns-in-Err-clause-missed : goal.returns-in-Err-clause-missed
 returns-in-Err-clause-missed c = (
@@ -110,7 +111,7 @@ returns-in-Ok-clause-raise c =
     let x = c.find_plan.new.pass in
     let w = c.carry_found.new.pass.view in
     let plan = c.in-Plan.planned.plan in
-    let at = c.in-Ok.done.at in
+    let at = c.in-Ok.taken.done.at in
     let stays = search_stays p b.view x.view c.begin_search-at.result c.begin_search-at.ensures.opened c.find_plan.ensures.searched.read in
     let known = reader b.view c.begin_search-at.result c.facts.ensures c.begin_search-at.ensures.fresh.reads in
     let planned = c.in-Plan.ensures.found.plan known.tree known.is in
@@ -126,6 +127,14 @@ returns-in-Ok-clause-absent c = λ only.
     let had = was_there c.in-Plan.planned.plan in
     let out : (c.args.only_new && had) ≡ false = sym c.is_kept_out.ensures ∙ c.if-is_kept_out.false in
     c.in-Ok.ensures.was ∙ subst (λ (b : Bool). (b && had) ≡ false) only out
+
+pub returns-in-Ok-clause-ends : goal.returns-in-Ok-clause-ends
+returns-in-Ok-clause-ends c =
+    let b = c.begin_search-at.new.pass.view in
+    let q = c.carry_found.new.pass in
+    let known = reader b c.begin_search-at.result c.facts.ensures c.begin_search-at.ensures.fresh.reads in
+    let planned = c.in-Plan.ensures.found.plan known.tree known.is in
+    subst (λ (d : Change). EndsBy d q.view q.number c.in-Ok.taken.parted) planned.change_is c.in-Ok.ensures.ends
 
 -- of two that hold together the first holds
 first_true : (a b : Bool) → (a && b) ≡ true → a ≡ true

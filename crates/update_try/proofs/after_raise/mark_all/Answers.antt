@@ -1,9 +1,7 @@
 use Rattle.std.proofs.Common.{◌≡◌, ◌∙◌, sym, subst, Some, None}
 use Rattle.std.specs.List.{slice_get}
-use Rattle.core_updates.specs.declared.plan.PlanSlots.{PlanSlots}
 use Rattle.core_updates.specs.Plans.{out_of, sets_of}
 use Rattle.plan_laws.specs.PlainLinks.{IsSetting}
-use Rattle.plan_laws.specs.Prunes.{HasNumbered}
 use Rattle.plan_laws.proofs.Finals.{mark_end, mark_start}
 use Rattle.plan_laws.proofs.Frames.{keeps_owned}
 use Rattle.update_try.proofs.Finals.{may_mark_out, marked_next, marked_keeps}

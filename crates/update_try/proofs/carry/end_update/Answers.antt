@@ -1,30 +1,41 @@
-use Rattle.std.proofs.Common.{◌∙◌, ap}
+use Rattle.std.proofs.Common.{◌∙◌, ap, sym, subst}
 use Rattle.index_words.specs.declared.view.reading.Reading.{Reading}
+use Rattle.core_updates.specs.declared.plan.Plan.{Plan}
+use Rattle.plan_laws.specs.Prunes.{HasNumbered}
 use Rattle.plan_laws.proofs.Prunes.{keeps_pruned, owned_is_pruned}
+use Rattle.update_try.proofs.FarSteps.{far_plan, near_plan}
 use Rattle.update_try.proofs.carry.end_update.Goals as goal
 
 pub prune_all-requires-clause-least : goal.prune_all-requires-clause-least
 prune_all-requires-clause-least c = ap (λ (r : Reading). r.least) c.finalise_all.ensures.reading ∙ c.requires.least
 
-pub mark_all-requires : goal.mark_all-requires
-mark_all-requires c = record { numbered = (c.args.slots.now, c.prune_all.ensures.numbered) }
+pub end_at_once-requires : goal.end_at_once-requires
+end_at_once-requires c =
+    record { numbered = c.prune_all.ensures.numbered; near = near_plan c.args.plan.now (sym c.far_join.ensures ∙ c.in_default.is) }
 
-pub set_links-requires : goal.set_links-requires
-set_links-requires c = record { marked = c.mark_all.ensures.marked c.args.slots.now c.prune_all.ensures.numbered }
+pub part-requires : goal.part-requires
+part-requires c =
+    let q = c.prune_all.new.pass in
+    let is = far_plan c.args.plan.now c.in-Some.join (sym c.far_join.ensures ∙ c.in-Some.is) in
+    record {
+      numbered = subst (λ (x : Plan). HasNumbered q.view q.number x c.args.slots.now) is.plan_is c.prune_all.ensures.numbered;
+      far = is.far;
+      node = c.requires.node;
+    }
 
+-- the numbers and the cuts come before the end
 pub returns-clause-keeps : goal.returns-clause-keeps
 returns-clause-keeps c =
     let p = c.args.pass.now.view in
     let f = c.finalise_all.new.pass.view in
-    let c' = c.prune_all.new.pass.view in
-    let m = c.mark_all.new.pass.view in
-    let l = c.set_links.new.pass.view in
-    let t = c.raise_tags.new.pass.view in
-    let u = c.unlock_all.new.pass.view in
-    let w = c.leave_section.new.pass.view in
-    keeps_pruned p f w (owned_is_pruned p f c.finalise_all.ensures.keeps)
-    (keeps_pruned f c' w c.prune_all.ensures.keeps
-    (keeps_pruned c' m w (owned_is_pruned c' m c.mark_all.ensures.keeps)
-    (keeps_pruned m l w (owned_is_pruned m l c.set_links.ensures.keeps)
-    (keeps_pruned l t w (owned_is_pruned l t c.raise_tags.ensures.keeps)
-    (keeps_pruned t u w (owned_is_pruned t u c.unlock_all.ensures.keeps) (owned_is_pruned u w c.leave_section.ensures.keeps))))))
+    let q = c.prune_all.new.pass.view in
+    let w = c.part.new.pass.view in
+    keeps_pruned p f w (owned_is_pruned p f c.finalise_all.ensures.keeps) (keeps_pruned f q w c.prune_all.ensures.keeps (owned_is_pruned q w c.part.ensures.keeps))
+
+pub returns-in_default-clause-keeps : goal.returns-in_default-clause-keeps
+returns-in_default-clause-keeps c =
+    let p = c.args.pass.now.view in
+    let f = c.finalise_all.new.pass.view in
+    let q = c.prune_all.new.pass.view in
+    let w = c.end_at_once.new.pass.view in
+    keeps_pruned p f w (owned_is_pruned p f c.finalise_all.ensures.keeps) (keeps_pruned f q w c.prune_all.ensures.keeps (owned_is_pruned q w c.end_at_once.ensures.keeps))

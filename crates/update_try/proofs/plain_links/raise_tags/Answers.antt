@@ -1,7 +1,7 @@
 use Rattle.std.proofs.Common.{◌≡◌, ◌+◌, ◌∙◌, [], drop, sym, subst, arith, Some, None}
 use Rattle.std.specs.List.{slice_get}
 use Rattle.core_updates.specs.Plans.{fronts_of, locks_of, sets_of}
-use Rattle.plan_laws.specs.PlainLinks.{IsSetting, IsTagNext}
+use Rattle.plan_laws.specs.PlainLinks.{IsSetting}
 use Rattle.plan_laws.specs.Releases.{IsReleasing}
 use Rattle.plan_laws.proofs.Frames.{keeps_owned}
 use Rattle.plan_laws.proofs.PlainLinks.{tag_end}
@@ -49,4 +49,4 @@ returns-clause-raised c =
     let slots = c.args.slots.now in
     let none : slice_get (fronts_of plan slots) c.links.place ≡ None = sym c.front.ensures ∙ c.in_default.is in
     subst (λ k. IsReleasing c.links.pass.view k (locks_of plan)) (sym c.links.invariant.2.number)
-    (tag_end c.links.pass.view c.args.pass.now.number plan slots c.links.place c.links.invariant.0 none)
+    (tag_end c.links.pass.view c.args.pass.now.number plan slots c.links.place c.requires.near c.links.invariant.0 none)

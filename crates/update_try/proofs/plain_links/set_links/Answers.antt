@@ -15,7 +15,7 @@ links-init c = let p = c.args.pass.now in (c.requires.marked, owned_same p.view,
 pub set_link-requires : goal.set_link-requires
 set_link-requires c =
     let is : slice_get (fronts_of c.args.plan.now c.args.slots.now) c.links.place ≡ Some c.in-Some.front = sym c.front.ensures ∙ c.in-Some.is in
-    record { may = (set_step c.links.pass.view c.args.pass.now.number c.args.plan.now c.args.slots.now c.links.place (sets_of c.args.plan.now c.args.slots.now) c.in-Some.front c.links.invariant.0 is).may }
+    record { may = (set_step c.links.pass.view c.args.pass.now.number c.args.plan.now c.args.slots.now c.links.place (sets_of c.args.plan.now c.args.slots.now) c.in-Some.front c.requires.near c.links.invariant.0 is).may }
 
 pub overflow_add-place : goal.overflow_add-place
 overflow_add-place c =
@@ -32,7 +32,7 @@ links-preserved c =
     let is : slice_get (fronts_of c.args.plan.now c.args.slots.now) c.links.place ≡ Some c.in-Some.front = sym c.front.ensures ∙ c.in-Some.is in
     let v = c.links.pass.view in
     let w = c.set_link.new.self.view in
-    let next = set_next v w c.args.pass.now.number c.args.plan.now c.args.slots.now c.links.place c.in-Some.front c.links.invariant.0 is c.set_link.ensures.view in (
+    let next = set_next v w c.args.pass.now.number c.args.plan.now c.args.slots.now c.links.place c.in-Some.front c.requires.near c.links.invariant.0 is c.set_link.ensures.view in (
       next.0,
       keeps_owned c.args.pass.now.view v w c.links.invariant.1 next.1,
       same_more c.args.pass.now c.links.pass c.set_link.new.self c.links.invariant.2 c.set_link.ensures.same,

@@ -11,7 +11,7 @@ use Rattle.update_try.proofs.release.leave_section.Goals as goal
 
 pub close_section-requires : goal.close_section-requires
 close_section-requires c =
-    record { inside = record { odd = c.requires.released.inside; unlocked = no_node c.args.pass.now.view.held.nodes c.requires.released.locked } }
+    record { inside = record { odd = c.requires.released.word; unlocked = no_node c.args.pass.now.view.held.nodes c.requires.released.locked } }
 
 pub returns-clause-keeps : goal.returns-clause-keeps
 returns-clause-keeps c =

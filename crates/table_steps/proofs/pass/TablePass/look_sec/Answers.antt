@@ -29,11 +29,12 @@ invariant_of-self c =
     let home : Home = c.table.inside.ruled in
     let keeps = c.self.invariant.0 in
     let of : IsOf home s = subst (λ (h : Home). IsOf h s) (sym c.table.view_is) c.self.invariant.1 in
+    let outside : IsOutside s.view = subst (λ (p : Pass). IsOutside p.view) (sym c.self.view_is) c.requires.outside in
     let there : c.args.other < s.view.layout.passes = subst (λ (p : Pass). c.args.other < p.view.layout.passes) (sym c.self.view_is) c.requires.there in
     let n = c.load-word.result in
     let kept : (u : View) → KeepsSlots u k.slots → u.number ≡ Some k.number → KeepsSlots (looked home.layout.passes u c.args.other n) c.look.new.self
     = subst (λ (y : Layout). (u : View) → KeepsSlots u k.slots → u.number ≡ Some k.number → KeepsSlots (looked y.passes u c.args.other n) c.look.new.self) c.layout-passes.ensures c.look.ensures.keeps in (
-      look_keeps home s k keeps of c.args.other there c.load-word.new.seat.view n c.look.new.self c.load-word.ensures.event kept c.look.ensures.room,
+      look_keeps home s k keeps of c.args.other there outside c.load-word.new.seat.view n c.look.new.self c.load-word.ensures.event kept c.look.ensures.room,
       subst (λ (h : Home). IsOf h c.load-word.new.seat) c.table.view_is c.load-word.ensures.of,
     )
 
@@ -44,9 +45,10 @@ returns-clause-view c =
     let home : Home = c.table.inside.ruled in
     let keeps = c.self.invariant.0 in
     let of : IsOf home s = subst (λ (h : Home). IsOf h s) (sym c.table.view_is) c.self.invariant.1 in
+    let outside : IsOutside s.view = subst (λ (p : Pass). IsOutside p.view) (sym c.self.view_is) c.requires.outside in
     let there : c.args.other < s.view.layout.passes = subst (λ (p : Pass). c.args.other < p.view.layout.passes) (sym c.self.view_is) c.requires.there in
     let n = c.load-word.result in
-    look_view home s k keeps of c.args.other there c.load-word.new.seat.view n c.load-word.ensures.event
+    look_view home s k keeps of c.args.other there outside c.load-word.new.seat.view n c.load-word.ensures.event
     ∙ ap (λ (y : Layout). looked y.passes s.view c.args.other n) (sym of.layout)
     ∙ ap (λ (p : Pass). looked p.view.layout.passes p.view c.args.other n) c.self.view_is
 
@@ -68,5 +70,6 @@ returns-clause-announced c =
     let home : Home = c.table.inside.ruled in
     let keeps = c.self.invariant.0 in
     let of : IsOf home s = subst (λ (h : Home). IsOf h s) (sym c.table.view_is) c.self.invariant.1 in
+    let outside : IsOutside s.view = subst (λ (p : Pass). IsOutside p.view) (sym c.self.view_is) c.requires.outside in
     let there : c.args.other < s.view.layout.passes = subst (λ (p : Pass). c.args.other < p.view.layout.passes) (sym c.self.view_is) c.requires.there in
-    look_announced home s k keeps of c.args.other there c.load-word.new.seat.view c.load-word.result c.load-word.ensures.event ∙ ap (λ (p : Pass). p.view.announced) c.self.view_is
+    look_announced home s k keeps of c.args.other there outside c.load-word.new.seat.view c.load-word.result c.load-word.ensures.event ∙ ap (λ (p : Pass). p.view.announced) c.self.view_is

@@ -1,4 +1,4 @@
-use Rattle.std.proofs.Common.{◌≡◌, ap, ◌∙◌, sym, subst}
+use Rattle.std.proofs.Common.{ap, ◌∙◌, sym, subst}
 use Rattle.core_events.specs.PlainMoves.{link_set}
 use Rattle.core_laws.specs.PlainNeeds.{MaySetLink}
 use Rattle.table_rule.specs.Homes.{Home, IsOf}

@@ -1,4 +1,4 @@
-use Rattle.std.proofs.Common.{◌≡◌, ◌+◌, arith, ap, ◌∙◌, sym, subst}
+use Rattle.std.proofs.Common.{◌+◌, arith, ap, ◌∙◌, sym, subst}
 use Rattle.core_events.specs.PlainMoves.{tag_set}
 use Rattle.core_laws.specs.PlainNeeds.{MaySetTag}
 use Rattle.table_rule.specs.Homes.{Home, IsOf}

@@ -1,0 +1,33 @@
+use Rattle.std.proofs.Common.{IfOk, sym, subst}
+use Rattle.std.proofs.lemmas.Result.{IfOk-weaker}
+use Rattle.client_threads.specs.declared.node_slots.NodeSlots.{NodeSlots}
+use Rattle.client_threads.specs.Behind.{RanBehindEach}
+use Rattle.client_threads.specs.Pools.{PooledOverEach, named}
+use Rattle.client_threads.specs.Runs.{RanOverEach, parts_of}
+use Rattle.client_threads.proofs.Keys.{apart_behind, pooled_behind}
+use Rattle.client_threads.proofs.history.run_keys.Goals as goal
+
+pub returns-in-Pooled-clause-ran : goal.returns-in-Pooled-clause-ran
+returns-in-Pooled-clause-ran g c =
+    let dir = c.args.dir.now in
+    let index = c.args.index.now in
+    let parts = parts_of c.args.session.now.clients in
+    let keys = c.args.keys.items in
+    let replies = g.R.Runner.replied c.run_pool.new.self in
+    subst (λ (s : NodeSlots). IfOk c.run_pool.result (λ back. RanBehindEach (named s) dir index parts keys back.items replies)) (sym c.in-Pooled.is)
+    (IfOk-weaker c.run_pool.result (λ back. PooledOverEach c.in-Pooled.own dir index parts keys back.items replies) _
+    (λ back. pooled_behind c.in-Pooled.own dir index parts keys back.items replies) c.run_pool.ensures.ran)
+
+pub returns-in-AsAsked : goal.returns-in-AsAsked
+returns-in-AsAsked g c =
+    let dir = c.args.dir.now in
+    let index = c.args.index.now in
+    let parts = parts_of c.args.session.now.clients in
+    let keys = c.args.keys.items in
+    let replies = g.R.Runner.replied c.run_all.new.self in
+    record {
+      ran =
+          IfOk-weaker c.run_all.result (λ back. RanOverEach dir index parts keys back.items replies) _
+          (λ back. apart_behind (named c.args.slots) dir index parts keys back.items replies) c.run_all.ensures.ran;
+      runs = c.run_all.ensures.runs;
+    }

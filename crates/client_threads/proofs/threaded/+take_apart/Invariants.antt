@@ -1,5 +1,0 @@
-use Rattle.std.proofs.Common.{length}
-use Rattle.client_threads.proofs.threaded.+take_apart.Given as goal
-
-abbrev pub decreases-take_apart : goal.decreases-take_apart
-decreases-take_apart l = length l.results.items
