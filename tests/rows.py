@@ -205,6 +205,20 @@ SLOTS = [
         },
     ),
     (
+        "two slots: a put that is kept out takes none",
+        2,
+        "CLIENT\nPUTNEW a 1 e1 1\nPUTNEW a 2 e2 2\nPUTNEW b 3 e3 3\nPUTNEW a 4 e4 4\n",
+        {
+            1: '{"At":1,"Client":0,"Line":2,"Replaced":false,"Status":200}',
+            2: '{"At":1,"Client":0,"Line":3,"Status":412}',
+            3: '{"At":2,"Client":0,"Line":4,"Replaced":false,"Status":200}',
+            4: '{"At":null,"Client":0,"Line":5,"Status":503}',
+            5: '{"At":1,"Client":0,"Key":"a","Line":2,"Verb":"PUT"}',
+            6: '{"At":2,"Client":0,"Key":"b","Line":4,"Verb":"PUT"}',
+            7: '{"Updates":2}',
+        },
+    ),
+    (
         "the most slots that can be named",
         8192,
         "CLIENT\nPUT a 1 e1 1\nDELETE b\nDELETE a\n",

@@ -3,3 +3,4 @@ pub mod Shown
 pub mod MemberOrder
 pub mod InRange
 pub mod Pieces
+pub mod EntryTexts

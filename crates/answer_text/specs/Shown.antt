@@ -1,6 +1,6 @@
 -- Helper: the headline does not rest on this file.
 -- The lines of the answer as the code cuts them: what each shows, and lists of its members.
-use Rattle.std.specs.Prelude.{ℕ, ◌==◌, not, Bool, true, List, [], ◌∷◌, length, codes, if◌then◌else◌, Option, Some, None}
+use Rattle.std.specs.Prelude.{ℕ, Bool, List, [], ◌∷◌, length, codes, if◌then◌else◌, Option, Some, None}
 use Rattle.std.specs.Option.{option_map, option_map_or}
 use Rattle.std.specs.List.{filter_map, flat_map}
 use Rattle.percent_encoding.specs.Percent.{percent_encode_byte}

@@ -1,14 +1,17 @@
 // The entries of a page as they are shown: its common prefixes, and its keys with their records.
-ghost use Rattle.std.specs.Prelude.{◌≡◌, ◌++◌, ◌||◌, false, All, is_some, string_bytes, IfOk, OnOk};
+ghost use Rattle.std.specs.Prelude.{◌≡◌, ◌++◌, ◌||◌, ◌<◌, false, length, All, is_some, string_bytes, IfOk, OnOk};
 ghost use Rattle.std.specs.List.{filter_map};
 ghost use Rattle.json.specs.Print.{escape};
 ghost use Rattle.serde_json.specs.View.{items_of};
 ghost use Rattle.serde_json.specs.Written.{comma_if, items_text};
 ghost use Rattle.bucket_terms.specs.PageInRange.{IsEntryInRange};
-ghost use Rattle.answer_text.specs.Lines.{content_of, prefix_of};
+ghost use Rattle.key_names.specs.Names.{name_at};
+ghost use Rattle.answer_text.specs.Lines.{content_of, prefix_of, record_at, shown};
 ghost use Rattle.answer_text.specs.InRange.{HasRecord};
+ghost use Rattle.answer_text.specs.EntryTexts.{AreRight};
 ghost use Rattle.answer_text.specs.Pieces as spec;
 
+use crate::entry_texts::EntryTexts;
 use crate::escapes::shown;
 use crate::pieces::{push, push_number, push_text};
 use crate::plain::is_plain;
@@ -37,16 +40,18 @@ pub(crate) fn push_contents(
     out: &mut String,
     dir: &Directory,
     records: &[Record],
+    texts: &EntryTexts,
     url: bool,
     entries: &[PageEntry],
 ) -> Result<(), NoMemory>
     requires in_range { All (IsEntryInRange dir.now) entries.now }
     requires recorded { All (HasRecord records.now) entries.now }
+    requires right { AreRight dir.now records.now texts.now }
     ensures { OnOk result (string_bytes out.new ≡ string_bytes out.old ++ items_text false (items_of (filter_map (content_of dir.now records.now url) entries.now))) }
 {
     let mut later = false;
     for entry in entries {
-        later = push_content_of(out, later, dir, records, url, *entry)?;
+        later = push_content_of(out, later, dir, records, texts, url, *entry)?;
     }
     push(out, "]")
 }
@@ -81,23 +86,57 @@ fn push_content_of(
     later: bool,
     dir: &Directory,
     records: &[Record],
+    texts: &EntryTexts,
     url: bool,
     entry: PageEntry,
 ) -> Result<bool, NoMemory>
     requires in_range { IsEntryInRange dir.now entry }
     requires recorded { HasRecord records.now entry }
+    requires right { AreRight dir.now records.now texts.now }
     ensures text { OnOk result (string_bytes out.new ≡ string_bytes out.old ++ spec.content_element later dir.now records.now url entry) }
     ensures later { IfOk result (λ now. now ≡ (later || is_some (content_of dir.now records.now url entry))) }
 {
     match entry {
         PageEntry::Key { rank, val } => {
-            let key = shown(*out.allocator(), url, dir.name(rank).as_str())?;
-            push_comma(out, later)?;
-            push_content(out, key.as_str(), &records[val as usize])?;
+            push_key(out, later, dir, records, texts, url, rank, val)?;
             Ok(true)
         }
         PageEntry::Group { .. } => Ok(later),
     }
+}
+
+// The object of a key with the record at place `val`, behind a comma where something stands before it.
+#[inline(always)]
+fn push_key(
+    out: &mut String,
+    later: bool,
+    dir: &Directory,
+    records: &[Record],
+    texts: &EntryTexts,
+    url: bool,
+    rank: u64,
+    val: u64,
+) -> Result<(), NoMemory>
+    requires ranked { rank < length dir.now }
+    requires recorded { val < length records.now }
+    requires right { AreRight dir.now records.now texts.now }
+    ensures { OnOk result (string_bytes out.new ≡ string_bytes out.old ++ (comma_if later ++ spec.content_text (shown url (name_at dir.now rank)) (record_at records.now val))) }
+{
+    if later && !url {
+        if let Some(text) = texts.text(rank, val) {
+            return push(out, text);
+        }
+    }
+    push_comma(out, later)?;
+    push_shown(out, url, dir.name(rank).as_str(), &records[val as usize])
+}
+
+// The object of a key, which is shown as the query asks.
+fn push_shown(out: &mut String, url: bool, key: &str, stored: &Record) -> Result<(), NoMemory>
+    ensures { OnOk result (string_bytes out.new ≡ string_bytes out.old ++ spec.content_text (shown url key.now) stored.now) }
+{
+    let key = shown(*out.allocator(), url, key)?;
+    push_content(out, key.as_str(), stored)
 }
 
 fn push_comma(out: &mut String, later: bool) -> Result<(), NoMemory>
@@ -113,7 +152,8 @@ fn push_prefix(out: &mut String, prefix: &str) -> Result<(), NoMemory>
     push(out, "}")
 }
 
-fn push_content(out: &mut String, key: &str, stored: &Record) -> Result<(), NoMemory>
+/// The object of a key with its record.
+pub(crate) fn push_content(out: &mut String, key: &str, stored: &Record) -> Result<(), NoMemory>
     ensures { OnOk result (string_bytes out.new ≡ string_bytes out.old ++ spec.content_text key.now stored.now) }
 {
     if is_plain(stored.etag.as_str().as_bytes()) && is_plain(key.as_bytes()) {

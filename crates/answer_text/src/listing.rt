@@ -6,9 +6,11 @@ ghost use Rattle.std.specs.List.{filter_map};
 ghost use Rattle.answer_text.specs.Lines.{shown, is_given, content_of, prefix_of};
 ghost use Rattle.answer_text.specs.Shown.{page_shown, point_token};
 ghost use Rattle.answer_text.specs.InRange.{IsPageOf};
+ghost use Rattle.answer_text.specs.EntryTexts.{AreRight};
 ghost use Rattle.answer_text.specs.Pieces as spec;
 
 use crate::entries::{push_contents, push_prefixes};
+use crate::entry_texts::EntryTexts;
 use crate::escapes::shown;
 use crate::pieces::{push, push_given, push_number, push_text, push_truth};
 use crate::replies::push_start;
@@ -21,15 +23,17 @@ pub(crate) fn push_listing(
     out: &mut String,
     dir: &Directory,
     records: &[Record],
+    texts: &EntryTexts,
     placed: &Placed,
     query: &ListQuery,
     page: &Page,
 ) -> Result<(), NoMemory>
-    requires { IsPageOf dir.now records.now page.now }
+    requires page { IsPageOf dir.now records.now page.now }
+    requires right { AreRight dir.now records.now texts.now }
     ensures { OnOk result (string_bytes out.new ≡ string_bytes out.old ++ spec.listed_text placed.now.at placed.now.client placed.now.line query.now (page_shown dir.now records.now query.now page.now)) }
 {
     push_start(out, placed)?;
-    push_entries(out, dir, records, query.url, page)?;
+    push_entries(out, dir, records, texts, query.url, page)?;
     push_asked(out, query)?;
     push_size(out, placed, query, page)?;
     push_bounds(out, dir, query, page)
@@ -40,10 +44,12 @@ pub(crate) fn push_entries(
     out: &mut String,
     dir: &Directory,
     records: &[Record],
+    texts: &EntryTexts,
     url: bool,
     page: &Page,
 ) -> Result<(), NoMemory>
-    requires { IsPageOf dir.now records.now page.now }
+    requires page { IsPageOf dir.now records.now page.now }
+    requires right { AreRight dir.now records.now texts.now }
     ensures { OnOk result (string_bytes out.new ≡ string_bytes out.old
         ++ spec.entries_text (filter_map (prefix_of dir.now url) page.now.entries) (filter_map (content_of dir.now records.now url) page.now.entries)) }
 {
@@ -51,7 +57,7 @@ pub(crate) fn push_entries(
     push(out, ",\"CommonPrefixes\":[")?;
     push_prefixes(out, dir, url, entries)?;
     push(out, ",\"Contents\":[")?;
-    push_contents(out, dir, records, url, entries)
+    push_contents(out, dir, records, texts, url, entries)
 }
 
 // The members from `ContinuationToken` to `EncodingType`. A token is never escaped.

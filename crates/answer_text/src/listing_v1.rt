@@ -6,8 +6,10 @@ ghost use Rattle.bucket_terms.specs.V1Listing.{next_marker};
 ghost use Rattle.answer_text.specs.Lines.{shown};
 ghost use Rattle.answer_text.specs.Shown.{v1_shown};
 ghost use Rattle.answer_text.specs.InRange.{IsPageOf};
+ghost use Rattle.answer_text.specs.EntryTexts.{AreRight};
 ghost use Rattle.answer_text.specs.Pieces as spec;
 
+use crate::entry_texts::EntryTexts;
 use crate::escapes::shown;
 use crate::listing::{is_given, push_entries};
 use crate::pieces::{push, push_given, push_number, push_text, push_truth};
@@ -21,15 +23,17 @@ pub(crate) fn push_v1_listing(
     out: &mut String,
     dir: &Directory,
     records: &[Record],
+    texts: &EntryTexts,
     placed: &Placed,
     query: &V1Query,
     page: &Page,
 ) -> Result<(), NoMemory>
-    requires { IsPageOf dir.now records.now page.now }
+    requires page { IsPageOf dir.now records.now page.now }
+    requires right { AreRight dir.now records.now texts.now }
     ensures { OnOk result (string_bytes out.new ≡ string_bytes out.old ++ spec.v1_text placed.now.at placed.now.client placed.now.line query.now (v1_shown dir.now records.now query.now page.now)) }
 {
     push_start(out, placed)?;
-    push_entries(out, dir, records, query.url, page)?;
+    push_entries(out, dir, records, texts, query.url, page)?;
     push_asked(out, query)?;
     push_size(out, placed, query, page)?;
     push_bounds(out, dir, query, page)

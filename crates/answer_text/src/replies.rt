@@ -5,8 +5,10 @@ ghost use Rattle.answer_text.specs.Lines.{line_of, reply_data};
 ghost use Rattle.answer_text.specs.MemberOrder.{StandInOrder};
 ghost use Rattle.answer_text.specs.Shown.{reply_members, content_members};
 ghost use Rattle.answer_text.specs.InRange.{IsReplyOf};
+ghost use Rattle.answer_text.specs.EntryTexts.{AreRight};
 ghost use Rattle.answer_text.specs.Pieces as spec;
 
+use crate::entry_texts::EntryTexts;
 use crate::listing::push_listing;
 use crate::listing_v1::push_v1_listing;
 use crate::pieces::{push, push_number, push_place, push_text, push_truth};
@@ -48,16 +50,34 @@ pub fn push_reply_line(
     ensures order { StandInOrder (reply_members dir.now records.now placed.now.at placed.now.client placed.now.line placed.now.reply) }
     ensures key_order { (key : List ℕ) → (stored : StoredRecord) → StandInOrder (content_members key stored) }
 {
-    push_reply(out, dir, records, placed)
+    let texts = EntryTexts::none(*out.allocator());
+    push_known_line(out, dir, records, &texts, placed)
+}
+
+/// The same, where the entries whose texts are known are not made anew.
+pub fn push_known_line(
+    out: &mut String,
+    dir: &Directory,
+    records: &[Record],
+    texts: &EntryTexts,
+    placed: &Placed,
+) -> Result<(), NoMemory>
+    requires reply { IsReplyOf dir.now records.now placed.now.reply }
+    requires right { AreRight dir.now records.now texts.now }
+    ensures text { OnOk result (string_bytes out.new ≡ string_bytes out.old ++ line_of (reply_data dir.now records.now placed.now)) }
+{
+    push_reply(out, dir, records, texts, placed)
 }
 
 fn push_reply(
     out: &mut String,
     dir: &Directory,
     records: &[Record],
+    texts: &EntryTexts,
     placed: &Placed,
 ) -> Result<(), NoMemory>
-    requires { IsReplyOf dir.now records.now placed.now.reply }
+    requires reply { IsReplyOf dir.now records.now placed.now.reply }
+    requires right { AreRight dir.now records.now texts.now }
     ensures { OnOk result (string_bytes out.new ≡ string_bytes out.old ++ spec.reply_text dir.now records.now placed.now.at placed.now.client placed.now.line placed.now.reply) }
 {
     match &placed.reply {
@@ -67,10 +87,10 @@ fn push_reply(
         Reply::Found { val } => push_found(out, placed, &records[*val as usize]),
         Reply::Missing => push_short(out, placed, None, 404),
         Reply::Listed { query, page } => {
-            push_listing(out, dir, records, placed, query.get(), page)
+            push_listing(out, dir, records, texts, placed, query.get(), page)
         }
         Reply::ListedV1 { query, page } => {
-            push_v1_listing(out, dir, records, placed, query.get(), page)
+            push_v1_listing(out, dir, records, texts, placed, query.get(), page)
         }
         Reply::BadToken => push_short(out, placed, None, 400),
         Reply::NoSlot => push_short(out, placed, None, 503),

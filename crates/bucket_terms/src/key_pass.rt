@@ -42,6 +42,7 @@ pub trait KeyPass: Homed {
 
     /// Takes the key out, for the request line `line`. Where it is not there, no update is made: the answer is
     /// that of a snapshot. The conditions on slots are the same then.
+    /// A removal may wait for other passes until each has left the section in which it is.
     fn remove<Rt: Wait>(&mut self, rt: &Rt, line: u32, key: u64) -> Result<Done, PassError>
         requires { (view self.old).opened ≡ None }
         ensures made { IfOk result (AnsweredRemoval (view self.old) (view self.new) line key) }

@@ -36,7 +36,7 @@ pub fn run_client<P: KeyPass, G: Gate, Rt: Wait>(
     ensures home { P.home pass.new ≡ P.home pass.old }
 {
     let client = pass.client();
-    let mut replies: Vec<Placed> = Vec::new(alloc);
+    let mut replies: Vec<Placed> = Vec::with_capacity(alloc, part.requests.len())?;
     let mut last = None;
     for asked in part.requests.as_slice() {
         let place = replies.len();

@@ -1,5 +1,7 @@
 // The page made from look-ups. A group is left by one jump to the rank past its prefix, so a page costs as
 // many look-ups as it has entries, and one more, however many keys its groups hide.
+ghost use Rattle.std.specs.Prelude.{◌≡◌, ◌++◌, ◌∷◌, [], OnOk, OnErr};
+
 use crate::resume::{first_rank, rank_behind};
 use crate::rules::{entry_of, is_under};
 use bucket_terms::{ListQuery, Page, PageEntry, TokenPoint};
@@ -99,7 +101,8 @@ impl<'a> PageCursor<'a> {
             self.next = None;
         } else if self.entries.len() < self.query.max_keys as usize {
             let entry = entry_of(self.dir, self.query, &pair);
-            self.entries.push(entry)?;
+            let most = self.query.max_keys as usize;
+            push_entry(&mut self.entries, entry, most.min(self.dir.len() as usize))?;
             self.next = Some(rank_behind(self.dir, self.query, &entry));
         } else {
             self.truncated = true;
@@ -116,9 +119,24 @@ impl<'a> PageCursor<'a> {
             → result ≡ page_of self.entry.dir self.entry.query point m }
         ensures in_range { IsInRange self.entry.dir result }
     {
+        let mut entries = self.entries;
+        entries.shrink_to_fit();
         Page {
-            entries: Items::from_vec(self.entries),
+            entries: Items::from_vec(entries),
             truncated: self.truncated,
         }
     }
+}
+
+// Adds an entry. The first one takes room for as many as there will be at most, so that the entries are not moved as they
+// become more; what is left of it is given back with the page.
+fn push_entry(entries: &mut Vec<PageEntry>, entry: PageEntry, most: usize) -> Result<(), NoMemory>
+    ensures ok { OnOk result (entries.new.items ≡ entries.old.items ++ entry ∷ []) }
+    ensures err { OnErr result (entries.new.items ≡ entries.old.items) }
+{
+    if entries.is_empty() {
+        entries.reserve_exact(most)?;
+    }
+    entries.push(entry)?;
+    Ok(())
 }

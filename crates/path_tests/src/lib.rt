@@ -3,7 +3,7 @@
 #![tactic(auto)]
 
 #[cfg(test)]
-mod clients;
+mod gates;
 #[cfg(test)]
 mod lines;
 #[cfg(test)]

@@ -4,7 +4,6 @@ use bucket_terms::{Placed, Record, Reply};
 use key_map::{Change, Update};
 use key_names::{Directory, Text};
 use std::alloc::Global;
-use std::process::Abort;
 use std::test::Fail;
 
 fn directory(alloc: Global) -> Result<Directory, Fail> {
@@ -23,64 +22,23 @@ fn records(alloc: Global) -> Result<Vec<Record>, Fail> {
     Ok(records)
 }
 
-// The line of a reply to the last client, on the last line, is this one, and LF.
-fn answers(
-    rt: &impl Abort,
-    alloc: Global,
-    at: Option<u64>,
-    reply: Reply,
-    expected: &str,
-) -> Result<(), Fail> {
+#[test]
+fn largest_numbers_of_a_reply(rt: HostRuntime) -> Result<(), Fail> {
+    let alloc = rt.alloc();
     let placed = Placed {
         client: u32::MAX,
         line: u32::MAX,
-        at,
-        reply,
+        at: Some(u64::MAX),
+        reply: Reply::Found { val: 0 },
     };
     let (dir, records) = (directory(alloc)?, records(alloc)?);
-    let shows_no_page = match &placed.reply {
-        Reply::Listed { .. } | Reply::ListedV1 { .. } => false,
-        Reply::Found { val } => *val < records.len() as u64,
-        _ => true,
-    };
-    assert!(rt; shows_no_page);
+    assert_eq!(rt; records.len(), 1);
     let line = reply_line(alloc, &dir, &records, &placed)?;
-    assert_eq!(rt; line.as_str(), expected);
+    assert_eq!(rt;
+        line.as_str(),
+        "{\"At\":18446744073709551615,\"Client\":4294967295,\"ETag\":\"e\",\"LastModified\":18446744073709551615,\"Line\":4294967295,\"Size\":18446744073709551615,\"Status\":200}\n"
+    );
     Ok(())
-}
-
-#[test]
-fn largest_numbers_of_a_reply(rt: HostRuntime) -> Result<(), Fail> {
-    answers(
-        &rt,
-        rt.alloc(),
-        Some(u64::MAX),
-        Reply::Found { val: 0 },
-        "{\"At\":18446744073709551615,\"Client\":4294967295,\"ETag\":\"e\",\"LastModified\":18446744073709551615,\"Line\":4294967295,\"Size\":18446744073709551615,\"Status\":200}\n",
-    )
-}
-
-#[test]
-fn a_key_that_is_there_keeps_a_put_out(rt: HostRuntime) -> Result<(), Fail> {
-    answers(
-        &rt,
-        rt.alloc(),
-        Some(0),
-        Reply::Exists,
-        "{\"At\":0,\"Client\":4294967295,\"Line\":4294967295,\"Status\":412}\n",
-    )
-}
-
-// No session of the program comes to it.
-#[test]
-fn no_slot_is_left(rt: HostRuntime) -> Result<(), Fail> {
-    answers(
-        &rt,
-        rt.alloc(),
-        None,
-        Reply::NoSlot,
-        "{\"At\":null,\"Client\":4294967295,\"Line\":4294967295,\"Status\":503}\n",
-    )
 }
 
 #[test]

@@ -10,7 +10,7 @@ use Rattle.std.proofs.lemmas.List.Sorted.{All-permutation, Contains-permutation,
 use Rattle.std.proofs.lemmas.Bool.Decides.{eqb_tells}
 use Rattle.key_names.specs.Names.{HoldsEachOnce, IsFine, name_at}
 use Rattle.request_lines.specs.declared.leads.Numbered.{Numbered}
-use Rattle.request_lines.specs.Interned.{named, names_kept, AreKept, IsInterned, IsKnownAs, AreGroups, HaveNumbers, AreNumbered, AreRanks, number_in, name_of}
+use Rattle.request_lines.specs.Interned.{named, names_kept, AreKept, IsInterned, IsKnownAs, AreGroups, HaveNumbers, AreNumbered, AreRanks, IsRankedBy, number_in, name_of}
 
 -- ---- one name more
 
@@ -271,3 +271,36 @@ all_ranks entries ranks have all = record {
         let place : has.0 < length entries = omega (arith, has.1, length-map entries number_in) in
         let is : slice_index (map number_in entries) has.0 ≡ number = get_or_default (map number_in entries) has.0 0 number has.1 ∙ has.2 in
         subst (λ (n : ℕ). slice_index ranks n < length entries) is (all.ranked has.0 place)
+
+-- ---- the names of the lines by ranks, from those that were kept
+
+module _ (ks distinct : List (List ℕ)) (ranks : List ℕ) (ranked : IsRankedBy ks distinct ranks) where
+  as_many_ranks : length ranks ≡ length ks
+  as_many_ranks = sym (length-map ranks (name_at distinct)) ∙ ap length ranked.are
+
+  at_kept : (i : ℕ) → i < length ks → name_at distinct (slice_index ranks i) ≡ name_at ks i
+  at_kept i within =
+      sym (get_or-map (name_at distinct) ranks i 0 [] (omega (arith, within, as_many_ranks)))
+      ∙ ap (λ (ns : List (List ℕ)). get_or ns i []) ranked.are
+
+  all_at_kept : (order : List ℕ) → All (λ i. i < length ks) order → named distinct (map (slice_index ranks) order) ≡ named ks order
+  all_at_kept [] below = refl
+  all_at_kept (i ∷ order) below =
+      ap₂ (λ (n : List ℕ) (ns : List (List ℕ)). n ∷ ns)
+      (at_kept i (All-head (λ (j : ℕ). j < length ks) i order below))
+      (all_at_kept order (All-tail (λ (j : ℕ). j < length ks) i order below))
+
+  module _ (order : List ℕ) (interned : IsInterned ks order) where
+    pub all_ranked : All (λ i. i < length ranks) order
+    all_ranked = All-weaker (λ (j : ℕ). j < length ks) (λ (j : ℕ). j < length ranks) (λ j below. omega (arith, below, as_many_ranks)) order interned.below
+
+    pub named_by_ranks : named distinct (map (slice_index ranks) order) ≡ named ks order
+    named_by_ranks = all_at_kept order interned.below
+
+    pub interned_by_ranks : IsInterned distinct (map (slice_index ranks) order)
+    interned_by_ranks = record {
+      below = All-map (λ (j : ℕ). j < length distinct) (slice_index ranks) order
+          (All-weaker (λ (i : ℕ). i < length ranks) (λ (i : ℕ). slice_index ranks i < length distinct) (λ i below. ranked.interned.below i 0 below) order all_ranked);
+      used = λ other has. subst (λ (ns : List (List ℕ)). Contains ns other) (sym named_by_ranks)
+          (interned.used other (subst (λ (ns : List (List ℕ)). Contains ns other) ranked.are (ranked.interned.used other has)));
+    }

@@ -56,3 +56,8 @@ pub record AreRanks (entries : List Numbered) (ranks : List ℕ) : Type 0 where
   pub same_length : length ranks ≡ length entries
   pub below : (number : ℕ) → number < length entries → slice_index ranks number < length entries
   pub is : (number : ℕ) → number < length entries → slice_index (map number_in entries) (slice_index ranks number) ≡ number
+
+-- the names by their places among the distinct ones
+pub record IsRankedBy (names : List (List ℕ)) (distinct : List (List ℕ)) (ranks : List ℕ) : Type 0 where
+  pub interned : IsInterned distinct ranks
+  pub are : named distinct ranks ≡ names

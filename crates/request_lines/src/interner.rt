@@ -1,8 +1,10 @@
-// Names as they are read: one for each line, of which each distinct one is kept once behind the last line.
-ghost use Rattle.std.specs.Prelude.{◌≡◌, ◌<◌, ◌++◌, ◌∷◌, [], length, map, All, IfOk, OnOk, IsOkUnless, replicate, slice_index};
+// Names as they are read: most that come again are not kept again, and behind the last line each distinct one is kept
+// once.
+ghost use Rattle.std.specs.Prelude.{◌≡◌, ◌<◌, ◌++◌, ◌∷◌, [], length, map, All, IfOk, OnOk, OnErr, IsOkUnless, replicate, slice_index};
 ghost use Rattle.request_lines.specs.declared.line_error.LineError.TheVariants.{NoMemory as OutOfMemory};
-ghost use Rattle.request_lines.specs.Interned.{AreGroups, AreRanks, HaveNumbers, IsKnownAs};
+ghost use Rattle.request_lines.specs.Interned.{AreGroups, AreRanks, HaveNumbers, IsKnownAs, IsRankedBy};
 
+use crate::known::Known;
 use crate::leads::{Numbered, sorted};
 use crate::line_error::LineError;
 use crate::names::Names;
@@ -10,21 +12,30 @@ use key_names::{NoMemory, Text};
 use std::alloc::{AllocError, Global};
 use std::marker::Model;
 
-/// The names of the lines so far. A name's number is its place among them.
+/// The names of the lines so far.
 ///
-/// They are sorted once, behind the last line, and equal names then stand together. No name is looked up before, so no
-/// choice of names makes the reading slow.
+/// A name that is known at the one place of a table where its hash leads is not kept again; any other one is, and takes
+/// the place. All that are kept are sorted once, behind the last line, and equal names then stand together. So no choice
+/// of names makes the reading slow: at worst each line's name is kept.
 #[derive(Debug, Drop)]
 pub(crate) struct Interner {
+    // The names that are kept, in the order in which they came. A name's number is its place among them.
     names: Vec<Text>,
+    // The number of each line's name.
+    order: Vec<usize>,
+    // Where a name may have been kept.
+    known: Known,
 }
 
 impl Model for Interner {
     ghost use Rattle.std.specs.Prelude.{List, ℕ};
+    ghost use Rattle.request_lines.specs.Interned.{named, IsInterned};
 
     ghost Value = { List (List ℕ) };
 
-    ghost view = { λ i. i.names.items };
+    ghost view = { λ i. named i.names.items i.order.items };
+
+    ghost invariant = { λ i. IsInterned i.names.items i.order.items };
 }
 
 impl Interner {
@@ -34,16 +45,22 @@ impl Interner {
     {
         Interner {
             names: Vec::new(alloc),
+            order: Vec::new(alloc),
+            known: Known::none(alloc),
         }
     }
 
-    /// Adds the name of the next line, and answers its number.
+    /// Adds the name of the next line, and answers the number that it is kept under.
     pub(crate) fn push(&mut self, alloc: Global, name: &Text) -> Result<usize, LineError>
         ensures pushed { OnOk result (self.new ≡ self.old ++ name.now ∷ []) }
         ensures memory { IsOkUnless result OutOfMemory }
     {
-        let number = self.names.len();
-        self.names.push(name.copy(alloc)?)?;
+        self.order.reserve(1)?;
+        let place = self.known.place_of(alloc, name)?;
+        let hint = self.known.number_at(place);
+        let number = number_of(alloc, &mut self.names, name, hint)?;
+        self.order.push_reserved(number);
+        self.known.note(place, number);
         Ok(number)
     }
 
@@ -51,14 +68,44 @@ impl Interner {
     pub(crate) fn ranked(self, alloc: Global) -> Result<(Names, Vec<usize>), NoMemory>
         ensures { IfOk result (λ names. names.0 ≡ self) }
     {
-        let names = self.names.as_slice();
-        let entries = sorted(alloc, names)?;
-        let places = places_of(alloc, &entries)?;
-        let (distinct, groups) = grouped(alloc, names, &entries)?;
-        let ranks = at_places(alloc, &places, &groups)?;
-        let order = Vec::from_slice(alloc, &ranks)?;
+        let Interner {
+            names,
+            order,
+            known: _,
+        } = self;
+        let (distinct, ranks) = by_ranks(alloc, names.as_slice())?;
+        let order = at_places(alloc, &order, &ranks)?;
         Ok((Names::of(distinct, order), ranks))
     }
+}
+
+// The number of a name: the hint, where an equal name has it, or else the next one, which it then has.
+fn number_of(
+    alloc: Global,
+    names: &mut Vec<Text>,
+    name: &Text,
+    hint: usize,
+) -> Result<usize, NoMemory>
+    ensures known { IfOk result (IsKnownAs names.old.items names.new.items name.now) }
+    ensures unchanged { OnErr result (names.new.items ≡ names.old.items) }
+{
+    if hint < names.len() && names[hint].bytes() == name.bytes() {
+        return Ok(hint);
+    }
+    let count = names.len();
+    names.push(name.copy(alloc)?)?;
+    Ok(count)
+}
+
+// The distinct ones of these names, in byte order, and the rank of each.
+fn by_ranks(alloc: Global, names: &[Text]) -> Result<(Vec<Text>, Vec<usize>), NoMemory>
+    ensures { IfOk result (λ found. IsRankedBy names.now found.0.items found.1.items) }
+{
+    let entries = sorted(alloc, names)?;
+    let places = places_of(alloc, &entries)?;
+    let (distinct, groups) = grouped(alloc, names, &entries)?;
+    let ranks = at_places(alloc, &places, &groups)?;
+    Ok((distinct, ranks))
 }
 
 // The distinct names of the entries, in their order, and for each entry the place of its name among them.

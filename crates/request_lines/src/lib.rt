@@ -8,6 +8,7 @@ mod check_input;
 mod command;
 mod counts;
 mod interner;
+mod known;
 mod leads;
 mod limits;
 mod line_error;

@@ -4,6 +4,7 @@
 #![tactic(auto)]
 
 mod cutting;
+mod entries;
 mod lines;
 mod pieces;
 mod sheets;

@@ -5,6 +5,7 @@ ghost use Rattle.bucket_terms.specs.declared.reply.Placed.{Placed};
 ghost use Rattle.answer_text.specs.Lines.{journal_lines};
 ghost use Rattle.answer_text.specs.Shown.{reply_lines};
 ghost use Rattle.answer_text.specs.InRange.{IsReplyOf};
+ghost use Rattle.answer_text.specs.EntryTexts.{AreRight};
 ghost use Rattle.outside_io.specs.Streams.{one_more, IsTaken, TakesStart};
 ghost use Rattle.run_text.specs.declared.stop.Stop.{Stop as Ended};
 ghost use Rattle.run_text.specs.Pieces.{IsPieceOf, IsPartOf, part_text};
@@ -13,7 +14,7 @@ ghost use Rattle.run_text.specs.Sheets.{IsFilled};
 use crate::lines::write_lines;
 use crate::pieces::{Part, Piece};
 use crate::stop::Stop;
-use answer_text::{push_journal_line, push_reply_line};
+use answer_text::{EntryTexts, push_journal_line, push_known_line};
 use bucket_terms::{Placed, Record};
 use key_map::Update;
 use key_names::{Directory, NoMemory};
@@ -40,27 +41,36 @@ impl Sheet {
     }
 
     // Puts the text of the piece in the place of what the sheet had.
-    pub(crate) fn fill(&mut self, dir: &Directory, records: &[Record], piece: &Piece<'_>)
-        requires { IsPieceOf dir.now records.now piece.now }
+    pub(crate) fn fill(
+        &mut self,
+        dir: &Directory,
+        records: &[Record],
+        texts: &EntryTexts,
+        piece: &Piece<'_>,
+    )
+        requires piece { IsPieceOf dir.now records.now piece.now }
+        requires right { AreRight dir.now records.now texts.now }
         ensures { IsFilled dir.now records.now piece.now self.new }
     {
         self.text.clear();
         self.ends.clear();
-        self.filled = self.push_piece(dir, records, piece);
+        self.filled = self.push_piece(dir, records, texts, piece);
     }
 
     fn push_piece(
         &mut self,
         dir: &Directory,
         records: &[Record],
+        texts: &EntryTexts,
         piece: &Piece<'_>,
     ) -> Result<(), NoMemory>
-        requires { IsPieceOf dir.now records.now piece.now }
+        requires piece { IsPieceOf dir.now records.now piece.now }
+        requires right { AreRight dir.now records.now texts.now }
         ensures { OnOk result (string_bytes self.new.text ≡ string_bytes self.old.text ++ part_text dir.now records.now piece.now.part) }
     {
         self.text.reserve(piece.bytes)?;
         match &piece.part {
-            Part::Replies(replies) => self.push_replies(dir, records, replies),
+            Part::Replies(replies) => self.push_replies(dir, records, texts, replies),
             Part::Updates { before, updates } => self.push_updates(dir, *before, updates),
         }
     }
@@ -69,13 +79,15 @@ impl Sheet {
         &mut self,
         dir: &Directory,
         records: &[Record],
+        texts: &EntryTexts,
         replies: &[Placed],
     ) -> Result<(), NoMemory>
-        requires { All (λ (p : Placed). IsReplyOf dir.now records.now p.reply) replies.now }
+        requires fine { All (λ (p : Placed). IsReplyOf dir.now records.now p.reply) replies.now }
+        requires right { AreRight dir.now records.now texts.now }
         ensures { OnOk result (string_bytes self.new.text ≡ string_bytes self.old.text ++ reply_lines dir.now records.now replies.now) }
     {
         for placed in replies {
-            push_reply_line(&mut self.text, dir, records, placed)?;
+            push_known_line(&mut self.text, dir, records, texts, placed)?;
             self.ends.push(self.text.len())?;
         }
         Ok(())

@@ -1,13 +1,16 @@
 // Pieces that are written in order, where the texts of several are put together at once.
 ghost use Rattle.std.specs.Prelude.{◌≡◌, ◌<◌, ◌≤◌, length, All, OnOk, IfOk, IsErrOf};
 ghost use Rattle.outside_io.specs.Streams.{one_more, IsTaken, TakesStart};
+ghost use Rattle.answer_text.specs.EntryTexts.{AreRight};
 ghost use Rattle.run_text.specs.declared.stop.Stop.{Stop as Ended};
 ghost use Rattle.run_text.specs.Pieces.{IsPieceOf, pieces_text};
 ghost use Rattle.run_text.specs.Sheets.{AreFilled, CanFill, IsFilledAt};
 
+use crate::entries::entry_texts;
 use crate::pieces::{PIECE_BYTES, Piece, Pieces};
 use crate::sheets::Sheet;
 use crate::stop::Stop;
+use answer_text::EntryTexts;
 use bucket_terms::Record;
 use key_names::{Directory, NoMemory};
 use outside_io::Sink;
@@ -33,7 +36,16 @@ impl<'a> Pieces<'a> {
         ensures fault { IsErrOf result Stop.Fault → K.faults sink.new ≡ one_more (K.faults sink.old) }
         ensures quiet { ¬ (IsErrOf result Stop.Fault) → K.faults sink.new ≡ K.faults sink.old }
     {
-        write_pieces(rt, alloc, sink, dir, records, self.pieces.as_slice())
+        let texts = entry_texts(alloc, dir, records, self.pieces.as_slice())?;
+        write_pieces(
+            rt,
+            alloc,
+            sink,
+            dir,
+            records,
+            &texts,
+            self.pieces.as_slice(),
+        )
     }
 }
 
@@ -43,9 +55,11 @@ fn write_pieces<K: Sink, Rt: Threads + Sync>(
     sink: &mut K,
     dir: &Directory,
     records: &[Record],
+    texts: &EntryTexts,
     pieces: &[Piece<'_>],
 ) -> Result<(), Stop>
-    requires { All (IsPieceOf dir.now records.now) pieces.now }
+    requires fine { All (IsPieceOf dir.now records.now) pieces.now }
+    requires right { AreRight dir.now records.now texts.now }
     ensures taken { OnOk result (IsTaken (K.taken sink.old) (K.taken sink.new) (pieces_text dir.now records.now pieces.now)) }
     ensures start { (stop : Ended) → IsErrOf result stop → TakesStart (K.taken sink.old) (K.taken sink.new) (pieces_text dir.now records.now pieces.now) }
     ensures fault { IsErrOf result Stop.Fault → K.faults sink.new ≡ one_more (K.faults sink.old) }
@@ -56,7 +70,7 @@ fn write_pieces<K: Sink, Rt: Threads + Sync>(
     while done < pieces.len() {
         let (_, left) = pieces.split_at(done);
         let (batch, _) = left.split_at(left.len().min(sheets.len()));
-        write_batch(rt, sink, dir, records, batch, &mut sheets)?;
+        write_batch(rt, sink, dir, records, texts, batch, &mut sheets)?;
         done += batch.len();
     }
     Ok(())
@@ -96,10 +110,12 @@ fn write_batch<K: Sink, Rt: Threads + Sync>(
     sink: &mut K,
     dir: &Directory,
     records: &[Record],
+    texts: &EntryTexts,
     batch: &[Piece<'_>],
     sheets: &mut Vec<Sheet>,
 ) -> Result<(), Stop>
     requires fine { All (IsPieceOf dir.now records.now) batch.now }
+    requires right { AreRight dir.now records.now texts.now }
     requires enough { length batch.now ≤ length sheets.old.items }
     ensures taken { OnOk result (IsTaken (K.taken sink.old) (K.taken sink.new) (pieces_text dir.now records.now batch.now)) }
     ensures start { (stop : Ended) → IsErrOf result stop → TakesStart (K.taken sink.old) (K.taken sink.new) (pieces_text dir.now records.now batch.now) }
@@ -108,7 +124,7 @@ fn write_batch<K: Sink, Rt: Threads + Sync>(
     ensures as_many { length sheets.new.items ≡ length sheets.old.items }
 {
     let (used, _) = sheets.as_mut_slice().split_at_mut(batch.len());
-    fill_all(rt, dir, records, batch, used);
+    fill_all(rt, dir, records, texts, batch, used);
     for sheet in used.iter() {
         sheet.write(sink)?;
     }
@@ -120,16 +136,18 @@ fn fill_all<Rt: Threads + Sync>(
     rt: &Rt,
     dir: &Directory,
     records: &[Record],
+    texts: &EntryTexts,
     pieces: &[Piece<'_>],
     sheets: &mut [Sheet],
 )
     requires fine { All (IsPieceOf dir.now records.now) pieces.now }
+    requires right { AreRight dir.now records.now texts.now }
     requires one_each { length sheets.old ≡ length pieces.now }
     ensures { AreFilled dir.now records.now pieces.now sheets.new }
 {
     let fill = |place: usize, sheet: &mut Sheet|
-        requires { CanFill dir.now records.now pieces.now place }
+        requires { CanFill dir.now records.now texts.now pieces.now place }
         ensures { IsFilledAt dir.entry.now records.entry.now pieces.entry.now place sheet.exit.now }
-    { sheet.fill(dir, records, &pieces[place]) };
+    { sheet.fill(dir, records, texts, &pieces[place]) };
     thread::for_each_mut(rt, sheets, pieces.len().max(1), &fill);
 }

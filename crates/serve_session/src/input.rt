@@ -62,7 +62,10 @@ pub(crate) fn serve_input<
         Err(ReadError::TooLong) => return Status::TooLong,
         Err(ReadError::NoMemory) => return Status::NoMemory,
     };
-    let session = match read_session(alloc, &input) {
+    let read = read_session(alloc, &input);
+    // The session has its own texts, and the clients need the memory.
+    drop(input);
+    let session = match read {
         Ok(session) => session,
         Err(SessionError::Input(error)) => return Status::BadInput(error),
         Err(SessionError::NoMemory) => return Status::NoMemory,

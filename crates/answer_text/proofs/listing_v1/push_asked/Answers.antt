@@ -1,4 +1,4 @@
-use Rattle.std.proofs.Common.{◌≡◌, ◌++◌, codes, decimal, string_bytes}
+use Rattle.std.proofs.Common.{◌≡◌, ◌++◌, codes, string_bytes}
 use Rattle.std.proofs.lemmas.Result.{on_ok_weaker}
 use Rattle.answer_text.specs.Lines.{shown, is_given}
 use Rattle.answer_text.specs.Pieces as spec

@@ -13,7 +13,7 @@ use Rattle.client_run.proofs.run.run_client.Goals as goal
 
 pub loop-asked-init : goal.loop-asked-init
 loop-asked-init g c =
-    (rw c.new-replies.ensures.items (first_turn c.args.dir.now (g.P.KeyPass.view c.args.pass.now) c.client-client.ensures.mine c.requires.closed), refl)
+    (rw c.in_ok-replies.ensures.items (first_turn c.args.dir.now (g.P.KeyPass.view c.args.pass.now) c.client-client.ensures.mine c.requires.closed), refl)
 
 pub answer-requires-clause-askable : goal.answer-requires-clause-askable
 answer-requires-clause-askable g c =
@@ -66,7 +66,7 @@ loop-asked-preserved g c =
 pub returns-in_err-placed-clause-stopped : goal.returns-in_err-placed-clause-stopped
 returns-in_err-placed-clause-stopped g c =
     let view = g.P.KeyPass.view in
-    after_error c.from_residual.result (stopped_later (view c.args.pass.now) (view c.loop-asked.pass) (view c.answer.new.pass) c.loop-asked.invariant.0.running.ran.continues c.in_err-placed.ensures.stopped)
+    after_error c.from_residual-in_err-placed.result (stopped_later (view c.args.pass.now) (view c.loop-asked.pass) (view c.answer.new.pass) c.loop-asked.invariant.0.running.ran.continues c.in_err-placed.ensures.stopped)
 
 pub returns-in_err-push-clause-stopped : goal.returns-in_err-push-clause-stopped
 returns-in_err-push-clause-stopped g c =

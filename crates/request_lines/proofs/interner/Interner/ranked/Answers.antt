@@ -1,31 +1,18 @@
-use Rattle.std.proofs.Common.{◌≡◌, sym, ◌∙◌}
-use Rattle.request_lines.specs.Interned.{named}
-use Rattle.request_lines.proofs.Interned.{have_numbers, numbers_below, all_have_groups, interned_sorted, same_named}
+use Rattle.std.proofs.Common.{List, ℕ, ◌∙◌, subst}
+use Rattle.request_lines.specs.Interned.{IsRankedBy}
+use Rattle.request_lines.proofs.Interned.{named_by_ranks, interned_by_ranks}
 use Rattle.request_lines.proofs.interner.Interner.ranked.Goals as goal
-
-pub places_of-requires : goal.places_of-requires
-places_of-requires c = rw c.deref.ensures.value (have_numbers c.as_slice-names.result.now c.in_ok-entries.entries.items c.in_ok-entries.ensures)
-
-pub grouped-requires : goal.grouped-requires
-grouped-requires c = rw c.deref-2.ensures.value (numbers_below c.as_slice-names.result.now c.in_ok-entries.entries.items c.in_ok-entries.ensures)
-
-pub at_places-requires : goal.at_places-requires
-at_places-requires c =
-    rw (c.deref-3.ensures.value, c.deref-4.ensures.value)
-    (all_have_groups c.as_slice-names.result.now c.in_ok-entries.entries.items c.in_ok-places.places.items c.in_ok-distinct.distinct.items c.in_ok-distinct.groups.items c.in_ok-entries.ensures
-    (rw (sym c.deref.ensures.value) c.in_ok-places.ensures) (rw (sym c.deref-2.ensures.value) c.in_ok-distinct.ensures))
 
 pub of-requires : goal.of-requires
 of-requires c =
-    rw (c.in_ok-order.ensures.items, c.deref-5.ensures.value, c.in_ok-ranks.ensures, c.deref-3.ensures.value, c.deref-4.ensures.value)
-    (interned_sorted c.as_slice-names.result.now c.in_ok-entries.entries.items c.in_ok-places.places.items c.in_ok-distinct.distinct.items c.in_ok-distinct.groups.items c.in_ok-entries.ensures
-    (rw (sym c.deref.ensures.value) c.in_ok-places.ensures) (rw (sym c.deref-2.ensures.value) c.in_ok-distinct.ensures))
+    let ranked = subst (λ (ns : List (List ℕ)). IsRankedBy ns c.in_ok-distinct.distinct.items c.in_ok-distinct.ranks.items) c.as_slice.ensures.value c.in_ok-distinct.ensures in
+    rw (c.in_ok-order.ensures, c.deref.ensures.value, c.deref-2.ensures.value)
+    (interned_by_ranks c.self.inside.names.items c.in_ok-distinct.distinct.items c.in_ok-distinct.ranks.items ranked c.self.inside.order.items c.self.invariant)
 
 pub returns : goal.returns
 returns c =
-    let same : named c.in_ok-distinct.distinct.items c.in_ok-order.order.items ≡ c.as_slice-names.result.now =
-    rw (c.in_ok-order.ensures.items, c.deref-5.ensures.value, c.in_ok-ranks.ensures, c.deref-3.ensures.value, c.deref-4.ensures.value)
-    (same_named c.as_slice-names.result.now c.in_ok-entries.entries.items c.in_ok-places.places.items c.in_ok-distinct.distinct.items c.in_ok-distinct.groups.items c.in_ok-entries.ensures
-    (rw (sym c.deref.ensures.value) c.in_ok-places.ensures) (rw (sym c.deref-2.ensures.value) c.in_ok-distinct.ensures))
-    in
-    c.of.ensures ∙ same ∙ c.as_slice-names.ensures.value ∙ c.self.view_is
+    let ranked = subst (λ (ns : List (List ℕ)). IsRankedBy ns c.in_ok-distinct.distinct.items c.in_ok-distinct.ranks.items) c.as_slice.ensures.value c.in_ok-distinct.ensures in
+    c.of.ensures
+    ∙ rw (c.in_ok-order.ensures, c.deref.ensures.value, c.deref-2.ensures.value)
+    (named_by_ranks c.self.inside.names.items c.in_ok-distinct.distinct.items c.in_ok-distinct.ranks.items ranked c.self.inside.order.items c.self.invariant)
+    ∙ c.self.view_is

@@ -2,7 +2,7 @@ use Rattle.std.proofs.Common.{List, sym, ap, ◌∙◌, length}
 use Rattle.std.specs.List.{slice_get}
 use Rattle.request_lines.specs.declared.session.ClientPart.{ClientPart}
 use Rattle.client_run.proofs.Sessions.{askable, served_first}
-use Rattle.path_tests.proofs.clients.run.Goals as goal
+use Rattle.path_tests.proofs.gates.run.Goals as goal
 
 pub run_part-requires-clause-askable : goal.run_part-requires-clause-askable
 run_part-requires-clause-askable g c =
