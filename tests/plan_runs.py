@@ -4,12 +4,14 @@
     tests/plan_runs.py PROGRAM [--runs N] [--turns N] [--seed N]
 
 Up to four passes put, remove and look up keys at once; this script chooses what each is asked for and whose
-turn it is. PROGRAM makes a plan for each update from the tree that the pass reads, makes the plan's events,
-and tells what each try has come to, and where it has cut a bundle. A try that was validated must raise. One
-that was not must have raised the count of its cause by one, and no other count. Each look-up in a snapshot
-must find what the map had at its number, whatever was cut meanwhile. At the end the words must spell the
-tree of the whole history, and each plain link must lead where the tree does. The model of map and tree
-shares no code with the machine. The script ends with status 1 at the first difference.
+turn it is. PROGRAM searches for the key of each update on plain links, makes a plan of what it finds again
+under locks, makes the plan's events, and tells what each try has come to, and where it has cut a bundle. A
+try that was validated must raise. One that was not must have raised the count of its cause by one, and no
+other count. Where the search has not found a key that is to be removed, a snapshot tells whether it is
+absent. Each look-up in a snapshot must find what the map had at its number, whatever was cut meanwhile. At
+the end the words must spell the tree of the whole history, and each plain link must lead where the tree
+does. The model of map and tree shares no code with the machine. The script ends with status 1 at the first
+difference.
 """
 import argparse
 import random
@@ -20,8 +22,8 @@ from collections import Counter
 LEFT, RIGHT = 0, 1
 KEY, VAL, LOCK, MARK, HEAD, LINK, TAG = 0, 1, 2, 3, 4, 6, 8
 PTR, TS, NEXT = 0, 1, 2
-COUNT_OF = {"Busy": "busy", "Moved": "moves", "Pending": "waits"}
-OUTCOMES = {"Done", "Absent", "Busy", "Moved", "Pending"}
+COUNT_OF = {"Busy": "busy", "Moved": "moves"}
+OUTCOMES = {"Done", "Absent", "Late", "Busy", "Moved"}
 CASES = {"insert", "replace"}
 CASES |= {"remove, " + which for which in ("0 children", "1 children", "2 children, deep", "2 children, right child")}
 
@@ -188,11 +190,14 @@ class Model:
     def take_tried(self, number, line, words):
         outcome, at, counts = words[0], int(words[1]), self.counts_of(words[2:])
         rises = {name: counts[name] - self.counts[number][name] for name in counts}
-        ask(rises == {name: int(COUNT_OF.get(outcome) == name) for name in counts}, "%s: %r" % (line, rises))
+        if outcome in ("Absent", "Late"):
+            # Where the search has not found the key, a snapshot is looked at, which waits for entries without a number.
+            ask(rises.pop("waits") >= 0, line)
+        ask(rises == {name: int(COUNT_OF.get(outcome) == name) for name in rises}, "%s: %r" % (line, rises))
         ask((outcome == "Done") == (self.raised[number] is not None), line)
-        if outcome == "Absent":
+        if outcome in ("Absent", "Late"):
             verb, key = self.updates[number][0].split()
-            ask(verb == "remove" and int(key) not in self.maps[at], line)
+            ask(verb == "remove" and (int(key) in self.maps[at]) == (outcome == "Late"), line)
         if outcome in ("Done", "Absent"):
             self.updates[number].pop(0)
         self.raised[number], self.counts[number] = None, counts

@@ -17,6 +17,9 @@ import random
 import subprocess
 import sys
 from collections import Counter
+from itertools import chain
+
+import search_model
 
 LEFT, RIGHT = 0, 1
 KEY, VAL, LOCK, MARK, HEAD, LINK, TAG = 0, 1, 2, 3, 4, 6, 8
@@ -39,6 +42,9 @@ class Table:
         self.cases, self.freed, self.cut_off = Counter(), 0, 0
         # Places of cuts, each with the event of a cut that goes too far.
         self.too_far = []
+        self.most_key = 0
+        # Places of the looks with which a waiting removal passes another pass, each with that of its last set link.
+        self.looks = []
         # Places of the looks with which a waiting removal passes another pass, and of the mark of its successor, each
         # with the place of the set link that unlinks the successor.
         self.unlinks = []
@@ -62,6 +68,14 @@ class Table:
 
     def tag(self, node, side):
         return self.node(node, TAG + side)
+
+    def key(self, node):
+        return self.words[self.node(node, KEY)]
+
+    def node_word(self, word):
+        """The node and the field of a word of a node, None for another word."""
+        at = word - self.node(0, 0)
+        return divmod(at, 10) if 0 <= at < 10 * (self.nodes + 1) else None
 
     def entry(self, entry, part):
         return 1 + 2 * self.passes + 10 * (self.nodes + 1) + 3 * (entry - 1) + part
@@ -114,6 +128,12 @@ class Seat:
         # The plain links that its update has still to set, each with what it holds and its new child, and the tags to
         # raise.
         self.unset, self.owed = [], []
+        # What its looks have shown since the copy was linked.
+        self.wait_found, self.wait_passed = {}, set()
+        # Its update: whether it has raised, the node that it brought in, and those that it took out.
+        self.raised, self.added, self.taken = False, None, []
+        self.locked = set()
+        self.nowhere()
         # The successor that is to be unlinked, with its parent, and the place of its mark.
         self.last, self.marked_at = None, None
 
@@ -122,6 +142,68 @@ class Seat:
     def step(self, kind, word, value, update=None):
         text = "%d %s %d %d" % (self.number, kind, word, value)
         self.table.events.append(text + (" " + update if update else ""))
+        self.move(kind, word)
+
+    # ---- what its search on plain links knows
+
+    def nowhere(self):
+        # The place: None, or ("entry",), ("node", node, key), ("gap", node, side). The turns, each with its key. The plain
+        # links: node, side, child, tag, and the keys of the turns to the left and to the right.
+        self.place, self.turns, self.links = None, [None, None], []
+
+    def is_inside(self):
+        return self.table.words[self.table.section(self.number)] % 2 == 1
+
+    def turn_keys(self):
+        """The keys of the last turns to the right and to the left, None for none."""
+        return tuple(turn and turn[1] for turn in (self.turns[RIGHT], self.turns[LEFT]))
+
+    def is_between(self, key):
+        low, high = self.turn_keys()
+        return (low is None or low < key) and (high is None or key < high)
+
+    def searches_at(self, node, side):
+        if self.place is None:
+            return (node, side) == (0, RIGHT)
+        return self.place[:2] == ("node", node) and self.place[2] is not None and self.is_between(self.place[2])
+
+    def search_nodes(self, top):
+        starts = [] if self.place == ("entry",) else [top] if self.place is None else [self.place[1]]
+        return starts + [turn[0] for turn in self.turns if turn] + [link[0] for link in self.links]
+
+    def may_lock(self):
+        """The nodes whose locks it may try."""
+        return sorted(({0} | set(self.search_nodes(0))) - self.locked)
+
+    def move(self, kind, word):
+        """What an event of this kind changes in its view of plain links."""
+        named = self.table.node_word(word)
+        if kind in ("Enter", "Leave", "LoadStamp", "Raise", "Unlock"):
+            self.nowhere()
+        if kind == "Leave":
+            self.added = None
+        elif kind in ("LoadHead", "LoadNext"):
+            self.place = ("entry",)
+        elif kind == "LoadKeyOrVal" and named[1] == KEY and self.place and self.place[:2] == ("node", named[0]):
+            self.place = ("node", named[0], self.table.words[word])
+        elif kind == "LoadLink":
+            self.walk(named[0], named[1] - LINK, self.table.words[word])
+        elif kind == "LoadTag":
+            for link in self.links:
+                if link[:2] == [named[0], named[1] - TAG] and link[3] is None:
+                    link[3] = self.table.words[word]
+        elif kind == "Unlock":
+            self.locked.discard(named[0])
+            if not self.locked:
+                self.raised, self.added, self.taken = False, None, []
+
+    def walk(self, node, side, child):
+        if self.searches_at(node, side):
+            if self.place:
+                self.turns[side] = (node, self.place[2])
+            low, high = self.turn_keys()
+            self.links.append([node, side, child, None, high, low])
+            self.place = ("node", child, None) if child else ("gap", node, side)
 
     def store(self, kind, word, value):
         self.step(kind, word, value)
@@ -297,6 +379,7 @@ class Seat:
         if self.table.words[word]:
             return False
         self.table.words[word] = self.number + 1
+        self.locked.add(node)
         return True
 
     def unlock(self, node):
@@ -325,6 +408,9 @@ class Seat:
     def raise_stamp(self, line, key, change, taken, pending, links):
         table = self.table
         self.last = (taken[1], links[1][0]) if len(links) > 1 else None
+        self.raised, self.taken = True, list(taken)
+        self.added = links[0][2] if change is not None or len(taken) == 2 else None
+        self.wait_found, self.wait_passed = {}, set()
         self.unset = [(node, side, table.words[table.link(node, side)], child) for node, side, child in links]
         self.owed = [(node, side) for node, side, child in links if not child and change is None]
         text = "Put %d" % change if change is not None else "Remove"
@@ -394,7 +480,7 @@ class Seat:
 
     def unlink(self):
         """Outside of the section: waits for every other pass, and unlinks the successor."""
-        table, passed, found, looks = self.table, set(), {}, []
+        table, passed, found, looks = self.table, self.wait_passed, self.wait_found, []
         others = [other for other in range(table.passes) if other != self.number]
         while len(passed) < len(others):
             for other in self.rng.sample(others, len(others)):
@@ -433,48 +519,300 @@ class Seat:
             yield from self.unlink()
         return answered
 
+    def plain_search(self, key):
+        """The link at which the search on plain links for a key ends: node, side and child. None where it met another update."""
+        table, node, side = self.table, 0, RIGHT
+        while True:
+            child = self.load("LoadLink", table.link(node, side))
+            yield
+            if not child:
+                return node, side, 0
+            here = self.load("LoadKeyOrVal", table.node(child, KEY))
+            yield
+            if here == key:
+                return node, side, child
+            if not self.is_between(here):
+                yield from self.meet(child, here)
+                return None
+            node, side = child, LEFT if key < here else RIGHT
+
+    def meet(self, child, here):
+        """At a child whose key is not between those of the turns: it is out, or its turn is."""
+        table = self.table
+        table.cases["a child beyond its turn"] += 1
+        turn = self.turns[LEFT] if self.turns[LEFT] and here >= self.turns[LEFT][1] else self.turns[RIGHT]
+        for node in [turn[0] for turn in self.turns if turn]:
+            mark = self.load("LoadMark", table.node(node, MARK))
+            yield
+            if mark:
+                return
+        won = self.lock(child)
+        yield
+        if not won:
+            return
+        mark = self.load("LoadMark", table.node(child, MARK))
+        yield
+        if not mark and not self.load("LoadMark", table.node(turn[0], MARK)):
+            raise Refused("an unmarked child beyond an unmarked turn")
+        yield
+        yield from self.unlock_all([child])
+
+    def tag_of(self, node, side):
+        """The tag of the null link at which the search ended."""
+        self.load("LoadTag", self.table.tag(node, side))
+        yield
+        return self.links[-1][3]
+
+    def is_still(self, node, side, child, tag=None):
+        """Whether a link of a locked node is as it was found."""
+        found = self.load("LoadLink", self.table.link(node, side))
+        yield
+        if tag is None or found != child:
+            return found == child
+        found = self.load("LoadTag", self.table.tag(node, side))
+        yield
+        return found == tag
+
+    def wander(self, count):
+        """So many steps of a search that wants nothing: any that are allowed."""
+        table, rng, mine = self.table, self.rng, []
+        for _ in range(count):
+            choice = rng.random()
+            if choice < 0.6 and self.place is None:
+                self.load("LoadLink", table.link(0, RIGHT))
+            elif choice < 0.6 and self.place[0] == "node":
+                node, key = self.place[1:]
+                if key is None:
+                    self.load("LoadKeyOrVal", table.node(node, KEY))
+                elif self.is_between(key):
+                    self.load("LoadLink", table.link(node, rng.choice([LEFT, RIGHT])))
+                else:
+                    continue
+            elif choice < 0.75 and self.links:
+                link = rng.choice(self.links)
+                self.load("LoadTag", table.tag(link[0], link[1]))
+            elif choice < 0.8 and self.may_lock():
+                node = rng.choice(self.may_lock())
+                if self.lock(node):
+                    mine.append(node)
+            elif choice < 0.85 and self.locked:
+                node = rng.choice(sorted(self.locked))
+                self.load("LoadLink", table.link(node, rng.choice([LEFT, RIGHT])))
+            elif choice < 0.87 and mine:
+                self.unlock(mine.pop(rng.randrange(len(mine))))
+            elif choice < 0.89:
+                self.load_stamp(0)
+            else:
+                continue
+            yield
+        return mine
+
+    def found_gap(self):
+        """A remembered null link with a tag, and a key between the turns' keys; None where there is none."""
+        found = [link for link in self.links if not link[2] and link[3] is not None]
+        if not found:
+            return None
+        node, side, _, tag, above, below = self.rng.choice(found)
+        low, high = -1 if below is None else below, self.table.most_key + 1 if above is None else above
+        return None if high - low < 2 else (node, side, tag, self.rng.randrange(low + 1, high))
+
+    def try_found(self, line):
+        """An insert by any null link that was met: the key need not be the one that was searched."""
+        mine = yield from self.wander(self.rng.randrange(60))
+        gap = self.found_gap()
+        if not gap or not self.has_slots():
+            yield from self.unlock_all(mine)
+            return
+        node, side, tag, key = gap
+        if node not in self.locked:
+            won = self.lock(node)
+            yield
+            if not won:
+                yield from self.unlock_all(mine)
+                return
+            mine.append(node)
+        mark = self.load("LoadMark", self.table.node(node, MARK))
+        yield
+        still = yield from self.is_still(node, side, 0, tag)
+        if mark or not still:
+            yield from self.unlock_all(mine)
+            return
+        self.assert_gap(node, side, key)
+        head, _ = yield from self.locked_child(node, side)
+        yield from self.insert(line, key, self.rng.randrange(1000), node, side, head)
+        self.table.cases["insert at a null link that was met"] += 1
+        yield from self.unlock_all([other for other in mine if other != node])
+
+    def assert_gap(self, node, side, key):
+        """The law on null links: the key is in the gap of the link."""
+        where = (0, RIGHT)
+        while self.table.selected(*where, self.table.words[0]):
+            child = self.table.selected(*where, self.table.words[0])
+            here = self.table.key(child)
+            if here == key:
+                raise Refused("the key of a null link is in the tree")
+            where = (child, LEFT if key < here else RIGHT)
+        if where != (node, side):
+            raise Refused("a null link has not its key in its gap")
+
     def try_inside(self, line, key, change):
-        node, side, entry, child = yield from self.search(key)
+        rng = self.rng
+        if rng.random() < 0.15 and not self.table.inserts:
+            yield from self.try_found(line)
+            return False
+        if rng.random() < 0.2:
+            mine = yield from self.wander(rng.randrange(12))
+            yield from self.unlock_all(mine)
+            self.load_stamp(0)
+            yield
+        ended = yield from self.plain_search(key)
+        if not ended:
+            return False
+        node, side, child = ended
         if not child and change is None or child and self.table.inserts:
             return True
-        nodes = [node] + ([child] if child else [])
-        successor = None
-        if child and change is None:
-            left = yield from self.child_at(child, LEFT)
-            right = yield from self.child_at(child, RIGHT)
-            if left[1] and right[1]:
-                successor = yield from self.successor(child, right)
-                if successor[0] != child:
-                    nodes.append(successor[0])
-                nodes.append(successor[1])
+        if not child:
+            done = yield from self.try_insert(line, key, change, node, side)
+        elif change is not None:
+            done = yield from self.try_replace(line, key, change, node, side, child)
+        else:
+            done = yield from self.try_remove(line, key, node, side, child)
+        return done
+
+    def is_locked(self, nodes):
         locked = yield from self.lock_all(nodes)
+        if locked and self.rng.random() < 0.1:
+            for link in self.rng.sample(self.links, min(2, len(self.links))):
+                self.load("LoadTag", self.table.tag(link[0], link[1]))
+                yield
+        return locked
+
+    def try_insert(self, line, key, change, node, side):
+        tag = yield from self.tag_of(node, side)
+        locked = yield from self.is_locked([node])
         if not locked:
             return False
+        still = yield from self.is_still(node, side, 0, tag)
+        if not still:
+            yield from self.unlock_all([node])
+            return False
+        self.assert_gap(node, side, key)
+        head, _ = yield from self.locked_child(node, side)
+        yield from self.insert(line, key, change, node, side, head)
+        return True
+
+    def try_replace(self, line, key, change, node, side, child):
+        locked = yield from self.is_locked([node, child])
+        if not locked:
+            return False
+        still = yield from self.is_still(node, side, child)
+        if not still:
+            yield from self.unlock_all([node, child])
+            return False
+        if self.rng.random() < 0.3:
+            self.load("LoadLink", self.table.link(child, self.rng.choice([LEFT, RIGHT])))
+            yield
+        head, under = yield from self.locked_child(node, side)
+        assert under == child
+        yield from self.replace(line, key, change, node, side, head, child)
+        return True
+
+    def try_remove(self, line, key, node, side, child):
+        table = self.table
+        self.load("LoadLink", table.link(child, RIGHT))
+        yield
+        locked = yield from self.is_locked([node, child])
+        if not locked:
+            return False
+        nodes = [node, child]
+        still = yield from self.is_still(node, side, child)
+        left = self.load("LoadLink", table.link(child, LEFT))
+        yield
+        right = self.load("LoadLink", table.link(child, RIGHT))
+        yield
+        if not still or self.place[1] != right and self.place[0] == "node" or self.place[0] == "gap" and right:
+            yield from self.unlock_all(nodes)
+            return False
+        successor = None
+        if left and right:
+            successor = yield from self.plain_successor(child, right)
+            if not successor:
+                yield from self.unlock_all(nodes)
+                return False
+            parent, first, tag = successor
+            more = [parent, first] if parent != child else [first]
+            nodes += more
+            locked = yield from self.lock_more(more)
+            if not locked:
+                yield from self.unlock_all([child, node])
+                return False
+            under = yield from self.is_still(parent, LEFT if parent != child else RIGHT, first)
+            still = under and (yield from self.is_still(first, LEFT, 0, tag))
+            if not still:
+                yield from self.unlock_all(nodes)
+                return False
         if self.rng.random() < 0.1:
             yield from self.prune(self.rng.choice(nodes), self.rng.choice([LEFT, RIGHT]))
         head, under = yield from self.locked_child(node, side)
-        if (head, under) != (entry, child):
-            yield from self.unlock_all(nodes)
-            return False
-        if not child:
-            yield from self.insert(line, key, change, node, side, head)
-        elif change is not None:
-            yield from self.replace(line, key, change, node, side, head, child)
-        elif successor is None:
+        assert under == child
+        if successor is None:
             done = yield from self.cut(line, key, node, side, head, child)
-            return done
         else:
-            done = yield from self.move(line, key, node, side, head, child, successor)
-            return done
+            done = yield from self.move_up(line, key, node, side, head, child, successor[:2])
+        assert done, "what was validated is not so"
         return True
 
-    def successor(self, child, right):
-        """The parent and the slot of the first node below the right link."""
-        parent, here = child, right[1]
+    def remove_deep(self, key):
+        """Removes a key whose successor hangs further down."""
+        yield from self.begin(0)
+        node, side, child = yield from self.plain_search(key)
+        done = yield from self.try_remove(0, key, node, side, child)
+        assert done
+        yield from self.end()
+        yield from self.unlink()
+
+    def lock_ahead(self, key, ahead):
+        """Enters, and locks the node of a key without a left child, and the node above it; adds both to the list."""
+        yield from self.begin(0)
+        parent, side, child = yield from self.plain_search(key)
+        assert child and side == LEFT and not self.load("LoadLink", self.table.link(child, LEFT))
+        yield
+        locked = yield from self.lock_all([parent, child])
+        assert locked
+        ahead += [parent, child]
+
+    def remove_above(self, key, parent, first):
+        """Inside its section, with the successor and the node above it locked: begins at the root again, and removes a key."""
+        self.load_stamp(0)
+        yield
+        node, side, child = yield from self.plain_search(key)
+        locked = yield from self.lock_all([node, child])
+        still = yield from self.is_still(node, side, child)
+        assert locked and still
+        head, _ = yield from self.locked_child(node, side)
+        done = yield from self.move_up(0, key, node, side, head, child, (parent, first))
+        assert done
+        yield from self.end()
+        yield from self.unlink()
+
+    def lock_more(self, nodes):
+        locked = yield from self.lock_all(nodes)
+        return locked
+
+    def plain_successor(self, child, right):
+        """The parent and the slot of the successor, with the tag of its null left link; None where another update was met."""
+        table, parent, here = self.table, child, right
         while True:
-            entry, below = yield from self.child_at(here, LEFT)
+            key = self.load("LoadKeyOrVal", table.node(here, KEY))
+            yield
+            if not self.is_between(key):
+                table.cases["a child beyond its turn"] += 1
+                return None
+            below = self.load("LoadLink", table.link(here, LEFT))
+            yield
             if not below:
-                return parent, here
+                tag = yield from self.tag_of(here, LEFT)
+                return parent, here, tag
             parent, here = here, below
 
     def prepare(self, node, side, entry):
@@ -533,7 +871,7 @@ class Seat:
         yield from self.finish([entry], [child], [node, child], [(node, side)])
         return True
 
-    def move(self, line, key, node, side, head, child, successor):
+    def move_up(self, line, key, node, side, head, child, successor):
         parent, first = successor
         nodes = [node, child] + ([parent] if parent != child else []) + [first]
         left = yield from self.locked_child(child, LEFT)
@@ -662,14 +1000,64 @@ def random_run(rng, count, inserts):
         seats.append(Seat(table, rng, number, node, entry))
         node, entry = node + size[0], entry + size[1]
     keys = rng.choice([30, 60, 200] if inserts else [3, 6, 10])
+    table.most_key = keys
     lives = [seat.live(keys) for seat in seats]
     steps = 0
     while len(table.events) < count:
         next(lives[rng.randrange(len(seats))])
         steps += 1
         check_links(table, seats)
+        search_model.check_searches(table, seats)
         if steps % 17 == 0:
             check(table, seats)
+    return table
+
+
+def nested_run(rng, count):
+    """Two removals wait, the second one of the node with which the first replaced its own; then all seats go on at random.
+
+    By the procedures the second one would be stopped at the successor of the first, which is locked. So it has locked the
+    link to its own successor before, on its way past that node."""
+    sizes = [(14, 60, count)] * 4
+    table, seats = Table(sizes, False), []
+    for number in range(4):
+        seats.append(Seat(table, rng, number, 1 + 14 * number, 1 + 60 * number))
+    table.most_key = keys = 12
+
+    def run(life, until=lambda: False):
+        for _ in life:
+            check_links(table, seats)
+            search_model.check_searches(table, seats)
+            if until():
+                return
+
+    def answered(seat, key, change):
+        done = False
+        while not done:
+            done = yield from seat.try_update(0, key, change)
+
+    def waits(seat):
+        return lambda: seat.last and not seat.is_inside() and len(seat.unset) == 1
+
+    table.inserts = True
+    for key in (2, 0, 10, 4, 8, 6):
+        run(answered(seats[3], key, key))
+    table.inserts, ahead = False, []
+    run(seats[1].lock_ahead(6, ahead))
+    first, second = seats[0].remove_deep(2), seats[1].remove_above(4, *ahead)
+    run(first, waits(seats[0]))
+    run(second, waits(seats[1]))
+    assert seats[0].last and seats[1].last
+    lives = [chain(first, seats[0].live(keys)), chain(second, seats[1].live(keys))]
+    lives += [seat.live(keys) for seat in seats[2:]]
+    for _ in range(rng.randrange(120)):
+        next(lives[2 if rng.random() < 0.9 else 3])
+        check_links(table, seats)
+        search_model.check_searches(table, seats)
+    while len(table.events) < count:
+        next(lives[rng.randrange(4)])
+        check_links(table, seats)
+        search_model.check_searches(table, seats)
     return table
 
 
@@ -753,7 +1141,8 @@ def main():
     rng = random.Random(options.seed)
     cases, freed, cut_off = Counter(), 0, 0
     for run in range(options.runs):
-        table = random_run(rng, options.events, options.inserts)
+        nested = run % 5 == 4 and not options.inserts
+        table = nested_run(rng, options.events) if nested else random_run(rng, options.events, options.inserts)
         cases.update(table.cases)
         freed += table.freed
         cut_off += table.cut_off
@@ -761,7 +1150,7 @@ def main():
             compare(options.program, rng, table, run)
     missed = sorted((CASES | CUTS | WAITS) - set(cases)) + ["slots that are used again"] * (not freed) + ["entries cut off"] * (not cut_off)
     if not options.inserts and missed:
-        print("not reached: %s" % ", ".join(missed))
+        print("not reached: %s (%s)" % (", ".join(missed), dict(cases)))
         sys.exit(1)
     counts = ", ".join("%s: %d" % case for case in sorted(cases.items()))
     told = (options.runs, options.events, counts, cut_off, freed)

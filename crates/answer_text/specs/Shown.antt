@@ -56,9 +56,6 @@ content_members key r =
     ∷ always (codes "Size") (whole r.size)
     ∷ []
 
-abbrev pub prefix_data : List ℕ → Data
-prefix_data prefix = object_of (always (codes "Prefix") (string prefix) ∷ [])
-
 -- the token that goes on behind a page's point, where it has one
 abbrev pub point_token : ListQuery → Option TokenPoint → List ℕ
 point_token query point = option_map_or (next_token query) point []

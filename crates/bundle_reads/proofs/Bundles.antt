@@ -1,5 +1,4 @@
--- The entries of a link of the tree that a pass reads, from the head on: what each load finds, where the pass then stands, and what it
--- then remembers.
+-- The entries of a link of the tree that a pass reads, from the head on: what each load finds, and where the pass then stands.
 use Rattle.std.proofs.Common.{◌≡◌, ℕ, ◌<◌, ◌≤◌, ◌==◌, ◌&&◌, ◌||◌, List, [], Bool, true, false, ltb, leb, is_none, is_some, arith, refl, ap, ◌∙◌, sym, subst, Option, Some, None, inl, inr}
 use Rattle.std.specs.Prelude.{IfSome}
 use Rattle.std.proofs.lemmas.Bool.Decides.{nat_tests}
@@ -24,16 +23,15 @@ use Rattle.core_laws.specs.ViewNeeds.{event_at, IsAtEntry, IsInReach, MayReadHea
 use Rattle.core_laws.proofs.Alone.{nothing}
 use Rattle.core_laws.proofs.Falls.{falls_law}
 use Rattle.core_laws.proofs.ViewTests.{word_named}
-use Rattle.plan_laws.specs.Tries.{RemembersLink}
-use Rattle.plan_laws.proofs.Remembering.{child_remembered, no_head_remembered, no_next_remembered, loads_remember}
 use Rattle.table_rule.specs.Running.{Happened, table}
 use Rattle.table_rule.proofs.Happens.{happened_word}
 use Rattle.table_rule.proofs.Lists.{item_at}
 use Rattle.table_steps.specs.Loads.{IsTreeLink, IsAtSelected}
 use Rattle.table_steps.specs.Passes.{IsAlone}
-use Rattle.bundle_reads.specs.Links.{InsideAt, LeadsThere, HasSearched}
-use Rattle.bundle_reads.specs.Children.{IsSeen, IsAtEntryOf, ComesAlong, number_bound}
-use Rattle.bundle_reads.proofs.ReadMoves.{inside_on, layout_same, leads_before, link_after, head_read, ts_read, ptr_read, next_read, head_place, head_waits, head_above, next_place, next_waits, next_above, ts_place, ts_waits, searched_more}
+use Rattle.bundle_reads.specs.Links.{InsideAt, LeadsThere}
+use Rattle.bundle_reads.specs.Children.{IsAtEntryOf, ComesAlong, number_bound}
+use Rattle.bundle_reads.specs.Reads.{HasRead}
+use Rattle.bundle_reads.proofs.ReadMoves.{inside_on, layout_same, leads_before, link_after, head_read, ts_read, ptr_read, next_read, head_place, head_waits, head_above, next_place, next_waits, next_above, ts_place, ts_waits, read_more}
 use Rattle.bundle_reads.proofs.ReadTrees.{finds, found_leads, SectionReader}
 
 link_reach : (v : View) (node : ℕ) (side : Side) → IsTreeLink v node side → IsInReach v node
@@ -55,9 +53,6 @@ free v t node reads held = let none : 0 < count node (held_slots []) = subst (λ
 
 -- of a pass that reads at a number, and has nothing under way
 module _ (v : View) (t : ℕ) (reads : InsideAt v t) (known : SectionReader v t) (link : Link) (is_link : IsTreeLink v link.node link.side) where
-  unraised : v.update.raised ≡ None
-  unraised = ap (λ (u : Updating). u.raised) known.idle
-
   pending : v.update.pending ≡ []
   pending = ap (λ (u : Updating). u.pending) known.idle
 
@@ -77,24 +72,17 @@ module _ (v : View) (t : ℕ) (reads : InsideAt v t) (known : SectionReader v t)
         found_leads v.layout h.words h.views h.rule s v h.seat t reads link 0
         ((head_finds.heads link.node link.side (link_reach v link.node link.side is_link)).null (head_word ∙ none))
 
-    head_known : n ≡ 0 → RemembersLink w link 0 0
-    head_known none =
-        subst (λ u. RemembersLink u link 0 0) (sym (is ∙ ap (λ x. head_loaded v link.node link.side x number) none)) (no_head_remembered v link number unraised)
-
-    pub head_searched : HasSearched v w
-    head_searched = record {
-      read = head_read v w reads.inside.unlocked link.node link.side n number is;
-      links = subst (λ u. (at : Link) (child entry : ℕ) → RemembersLink v at child entry → RemembersLink u at child entry) (sym is) ((loads_remember v).head link.node n number link.side).link;
-    }
+    pub head_reads : HasRead v w
+    head_reads = head_read v w reads.inside.unlocked link.node link.side n number is
 
     pub at_head : ComesAlong v w link n
     at_head = record {
       stands = record {
         place = head_place v w link.node link.side n number is;
-        there = subst (λ (z : Layout). n ≤ z.entries) (sym (layout_same v w head_searched.read)) low;
+        there = subst (λ (z : Layout). n ≤ z.entries) (sym (layout_same v w head_reads)) low;
         above = subst (λ o. IfSome o (λ k. 0 < k)) (sym (head_above v w link.node link.side n number is)) tt;
       };
-      null = λ none. record { leads = head_null none; known = head_known none };
+      null = head_null;
       waits = head_waits v w link.node link.side n number is;
     }
 
@@ -105,11 +93,8 @@ module _ (v : View) (t : ℕ) (reads : InsideAt v t) (known : SectionReader v t)
 
     -- its number
     module _ (x : ℕ) (y : View) (is : y ≡ ts_loaded v e x) where
-      pub number_searched : HasSearched v y
-      number_searched = record {
-        read = ts_read v y reads.inside.unlocked e x is;
-        links = subst (λ u. (at : Link) (child entry : ℕ) → RemembersLink v at child entry → RemembersLink u at child entry) (sym is) ((loads_remember v).number e x).link;
-      }
+      pub number_reads : HasRead v y
+      number_reads = ts_read v y reads.inside.unlocked e x is
 
       number_waits : y.counts.waits ≡ raised_if (x == 0) v.counts.waits
       number_waits = ts_waits v y e x pending (ap (is_watching v) at.place ∙ ap (λ o. is_some o || locks link.node v.held.nodes) reads.section) is
@@ -154,13 +139,10 @@ module _ (v : View) (t : ℕ) (reads : InsideAt v t) (known : SectionReader v t)
       y_place = ts_place v y link.node link.side None e x at.place is
 
       y_reads : InsideAt y t
-      y_reads = inside_on v y t number_searched.read reads
+      y_reads = inside_on v y t number_reads reads
 
       y_low : e ≤ y.layout.entries
-      y_low = subst (λ (z : Layout). e ≤ z.entries) (sym (layout_same v y number_searched.read)) at.there
-
-      y_unraised : y.update.raised ≡ None
-      y_unraised = ap (λ (u : View). u.update.raised) number_searched.read.view ∙ unraised
+      y_low = subst (λ (z : Layout). e ≤ z.entries) (sym (layout_same v y number_reads)) at.there
 
       abbrev y_at : IsAtEntry y e
       y_at = record { node = link.node; side = link.side; found = Some x; place = y_place; some = some; there = y_low }
@@ -171,7 +153,7 @@ module _ (v : View) (t : ℕ) (reads : InsideAt v t) (known : SectionReader v t)
       pub at_selected : 0 < x → x ≤ t → IsAtSelected y e
       at_selected above past = record {
         at = y_at;
-        link = link_after v y link.node link.side number_searched.read is_link;
+        link = link_after v y link.node link.side number_reads is_link;
         section = t;
         reads = y_reads.section;
         number = x;
@@ -189,24 +171,14 @@ module _ (v : View) (t : ℕ) (reads : InsideAt v t) (known : SectionReader v t)
         abbrev child_finds : ReadsTree (table y.layout g.words g.views) y t
         child_finds = finds y.layout g.words g.views g.rule s y g.seat t y_reads
 
-        child_leads : LeadsThere v link c
+        pub child_leads : LeadsThere v link c
         child_leads =
-            leads_before v y link c number_searched.read
+            leads_before v y link c number_reads
             (found_leads y.layout g.words g.views g.rule s y g.seat t y_reads link c
             (subst (LeadsTo child_finds.tree link.node link.side) child_word (child_finds.children link.node link.side e x y_place some above past (free y t link.node y_reads)).child))
 
-        child_known : RemembersLink u link c e
-        child_known = subst (λ q. RemembersLink q link c e) (sym gives) (child_remembered y link e t x c y_unraised y_reads.section y_place above past (free y t link.node y_reads))
-
-        pub child_seen : IsSeen v u link (record { child = c; entry = e })
-        child_seen = record { leads = child_leads; known = child_known }
-
-        pub child_searched : HasSearched v u
-        child_searched =
-            searched_more v y u number_searched record {
-              read = ptr_read y u y_reads.inside.unlocked c gives;
-              links = subst (λ q. (at : Link) (child entry : ℕ) → RemembersLink y at child entry → RemembersLink q at child entry) (sym gives) ((loads_remember y).child c).link;
-            }
+        pub child_reads : HasRead v u
+        child_reads = read_more v y u number_reads (ptr_read y u y_reads.inside.unlocked c gives)
 
         pub child_waits : u.counts.waits ≡ v.counts.waits
         child_waits = ap (λ (q : View). q.counts.waits) gives ∙ written_waits above
@@ -233,22 +205,15 @@ module _ (v : View) (t : ℕ) (reads : InsideAt v t) (known : SectionReader v t)
 
           next_null : n ≡ 0 → LeadsThere v link 0
           next_null none =
-              leads_before v y link 0 number_searched.read
+              leads_before v y link 0 number_reads
               (found_leads y.layout g.words g.views g.rule s y g.seat t y_reads link 0
               ((next_finds.nexts link.node link.side e (Some x) y_place some above_known).null (next_word ∙ none)))
 
-          next_known : n ≡ 0 → RemembersLink u link 0 0
-          next_known none =
-              subst (λ q. RemembersLink q link 0 0) (sym (gives ∙ ap (next_loaded y e) none)) (no_next_remembered y link e (Some x) y_unraised y_place above_known)
+          next_moves : HasRead y u
+          next_moves = next_read y u y_reads.inside.unlocked link.node link.side (Some x) e n y_place gives
 
-          next_moves : HasSearched y u
-          next_moves = record {
-            read = next_read y u y_reads.inside.unlocked link.node link.side (Some x) e n y_place gives;
-            links = subst (λ q. (at : Link) (child entry : ℕ) → RemembersLink y at child entry → RemembersLink q at child entry) (sym gives) ((loads_remember y).next e n).link;
-          }
-
-          pub next_searched : HasSearched v u
-          next_searched = searched_more v y u number_searched next_moves
+          pub next_reads : HasRead v u
+          next_reads = read_more v y u number_reads next_moves
 
           left : u.reading.above ≡ Some x
           left = next_above y u link.node link.side (Some x) e n y_place gives
@@ -262,9 +227,9 @@ module _ (v : View) (t : ℕ) (reads : InsideAt v t) (known : SectionReader v t)
           at_next = record {
             stands = record {
               place = next_place y u link.node link.side (Some x) e n y_place gives;
-              there = subst (λ (z : Layout). n ≤ z.entries) (sym (layout_same y u next_moves.read)) low;
+              there = subst (λ (z : Layout). n ≤ z.entries) (sym (layout_same y u next_moves)) low;
               above = subst (λ o. IfSome o (λ k. 0 < k)) (sym left) (omega (arith, over));
             };
-            null = λ none. record { leads = next_null none; known = next_known none };
+            null = next_null;
             waits = next_waits y u link.node link.side (Some x) e n y_place gives ∙ written_waits (omega (arith, over));
           }

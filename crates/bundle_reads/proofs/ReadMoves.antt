@@ -14,14 +14,12 @@ use Rattle.index_words.specs.declared.word.Field.{Field}
 use Rattle.core_grace.specs.Holds.{tree_slots}
 use Rattle.core_grace.specs.Sections.{is_even}
 use Rattle.core_events.specs.LoadMoves.{bundle_link, child_links, found_at, has_moved, head_loaded, is_above, is_watching, kept_if, locks, meets_pending, next_at, next_loaded, next_nexts, node_known, place_known, ptr_loaded, raised_if, remembered_if, stored_by, ts_loaded, with_held, with_place}
-use Rattle.core_events.specs.LockMoves.{pair_known, pair_loaded}
+use Rattle.core_events.specs.LockMoves.{pair_known, pair_loaded, place_paired}
 use Rattle.core_trees.specs.declared.link.Link.{Link}
 use Rattle.plan_laws.proofs.Frames.{same-counts, moves-grow, waits-grow}
 use Rattle.table_steps.specs.Loads.{IsTreeLink}
 use Rattle.table_steps.specs.Passes.{Pass, Inside, IsSamePass}
-use Rattle.bundle_reads.specs.declared.child.Seen.{Seen}
-use Rattle.bundle_reads.specs.Children.{IsSeen}
-use Rattle.bundle_reads.specs.Links.{InsideAt, LeadsThere, HasSearched}
+use Rattle.bundle_reads.specs.Links.{InsideAt, LeadsThere}
 use Rattle.bundle_reads.specs.Reads.{read_on, HasRead}
 
 pub read_nothing : (v : View) → HasRead v v
@@ -64,29 +62,9 @@ layout_same v w read = ap (λ (u : View). u.layout) read.view
 pub leads_before : (v w : View) (at : Link) (child : ℕ) → HasRead v w → LeadsThere w at child → LeadsThere v at child
 leads_before v w at child read leads = λ tree is. leads tree (tree_same v w read ∙ is)
 
-pub leads_after : (v w : View) (at : Link) (child : ℕ) → HasRead v w → LeadsThere v at child → LeadsThere w at child
-leads_after v w at child read leads = λ tree is. leads tree (sym (tree_same v w read) ∙ is)
-
 pub link_after : (v w : View) (node : ℕ) (side : Side) → HasRead v w → IsTreeLink v node side → IsTreeLink w node side
 link_after v w node side read link =
     subst (λ (ns : List TreeNode). ((node ≡ 0) × (side ≡ Right)) ⊎ (0 < count node (tree_slots ns))) (sym (tree_same v w read)) link
-
--- one search after another
-pub searched_nothing : (v : View) → HasSearched v v
-searched_nothing v = record { read = read_nothing v; links = λ at child entry known. known }
-
-pub searched_more : (v w x : View) → HasSearched v w → HasSearched w x → HasSearched v x
-searched_more v w x first second = record {
-  read = read_more v w x first.read second.read;
-  links = λ at child entry known. second.links at child entry (first.links at child entry known);
-}
-
--- what was seen is seen still
-pub seen_later : (v w x : View) (at : Link) (seen : Seen) → HasSearched w x → IsSeen v w at seen → IsSeen v x at seen
-seen_later v w x at seen more is = record { leads = is.leads; known = more.links at seen.child seen.entry is.known }
-
-pub seen_before : (v w x : View) (at : Link) (seen : Seen) → HasRead v w → IsSeen w x at seen → IsSeen v x at seen
-seen_before v w x at seen read is = record { leads = leads_before v w at seen.child read is.leads; known = is.known }
 
 -- the same pass
 pub same_pass : (p : Pass) → IsSamePass p p
@@ -165,8 +143,19 @@ module _ (v w : View) (unlocked : v.held.nodes ≡ []) where
       no_nexts : next_nexts v node e found next ≡ v.held.nexts
       no_nexts = ap (λ (hs : List HeldNode). kept_if (locks node hs) v.held.nexts (record { node = node; entry = e; stamp = found; next = next })) unlocked
 
-  pub pair_read : (field : Field) (node x : ℕ) → w ≡ pair_loaded v field node x → w ≡ v
-  pair_read field node x is = is ∙ ap (λ (hs : List HeldNode). record v { held = record v.held { nodes = hs } }) (map_none (pair_known field node x) v.held.nodes unlocked)
+  -- a key is kept with the place of a search on plain links
+  pub pair_read : (field : Field) (node x : ℕ) → w ≡ pair_loaded v field node x → HasRead v w
+  pair_read field node x is =
+      let place : Place = place_paired field node x v.reading.place in
+      record {
+        place = place;
+        above = v.reading.above;
+        links = v.reading.links;
+        waits = v.counts.waits;
+        moves = v.counts.moves;
+        view = is ∙ ap (λ (hs : List HeldNode). record v { reading = record v.reading { place = place }; held = record v.held { nodes = hs } }) (map_none (pair_known field node x) v.held.nodes unlocked);
+        grown = same-counts v w (ap (λ (u : View). u.counts) is);
+      }
 
 -- what a load of a head or of a next leaves
 pub head_place : (v w : View) (node : ℕ) (side : Side) (head number : ℕ) → w ≡ head_loaded v node side head number → w.reading.place ≡ AtEntry node side head None

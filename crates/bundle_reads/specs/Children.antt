@@ -4,21 +4,10 @@ use Rattle.index_words.specs.declared.view.View.{View}
 use Rattle.index_words.specs.declared.view.reading.Place.TheVariants.{Entry as AtEntry}
 use Rattle.core_trees.specs.declared.link.Link.{Link}
 use Rattle.core_events.specs.LoadMoves.{risen}
-use Rattle.plan_laws.specs.Tries.{RemembersLink}
 use Rattle.table_steps.specs.Passes.{IsAlone}
-use Rattle.bundle_reads.specs.declared.child.Seen.{Seen}
 use Rattle.bundle_reads.specs.declared.child.Along.{Along}
 use Rattle.bundle_reads.specs.declared.child.Along.TheVariants.{Found, Next, Pending}
 use Rattle.bundle_reads.specs.Links.{LeadsThere}
-
--- the link leads to this child in the tree that the view `v` reads, and is remembered so in the view `w`
-pub record IsSeen (v w : View) (at : Link) (seen : Seen) : Type 0 where
-  pub leads : LeadsThere v at seen.child
-  pub known : RemembersLink w at seen.child seen.entry
-
--- no child, and no entry that has one
-abbrev pub nothing : Seen
-nothing = record { child = 0; entry = 0 }
 
 -- the count of entries without a number after a look: it has risen where such an entry was met, so that nothing was found
 abbrev pub waits_after : {X : Type 0} → Option X → ℕ → ℕ
@@ -41,12 +30,12 @@ pub record IsAtEntryOf (v : View) (at : Link) (entry : ℕ) : Type 0 where
 -- a load has come to an entry of the link's bundle, or behind the last one, where the link is found null
 pub record ComesAlong (v w : View) (at : Link) (entry : ℕ) : Type 0 where
   pub stands : IsAtEntryOf w at entry
-  pub null : entry ≡ 0 → IsSeen v w at nothing
+  pub null : entry ≡ 0 → LeadsThere v at 0
   pub waits : w.counts.waits ≡ v.counts.waits
 
 -- what has come of a look at an entry: where it goes on, the next entry's number is below this one's; an entry without
 -- a number is another pass's
 abbrev pub GoesAlong : View → View → Link → Along → Type 0
-GoesAlong v w at (Found seen) = IsSeen v w at seen × (w.counts.waits ≡ v.counts.waits)
+GoesAlong v w at (Found child) = LeadsThere v at child × (w.counts.waits ≡ v.counts.waits)
 GoesAlong v w at (Next entry) = ComesAlong v w at entry × (number_bound w.reading.above < number_bound v.reading.above)
 GoesAlong v w at Pending = (w.counts.waits ≡ risen v.counts.waits) × ¬ IsAlone w

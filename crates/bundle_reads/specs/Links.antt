@@ -1,13 +1,11 @@
--- A link of the tree that a pass reads at its section number, and what the loads along the link's entries leave of its view.
+-- A link of the tree that a pass reads at its section number.
 use Rattle.std.specs.Prelude.{◌≡◌, ℕ, Some}
 use Rattle.index_words.specs.declared.view.View.{View}
 use Rattle.core_trees.specs.declared.link.Link.{Link}
 use Rattle.core_trees.specs.NamedTree.{NamedTree}
 use Rattle.core_events.specs.Versions.{tree_nodes}
 use Rattle.core_laws.specs.Found.{LeadsTo}
-use Rattle.plan_laws.specs.Tries.{RemembersLink}
 use Rattle.table_steps.specs.Passes.{Inside}
-use Rattle.bundle_reads.specs.Reads.{HasRead}
 
 -- inside a section, with no lock held, the pass reads at this number
 pub record InsideAt (v : View) (t : ℕ) : Type 0 where
@@ -17,8 +15,3 @@ pub record InsideAt (v : View) (t : ℕ) : Type 0 where
 -- the tree whose nodes the view has has this child at the link, 0 for none
 abbrev pub LeadsThere : View → Link → ℕ → Type 0
 LeadsThere v at child = (tree : NamedTree) → v.reading.tree ≡ tree_nodes tree → LeadsTo tree at.node at.side child
-
--- loads along links were made: each link that was remembered is remembered still
-pub record HasSearched (v w : View) : Type 0 where
-  pub read : HasRead v w
-  pub links : (at : Link) (child entry : ℕ) → RemembersLink v at child entry → RemembersLink w at child entry

@@ -1,25 +1,19 @@
-//! The child of a link of the tree that a pass reads, and the entry that tells it.
+//! The child of a link of the tree that a pass reads, as the entries of the link's bundle tell it.
 ghost use Rattle.std.specs.Prelude.{◌≡◌, ◌<◌, IfSome, IfNone};
 ghost use Rattle.table_steps.specs.Loads.{IsTreeLink};
 ghost use Rattle.table_steps.specs.Passes.{IsSamePass, IsAlone};
-ghost use Rattle.bundle_reads.specs.Links.{InsideAt, HasSearched};
-ghost use Rattle.bundle_reads.specs.Children.{IsSeen, waits_after, IsAtEntryOf, GoesAlong};
+ghost use Rattle.bundle_reads.specs.Links.{InsideAt, LeadsThere};
+ghost use Rattle.bundle_reads.specs.Children.{waits_after, IsAtEntryOf, GoesAlong};
+ghost use Rattle.bundle_reads.specs.Reads.{HasRead};
 
 use core_trees::Link;
 use table_steps::TablePass;
 
-/// The child of a link, 0 for none, and the entry with which the pass remembers it, 0 where no entry has it.
-#[derive(Clone, Copy, Debug, PartialEq, Eq)]
-pub struct Seen {
-    pub child: u32,
-    pub entry: u32,
-}
-
 /// What comes of a look at an entry of a link's bundle.
 #[derive(Clone, Copy)]
 pub(crate) enum Along {
-    /// It is the one that tells.
-    Found(Seen),
+    /// It is the one that tells the child, 0 for none.
+    Found(u32),
     /// The next older one is to be looked at, 0 behind the last one.
     Next(u32),
     /// It has no number yet.
@@ -33,7 +27,7 @@ fn look_along(pass: &mut TablePass<'_>, at: u64, link: Link, entry: u32) -> Alon
     requires stands { IsAtEntryOf pass.old.view link entry }
     requires some { 0 < entry }
     ensures same { IsSamePass pass.old pass.new }
-    ensures searched { HasSearched pass.old.view pass.new.view }
+    ensures read { HasRead pass.old.view pass.new.view }
     ensures goes { GoesAlong pass.old.view pass.new.view link result }
 {
     pass.facts();
@@ -42,26 +36,25 @@ fn look_along(pass: &mut TablePass<'_>, at: u64, link: Link, entry: u32) -> Alon
         return Along::Pending;
     }
     if number <= at {
-        let child = pass.load_ptr(entry);
-        return Along::Found(Seen { child, entry });
+        return Along::Found(pass.load_ptr(entry));
     }
     let next = pass.load_next(entry);
     Along::Next(next)
 }
 
-/// The child of a link of the tree that the pass reads at `at`: of the link's entries, from the newest on, the first
-/// one whose number is at most `at` has it. Their numbers fall, so it ends. None where an entry had no number yet,
-/// which another pass has pending; the count of such entries has then risen.
+/// The child of a link of the tree that the pass reads at `at`, 0 for none: of the link's entries, from the newest on,
+/// the first one whose number is at most `at` has it. Their numbers fall, so it ends. None where an entry had no number
+/// yet, which another pass has pending; the count of such entries has then risen.
 ///
 /// It is built into its callers: a search makes it in each level, and a call there stores and loads what the caller
 /// keeps in registers.
 #[inline(always)]
-pub fn child_at(pass: &mut TablePass<'_>, at: u64, link: Link) -> Option<Seen>
+pub fn child_at(pass: &mut TablePass<'_>, at: u64, link: Link) -> Option<u32>
     requires reads { InsideAt pass.old.view at }
     requires link { IsTreeLink pass.old.view link.node link.side }
     ensures same { IsSamePass pass.old pass.new }
-    ensures searched { HasSearched pass.old.view pass.new.view }
-    ensures seen { IfSome result (IsSeen pass.old.view pass.new.view link) }
+    ensures read { HasRead pass.old.view pass.new.view }
+    ensures leads { IfSome result (LeadsThere pass.old.view link) }
     ensures waits { pass.new.view.counts.waits ≡ waits_after result pass.old.view.counts.waits }
     ensures alone { IfNone result (¬ IsAlone pass.new.view) }
 {
@@ -69,10 +62,10 @@ pub fn child_at(pass: &mut TablePass<'_>, at: u64, link: Link) -> Option<Seen>
     let mut entry = pass.load_head(link.node, link.side);
     'along: loop {
         if entry == 0 {
-            return Some(Seen { child: 0, entry: 0 });
+            return Some(0);
         }
         match look_along(pass, at, link, entry) {
-            Along::Found(seen) => return Some(seen),
+            Along::Found(child) => return Some(child),
             Along::Pending => return None,
             Along::Next(next) => entry = next,
         }

@@ -1,8 +1,8 @@
 //! Reads along the bundles of the tree that a pass reads at its section number: the child of a link, as the link's
-//! entries tell it, whatever other passes do meanwhile. Snapshots go down the tree by it, and so does the search for an
-//! update. The layer above uses `child_at`, inside a section, on a pass that holds no lock.
+//! entries tell it, whatever other passes do meanwhile. Snapshots go down the tree by it. The layer above uses
+//! `child_at`, inside a section, on a pass that holds no lock.
 #![tactic(auto)]
 
 mod child;
 
-pub use child::{Seen, child_at};
+pub use child::child_at;

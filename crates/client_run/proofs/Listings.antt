@@ -81,7 +81,3 @@ pub bad_answers : (dir : List (List ℕ)) (pass : PassView) (last : Option Reply
     → Answers dir pass pass last (answered line request (record { client = pass.number; line = line; at = None; reply = BadToken }))
 bad_answers dir pass last line request knows closed right =
     step_refused dir pass pass last line request BadToken knows refl closed (λ slots enough. right slots) (λ e. cc) refl refl
-
-pub in_range_of : (dir : List (List ℕ)) (query : ListQuery) (point : Option TokenPoint) (line : ℕ) (old new : PassView) (placed : Placed)
-    → ListedAs dir query point line old new placed → HasPageInRange dir placed.reply
-in_range_of dir query point line old new placed is = subst (λ (p : Placed). HasPageInRange dir p.reply) (sym is.reply_is) is.listed.in_range

@@ -11,7 +11,7 @@ use Rattle.bucket_terms.specs.LegalRun.{RequestLine, Answered, answered_lines, l
 use Rattle.bucket_terms.specs.RunParts.{updates_in}
 use Rattle.bucket_terms.specs.PassView.{PassView, IsShort}
 use Rattle.slot_depot.specs.declared.book.Book.{Book}
-use Rattle.client_run.specs.Pooling.{capped, is_no_slot, AnswersPooled, HasGivenSpare, HasGrown, RanPooled}
+use Rattle.client_run.specs.Pooling.{capped, is_no_slot, AnswersPooled, HasGivenSpare, HasGrown}
 use Rattle.client_run.proofs.Growing.{Running, answered_lines-push}
 use Rattle.client_run.proofs.TradedAnswers.{refused_update, spare_later}
 
@@ -31,17 +31,6 @@ trading_none own old free book = record {
   empties = λ enough. omega arith;
   left = omega arith;
   given = λ front l e. let none = ap length e in absurd (omega (arith, length_push front l));
-}
-
-pub ran_pooled : (dir : List (List ℕ)) (own : ℕ) (lines : List RequestLine) (old new : PassView) (free : ℕ) (book after : Book) (replies : List Placed)
-    → Running dir lines (capped own old) (capped own new) replies → Trading own lines old new free book after replies
-    → RanPooled dir own lines old new free book after replies
-ran_pooled dir own lines old new free book after replies run trades = record {
-  ran = run.ran;
-  refused = trades.refused;
-  empties = trades.empties;
-  left = trades.left;
-  given = trades.given;
 }
 
 no_slot_is : (client line : ℕ) (at : Option ℕ) (reply : Reply) → is_no_slot (record { client = client; line = line; at = at; reply = reply }) ≡ true → reply ≡ NoSlot

@@ -7,21 +7,18 @@ use Rattle.std.proofs.lemmas.Option.{slice_get_within, get_or_from_slice_get}
 use Rattle.index_words.specs.declared.layout.Layout.{Layout}
 use Rattle.key_map.specs.declared.update.Update.{Update}
 use Rattle.index_words.specs.declared.view.View.{View}
-use Rattle.index_words.specs.declared.word.Field.{Field}
-use Rattle.index_words.specs.declared.word.Field.TheVariants.{Key, Val, Lock, Mark, Head, Link, Tag}
 use Rattle.index_words.specs.declared.word.Word.{Word}
 use Rattle.index_words.specs.declared.word.Word.TheVariants.{Stamp, Section, Announced, Node, Entry}
 use Rattle.core_events.specs.declared.event.Event.{Event}
 use Rattle.core_events.specs.declared.event.Kind.{Kind}
-use Rattle.core_events.specs.declared.event.Kind.TheVariants.{SplitSeat, JoinSeat, LoadStamp, Prepare, Raise}
+use Rattle.core_events.specs.declared.event.Kind.TheVariants.{SplitSeat, JoinSeat, LoadStamp, Raise}
 use Rattle.core_events.specs.Needs.{may_join_found, is_stamp}
 use Rattle.core_events.specs.LoadNeeds.{may_load_stamp}
 use Rattle.core_events.specs.Announcing.{has_announced}
-use Rattle.core_events.specs.UpdateNeeds.{is_slot_number, may_prepare_entry, may_prepare_head, may_prepare, may_raise_number, is_raise_of}
+use Rattle.core_events.specs.UpdateNeeds.{may_raise_number, is_raise_of}
 use Rattle.core_events.specs.Tables.{Table, held_by}
 use Rattle.core_events.specs.Seats.{HasFree, HasCalls}
 use Rattle.core_events.specs.Steps.{needs, carries, allowed_at}
-use Rattle.index_words.specs.Words.{Memory}
 use Rattle.core_events.specs.TreeMoves.{is_tree_step}
 use Rattle.core_grace.specs.Sections.{is_even}
 use Rattle.core_events.proofs.Tests.{never, none_of, not_equal, not_true, stamp_named}
@@ -92,32 +89,6 @@ join_other t e w met is =
     let one = and_parts (is_stamp w && not (eqb e.value e.seat)) (may_join_found need.v (slice_get t.views e.value)) join in
     let two = and_parts (is_stamp w) (not (eqb e.value e.seat)) one.0 in
     other_by t e need.v (slice_get t.views e.value) refl one.1 (not_equal e.value e.seat two.1)
-
--- a prepared entry is named by 32 bits
-pub prepare_small : (t : Table) (e : Event) (w : Word) → allowed_at t e (slice_get t.views e.seat) (Some w) ≡ true → e.kind ≡ Prepare → e.value < 2 ^ 32
-prepare_small t e w met is =
-    let need = needed t e w met in
-    small_by (held_by t) need.v w e.value (split_met t e w Prepare need.v is need.met)
-  where
-    low : (x : ℕ) → is_slot_number x ≡ true → x < 2 ^ 32
-    low x p = grind (arith, nat_tests)
-
-    small_at : (m : Memory) (v : View) (f : Field) (k x : ℕ) → may_prepare_head m v f k x ≡ true → x < 2 ^ 32
-    small_at m v (Head side) k x met =
-        low x (and_parts (is_slot_number x) (may_prepare_entry m v side k x) met).0
-    small_at m v Key k x met = absurd (never met)
-    small_at m v Val k x met = absurd (never met)
-    small_at m v Lock k x met = absurd (never met)
-    small_at m v Mark k x met = absurd (never met)
-    small_at m v (Link side) k x met = absurd (never met)
-    small_at m v (Tag side) k x met = absurd (never met)
-
-    small_by : (m : Memory) (v : View) (u : Word) (x : ℕ) → may_prepare m v u x ≡ true → x < 2 ^ 32
-    small_by m v (Node f k) x met = small_at m v f k x met
-    small_by m v Stamp x met = absurd (never met)
-    small_by m v (Section i) x met = absurd (never met)
-    small_by m v (Announced i) x met = absurd (never met)
-    small_by m v (Entry p e) x met = absurd (never met)
 
 -- a raise is one at the stamp, and has a call left
 pub record Raises (t : Table) (e : Event) (w : Word) : Type 0 where

@@ -4,3 +4,5 @@ pub mod Tests
 pub mod Changes
 -- What an allowed event says of its seat.
 pub mod Allowed
+-- The nodes that a search knows, by its parts.
+pub mod SearchedNodes

@@ -7,6 +7,7 @@ pub mod LoadMoves
 pub mod LoadNeeds
 pub mod UpdateMoves
 pub mod UpdateNeeds
+pub mod Searches
 pub mod PlainNeeds
 pub mod PlainMoves
 pub mod Waits

@@ -1,5 +1,5 @@
 -- The view of a seat after each kind of event that locks, unlocks or marks.
-use Rattle.std.specs.Prelude.{ℕ, List, [], ◌∷◌, ◌++◌, length, cond, Bool, not, ◌==◌, ◌&&◌, Option, Some, None, map, filter}
+use Rattle.std.specs.Prelude.{ℕ, List, [], ◌∷◌, ◌++◌, length, cond, Bool, not, ◌==◌, ◌&&◌, ◌||◌, Option, Some, None, map, filter}
 use Rattle.index_words.specs.declared.view.View.{View}
 use Rattle.index_words.specs.declared.view.reading.Place.{Place}
 use Rattle.index_words.specs.declared.view.reading.Place.TheVariants.{Entry}
@@ -14,6 +14,7 @@ use Rattle.index_words.specs.Views.{no_update}
 use Rattle.core_events.specs.Moves.{nowhere}
 use Rattle.core_events.specs.LoadMoves.{raised_if}
 use Rattle.core_events.specs.LoadNeeds.{is_reachable}
+use Rattle.core_events.specs.Searches.{search_nodes, key_found}
 
 abbrev pub nothing_loaded : HeldSide
 nothing_loaded = record { head = None; link = None; tag = None }
@@ -73,22 +74,30 @@ pair_known Key k x h = cond (h.node == k) (record h { key = Some x }) h
 pair_known Val k x h = cond (h.node == k) (record h { val = Some x }) h
 pair_known _ k x h = h
 
--- load of a key or a value: it is kept with a locked node
+-- a key is kept with the node at which a search on plain links stands
+abbrev pub place_paired : Field → ℕ → ℕ → Place → Place
+place_paired Key k x p = key_found k x p
+place_paired _ k x p = p
+
+-- load of a key or a value: it is kept with a locked node, and a key with the place of a search
 abbrev pub pair_loaded : View → Field → ℕ → ℕ → View
-pair_loaded v f k x = record v { held = record v.held { nodes = map (pair_known f k x) v.held.nodes } }
+pair_loaded v f k x = record v {
+  reading = record v.reading { place = place_paired f k x v.reading.place };
+  held = record v.held { nodes = map (pair_known f k x) v.held.nodes };
+}
 
 -- mark: the mark of a locked node is known
 abbrev pub with_mark : View → ℕ → ℕ → View
 with_mark v k x = record v { held = record v.held { nodes = map (mark_known k x) v.held.nodes } }
 
--- a mark that is found on the node counts
+-- a mark that is found on the node counts: it is in reach, or one of a search on plain links
 abbrev pub may_count : View → ℕ → Bool
-may_count v k = is_reachable v k
+may_count v k = is_reachable v k || has k (search_nodes 0 v.reading)
 
--- a mark of 1, on a node at which the seat may be looking and which its update did not take out: after the last unlock
+-- a mark, on a node at which the seat may be looking and which its update did not take out: after the last unlock
 -- the update's nodes are forgotten, but what it took out is among the seat's retired nodes
 abbrev pub finds_mark : View → ℕ → ℕ → Bool
-finds_mark v k x = x == 1 && may_count v k && not (has k v.update.taken) && not (has k v.retired.nodes)
+finds_mark v k x = not (x == 0) && may_count v k && not (has k v.update.taken) && not (has k v.retired.nodes)
 
 -- load of a mark: it is kept with a locked node, and a mark that another seat has set is counted
 abbrev pub mark_loaded : View → ℕ → ℕ → View

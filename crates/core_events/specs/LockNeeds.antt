@@ -1,5 +1,5 @@
 -- The needs of each kind of event that locks, unlocks or marks, as computed truth values.
-use Rattle.std.specs.Prelude.{ℕ, ◌+◌, Bool, true, false, not, ◌==◌, ◌&&◌, Option, Some, None}
+use Rattle.std.specs.Prelude.{ℕ, ◌+◌, Bool, true, false, not, ◌==◌, ◌&&◌, ◌||◌, Option, Some, None}
 use Rattle.index_words.specs.declared.view.View.{View}
 use Rattle.index_words.specs.declared.word.Field.{Field}
 use Rattle.index_words.specs.declared.word.Field.TheVariants.{Key, Val, Mark}
@@ -10,7 +10,7 @@ use Rattle.key_map.specs.Lists.{has}
 use Rattle.core_grace.specs.Sections.{is_even}
 use Rattle.core_events.specs.Needs.{is_lock, nothing_pending}
 use Rattle.core_events.specs.LoadMoves.{locks}
-use Rattle.core_events.specs.LoadNeeds.{is_reachable}
+use Rattle.core_events.specs.Searches.{search_nodes}
 use Rattle.core_events.specs.PlainNeeds.{is_done_at}
 
 abbrev pub is_mark : Field → Bool
@@ -27,9 +27,10 @@ abbrev pub names_pass : Option ℕ → ℕ → Bool
 names_pass None word = false
 names_pass (Some n) word = word == n + 1
 
--- the node's lock may be tried
+-- the node's lock may be tried: it is the root, or one at which a search on plain links stands, last turned, or found a link
+-- that it remembers
 abbrev pub may_lock : View → ℕ → Bool
-may_lock v k = is_reachable v k
+may_lock v k = k == 0 || has k (search_nodes 0 v.reading)
 
 -- try lock: inside a section, of such a node that the seat has not locked; the value names its pass. So a word
 -- that is found held is another pass's

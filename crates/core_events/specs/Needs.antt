@@ -10,6 +10,7 @@ use Rattle.index_words.specs.declared.word.Word.{Word}
 use Rattle.index_words.specs.declared.word.Word.TheVariants.{Stamp, Section, Node, Entry}
 use Rattle.index_words.specs.Words.{Memory}
 use Rattle.key_map.specs.Lists.{has}
+use Rattle.core_grace.specs.Batches.{is_empty}
 use Rattle.core_grace.specs.Sections.{is_even}
 
 -- outside a section, with no lock held
@@ -59,10 +60,15 @@ may_fill v _ = false
 abbrev pub may_split : View → Word → ℕ → Bool
 may_split v w value = is_stamp w && (value == 0 || (value == 1 && not (length v.free.nodes == 0)))
 
--- join: the other seat was not joined away, and has no number, or both are outside a section with no lock held. That
--- the other one was not joined away, and that the joining one is outside, is used by no law; tests alone pin both
+-- no slot of the view waits to become free again
+abbrev pub has_none_waiting : View → Bool
+has_none_waiting v = is_empty v.retired && is_empty v.batch
+
+-- join: the other seat was not joined away, and has neither a number nor a slot that waits, or both are outside a section
+-- with no lock held. So a seat inside a section gets no node into its retired ones that its search may still reach. That
+-- the other one was not joined away is used by no law; a test alone pins it
 abbrev pub may_join_view : View → View → Bool
-may_join_view v other = not other.joined && (is_none other.number || (is_outside v && is_outside other))
+may_join_view v other = not other.joined && ((is_none other.number && has_none_waiting other) || (is_outside v && is_outside other))
 
 abbrev pub may_join_found : View → Option View → Bool
 may_join_found v None = false

@@ -17,26 +17,24 @@ use Rattle.core_grace.specs.Batches.{all_passed}
 use Rattle.core_grace.specs.Sections.{is_even}
 use Rattle.core_events.specs.Needs.{is_marked_node, is_successor, nothing_pending}
 use Rattle.core_events.specs.LoadMoves.{locks}
-
-abbrev pub is_plain_link : Field → Bool
-is_plain_link (Link side) = true
-is_plain_link _ = false
+use Rattle.core_events.specs.Searches.{searches_at}
 
 abbrev pub is_tag : Field → Bool
 is_tag (Tag side) = true
 is_tag _ = false
 
--- inside a section, at a node that the seat has locked
-abbrev pub may_look_under : View → ℕ → Bool
-may_look_under v k = not (is_even v.section_word) && locks k v.held.nodes
+-- load of a plain link: inside a section, where the seat's search stands, or of a node that it has locked
+abbrev pub may_load_link_at : View → Field → ℕ → Bool
+may_load_link_at v (Link side) k = not (is_even v.section_word) && (locks k v.held.nodes || searches_at v.reading v.reading.place k side)
+may_load_link_at v _ k = false
 
--- load of a plain link, or of a tag: of a node that the seat has locked
 abbrev pub may_load_link : View → Word → ℕ → Bool
-may_load_link v (Node field k) value = is_plain_link field && may_look_under v k && value == 0
+may_load_link v (Node field k) value = may_load_link_at v field k && value == 0
 may_load_link v _ value = false
 
+-- load of a tag: inside a section
 abbrev pub may_load_tag : View → Word → ℕ → Bool
-may_load_tag v (Node field k) value = is_tag field && may_look_under v k && value == 0
+may_load_tag v (Node field k) value = is_tag field && not (is_even v.section_word) && value == 0
 may_load_tag v _ value = false
 
 -- a link that is to be set is this one

@@ -1,7 +1,7 @@
 -- The tree step of a raise: which node the update brings in, what it takes out, and whether the pending entries
 -- spell the tree after it.
 use Rattle.std.specs.Prelude.{ℕ, List, [], ◌∷◌, ◌++◌, nat_lt, Bool, true, false, not, ◌==◌, ◌&&◌, ◌||◌, Option, Some, None}
-use Rattle.std.specs.List.{list_all}
+use Rattle.std.specs.List.{list_all, list_any}
 use Rattle.index_words.specs.declared.layout.Layout.{Layout}
 use Rattle.index_words.specs.declared.side.Side.{Side}
 use Rattle.index_words.specs.declared.side.Side.TheVariants.{Left, Right}
@@ -22,6 +22,7 @@ use Rattle.core_trees.specs.Slots.{put_takes, remove_takes, remove_brings}
 use Rattle.core_trees.specs.TreeStep.{subtree_at, tree_put, tree_remove}
 use Rattle.core_events.specs.declared.tree_move.TreeMove.{TreeMove}
 use Rattle.core_events.specs.LoadMoves.{locks}
+use Rattle.core_events.specs.Searches.{is_gap_link}
 use Rattle.core_events.specs.PlainWork.{plain_move}
 use Rattle.core_events.specs.UpdateMoves.{listed_entry}
 use Rattle.core_trees.specs.SpelledTree.{spells}
@@ -114,13 +115,27 @@ spells_after m vs v u slot move tree =
 abbrev pub sets_locked : View → UnsetLink → Bool
 sets_locked v u = locks u.node v.held.nodes
 
-abbrev pub is_plain_step : Memory → View → TreeMove → Bool
-is_plain_step m v move = list_all (sets_locked v) move.plain.unset && is_plain_new m move.added
+-- a put of a key that is not in the tree
+abbrev pub inserts : Change → ℕ → NamedTree → Bool
+inserts (Put val) key tree = not (is_branch (subtree_at key tree))
+inserts Remove key tree = false
+
+-- the plain link is null, and a search of the seat found it so, with the tag that it has, and with the key between the
+-- turns' keys
+abbrev pub has_gap : Memory → View → ℕ → ℕ → Side → Bool
+has_gap m v key k side = m (Node (Link side) k) == 0 && list_any (is_gap_link k side key (m (Node (Tag side) k))) v.reading.links
+
+-- a key that is not in the tree is put at such a link
+abbrev pub finds_gap : Memory → View → Update → NamedTree → Bool
+finds_gap m v u tree = not (inserts u.change u.key tree) || has_gap m v u.key (end_node u.key 0 tree) (end_side u.key Right tree)
+
+abbrev pub is_plain_step : Memory → View → Update → TreeMove → NamedTree → Bool
+is_plain_step m v u move tree = list_all (sets_locked v) move.plain.unset && is_plain_new m move.added && finds_gap m v u tree
 
 abbrev pub is_step : Memory → List View → View → Update → ℕ → TreeMove → NamedTree → Bool
 is_step m vs v u slot move tree =
     is_key u.key && has_key u.change u.key tree && list_all (λ k. locks k v.held.nodes) move.taken && is_new m v move.added && spells_after m vs v u slot move tree
-    && is_plain_step m v move
+    && is_plain_step m v u move tree
 
 -- the pending entries and those of the new node, with the next number, spell the tree after the update; each node
 -- that is taken out is locked

@@ -36,7 +36,8 @@ pub enum Kind {
     Raise,
     /// Stores the number of the raise as the stamp of a pending entry.
     Finalise,
-    /// Tries to lock a reachable node: stores the pass's number plus 1 where the lock word is found 0.
+    /// Tries to lock the root, or a node that the seat's search has come to: stores the pass's number plus 1 where the
+    /// lock word is found 0.
     TryLock,
     /// Gives a lock back: stores 0.
     Unlock,
@@ -54,11 +55,11 @@ pub enum Kind {
     /// Stores 0 as the next of the entry that the least number selects at a locked node: the bundle ends with it, and
     /// the entries behind are retired.
     Cut,
-    /// Loads a plain link of a locked node.
+    /// Loads a plain link of a node that the seat has locked, or at which its search stands.
     LoadLink,
     /// Stores a plain link of a locked node, which the update has still to set.
     SetLink,
-    /// Loads the tag of a plain link of a locked node.
+    /// Loads the tag of a plain link of any node.
     LoadTag,
     /// Stores the tag of a plain link that a removal has made null: one more than before.
     SetTag,

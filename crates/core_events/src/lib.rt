@@ -6,6 +6,7 @@
 
 mod event;
 pub mod reads;
+pub mod searches;
 pub mod tree_move;
 
 pub use event::{Event, Kind};

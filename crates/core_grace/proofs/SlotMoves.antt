@@ -23,7 +23,7 @@ module _ (pick : Slots → List ℕ) (size : ℕ) (l : ℕ → ℕ) (h : View �
   pub linked_alone : (k : ℕ) → SlotsRight pick size l h vs → 0 < l k → sum_by (own pick k) vs ≡ 0
   linked_alone k right some = omega (arith, right.one k, is_slot-le size k)
 
-  free-le-own : (k : ℕ) → sum_by (own_free pick k) vs ≤ sum_by (own pick k) vs
+  pub free-le-own : (k : ℕ) → sum_by (own_free pick k) vs ≤ sum_by (own pick k) vs
   free-le-own k = sum_by-le-sum_by (own_free pick k) (own pick k) vs (λ v. omega arith)
 
   -- where the lists of the moved view keep their counts

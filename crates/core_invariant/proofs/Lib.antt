@@ -77,3 +77,11 @@ pub mod PlainMoves
 pub mod PlainSteps
 -- What is said of plain links, where one view moves and has the same still to do, or where only other words change.
 pub mod PlainFrames
+-- A node whose lock may be tried is live, and in the batch of no seat that has let this one pass.
+pub mod LockReach
+-- The nodes of a search on plain links, where a view moves.
+pub mod SearchNodes
+-- What the updates of the views have still to do at plain links, by the view that has it.
+pub mod Undone
+-- At a node that a seat has locked before its raise no link is to be set, if it is the root or in the tree at the stamp.
+pub mod UnsetLinks

@@ -13,7 +13,7 @@ use Rattle.core_invariant.specs.PlainRule.{PlainRight}
 
 pub kept_same : (z : Layout) (m : Memory) (vs : List View) (g : Meaning) (m' : Memory) (ws : List View) → Rule z m' ws g → (PlainRight m vs g → PlainRight m' ws g)
     → Kept z m vs g m' ws
-kept_same z m vs g m' ws rule plain = record { meaning = g; rule = rule; same = λ t k side past live live'. refl; plain = plain }
+kept_same z m vs g m' ws rule plain = record { meaning = g; rule = rule; same = λ t k side past live live'. refl; plain = plain; stays = λ e. refl }
 
 -- the rule over the words after a store
 pub store_right : (z : Layout) (words : List ℕ) (vs : List View) (n x : ℕ) (w : Word) (right : InRule z words vs) (ws : List View) → word_at z n ≡ Some w

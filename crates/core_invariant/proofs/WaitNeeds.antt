@@ -1,5 +1,5 @@
 -- What the needs of a leave, of a look at a section and of a set link say.
-use Rattle.std.proofs.Common.{◌≡◌, ℕ, ◌<◌, ◌⊎◌, cond, List, [], ◌∷◌, length, Bool, true, false, eqb, ◌&&◌, ◌||◌, not, refl, ap, ◌∙◌, sym, subst, inl, inr, Option, Some, None, is_some}
+use Rattle.std.proofs.Common.{◌≡◌, ℕ, ◌<◌, ◌⊎◌, cond, List, [], ◌∷◌, length, Bool, true, false, eqb, ◌&&◌, ◌||◌, not, refl, ◌∙◌, inl, inr, Option, Some, None, is_some}
 use Rattle.std.specs.List.{list_all}
 use Rattle.std.proofs.lemmas.Bool.{and_parts, eqb-true}
 use Rattle.index_words.specs.declared.layout.Layout.{Layout}

@@ -18,12 +18,12 @@ use Rattle.key_map.specs.Lists.{count, Every, IsItem}
 use Rattle.key_map.proofs.Counting.{count-append}
 use Rattle.index_words.proofs.Seats.{one_term, two_terms, at_item}
 use Rattle.core_grace.specs.Sections.{is_even}
-use Rattle.core_grace.specs.Holds.{HoldsNode, HoldsEntry, Bundles, ReadsAt, entries_of, held_nodes, held_slots, listed, tree_slots, work_nodes}
+use Rattle.core_grace.specs.Holds.{HoldsNode, HoldsEntry, ReadsAt, entries_of, held_slots, tree_slots, work_nodes}
 use Rattle.core_grace.specs.Slots.{nodes_of, entries_in, own, HoldsNone, KeepsEntries}
 use Rattle.core_events.specs.Versions.{slots_of}
 use Rattle.core_invariant.specs.Meanings.{Meaning}
 use Rattle.core_invariant.specs.Locks.{lock_count, IsNodeAt}
-use Rattle.core_invariant.specs.SectionRule.{IsKeptLock, IsWaiting}
+use Rattle.core_invariant.specs.SectionRule.{IsKeptLock}
 use Rattle.core_invariant.specs.Rule.{Rule}
 use Rattle.core_invariant.proofs.Frames.{same_item}
 use Rattle.core_invariant.proofs.Idle.{idle_none, outside_cases}

@@ -13,6 +13,12 @@ pub mod Readers
 pub mod FilledRule
 pub mod PruneRule
 pub mod PlainRule
+pub mod Reached
+pub mod PlainTree
+pub mod SearchRule
+pub mod TurnRule
+pub mod StillRule
+pub mod LinkRule
 pub mod SeatRule
 pub mod Rule
 pub mod LinkLaw

@@ -4,7 +4,7 @@ use Rattle.std.specs.Prelude.{◌≡◌, ℕ, ◌≤◌, ◌==◌, List, length,
 use Rattle.index_words.specs.declared.layout.Layout.{Layout}
 use Rattle.index_words.specs.declared.side.Side.{Side}
 use Rattle.index_words.specs.declared.view.View.{View}
-use Rattle.index_words.specs.declared.word.Field.TheVariants.{Key, Val, Lock, Mark}
+use Rattle.index_words.specs.declared.word.Field.TheVariants.{Key, Val, Lock, Mark, Tag}
 use Rattle.index_words.specs.declared.word.Part.TheVariants.{Child}
 use Rattle.index_words.specs.declared.word.Word.TheVariants.{Stamp, Node, Entry}
 use Rattle.index_words.specs.Words.{Memory, memory, word_count}
@@ -16,7 +16,14 @@ use Rattle.core_invariant.specs.Histories.{HistoryRight}
 use Rattle.core_invariant.specs.OwnPlaces.{KnowsPlaces}
 use Rattle.core_invariant.specs.Locks.{lock_count, TreeUnmarked}
 use Rattle.core_invariant.specs.BundleRule.{IsLive, IsBundle, pending_count}
+use Rattle.core_trees.specs.NamedTree.{NamedTree}
 use Rattle.core_invariant.specs.PlainRule.{PlainRight}
+use Rattle.core_invariant.specs.PlainTree.{IsPlainTree}
+use Rattle.core_invariant.specs.Reached.{plain_graph, ReachRight}
+use Rattle.core_invariant.specs.SearchRule.{SearchRight}
+use Rattle.core_invariant.specs.TurnRule.{TurnsRight, LeavesMarked}
+use Rattle.core_invariant.specs.StillRule.{StillRight, KnownRight}
+use Rattle.core_invariant.specs.LinkRule.{LinksLast}
 use Rattle.core_invariant.specs.PruneRule.{PairsRight}
 use Rattle.core_invariant.specs.SeatRule.{SeatRight}
 use Rattle.core_invariant.specs.SpentViews.{IsSpent}
@@ -37,14 +44,25 @@ pub record Rule (z : Layout) (m : Memory) (vs : List View) (g : Meaning) : Type 
   pub single : (e : ℕ) → sum_by (pending_count e) vs ≤ 1
   pub seats : All (SeatRight z m g) vs
 
--- a table that meets the rule, whose plain links lead where they should, where nothing is left of a view that was joined into
--- another one, no word of a number that is still to be given is used, each view knows where its own updates stand, its slots wait
--- as they should, and those that it never used hold 0
+-- a table that meets the rule, whose plain links lead where they should, one by one and as a tree, whose searches on them claim
+-- what is so, reach no node that may be used again, and have below their turns what they come to; where nodes leave the plain
+-- tree marked, and those that are brought in are linked last; where nothing moves if there is one pass alone, but what its seat
+-- has set itself; where nothing is left of a view that was joined into another one, no word of a number that is still to be given
+-- is used, each view knows where its own updates stand, its slots wait as they should, and those that it never used hold 0
 pub record InRule (z : Layout) (words : List ℕ) (vs : List View) : Type 0 where
   pub size : length words ≡ word_count z
   pub meaning : Meaning
   pub rule : Rule z (memory z words) vs meaning
   pub plain : PlainRight (memory z words) vs meaning
+  pub plain_tree : NamedTree
+  pub trees : IsPlainTree (plain_graph (memory z words)) vs meaning.tree plain_tree
+  pub searches : All (SearchRight (plain_graph (memory z words)) vs meaning.tree plain_tree) vs
+  pub reach : ReachRight z (plain_graph (memory z words)) vs
+  pub turns : All (TurnsRight (plain_graph (memory z words)) plain_tree) vs
+  pub leaving : All (LeavesMarked (λ k. memory z words (Node Mark k)) plain_tree) vs
+  pub still : All (StillRight z (plain_graph (memory z words)) (λ side k. memory z words (Node (Tag side) k)) plain_tree) vs
+  pub known : All (KnownRight z (plain_graph (memory z words)) (λ side k. memory z words (Node (Tag side) k))) vs
+  pub linking : All LinksLast vs
   pub spent : All IsSpent vs
   pub spare : All (IsSpare (memory z words)) vs
   pub places : All KnowsPlaces vs

@@ -24,7 +24,8 @@ use Rattle.core_invariant.proofs.Idle.{number_apart}
 use Rattle.core_invariant.proofs.OneView.{history_kept, seat_at}
 use Rattle.core_kept.proofs.Stores.{apart_from, own_stored, other_stored}
 
-module _ (z : Layout) (m : Memory) (vs : List View) (g : Meaning) (rule : Rule z m vs g) (i n value : ℕ) (v : View) (at : IsItem vs i v) (named : v.number ≡ Some n) where
+module _ (z : Layout) (m : Memory) (vs : List View) (g : Meaning) (rule : Rule z m vs g) (i n value : ℕ) (v : View) (at : IsItem vs i v)
+    (named : v.number ≡ Some n) where
   abbrev m' : Memory
   m' = written m (Announced n) value
 
@@ -48,7 +49,11 @@ module _ (z : Layout) (m : Memory) (vs : List View) (g : Meaning) (rule : Rule z
     seen = own.seen;
     update = own.update;
     version = own.version;
-    announced = record { low = low; read = subst (λ (o : Option ℕ). IfSome o (λ t. (0 < value) × (value ≤ t + 1))) (sym unread) tt; least = own.announced.least };
+    announced = record {
+      low = low;
+      read = subst (λ (o : Option ℕ). IfSome o (λ t. (0 < value) × (value ≤ t + 1))) (sym unread) tt;
+      least = own.announced.least;
+    };
     tree = own.tree;
     locks = own.locks;
     loaded = record { nodes = own.loaded.nodes; nexts = own.loaded.nexts };
@@ -88,7 +93,8 @@ module _ (z : Layout) (m : Memory) (vs : List View) (g : Meaning) (rule : Rule z
   -- what is known of pairs of seats speaks of no announcement
   pairs_announced : PairsRight (set vs i w)
   pairs_announced =
-      pairs_moved LookedRight LookedRight vs i v w at rule.pairs (at_item (LookedRight v) vs i v at (at_item (λ u. All (LookedRight u) vs) vs i v at rule.pairs))
+      pairs_moved LookedRight LookedRight vs i v w at rule.pairs
+      (at_item (LookedRight v) vs i v at (at_item (λ u. All (LookedRight u) vs) vs i v at rule.pairs))
       (λ u beside of. of) (λ u beside of. of) (λ t u beside other of. of)
 
   pub announce_kept : v.reading.section ≡ None → value ≤ m Stamp + 1 → Rule z m' (set vs i w) g

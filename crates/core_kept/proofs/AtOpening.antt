@@ -13,6 +13,7 @@ use Rattle.index_words.specs.declared.view.reading.Reading.{Reading}
 use Rattle.index_words.specs.declared.view.update.Updating.{Updating}
 use Rattle.key_map.specs.declared.update.Update.{Update}
 use Rattle.index_words.specs.declared.side.Side.{Side}
+use Rattle.index_words.specs.declared.side.Side.TheVariants.{Right}
 use Rattle.index_words.specs.declared.word.Field.TheVariants.{Lock, Mark, Head, Link, Tag}
 use Rattle.index_words.specs.declared.word.Part.TheVariants.{Child, Stamp as Number}
 use Rattle.index_words.specs.declared.word.Word.TheVariants.{Section, Announced, Stamp, Node, Entry}
@@ -43,6 +44,18 @@ use Rattle.core_invariant.specs.BundleRule.{UpdateRight, IsPending, pending_coun
 use Rattle.core_invariant.specs.Readers.{VersionRight, PlaceRight, LinkRight}
 use Rattle.core_invariant.specs.FilledRule.{FilledRight}
 use Rattle.core_invariant.specs.SeatRule.{TreeRight, SeatRight}
+use Rattle.core_grace.specs.Sections.{is_even}
+use Rattle.core_invariant.specs.PlainTree.{SeatInTree}
+use Rattle.core_invariant.specs.Reached.{plain_graph, ReachesRight}
+use Rattle.core_invariant.specs.LinkRule.{LinksLast}
+use Rattle.core_invariant.specs.SearchRule.{SearchRight}
+use Rattle.core_invariant.specs.StillRule.{StillRight, KnownRight}
+use Rattle.core_invariant.specs.TurnRule.{TurnsRight, LeavesMarked}
+use Rattle.core_trees.specs.SpelledTree.{Graph}
+use Rattle.core_kept.proofs.LinkedLast.{nothing_brought}
+use Rattle.core_kept.proofs.RestingSeats.{one_most, rests_in_tree, rests_search, rests_reach}
+use Rattle.core_kept.proofs.TurnFrames.{none_turns, none_still, none_known}
+use Rattle.core_kept.proofs.TurnSeats.{has_read_nothing, none_leaving}
 use Rattle.core_invariant.specs.Rule.{InRule, IsRight}
 use Rattle.core_events.specs.Openings.{from_up, first_view, first_table}
 use Rattle.core_invariant.specs.SpentViews.{IsSpent}
@@ -61,7 +74,8 @@ between_more x first n = grind (arith, nat_tests)
 
 pub count-from_up : (x first n : ℕ) → count x (from_up first n) ≡ between x first n
 count-from_up x first zero = sym (between_none x first)
-count-from_up x first (suc n) = count-push x (from_up first n) (first + n) ∙ ap (λ k. k + cond (eqb (first + n) x) 1 0) (count-from_up x first n) ∙ between_more x first n
+count-from_up x first (suc n) =
+    count-push x (from_up first n) (first + n) ∙ ap (λ k. k + cond (eqb (first + n) x) 1 0) (count-from_up x first n) ∙ between_more x first n
 
 -- a view of which no slot waits
 none_waiting : (v : View) → v.retired ≡ no_slots → v.batch ≡ no_slots → WaitsRight v
@@ -171,8 +185,11 @@ module _ (z : Layout) (vs : List View) (starts : StartsWith z vs) where
         section = sections_right v fresh;
         seen = seen_fresh z v fresh;
         update = subst (UpdateRight (memory z ws Stamp)) (sym update) (record { raised = tt; first = λ _. refl });
-        version = subst (VersionRight z (memory z ws Stamp)) (sym read) (record { past = tt; opened = tt; bare = λ _. refl; there = λ k some. absurd (omega (arith, some)) });
-        announced = announced_idle (memory z ws Stamp) v (omega (arith, fresh.announced)) (ap (λ (r : Reading). r.section) read) (ap (λ (r : Reading). r.least) read);
+        version =
+            subst (VersionRight z (memory z ws Stamp)) (sym read)
+            (record { past = tt; opened = tt; bare = λ _. refl; there = λ k some. absurd (omega (arith, some)) });
+        announced =
+            announced_idle (memory z ws Stamp) v (omega (arith, fresh.announced)) (ap (λ (r : Reading). r.section) read) (ap (λ (r : Reading). r.least) read);
         tree = subst (λ (r : Reading). TreeRight (memory z ws) nothing_linked r.section r.tree) (sym read) tt;
         locks = λ k some. absurd (omega (arith, some, ap (λ (hs : List _). lock_count k (record v { held = record v.held { nodes = hs } })) locks));
         loaded = record { nodes = subst (Every _) (sym locks) tt; nexts = subst (Every _) (sym fresh.nexts) tt };
@@ -181,7 +198,9 @@ module _ (z : Layout) (vs : List View) (starts : StartsWith z vs) where
           batch = λ k some. absurd (omega (arith, some, ap (λ (s : Slots). count k s.nodes) fresh.batch));
           taken = λ k some. absurd (omega (arith, some, ap (λ (u : Updating). count k u.taken) update));
         };
-        pending = subst (λ (x : Updating). Every (IsPending z (λ s k. memory z ws (Node (Head s) k)) (λ e. memory z ws (Entry Number e)) nothing_linked.bundles.number v) x.pending) (sym update) tt;
+        pending =
+            subst (λ (x : Updating). Every (IsPending z (λ s k. memory z ws (Node (Head s) k)) (λ e. memory z ws (Entry Number e))
+            nothing_linked.bundles.number v) x.pending) (sym update) tt;
         place = subst (λ (r : Reading). PlaceRight z (λ e. memory z ws (Entry Number e)) nothing_linked.bundles v r.place) (sym read) tt;
         filled = subst (λ (r : Reading). Every (FilledRight (memory z ws) v.free v.update) r.filled) (sym read) tt;
         links = subst (λ (r : Reading). Every (LinkRight z (λ e. memory z ws (Entry Child e)) nothing_linked.bundles v) r.links) (sym read) tt;
@@ -200,6 +219,15 @@ module _ (z : Layout) (vs : List View) (starts : StartsWith z vs) where
   zero_spare [] = tt
   zero_spare (n ∷ xs) = ((zero_memory z (word_count z) (Section n), zero_memory z (word_count z) (Announced n)), zero_spare xs)
 
+  abbrev gr : Graph
+  gr = plain_graph (memory z ws)
+
+  abbrev marks : ℕ → ℕ
+  marks k = memory z ws (Node Mark k)
+
+  abbrev tags : Side → ℕ → ℕ
+  tags side k = memory z ws (Node (Tag side) k)
+
   starts_right : z.calls < no_number → InRule z ws vs
   starts_right few = record {
     size = length-replicate (word_count z) 0;
@@ -217,15 +245,22 @@ module _ (z : Layout) (vs : List View) (starts : StartsWith z vs) where
       slots = record {
         nodes = record {
           one = λ k. ap (λ n. n + 0) (starts.nodes k) ∙ omega arith;
-          unheld = All-weaker (IsFresh z) (λ v. (k : ℕ) → HoldsNode v k → sum_by (own_free nodes_of k) vs ≡ 0) (λ v fresh k holds. absurd (no_node v fresh k holds)) vs starts.fresh;
+          unheld =
+              All-weaker (IsFresh z) (λ v. (k : ℕ) → HoldsNode v k → sum_by (own_free nodes_of k) vs ≡ 0)
+              (λ v fresh k holds. absurd (no_node v fresh k holds)) vs starts.fresh;
         };
         entries = record {
           one = λ e. ap (λ n. n + 0) (starts.entries e) ∙ omega arith;
-          unheld = All-weaker (IsFresh z) (λ v. (e : ℕ) → HoldsEntry nothing_linked.bundles v e → sum_by (own_free entries_in e) vs ≡ 0) (λ v fresh e holds. absurd (no_entry v fresh e holds)) vs starts.fresh;
+          unheld =
+              All-weaker (IsFresh z) (λ v. (e : ℕ) → HoldsEntry nothing_linked.bundles v e → sum_by (own_free entries_in e) vs ≡ 0)
+              (λ v fresh e holds. absurd (no_entry v fresh e holds)) vs starts.fresh;
         };
         grace = All-weaker (IsFresh z) (λ v. All (GraceRight HoldsNode (HoldsEntry nothing_linked.bundles) v) vs)
-            (λ v fresh k d within. no_looks_right z (linked_by nothing_linked) HoldsNode (HoldsEntry nothing_linked.bundles) v (get_or vs k d) fresh.grace) vs starts.fresh;
-        retired = All-weaker (IsFresh z) (λ v. KeepsEntries (linked_by nothing_linked).entries_of v.retired × KeepsEntries (linked_by nothing_linked).entries_of v.batch)
+            (λ v fresh k d within. no_looks_right z (linked_by nothing_linked) HoldsNode (HoldsEntry nothing_linked.bundles) v (get_or vs k d) fresh.grace) vs
+            starts.fresh;
+        retired =
+            All-weaker (IsFresh z) (λ v. KeepsEntries (linked_by nothing_linked).entries_of v.retired
+            × KeepsEntries (linked_by nothing_linked).entries_of v.batch)
             (λ v fresh. (no_slots_kept v.retired fresh.retired, no_slots_kept v.batch fresh.batch)) vs starts.fresh;
       };
       locks = λ k. starts.locks k ∙ ap (λ x. cond (eqb x 0) 0 1) (sym (zero_memory z (word_count z) (Node Lock k)));
@@ -240,10 +275,37 @@ module _ (z : Layout) (vs : List View) (starts : StartsWith z vs) where
     plain = record {
       linked = λ k side there none. zero_memory z (word_count z) (Node (Link side) k);
       tags = λ k side there. omega (arith, zero_memory z (word_count z) (Node (Tag side) k), starts.owed k side);
-      seats = All-weaker (IsFresh z) (SeatPlain (λ s k. memory z ws (Node (Link s) k)) (child_at (λ e. memory z ws (Entry Child e)) nothing_linked.bundles (memory z ws Stamp)) Null)
-          (λ v fresh. idle_seat (λ s k. memory z ws (Node (Link s) k)) (λ s k. memory z ws (Node (Tag s) k)) (child_at (λ e. memory z ws (Entry Child e)) nothing_linked.bundles (memory z ws Stamp))
+      seats =
+          All-weaker (IsFresh z) (SeatPlain (λ s k. memory z ws (Node (Link s) k))
+          (child_at (λ e. memory z ws (Entry Child e)) nothing_linked.bundles (memory z ws Stamp)) Null)
+          (λ v fresh. idle_seat (λ s k. memory z ws (Node (Link s) k)) (λ s k. memory z ws (Node (Tag s) k))
+          (child_at (λ e. memory z ws (Entry Child e)) nothing_linked.bundles (memory z ws Stamp))
           (greatest_of nothing_linked.bundles (memory z ws Stamp)) Null v fresh.idle.update) vs starts.fresh;
     };
+    plain_tree = Null;
+    trees = record {
+      spelled = zero_memory z (word_count z) (Node (Link Right) 0);
+      once = λ x. omega (arith, one_most x 0);
+      matches = inl tt;
+      seats =
+          All-weaker (IsFresh z) (SeatInTree (plain_graph (memory z ws)) Null Null)
+          (λ v fresh. rests_in_tree (plain_graph (memory z ws)) Null Null v fresh.idle.held fresh.idle.update) vs starts.fresh;
+    };
+    searches = All-weaker (IsFresh z) (SearchRight (plain_graph (memory z ws)) vs Null Null)
+        (λ v fresh. rests_search (plain_graph (memory z ws)) vs Null Null v fresh.idle.reading (ap is_even fresh.section_word)) vs starts.fresh;
+    reach =
+        All-weaker (IsFresh z) (ReachesRight z (plain_graph (memory z ws)) vs)
+        (λ v fresh. rests_reach z (plain_graph (memory z ws)) vs v (ap is_even fresh.section_word)) vs starts.fresh;
+    turns = All-weaker (IsFresh z) (TurnsRight gr Null) (λ v fresh. none_turns z gr marks tags Null v (has_read_nothing v fresh.idle.reading)) vs starts.fresh;
+    leaving =
+        All-weaker (IsFresh z) (LeavesMarked marks Null)
+        (λ v fresh. none_leaving marks Null v (ap (λ (u : Updating). u.taken) fresh.idle.update)) vs starts.fresh;
+    still =
+        All-weaker (IsFresh z) (StillRight z gr tags Null)
+        (λ v fresh. none_still z gr marks tags Null v (has_read_nothing v fresh.idle.reading)) vs starts.fresh;
+    known =
+        All-weaker (IsFresh z) (KnownRight z gr tags) (λ v fresh. none_known z gr marks tags Null v (has_read_nothing v fresh.idle.reading)) vs starts.fresh;
+    linking = All-weaker (IsFresh z) LinksLast (λ v fresh. nothing_brought v (ap (λ (u : Updating). u.added) fresh.idle.update)) vs starts.fresh;
     spent = All-weaker (IsFresh z) IsSpent (λ v fresh. live_spent v fresh.live) vs starts.fresh;
     spare = All-weaker (IsFresh z) (IsSpare (memory z ws)) (λ v fresh. zero_spare v.to_give) vs starts.fresh;
     places = All-weaker (IsFresh z) KnowsPlaces (λ v fresh. fresh.places) vs starts.fresh;

@@ -81,7 +81,8 @@ module _ (b : Bundles) (side : Side) (k e : ℕ) (front back : List ℕ) (splits
   pub cut_elsewhere : (x j : ℕ) → (j ≡ k → ⊥) → count x (entries_of c j) ≡ count x (entries_of b j)
   cut_elsewhere x j other =
       let same : count x (entries_of c j) + 0 ≡ count x (entries_of b j)
-      = subst (λ d. count x (entries_of c j) + cond d (count x back) 0 ≡ count x (entries_of b j)) (ne_eqb j k other) (count_cut b side k e front back splits j x) in
+      = subst (λ d. count x (entries_of c j) + cond d (count x back) 0 ≡ count x (entries_of b j)) (ne_eqb j k other)
+      (count_cut b side k e front back splits j x) in
       omega (arith, same)
 
   pub entries_fewer : (x j : ℕ) → count x (entries_of c j) ≤ count x (entries_of b j)
@@ -115,4 +116,9 @@ module _ (b : Bundles) (side : Side) (k e : ℕ) (front back : List ℕ) (splits
   }
 
   pub stands_fewer : (nodes : List ℕ) (x : ℕ) → StandsIn c nodes x → StandsIn b nodes x
-  stands_fewer nodes x stands = record { node = stands.node; side = stands.side; of = stands.of; here = omega (arith, stands.here, fewer x stands.side stands.node) }
+  stands_fewer nodes x stands = record {
+    node = stands.node;
+    side = stands.side;
+    of = stands.of;
+    here = omega (arith, stands.here, fewer x stands.side stands.node);
+  }

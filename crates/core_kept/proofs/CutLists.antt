@@ -56,14 +56,16 @@ pub reader_stands : (number : ℕ → ℕ) (t e d : ℕ) (front back front' back
     → front ++ e ∷ back ≡ front' ++ d ∷ back' → StandsBehind (front ++ e ∷ []) front' d
 reader_stands number t e d [] back [] back' low above same = let one : e ≡ d = cc in stands_first e d one
 reader_stands number t e d [] back (y ∷ front') back' low above same = let one : e ≡ y = cc in absurd (omega (arith, low, above.0, ap number one))
-reader_stands number t e d (x ∷ front) back [] back' low above same = let one : x ≡ d = cc in record { back = front ++ e ∷ []; splits = ap (λ y. y ∷ (front ++ e ∷ [])) one }
+reader_stands number t e d (x ∷ front) back [] back' low above same =
+    let one : x ≡ d = cc in record { back = front ++ e ∷ []; splits = ap (λ y. y ∷ (front ++ e ∷ [])) one }
 reader_stands number t e d (x ∷ front) back (y ∷ front') back' low above same =
     let one : x ≡ y = cc in
     let more : front ++ e ∷ back ≡ front' ++ d ∷ back' = cc in
     stands_later x y d (front ++ e ∷ []) front' one (reader_stands number t e d front back front' back' low above.1 more)
 
 -- nor does one that stands at an entry which is not cut off
-pub holder_stands : (e d : ℕ) (front back front' back' : List ℕ) → count d back ≡ 0 → front ++ e ∷ back ≡ front' ++ d ∷ back' → StandsBehind (front ++ e ∷ []) front' d
+pub holder_stands : (e d : ℕ) (front back front' back' : List ℕ) → count d back ≡ 0 → front ++ e ∷ back ≡ front' ++ d ∷ back'
+    → StandsBehind (front ++ e ∷ []) front' d
 holder_stands e d [] back [] back' none same = let one : e ≡ d = cc in stands_first e d one
 holder_stands e d [] back (y ∷ front') back' none same =
     let more : back ≡ front' ++ d ∷ back' = cc in absurd (omega (arith, none, ap (count d) more, count-middle d front' back'))

@@ -38,7 +38,8 @@ not_counted x es lacks =
       | inr none ↦ omega (arith, none)
     ]
 
-module _ (z : Layout) (m : Memory) (vs : List View) (g : Meaning) (rule : Rule z m vs g) (i : ℕ) (v : View) (at : IsItem vs i v) (e : ℕ) (cut : IsCutAt z m vs g v e) where
+module _ (z : Layout) (m : Memory) (vs : List View) (g : Meaning) (rule : Rule z m vs g) (i : ℕ) (v : View) (at : IsItem vs i v) (e : ℕ)
+    (cut : IsCutAt z m vs g v e) where
   abbrev b : Bundles
   b = g.bundles
 
@@ -61,8 +62,10 @@ module _ (z : Layout) (m : Memory) (vs : List View) (g : Meaning) (rule : Rule z
   unlocked u beside held = omega (arith, held, locked_apart z m vs g rule i cut.node v u at beside cut.locked)
 
   -- another seat that watches the node reads at a number, so it has passed nothing that this number selects
-  reader_by : (u : View) (x : ℕ) (section : Option ℕ) (front back : List ℕ) → (IsLocked u cut.node → ⊥) → is_some section ≡ true → IfSome section (λ t. b.number e ≤ t)
-      → Every (λ d. IfSome section (λ t. IsLocked u cut.node ⊎ (t < b.number d))) front → cut.front ++ e ∷ cut.back ≡ front ++ x ∷ back → StandsBehind kept front x
+  reader_by : (u : View) (x : ℕ) (section : Option ℕ) (front back : List ℕ) → (IsLocked u cut.node → ⊥) → is_some section ≡ true
+      → IfSome section (λ t. b.number e ≤ t)
+      → Every (λ d. IfSome section (λ t. IsLocked u cut.node ⊎ (t < b.number d))) front → cut.front ++ e ∷ cut.back ≡ front ++ x ∷ back
+      → StandsBehind kept front x
   reader_by u x None front back free reads low passed same = cc
   reader_by u x (Some t) front back free reads low passed same =
       reader_stands b.number t e x cut.front cut.back front back low
@@ -72,17 +75,20 @@ module _ (z : Layout) (m : Memory) (vs : List View) (g : Meaning) (rule : Rule z
   other_stands : (u : View) → Beside vs i u → (x : ℕ) (found above : Option ℕ) (n : ℕ) (s : Side) → IsWatched u n
       → StandsAt stamp (b.bundle s n) x found above (IsPassed b.number u n) → StandsAt stamp (b'.bundle s n) x found above (IsPassed b.number u n)
   other_stands u beside x found above n s watched old =
-      by_link (λ t j es. IsWatched u j → StandsAt stamp (b.bundle t j) x found above (IsPassed b.number u j) → StandsAt stamp es x found above (IsPassed b.number u j))
+      by_link (λ t j es. IsWatched u j → StandsAt stamp (b.bundle t j) x found above (IsPassed b.number u j)
+      → StandsAt stamp es x found above (IsPassed b.number u j))
       b.bundle cut.side cut.node kept
       (λ seen stood.
       let behind : StandsBehind kept stood.front x = here seen stood in
       record { front = stood.front; back = behind.back; splits = behind.splits; passed = stood.passed; found = stood.found; falls = stood.falls })
       (λ t j other seen stood. stood) s n watched old
     where
-      here : IsWatched u cut.node → (stood : StandsAt stamp (b.bundle cut.side cut.node) x found above (IsPassed b.number u cut.node)) → StandsBehind kept stood.front x
+      here : IsWatched u cut.node → (stood : StandsAt stamp (b.bundle cut.side cut.node) x found above (IsPassed b.number u cut.node))
+          → StandsBehind kept stood.front x
       here (inl held) stood = absurd (unlocked u beside held)
       here (inr reads) stood =
-          reader_by u x u.reading.section stood.front stood.back (unlocked u beside) reads (reads_from beside.place u beside.at) stood.passed (sym cut.splits ∙ stood.splits)
+          reader_by u x u.reading.section stood.front stood.back (unlocked u beside) reads (reads_from beside.place u beside.at) stood.passed
+          (sym cut.splits ∙ stood.splits)
 
   pub other_place : (u : View) → Beside vs i u → (place : Place) → PlaceRight z stamp b u place → PlaceRight z stamp b' u place
   other_place u beside Nowhere right = tt
@@ -102,7 +108,14 @@ module _ (z : Layout) (m : Memory) (vs : List View) (g : Meaning) (rule : Rule z
       (λ stood.
       let behind : StandsBehind kept stood.front x = holder_stands e x cut.front cut.back stood.front stood.back none (sym cut.splits ∙ stood.splits) in
       record { front = stood.front; back = behind.back; splits = behind.splits; passed = stood.passed; found = stood.found; falls = stood.falls })
-      (λ t j other stood. record { front = stood.front; back = stood.back; splits = stood.splits; passed = stood.passed; found = stood.found; falls = stood.falls }) s n old
+      (λ t j other stood. record {
+        front = stood.front;
+        back = stood.back;
+        splits = stood.splits;
+        passed = stood.passed;
+        found = stood.found;
+        falls = stood.falls;
+      }) s n old
 
   own_entry : (n x : ℕ) (s : Side) (found : Option ℕ) (c : Bool) → has x cut.back ≡ c → PlaceRight z stamp b v (AtEntry n s x found)
       → PlaceRight z stamp b' w (cond c (AtEntry n s 0 None) (AtEntry n s x found))

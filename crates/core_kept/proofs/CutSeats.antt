@@ -69,7 +69,8 @@ differs : (c : Bool) → c ≡ false → c ≡ true → ⊥
 differs true off on = cc
 differs false off on = cc
 
-module _ (z : Layout) (m : Memory) (vs : List View) (g : Meaning) (rule : Rule z m vs g) (i : ℕ) (v : View) (at : IsItem vs i v) (e : ℕ) (cut : IsCutAt z m vs g v e) where
+module _ (z : Layout) (m : Memory) (vs : List View) (g : Meaning) (rule : Rule z m vs g) (i : ℕ) (v : View) (at : IsItem vs i v) (e : ℕ)
+    (cut : IsCutAt z m vs g v e) where
   abbrev k : ℕ
   k = cut.node
 
@@ -149,7 +150,9 @@ module _ (z : Layout) (m : Memory) (vs : List View) (g : Meaning) (rule : Rule z
 
   cut_bundle : Right side k kept
   cut_bundle = record {
-    chain = chain_upto next next' (head side k) e front back (λ d within. next_same d (in_front d within)) next_none (subst (λ es. IsChain next (head side k) es) cut.splits old_bundle.chain);
+    chain =
+        chain_upto next next' (head side k) e front back (λ d within. next_same d (in_front d within)) next_none
+        (subst (λ es. IsChain next (head side k) es) cut.splits old_bundle.chain);
     numbers = every_upto (IsNumbered (m Stamp) stamp b.number) e front back (subst (Every (IsNumbered (m Stamp) stamp b.number)) cut.splits old_bundle.numbers);
     tail = tail_upto stamp e front back (subst (TailWritten stamp) cut.splits old_bundle.tail);
     falls = falls_upto b.number (suc no_number) e front back (subst (Falls b.number (suc no_number)) cut.splits old_bundle.falls);
@@ -192,7 +195,8 @@ module _ (z : Layout) (m : Memory) (vs : List View) (g : Meaning) (rule : Rule z
 
   new_tree : (j : ℕ) (u : View) → IsItem vs j u → TreeRight m g u.reading.section u.reading.tree → TreeRight m' g' u.reading.section u.reading.tree
   new_tree j u of old =
-      reads_frame m m' b b' (λ t. b.number e ≤ t) g.updates (m Stamp) g.tree u.reading.tree u.reading.section (λ t x low here. node_same t x low) cut.past (reads_at j u of) old
+      reads_frame m m' b b' (λ t. b.number e ≤ t) g.updates (m Stamp) g.tree u.reading.tree u.reading.section (λ t x low here. node_same t x low)
+      cut.past (reads_at j u of) old
 
   -- the remembered links
   new_entry : (n c entry : ℕ) (s : Side) (o : Option ℕ) → IfSome o (λ t. b.number e ≤ t)
@@ -256,7 +260,8 @@ module _ (z : Layout) (m : Memory) (vs : List View) (g : Meaning) (rule : Rule z
   filled_same : (j : ℕ) (u : View) → IsItem vs j u → (y : Word) → IsOwnSlotWord u.free u.update y → m' y ≡ m y
   filled_same j u of (Node f n) is = refl
   filled_same j u of (Entry p d) (inl free) =
-      entry_other m Next p e d 0 (λ same. not_in_bundle z vs g rule.slots j k e u of (subst (λ x. 0 < count x u.free.entries) same free) cut.live (in_entries b k e side member))
+      entry_other m Next p e d 0 (λ same. not_in_bundle z vs g rule.slots j k e u of (subst (λ x. 0 < count x u.free.entries) same free) cut.live
+      (in_entries b k e side member))
   filled_same j u of (Entry p d) (inr yet) =
       entry_other m Next p e d 0 (λ same.
       let pends = every_at (IsPending z head stamp b.number u) d u.update.pending (seat_at z m vs g j u of rule).pending yet.1 in
@@ -287,7 +292,9 @@ module _ (z : Layout) (m : Memory) (vs : List View) (g : Meaning) (rule : Rule z
     locks = own.locks;
     loaded = record {
       nodes = own.loaded.nodes;
-      nexts = every_passing (IsNextAt m b v.held.nodes) (IsNextAt m' b' v.held.nodes) (λ (l : HeldNext). not (has l.entry back)) (next_cut e) v.held.nexts own_next own.loaded.nexts;
+      nexts =
+          every_passing (IsNextAt m b v.held.nodes) (IsNextAt m' b' v.held.nodes) (λ (l : HeldNext). not (has l.entry back)) (next_cut e)
+          v.held.nexts own_next own.loaded.nexts;
     };
     marks = record { retired = own.marks.retired; batch = own.marks.batch; taken = own.marks.taken };
     pending = own.pending;
@@ -300,7 +307,14 @@ module _ (z : Layout) (m : Memory) (vs : List View) (g : Meaning) (rule : Rule z
   other_seat : (u : View) → Beside vs i u → SeatRight z m g u → SeatRight z m' g' u
   other_seat u beside of = record {
     layout = of.layout;
-    section = record { section = of.section.section; announced = of.section.announced; outside = of.section.outside; unlocked = of.section.unlocked; done = of.section.done; waits = of.section.waits };
+    section = record {
+      section = of.section.section;
+      announced = of.section.announced;
+      outside = of.section.outside;
+      unlocked = of.section.unlocked;
+      done = of.section.done;
+      waits = of.section.waits;
+    };
     seen = of.seen;
     update = of.update;
     version = of.version;
@@ -345,4 +359,5 @@ module _ (z : Layout) (m : Memory) (vs : List View) (g : Meaning) (rule : Rule z
     same = selects_same;
     plain = λ right. plain_same z m vs g rule g' ws selects_same (λ j live. (live.0, sum_kept (own_free nodes_of j) vs i v w at refl ∙ live.1))
         (λ d low. omega arith) (plain_quiet m g vs i v w at (quiet_work v w refl refl refl refl) right);
+    stays = λ e. refl;
   }

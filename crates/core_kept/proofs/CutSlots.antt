@@ -14,7 +14,8 @@ use Rattle.core_grace.specs.Slots.{nodes_of, entries_in, own, own_free, is_slot,
 use Rattle.core_grace.proofs.SlotMoves.{slots_moved}
 use Rattle.core_invariant.proofs.Frames.{every_map}
 
-module _ (z : Layout) (linked linked' : Linked) (hn he he' : View → ℕ → Type 0) (vs : List View) (i : ℕ) (v : View) (r : Reading) (h : Held) (back : List ℕ) (at : IsItem vs i v) (rule : SlotRule z linked hn he vs) where
+module _ (z : Layout) (linked linked' : Linked) (hn he he' : View → ℕ → Type 0) (vs : List View) (i : ℕ) (v : View) (r : Reading) (h : Held) (back : List ℕ)
+    (at : IsItem vs i v) (rule : SlotRule z linked hn he vs) where
   -- the view has read other things, and has these entries retired too
   abbrev w : View
   w = record v { reading = r; held = h; retired = record v.retired { entries = v.retired.entries ++ back } }
@@ -56,7 +57,10 @@ module _ (z : Layout) (linked linked' : Linked) (hn he he' : View → ℕ → Ty
         record { one = λ k. ap (λ n. sum_by (own nodes_of k) (set vs i w) + n) (cuts.nodes k) ∙ moved.one k; unheld = moved.unheld }
 
     none_less : (s : Slots) (u u' : View) → ((k : ℕ) → hn u' k → hn u k) → ((x : ℕ) → he' u' x → he u x) → HoldsNone hn he s u → HoldsNone hn he' s u'
-    none_less s u u' nodes entries none = record { nodes = λ k some holds. none.nodes k some (nodes k holds); entries = λ x some holds. none.entries x some (entries x holds) }
+    none_less s u u' nodes entries none = record {
+      nodes = λ k some holds. none.nodes k some (nodes k holds);
+      entries = λ x some holds. none.entries x some (entries x holds);
+    }
 
     grace_less : (t u u' : View) → u'.number ≡ u.number → u'.section_word ≡ u.section_word → ((k : ℕ) → hn u' k → hn u k) → ((x : ℕ) → he' u' x → he u x)
         → GraceRight hn he t u → GraceRight hn he' t u'
@@ -96,5 +100,8 @@ module _ (z : Layout) (linked linked' : Linked) (hn he he' : View → ℕ → Ty
             (λ k x some here. omega (arith, own.0 k x some (omega (arith, here, cuts.keeps k x)), count-append x v.retired.entries back)),
             (λ k x some here. own.1 k x some (omega (arith, here, cuts.keeps k x))),
           )
-              (λ u beside of. ((λ k x some here. of.0 k x some (omega (arith, here, cuts.keeps k x))), (λ k x some here. of.1 k x some (omega (arith, here, cuts.keeps k x)))));
+              (λ u beside of. (
+                (λ k x some here. of.0 k x some (omega (arith, here, cuts.keeps k x))),
+                (λ k x some here. of.1 k x some (omega (arith, here, cuts.keeps k x))),
+              ));
         }

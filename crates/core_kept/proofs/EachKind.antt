@@ -33,6 +33,9 @@ taken_number_by : (v : View) (b : Bool) → (cond b (record v { retired = no_slo
 taken_number_by v true = refl
 taken_number_by v false = refl
 
+pub taken_number : (v : View) → (batch_taken v).number ≡ v.number
+taken_number v = taken_number_by v (is_empty v.batch)
+
 module _ (z : Layout) (m : Memory) (vs : List View) (g : Meaning) where
   -- enter keeps the rule
   pub enter_kept : (i n value : ℕ) (v : View) → IsItem vs i v → Rule z m vs g → v.number ≡ Some n → is_outside v ≡ true
@@ -61,10 +64,11 @@ module _ (z : Layout) (m : Memory) (vs : List View) (g : Meaning) where
       let vs1 : List View = set vs i v1 in
       let rule1 : Rule z m vs1 g = taken z m vs g i v at rule idle in
       let at1 : IsItem vs1 i v1 = item_set vs i v v1 at in
-      let other1 : is_number pass v1.number ≡ false = ap (is_number pass) (taken_number_by v (is_empty v.batch)) ∙ other in
+      let other1 : is_number pass v1.number ≡ false = ap (is_number pass) (taken_number v) ∙ other in
       let v2 : View = record v1 { grace = looked_at v1.grace pass (m (Section pass)) } in
       let vs2 : List View = set vs1 i v2 in
-      let rule2 : Rule z m vs2 g = look_right z m vs1 g i v1 pass at1 rule1 other1 (λ u beside even. outside_none z m vs1 g rule1 beside.place u beside.at i v1 at1 even) in
+      let rule2 : Rule z m vs2 g
+      = look_right z m vs1 g i v1 pass at1 rule1 other1 (λ u beside even. outside_none z m vs1 g rule1 beside.place u beside.at i v1 at1 even) in
       let at2 : IsItem vs2 i v2 = item_set vs1 i v1 v2 at1 in
       let idle1 : IsIdle v1 = taken_idle v idle in
       let idle2 : IsIdle v2 = record { reading = idle1.reading; held = idle1.held; update = idle1.update } in

@@ -33,16 +33,25 @@ use Rattle.core_invariant.proofs.Quiet.{quiet_kept}
 use Rattle.core_invariant.proofs.ReadMoves.{inside_only}
 
 -- a view that knows of other filled words, which hold this
-pub knows_filled : (z : Layout) (m : Memory) (vs : List View) (g : Meaning) (rule : Rule z m vs g) (i : ℕ) (v : View) → IsItem vs i v → (fs : List Filled) → is_even v.section_word ≡ false
+pub knows_filled : (z : Layout) (m : Memory) (vs : List View) (g : Meaning) (rule : Rule z m vs g) (i : ℕ) (v : View) → IsItem vs i v → (fs : List Filled)
+    → is_even v.section_word ≡ false
     → Every (FilledRight m v.free v.update) fs → Rule z m (set vs i (with_filled v fs)) g
 knows_filled z m vs g rule i v at fs inside right =
     let w : View = with_filled v fs in
     let seat = seat_at z m vs g i v at rule in
-    quiet_kept z m vs g rule i v at w.history w.counts w.reading w.held (pairs_same vs i v w at refl rule.pairs) (record { mine = refl; ended = refl; ended_places = refl; left = refl }) (λ known. known) refl
+    quiet_kept z m vs g rule i v at w.history w.counts w.reading w.held (pairs_same vs i v w at refl rule.pairs)
+    (record { mine = refl; ended = refl; ended_places = refl; left = refl }) (λ known. known) refl
     (record { nodes = λ k holds. inl holds; entries = λ x holds. inl holds })
     (record {
       layout = seat.layout;
-      section = record { section = seat.section.section; announced = seat.section.announced; outside = λ even. absurd (inside_only z m vs g rule v inside even); unlocked = seat.section.unlocked; done = seat.section.done; waits = seat.section.waits };
+      section = record {
+        section = seat.section.section;
+        announced = seat.section.announced;
+        outside = λ even. absurd (inside_only z m vs g rule v inside even);
+        unlocked = seat.section.unlocked;
+        done = seat.section.done;
+        waits = seat.section.waits;
+      };
       seen = seat.seen;
       update = seat.update;
       version = record { past = seat.version.past; opened = seat.version.opened; bare = seat.version.bare; there = seat.version.there };
@@ -75,9 +84,11 @@ module _ (z : Layout) (m : Memory) (g : Meaning) (i : ℕ) (w : Word) (x : ℕ) 
         let first : Rule z m us g = knows_filled z m vs g rule i v at others inside kept in
         let here : IsItem us i u = item_set vs i v u at in
         let second : Rule z m' us g = stored us u first here refl (other_apart w v.reading.filled) in
-        let right : Every (FilledRight m' v.free v.update) (filled_with v.reading.filled w x) = every_push (FilledRight m' v.free v.update) others (record { word = w; value = x }) (seat_at z m' us g i u here second).filled
+        let right : Every (FilledRight m' v.free v.update) (filled_with v.reading.filled w x)
+        = every_push (FilledRight m' v.free v.update) others (record { word = w; value = x }) (seat_at z m' us g i u here second).filled
         (λ own. ap (λ b. cond b x (m w)) (word-refl w)) in
-        let third : Rule z m' (set us i (with_filled u (filled_with v.reading.filled w x))) g = knows_filled z m' us g second i u here (filled_with v.reading.filled w x) inside right in
+        let third : Rule z m' (set us i (with_filled u (filled_with v.reading.filled w x))) g
+        = knows_filled z m' us g second i u here (filled_with v.reading.filled w x) inside right in
         subst (λ (ws : List View). Rule z m' ws g) (set-set vs i u (with_filled u (filled_with v.reading.filled w x))) third
 
     outside_filled : is_even v.section_word ≡ true → Rule z m' (set vs i v) g
@@ -86,7 +97,8 @@ module _ (z : Layout) (m : Memory) (g : Meaning) (i : ℕ) (w : Word) (x : ℕ) 
         let fresh : IsNotAmong w v.reading.filled = subst (λ (r : Reading). IsNotAmong w r.filled) (sym none) tt in
         subst (λ (ws : List View). Rule z m' ws g) (sym (set_same vs i v at)) (stored vs v rule at refl fresh)
 
-  module _ (vs : List View) (rule : Rule z m vs g) (v : View) (at : IsItem vs i v) (stored : Stores v.free) (zeros : Every (FilledRight m v.free v.update) (zeros_of v.unused w)) where
+  module _ (vs : List View) (rule : Rule z m vs g) (v : View) (at : IsItem vs i v) (stored : Stores v.free)
+      (zeros : Every (FilledRight m v.free v.update) (zeros_of v.unused w)) where
     abbrev u : View
     u = used_view v w
 
@@ -103,17 +115,21 @@ module _ (z : Layout) (m : Memory) (g : Meaning) (i : ℕ) (w : Word) (x : ℕ) 
     fill_by true outside = subst (λ (ws : List View). Rule z m' ws g) (set-set vs i u u) (outside_filled us used u here stored outside)
     fill_by false inside =
         let known : List Filled = known_before v w in
-        let right : Every (FilledRight m v.free v.update) known = every_append (FilledRight m v.free v.update) v.reading.filled (zeros_of v.unused w) (seat_at z m vs g i v at rule).filled zeros in
+        let right : Every (FilledRight m v.free v.update) known
+        = every_append (FilledRight m v.free v.update) v.reading.filled (zeros_of v.unused w) (seat_at z m vs g i v at rule).filled zeros in
         let y : View = with_filled u known in
         let told : Rule z m (set us i y) g = knows_filled z m us g used i u here known inside right in
-        let last : Rule z m' (set (set us i y) i (with_filled y (filled_with known w x))) g = inside_filled (set us i y) told y (item_set us i u y here) stored inside in
-        subst (λ (ws : List View). Rule z m' ws g) (set-set us i y (with_filled y (filled_with known w x)) ∙ set-set vs i u (with_filled y (filled_with known w x))) last
+        let last : Rule z m' (set (set us i y) i (with_filled y (filled_with known w x))) g
+        = inside_filled (set us i y) told y (item_set us i u y here) stored inside in
+        subst (λ (ws : List View). Rule z m' ws g) (set-set us i y (with_filled y (filled_with known w x))
+        ∙ set-set vs i u (with_filled y (filled_with known w x))) last
 
     pub fill_kept : Rule z m' (set vs i (filled_view v w x)) g
     fill_kept = fill_by (is_even v.section_word) refl
 
 -- the words of a free slot that was never used hold 0
-pub node_zeros : (m : Memory) (v : View) (k : ℕ) (field : Field) → UnusedRight m v → 0 < count k v.free.nodes → Every (FilledRight m v.free v.update) (zeros_of v.unused (Node field k))
+pub node_zeros : (m : Memory) (v : View) (k : ℕ) (field : Field) → UnusedRight m v → 0 < count k v.free.nodes
+    → Every (FilledRight m v.free v.update) (zeros_of v.unused (Node field k))
 node_zeros m v k field right free = by (has k v.unused.nodes) refl
   where
     zero_at : has k v.unused.nodes ≡ true → (f : Field) → FilledRight m v.free v.update (record { word = Node f k; value = 0 })
@@ -125,7 +141,8 @@ node_zeros m v k field right free = by (has k v.unused.nodes) refl
         let at = zero_at yet in
         (at Key, (at Val, (at Mark, (at (Head Left), (at (Head Right), (at (Link Left), (at (Link Right), (at (Tag Left), (at (Tag Right), tt)))))))))
 
-pub entry_zeros : (m : Memory) (v : View) (e : ℕ) (part : Part) → UnusedRight m v → 0 < count e v.free.entries → Every (FilledRight m v.free v.update) (zeros_of v.unused (Entry part e))
+pub entry_zeros : (m : Memory) (v : View) (e : ℕ) (part : Part) → UnusedRight m v → 0 < count e v.free.entries
+    → Every (FilledRight m v.free v.update) (zeros_of v.unused (Entry part e))
 entry_zeros m v e part right free = by (has e v.unused.entries) refl
   where
     zero_at : has e v.unused.entries ≡ true → (p : Part) → FilledRight m v.free v.update (record { word = Entry p e; value = 0 })

@@ -79,13 +79,22 @@ module _ (z : Layout) (m : Memory) (vs : List View) (g : Meaning) (rule : Rule z
       → Every (FilledRight m u.free u.update) u.reading.filled → Every (FilledRight (written m (Node f k) x) u.free u.update) u.reading.filled
   node_filled i k n v u f x at free fresh of right =
       elim (eqb_tells n i) as (λ _. Every (FilledRight (written m (Node f k) x) u.free u.update) u.reading.filled) [
-        | inl same ↦ not_among m u.free u.update (Node f k) x u.reading.filled (subst (λ (y : View). IsNotAmong (Node f k) y.reading.filled) (same_item vs i n v u at of same.1) fresh) right
+        | inl same ↦
+            not_among m u.free u.update (Node f k) x u.reading.filled
+            (subst (λ (y : View). IsNotAmong (Node f k) y.reading.filled) (same_item vs i n v u at of same.1) fresh) right
         | inr other ↦ every_filled m (written m (Node f k) x) u.free u.free u.update u.update u.reading.filled (λ w is. is)
             (node_apart m u.free u.update f k x
-            (λ also. omega (arith, once_node z vs g rule.slots k, two_terms (own nodes_of k) vs i v u at (record { place = n; at = of; other = other.1 }), free, also))) right
+            (λ also. omega (
+              arith,
+              once_node z vs g rule.slots k,
+              two_terms (own nodes_of k) vs i v u at (record { place = n; at = of; other = other.1 }),
+              free,
+              also,
+            ))) right
       ]
 
-  node_seat : (i k n : ℕ) (v u : View) (f : Field) (x : ℕ) → IsItem vs i v → 0 < count k v.free.nodes → is_lock f ≡ false → IsNotAmong (Node f k) v.reading.filled → IsItem vs n u
+  node_seat : (i k n : ℕ) (v u : View) (f : Field) (x : ℕ) → IsItem vs i v → 0 < count k v.free.nodes → is_lock f ≡ false
+      → IsNotAmong (Node f k) v.reading.filled → IsItem vs n u
       → SeatRight z m g u → SeatRight z (written m (Node f k) x) g u
   node_seat i k n v u f x at free other fresh of seat =
       let held : (j : ℕ) → 0 < lock_count j u → j ≡ k → ⊥ = λ j some. held_apart i k j n v u at free of (held_holds u j some) (seat.locks j some).0 in
@@ -99,13 +108,21 @@ module _ (z : Layout) (m : Memory) (vs : List View) (g : Meaning) (rule : Rule z
       ) in
       record {
         layout = seat.layout;
-        section = record { section = seat.section.section; announced = seat.section.announced; outside = seat.section.outside; unlocked = seat.section.unlocked; done = seat.section.done; waits = seat.section.waits };
+        section = record {
+          section = seat.section.section;
+          announced = seat.section.announced;
+          outside = seat.section.outside;
+          unlocked = seat.section.unlocked;
+          done = seat.section.done;
+          waits = seat.section.waits;
+        };
         seen = seat.seen;
         update = seat.update;
         version = seat.version;
         announced = seat.announced;
         tree = reads_frame m (written m (Node f k) x) g.bundles g.bundles (λ t. t ≤ m Stamp) g.updates (m Stamp) g.tree u.reading.tree u.reading.section
-            (λ t j past here. node_same i k t j v f x at free (read_live z vs g rule.slots (m Stamp) n j u of seat.version here)) (omega arith) seat.version.past seat.tree;
+            (λ t j past here. node_same i k t j v f x at free (read_live z vs g rule.slots (m Stamp) n j u of seat.version here))
+            (omega arith) seat.version.past seat.tree;
         locks = λ j some. ((seat.locks j some).0, subst (λ l. NamesHolder l u.number) (sym (lock_other m f k j x other)) (seat.locks j some).1);
         loaded = record {
           nodes = every_named (λ (h : HeldNode). h.node)
@@ -127,7 +144,8 @@ module _ (z : Layout) (m : Memory) (vs : List View) (g : Meaning) (rule : Rule z
             | inl marked ↦ inl (node_other m f Mark k j x (λ same. omega (arith, waits, subst (λ y. 0 < count y u.retired.nodes) same some)) ∙ marked)
             | inr out ↦ inr out
           ];
-          batch = λ j some. node_other m f Mark k j x (λ same. omega (arith, waits, subst (λ y. 0 < count y u.batch.nodes) same some)) ∙ seat.marks.batch j some;
+          batch = λ j some.
+              node_other m f Mark k j x (λ same. omega (arith, waits, subst (λ y. 0 < count y u.batch.nodes) same some)) ∙ seat.marks.batch j some;
           taken = seat.marks.taken;
         };
         pending = every_map
@@ -141,7 +159,9 @@ module _ (z : Layout) (m : Memory) (vs : List View) (g : Meaning) (rule : Rule z
                 node = right.2.node;
                 side = right.2.side;
                 there = right.2.there;
-                is = node_other m f (Head right.2.side) k right.2.node x (held_apart i k right.2.node n v u at free of (work_holds u right.2.node right.2.of) right.2.there) ∙ right.2.is;
+                is =
+                    node_other m f (Head right.2.side) k right.2.node x
+                    (held_apart i k right.2.node n v u at free of (work_holds u right.2.node right.2.of) right.2.there) ∙ right.2.is;
                 some = right.2.some;
                 of = right.2.of;
               },
@@ -152,7 +172,8 @@ module _ (z : Layout) (m : Memory) (vs : List View) (g : Meaning) (rule : Rule z
       }
 
   -- a store to a word of a free node, but for its lock
-  pub node_stored : (i k : ℕ) (v : View) (f : Field) (x : ℕ) → IsItem vs i v → 0 < count k v.free.nodes → is_lock f ≡ false → IsNotAmong (Node f k) v.reading.filled
+  pub node_stored : (i k : ℕ) (v : View) (f : Field) (x : ℕ) → IsItem vs i v → 0 < count k v.free.nodes → is_lock f ≡ false
+      → IsNotAmong (Node f k) v.reading.filled
       → Rule z (written m (Node f k) x) vs g
   node_stored i k v f x at free other fresh =
       let alone = free_node_alone z vs g rule.slots i k v at free in
@@ -165,35 +186,45 @@ module _ (z : Layout) (m : Memory) (vs : List View) (g : Meaning) (rule : Rule z
             (λ j here. node_same i k (m Stamp) j v f x at free (linked_live z vs g rule.slots j here)) rule.tree;
         marks = record {
           root = node_other m f Mark k 0 x (λ same. omega (arith, alone.1, same)) ∙ rule.marks.root;
-          nodes = λ j some. node_other m f Mark k j x (λ same. omega (arith, alone.0, subst (λ y. 0 < count y (slots_of g.tree)) same some)) ∙ rule.marks.nodes j some;
+          nodes = λ j some.
+              node_other m f Mark k j x (λ same. omega (arith, alone.0, subst (λ y. 0 < count y (slots_of g.tree)) same some)) ∙ rule.marks.nodes j some;
         };
         bundles = λ j live side.
             subst (λ h. BundleRight (m Stamp) (λ e. m (Entry Next e)) (λ e. m (Entry Number e)) g.bundles.number (IsPendingAt vs j) h (g.bundles.bundle side j))
             (sym (node_other m f (Head side) k j x (apart i k j v at free live))) (rule.bundles j live side);
         pairs = rule.pairs;
         single = rule.single;
-        seats = all_items (SeatRight z m g) (SeatRight z (written m (Node f k) x) g) vs rule.seats (λ n u of seat. node_seat i k n v u f x at free other fresh of seat);
+        seats =
+            all_items (SeatRight z m g) (SeatRight z (written m (Node f k) x) g) vs rule.seats
+            (λ n u of seat. node_seat i k n v u f x at free other fresh of seat);
       }
 
-  member_apart : (i e k d : ℕ) (v : View) (side : Side) → IsItem vs i v → 0 < count e v.free.entries → IsLive z vs k → 0 < count d (g.bundles.bundle side k) → d ≡ e → ⊥
+  member_apart : (i e k d : ℕ) (v : View) (side : Side) → IsItem vs i v → 0 < count e v.free.entries → IsLive z vs k → 0 < count d (g.bundles.bundle side k)
+      → d ≡ e → ⊥
   member_apart i e k d v side at free live some same =
       not_in_bundle z vs g rule.slots i k e v at free live (in_entries g.bundles k e side (subst (λ x. 0 < count x (g.bundles.bundle side k)) same some))
 
   module _ (i e : ℕ) (v : View) (at : IsItem vs i v) (free : 0 < count e v.free.entries) (p : Part) (x : ℕ) where
     entry_bundle : (k : ℕ) → IsLive z vs k → (side : Side) → IsBundle m vs g k side → IsBundle (written m (Entry p e) x) vs g k side
     entry_bundle k live side right =
-        bundle_frame (m Stamp) (λ d. m (Entry Next d)) (λ d. written m (Entry p e) x (Entry Next d)) (λ d. m (Entry Number d)) (λ d. written m (Entry p e) x (Entry Number d))
+        bundle_frame (m Stamp) (λ d. m (Entry Next d)) (λ d. written m (Entry p e) x (Entry Next d)) (λ d. m (Entry Number d))
+        (λ d. written m (Entry p e) x (Entry Number d))
         g.bundles.number (IsPendingAt vs k) (m (Node (Head side) k)) (g.bundles.bundle side k)
         (λ d some. let other = member_apart i e k d v side at free live some in (entry_other m p Next e d x other, entry_other m p Number e d x other)) right
 
     -- a loaded head is right where its entry is not the free one
-    entry_head : (h : ℕ) (l : LoadedHead) → (h ≡ e → ⊥) → HeadRight h (λ d. m (Entry Number d)) l → HeadRight h (λ d. written m (Entry p e) x (Entry Number d)) l
+    entry_head : (h : ℕ) (l : LoadedHead) → (h ≡ e → ⊥) → HeadRight h (λ d. m (Entry Number d)) l
+        → HeadRight h (λ d. written m (Entry p e) x (Entry Number d)) l
     entry_head h l other right =
         (right.0, IfSome_then l.stamp right.1 (λ y known some. entry_other m p Number e l.entry x (λ same. other (right.0 ∙ same)) ∙ known some))
 
     entry_side : (k : ℕ) (side : Side) (s : HeldSide) → IsLive z vs k → SideRight (m (Node (Head side) k)) (λ d. m (Entry Number d)) s
         → SideRight (m (Node (Head side) k)) (λ d. written m (Entry p e) x (Entry Number d)) s
-    entry_side k side s live right = record { head = IfSome_then s.head right.head (λ l known. entry_head (m (Node (Head side) k)) l (head_apart z m vs g rule i e k v side at free live) known) }
+    entry_side k side s live right =
+        record {
+          head = IfSome_then s.head right.head
+              (λ l known. entry_head (m (Node (Head side) k)) l (head_apart z m vs g rule i e k v side at free live) known);
+        }
 
     entry_place : (n : ℕ) (u : View) (place : Place) → IsItem vs n u → PlaceRight z (λ d. m (Entry Number d)) g.bundles u place
         → PlaceRight z (λ d. written m (Entry p e) x (Entry Number d)) g.bundles u place
@@ -203,9 +234,12 @@ module _ (z : Layout) (m : Memory) (vs : List View) (g : Meaning) (rule : Rule z
     entry_place n u (AtEntry node side entry found) of right = record {
       reach = right.reach;
       stands = λ some watched.
-          let stands : StandsAt (λ d. m (Entry Number d)) (g.bundles.bundle side node) entry found u.reading.above (IsPassed g.bundles.number u node) = right.stands some watched in
-          let here : 0 < count entry (g.bundles.bundle side node) = subst (λ es. 0 < count entry es) (sym stands.splits) (count-middle entry stands.front stands.back) in
-          let same : written m (Entry p e) x (Entry Number entry) ≡ m (Entry Number entry) = entry_other m p Number e entry x (member_apart i e node entry v side at free (reachable_live z vs g rule.slots n node u of right.reach) here) in
+          let stands : StandsAt (λ d. m (Entry Number d)) (g.bundles.bundle side node) entry found u.reading.above (IsPassed g.bundles.number u node)
+          = right.stands some watched in
+          let here : 0 < count entry (g.bundles.bundle side node)
+          = subst (λ es. 0 < count entry es) (sym stands.splits) (count-middle entry stands.front stands.back) in
+          let same : written m (Entry p e) x (Entry Number entry) ≡ m (Entry Number entry)
+          = entry_other m p Number e entry x (member_apart i e node entry v side at free (reachable_live z vs g rule.slots n node u of right.reach) here) in
           record {
             front = stands.front;
             back = stands.back;
@@ -217,11 +251,18 @@ module _ (z : Layout) (m : Memory) (vs : List View) (g : Meaning) (rule : Rule z
     }
 
     entry_same : (t k : ℕ) → IsLive z vs k → SameNode m (written m (Entry p e) x) g.bundles g.bundles t k
-    entry_same t k live = record { key = refl; val = refl; entry = λ side. refl; child = λ side. child_by side (select_in g.bundles.number t (g.bundles.bundle side k)) }
+    entry_same t k live = record {
+      key = refl;
+      val = refl;
+      entry = λ side. refl;
+      child = λ side. child_by side (select_in g.bundles.number t (g.bundles.bundle side k));
+    }
       where
-        child_by : (side : Side) → (select g.bundles.number t (g.bundles.bundle side k) ≡ 0) ⊎ (0 < count (select g.bundles.number t (g.bundles.bundle side k)) (g.bundles.bundle side k))
+        child_by : (side : Side) → (select g.bundles.number t (g.bundles.bundle side k) ≡ 0)
+            ⊎ (0 < count (select g.bundles.number t (g.bundles.bundle side k)) (g.bundles.bundle side k))
             → child_at m g.bundles t side k ≡ child_at (written m (Entry p e) x) g.bundles t side k
-        child_by side (inl none) = sym (child_none (λ d. m (Entry Child d)) (λ d. written m (Entry p e) x (Entry Child d)) (select g.bundles.number t (g.bundles.bundle side k)) none)
+        child_by side (inl none) =
+            sym (child_none (λ d. m (Entry Child d)) (λ d. written m (Entry p e) x (Entry Child d)) (select g.bundles.number t (g.bundles.bundle side k)) none)
         child_by side (inr some) =
             let d : ℕ = select g.bundles.number t (g.bundles.bundle side k) in
             ap (λ c. cond (eqb d 0) 0 c) (sym (entry_other m p Child e d x (member_apart i e k d v side at free live some)))
@@ -249,24 +290,43 @@ module _ (z : Layout) (m : Memory) (vs : List View) (g : Meaning) (rule : Rule z
         → LinkRight z (λ d. written m (Entry p e) x (Entry Child d)) g.bundles u l
     entry_link n u l of right = entry_source n l.node l.child l.side u l.source of right
 
-    entry_filled : IsNotAmong (Entry p e) v.reading.filled → (n : ℕ) (u : View) → IsItem vs n u → SeatRight z m g u → Every (FilledRight (written m (Entry p e) x) u.free u.update) u.reading.filled
+    entry_filled : IsNotAmong (Entry p e) v.reading.filled → (n : ℕ) (u : View) → IsItem vs n u → SeatRight z m g u
+        → Every (FilledRight (written m (Entry p e) x) u.free u.update) u.reading.filled
     entry_filled fresh n u of seat =
         elim (eqb_tells n i) as (λ _. Every (FilledRight (written m (Entry p e) x) u.free u.update) u.reading.filled) [
-          | inl same ↦ not_among m u.free u.update (Entry p e) x u.reading.filled (subst (λ (y : View). IsNotAmong (Entry p e) y.reading.filled) (same_item vs i n v u at of same.1) fresh) seat.filled
+          | inl same ↦
+              not_among m u.free u.update (Entry p e) x u.reading.filled
+              (subst (λ (y : View). IsNotAmong (Entry p e) y.reading.filled) (same_item vs i n v u at of same.1) fresh) seat.filled
           | inr other ↦ every_filled m (written m (Entry p e) x) u.free u.free u.update u.update u.reading.filled (λ w is. is)
               (entry_apart m u.free u.update p e x
-              (λ also. omega (arith, once_entry z vs g rule.slots e, two_terms (own entries_in e) vs i v u at (record { place = n; at = of; other = other.1 }), free, also))
+              (λ also. omega (
+                arith,
+                once_entry z vs g rule.slots e,
+                two_terms (own entries_in e) vs i v u at (record { place = n; at = of; other = other.1 }),
+                free,
+                also,
+              ))
               (λ also.
-              let head = (every_at (IsPending z (λ s k. m (Node (Head s) k)) (λ d. m (Entry Number d)) g.bundles.number u) e u.update.pending seat.pending also).2 in
-              head_apart z m vs g rule i e head.node v head.side at free (held_live z vs g rule.slots n head.node u of (work_holds u head.node head.of) head.there) head.is)) seat.filled
+              let head = (every_at (IsPending z (λ s k. m (Node (Head s) k)) (λ d. m (Entry Number d)) g.bundles.number u) e
+              u.update.pending seat.pending also).2 in
+              head_apart z m vs g rule i e head.node v head.side at free
+              (held_live z vs g rule.slots n head.node u of (work_holds u head.node head.of) head.there) head.is)) seat.filled
         ]
 
     entry_seat : IsNotAmong (Entry p e) v.reading.filled → (n : ℕ) (u : View) → IsItem vs n u → SeatRight z m g u → SeatRight z (written m (Entry p e) x) g u
     entry_seat fresh n u of seat =
-        let locked : (k : ℕ) → 0 < lock_count k u → IsLive z vs k = λ k some. held_live z vs g rule.slots n k u of (held_holds u k some) (seat.locks k some).0 in
+        let locked : (k : ℕ) → 0 < lock_count k u → IsLive z vs k
+        = λ k some. held_live z vs g rule.slots n k u of (held_holds u k some) (seat.locks k some).0 in
         record {
           layout = seat.layout;
-          section = record { section = seat.section.section; announced = seat.section.announced; outside = seat.section.outside; unlocked = seat.section.unlocked; done = seat.section.done; waits = seat.section.waits };
+          section = record {
+            section = seat.section.section;
+            announced = seat.section.announced;
+            outside = seat.section.outside;
+            unlocked = seat.section.unlocked;
+            done = seat.section.done;
+            waits = seat.section.waits;
+          };
           seen = seat.seen;
           update = seat.update;
           version = seat.version;
@@ -293,7 +353,9 @@ module _ (z : Layout) (m : Memory) (vs : List View) (g : Meaning) (rule : Rule z
                 (IsNextAt (written m (Entry p e) x) g.bundles u.held.nodes)
                 u.held.nexts
                 (λ h right.
-                let other : h.entry ≡ e → ⊥ = λ same. not_in_bundle z vs g rule.slots i h.node e v at free (locked h.node right.locked) (subst (λ d. 0 < count d (entries_of g.bundles h.node)) same right.here) in
+                let other : h.entry ≡ e → ⊥
+                = λ same. not_in_bundle z vs g rule.slots i h.node e v at free (locked h.node right.locked)
+                (subst (λ d. 0 < count d (entries_of g.bundles h.node)) same right.here) in
                 record {
                   is = entry_other m p Next e h.entry x other ∙ right.is;
                   locked = right.locked;
@@ -308,13 +370,16 @@ module _ (z : Layout) (m : Memory) (vs : List View) (g : Meaning) (rule : Rule z
               (IsPending z (λ s j. m (Node (Head s) j)) (λ d. written m (Entry p e) x (Entry Number d)) g.bundles.number u)
               u.update.pending
               (λ d right. (
-                entry_other m p Number e d x (λ same. head_apart z m vs g rule i e right.2.node v right.2.side at free (held_live z vs g rule.slots n right.2.node u of (work_holds u right.2.node right.2.of) right.2.there) (right.2.is ∙ same)) ∙ right.0,
+                entry_other m p Number e d x (λ same. head_apart z m vs g rule i e right.2.node v right.2.side at free
+                    (held_live z vs g rule.slots n right.2.node u of (work_holds u right.2.node right.2.of) right.2.there) (right.2.is ∙ same)) ∙ right.0,
                 right.1,
                 right.2,
               )) seat.pending;
           place = entry_place n u u.reading.place of seat.place;
           filled = entry_filled fresh n u of seat;
-          links = every_map (LinkRight z (λ d. m (Entry Child d)) g.bundles u) (LinkRight z (λ d. written m (Entry p e) x (Entry Child d)) g.bundles u) u.reading.links (λ l right. entry_link n u l of right) seat.links;
+          links =
+              every_map (LinkRight z (λ d. m (Entry Child d)) g.bundles u) (LinkRight z (λ d. written m (Entry p e) x (Entry Child d)) g.bundles u)
+              u.reading.links (λ l right. entry_link n u l of right) seat.links;
         }
 
     -- a store to a word of a free entry

@@ -66,7 +66,8 @@ side_kept : (stamp stamp' : ℕ → ℕ) (head : ℕ) (s : HeldSide) → ((d : �
 side_kept stamp stamp' head s same right =
     record { head = IfSome_then s.head right.head (λ l known. (known.0, found_kept stamp stamp' l.entry l.stamp (same l.entry) known.1)) }
 
-module _ (z : Layout) (m : Memory) (vs : List View) (g : Meaning) (rule : Rule z m vs g) (i e r : ℕ) (v : View) (at : IsItem vs i v) (raised : v.update.raised ≡ Some r) (some : 0 < count e v.update.pending) where
+module _ (z : Layout) (m : Memory) (vs : List View) (g : Meaning) (rule : Rule z m vs g) (i e r : ℕ) (v : View) (at : IsItem vs i v)
+    (raised : v.update.raised ≡ Some r) (some : 0 < count e v.update.pending) where
   abbrev stamp : ℕ → ℕ
   stamp d = m (Entry Number d)
 
@@ -121,18 +122,24 @@ module _ (z : Layout) (m : Memory) (vs : List View) (g : Meaning) (rule : Rule z
       let apart : d ≡ e → ⊥ = λ same. omega (arith, none, raise_past.0, entry_same m e r, ap stamp' same) in
       let old = owned (sym (other_stamp d apart) ∙ none) in
       let P : View → Type 0 = λ u. 0 < pending_count d u → 0 < count k (work_nodes u) in
-      let same : pending_count d w ≡ pending_count d v = count-without_other d e v.update.pending apart in
-      (sum_kept (pending_count d) vs i v w at same ∙ old.0, all_moved P P vs i v w at old.1 (λ more. at_item P vs i v at old.1 (omega (arith, same, more))) (λ u beside of. of))
+      let same : pending_count d w ≡ pending_count d v = count-without_other d e v.update.pending apart in (
+        sum_kept (pending_count d) vs i v w at same ∙ old.0,
+        all_moved P P vs i v w at old.1 (λ more. at_item P vs i v at old.1 (omega (arith, same, more))) (λ u beside of. of),
+      )
 
   bundle_kept : (k : ℕ) → IsLive z (set vs i w) k → (side : Side) → IsBundle m' (set vs i w) g k side
   bundle_kept k live side =
       let right = rule.bundles k (live_moved z vs i k v w at (omega arith) live) side in
       record {
         chain = right.chain;
-        numbers = every_map (IsNumbered (m Stamp) stamp g.bundles.number) (IsNumbered (m Stamp) stamp' g.bundles.number) (g.bundles.bundle side k) numbers_kept right.numbers;
+        numbers =
+            every_map (IsNumbered (m Stamp) stamp g.bundles.number) (IsNumbered (m Stamp) stamp' g.bundles.number)
+            (g.bundles.bundle side k) numbers_kept right.numbers;
         tail = tail_kept (g.bundles.bundle side k) right.tail;
         falls = right.falls;
-        owned = every_map (λ d. stamp d ≡ 0 → IsPendingAt vs k d) (λ d. stamp' d ≡ 0 → IsPendingAt (set vs i w) k d) (g.bundles.bundle side k) (owned_kept k) right.owned;
+        owned =
+            every_map (λ d. stamp d ≡ 0 → IsPendingAt vs k d) (λ d. stamp' d ≡ 0 → IsPendingAt (set vs i w) k d)
+            (g.bundles.bundle side k) (owned_kept k) right.owned;
       }
 
   place_kept : (u : View) (place : Place) → PlaceRight z stamp g.bundles u place → PlaceRight z stamp' g.bundles u place
@@ -164,7 +171,12 @@ module _ (z : Layout) (m : Memory) (vs : List View) (g : Meaning) (rule : Rule z
   }
 
   next_kept : (locked : List HeldNode) (l : HeldNext) → IsNextAt m g.bundles locked l → IsNextAt m' g.bundles locked l
-  next_kept locked l right = record { is = right.is; locked = right.locked; here = right.here; found = found_kept stamp stamp' l.entry l.stamp (kept_stamp l.entry) right.found }
+  next_kept locked l right = record {
+    is = right.is;
+    locked = right.locked;
+    here = right.here;
+    found = found_kept stamp stamp' l.entry l.stamp (kept_stamp l.entry) right.found;
+  }
 
   nexts_kept : (u : View) → Every (IsNextAt m g.bundles u.held.nodes) u.held.nexts → Every (IsNextAt m' g.bundles u.held.nodes) u.held.nexts
   nexts_kept u right = every_map (IsNextAt m g.bundles u.held.nodes) (IsNextAt m' g.bundles u.held.nodes) u.held.nexts (next_kept u.held.nodes) right
@@ -173,7 +185,8 @@ module _ (z : Layout) (m : Memory) (vs : List View) (g : Meaning) (rule : Rule z
   unfree : (j : ℕ) (u : View) → IsItem vs j u → 0 < count e u.free.entries → ⊥
   unfree j u of free =
       let head = known.2 in
-      head_apart z m vs g rule j e head.node u head.side of free (held_live z vs g rule.slots i head.node v at (work_holds v head.node head.of) head.there) head.is
+      head_apart z m vs g rule j e head.node u head.side of free
+      (held_live z vs g rule.slots i head.node v at (work_holds v head.node head.of) head.there) head.is
 
   not_yet : v.update.raised ≡ None → ⊥
   not_yet none = apart v.update.raised none raised
@@ -237,7 +250,14 @@ module _ (z : Layout) (m : Memory) (vs : List View) (g : Meaning) (rule : Rule z
   other_kept : (u : View) → Beside vs i u → SeatRight z m g u → SeatRight z m' g u
   other_kept u beside of = record {
     layout = of.layout;
-    section = record { section = of.section.section; announced = of.section.announced; outside = of.section.outside; unlocked = of.section.unlocked; done = of.section.done; waits = of.section.waits };
+    section = record {
+      section = of.section.section;
+      announced = of.section.announced;
+      outside = of.section.outside;
+      unlocked = of.section.unlocked;
+      done = of.section.done;
+      waits = of.section.waits;
+    };
     seen = of.seen;
     update = of.update;
     version = of.version;

@@ -85,7 +85,8 @@ none_less free unused free' (Section k) is yet = absurd is
 none_less free unused free' (Announced k) is yet = absurd is
 
 -- fewer slots are free
-pub fewer_less : (free unused free' : Slots) → ((k : ℕ) → 0 < count k free'.nodes → 0 < count k free.nodes) → ((e : ℕ) → 0 < count e free'.entries → 0 < count e free.entries)
+pub fewer_less : (free unused free' : Slots) → ((k : ℕ) → 0 < count k free'.nodes → 0 < count k free.nodes)
+    → ((e : ℕ) → 0 < count e free'.entries → 0 < count e free.entries)
     → LessOf free unused free' unused
 fewer_less free unused free' nodes entries (Node f k) is yet = ((is.0, nodes k is.1), yet)
 fewer_less free unused free' nodes entries (Entry p e) is yet = (entries e is, yet)
@@ -94,7 +95,8 @@ fewer_less free unused free' nodes entries (Section k) is yet = absurd is
 fewer_less free unused free' nodes entries (Announced k) is yet = absurd is
 
 -- the same with fewer that are unused
-pub subset_less : (free unused free' unused' : Slots) → ((k : ℕ) → 0 < count k free'.nodes → 0 < count k free.nodes) → ((e : ℕ) → 0 < count e free'.entries → 0 < count e free.entries)
+pub subset_less : (free unused free' unused' : Slots) → ((k : ℕ) → 0 < count k free'.nodes → 0 < count k free.nodes)
+    → ((e : ℕ) → 0 < count e free'.entries → 0 < count e free.entries)
     → ((k : ℕ) → 0 < count k unused'.nodes → 0 < count k unused.nodes) → ((e : ℕ) → 0 < count e unused'.entries → 0 < count e unused.entries)
     → LessOf free unused free' unused'
 subset_less free unused free' unused' nodes entries few fewer (Node f k) is yet = ((is.0, nodes k is.1), few k yet)
@@ -107,7 +109,8 @@ subset_less free unused free' unused' nodes entries few fewer (Announced k) is y
 pub less_right : (m : Memory) (v u : View) → LessOf v.free v.unused u.free u.unused → UnusedRight m v → UnusedRight m u
 less_right m v u less right y is yet = let old = less y is yet in right y old.0 old.1
 
-pub taken_less : (b : Bool) (u : View) → LessOf u.free u.unused (cond b (record u { retired = no_slots; batch = u.retired; grace = no_looks }) u).free (cond b (record u { retired = no_slots; batch = u.retired; grace = no_looks }) u).unused
+pub taken_less : (b : Bool) (u : View) → LessOf u.free u.unused (cond b (record u { retired = no_slots; batch = u.retired; grace = no_looks }) u).free
+    (cond b (record u { retired = no_slots; batch = u.retired; grace = no_looks }) u).unused
 taken_less true u y is yet = (is, yet)
 taken_less false u y is yet = (is, yet)
 
@@ -145,7 +148,8 @@ module _ (m : Memory) (u : View) (x : ℕ) where
   written_apart (Node f k) apart y is = node_written f k apart y (own_word u.free u.update y is)
   written_apart (Entry p e) apart y is = entry_apart m u.free no_update p e x apart (λ more. absurd (omega (arith, more))) y (own_word u.free no_update y is)
 
-module _ (z : Layout) (words : List ℕ) (vs : List View) (right : InRule z words vs) (i : ℕ) (v : View) (at : IsItem vs i v) (n : ℕ) (w : Word) (found : word_at z n ≡ Some w) (value : ℕ) where
+module _ (z : Layout) (words : List ℕ) (vs : List View) (right : InRule z words vs) (i : ℕ) (v : View) (at : IsItem vs i v) (n : ℕ) (w : Word)
+    (found : word_at z n ≡ Some w) (value : ℕ) where
   abbrev m : Memory
   m = memory z words
 
@@ -309,7 +313,8 @@ module _ (z : Layout) (words : List ℕ) (vs : List View) (right : InRule z word
   leaves TryLock o other met = tried (eqb (slice_index words n) 0) (try_stores w met)
   leaves Unlock o other met = stored value (unlock_stores w met)
   leaves MarkNode o other met = stored value (mark_stores w met)
-  leaves Announce o other met = stored value (announce_stores (own_announced v.number w (and_parts (is_own_announced v.number w) (is_announcement v value) met).0))
+  leaves Announce o other met =
+      stored value (announce_stores (own_announced v.number w (and_parts (is_own_announced v.number w) (is_announcement v value) met).0))
   leaves Cut o other met = stored value (cut_stores w met)
   leaves SetLink o other met = stored value (set_link_stores w met)
   leaves SetTag o other met = stored value (set_tag_stores w met)

@@ -39,7 +39,8 @@ head_at : (e x : ℕ) (head : ℕ) (stamp : ℕ → ℕ) (l : LoadedHead) (c : B
 head_at e x head stamp l false is found right = right
 head_at e x head stamp l true is found right = (right.0, (λ some. ap stamp (eqb-true l.entry e is) ∙ sym found))
 
-pub side_at : (e x : ℕ) (head : ℕ) (stamp : ℕ → ℕ) (o : Option LoadedHead) → x ≡ stamp e → IfSome o (HeadRight head stamp) → IfSome (stamp_known e x o) (HeadRight head stamp)
+pub side_at : (e x : ℕ) (head : ℕ) (stamp : ℕ → ℕ) (o : Option LoadedHead) → x ≡ stamp e → IfSome o (HeadRight head stamp)
+    → IfSome (stamp_known e x o) (HeadRight head stamp)
 side_at e x head stamp None found right = tt
 side_at e x head stamp (Some l) found right = head_at e x head stamp l (eqb l.entry e) refl found right
 
@@ -59,11 +60,13 @@ first_stands next stamp head (e ∷ es) unread chain some =
 
 module _ (z : Layout) (m : Memory) (vs : List View) (g : Meaning) (rule : Rule z m vs g) where
   -- where a head is loaded, the heads known of locked nodes
-  again_by : (e head : ℕ) (stamp : ℕ → ℕ) (l : LoadedHead) (b : Bool) → head ≡ e → HeadRight head stamp l → HeadRight head stamp (cond b l (record { entry = e; stamp = None }))
+  again_by : (e head : ℕ) (stamp : ℕ → ℕ) (l : LoadedHead) (b : Bool) → head ≡ e → HeadRight head stamp l
+      → HeadRight head stamp (cond b l (record { entry = e; stamp = None }))
   again_by e head stamp l true is right = right
   again_by e head stamp l false is right = (is, tt)
 
-  again_right : (e head : ℕ) (stamp : ℕ → ℕ) (o : Option LoadedHead) → head ≡ e → IfSome o (HeadRight head stamp) → IfSome (found_again e o) (HeadRight head stamp)
+  again_right : (e head : ℕ) (stamp : ℕ → ℕ) (o : Option LoadedHead) → head ≡ e → IfSome o (HeadRight head stamp)
+      → IfSome (found_again e o) (HeadRight head stamp)
   again_right e head stamp None is right = (is, tt)
   again_right e head stamp (Some l) is right = again_by e head stamp l (eqb l.entry e) is right
 
@@ -75,7 +78,11 @@ module _ (z : Layout) (m : Memory) (vs : List View) (g : Meaning) (rule : Rule z
     key = right.key;
     val = right.val;
     mark = right.mark;
-    left = record { head = again_right (m (Node (Head Left) node)) (m (Node (Head Left) h.node)) (λ e. m (Entry Number e)) h.left.head (ap (λ n. m (Node (Head Left) n)) (eqb-true h.node node is)) right.left.head };
+    left =
+        record {
+          head = again_right (m (Node (Head Left) node)) (m (Node (Head Left) h.node)) (λ e. m (Entry Number e)) h.left.head
+              (ap (λ n. m (Node (Head Left) n)) (eqb-true h.node node is)) right.left.head;
+        };
     right = right.right;
     plain = right.plain;
   }
@@ -84,7 +91,11 @@ module _ (z : Layout) (m : Memory) (vs : List View) (g : Meaning) (rule : Rule z
     val = right.val;
     mark = right.mark;
     left = right.left;
-    right = record { head = again_right (m (Node (Head Right) node)) (m (Node (Head Right) h.node)) (λ e. m (Entry Number e)) h.right.head (ap (λ n. m (Node (Head Right) n)) (eqb-true h.node node is)) right.right.head };
+    right =
+        record {
+          head = again_right (m (Node (Head Right) node)) (m (Node (Head Right) h.node)) (λ e. m (Entry Number e)) h.right.head
+              (ap (λ n. m (Node (Head Right) n)) (eqb-true h.node node is)) right.right.head;
+        };
     plain = right.plain;
   }
 
@@ -102,10 +113,18 @@ module _ (z : Layout) (m : Memory) (vs : List View) (g : Meaning) (rule : Rule z
       (every_mapped (IsNodeAt m) (IsNodeAt m)
       (found_at node side x) v.held.nodes (λ h right. known_now node side h (eqb h.node node) refl right) seat.loaded.nodes)
       (nexts_back z m vs g rule i v at w.counts w.held.nodes w.held.nexts w.reading.place w.reading.above w.reading.links same)
-      (record { reach = back node reach; stands = λ some watched. first_stands (λ e. m (Entry Next e)) (λ e. m (Entry Number e)) x (g.bundles.bundle side node) (IsPassed g.bundles.number w node) chain some })
+      (record {
+        reach = back node reach;
+        stands = λ some watched.
+            first_stands (λ e. m (Entry Next e)) (λ e. m (Entry Number e)) x (g.bundles.bundle side node) (IsPassed g.bundles.number w node) chain some;
+      })
       (links_push (LinkRight z (λ e. m (Entry Child e)) g.bundles w) (eqb x 0) v.reading.links (bundle_link node side 0 0)
       (links_back z m vs g rule i v at w.counts w.held.nodes w.held.nexts w.reading.place w.reading.above w.reading.links same)
-      (λ none. record { reach = back node reach; selected = null_by v.reading.section (empty_chain (λ e. m (Entry Next e)) x (g.bundles.bundle side node) chain (eqb-true x 0 none)) }))
+      (λ none. record {
+        reach = back node reach;
+        selected = null_by v.reading.section
+            (empty_chain (λ e. m (Entry Next e)) x (g.bundles.bundle side node) chain (eqb-true x 0 none));
+      }))
     where
       null_by : (o : Option ℕ) → g.bundles.bundle side node ≡ [] → EntryRight (λ e. m (Entry Child e)) g.bundles.number (g.bundles.bundle side node) o 0 0
       null_by None none = (refl, refl)

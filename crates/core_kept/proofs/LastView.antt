@@ -1,6 +1,6 @@
 -- The first view of a table put behind the others: the rule stays, since it names no seat by its place.
-use Rattle.std.proofs.Common.{◌≡◌, ℕ, zero, suc, ◌+◌, ◌<◌, List, [], ◌∷◌, ◌++◌, length, get_or, arith, refl, ap, ◌∙◌, sym}
-use Rattle.std.specs.List.{All, sum_by}
+use Rattle.std.proofs.Common.{◌≡◌, ℕ, zero, suc, ◌+◌, ◌<◌, List, [], ◌∷◌, ◌++◌, Bool, true, false, length, get_or, arith, refl, ap, ◌∙◌, sym}
+use Rattle.std.specs.List.{All, sum_by, list_any}
 use Rattle.std.proofs.lemmas.List.{length-append, get_or_push}
 use Rattle.std.proofs.lemmas.List.Elements.{All-nil, All-cons, All-append, All-weaker}
 use Rattle.std.proofs.lemmas.List.Sums.{sum_by-cons, sum_by_push}
@@ -9,7 +9,7 @@ use Rattle.index_words.specs.declared.side.Side.{Side}
 use Rattle.key_map.specs.declared.update.Update.{Update}
 use Rattle.index_words.specs.declared.view.View.{View}
 use Rattle.index_words.specs.declared.view.slots.Slots.{Slots}
-use Rattle.index_words.specs.declared.word.Field.TheVariants.{Head, Link}
+use Rattle.index_words.specs.declared.word.Field.TheVariants.{Mark, Head, Link, Tag}
 use Rattle.index_words.specs.declared.word.Part.TheVariants.{Child, Stamp as Number, Next}
 use Rattle.index_words.specs.declared.word.Word.TheVariants.{Stamp, Node, Entry}
 use Rattle.index_words.specs.Words.{Memory, memory}
@@ -27,9 +27,19 @@ use Rattle.core_invariant.specs.Locks.{lock_count}
 use Rattle.core_invariant.specs.BundleRule.{IsLive, IsBundle, IsPendingAt, pending_count}
 use Rattle.core_invariant.specs.SeatRule.{SeatRight}
 use Rattle.core_invariant.specs.PlainRule.{unset_count, owed_count, child_at, SeatPlain, PlainRight}
+use Rattle.core_trees.specs.NamedTree.{NamedTree}
+use Rattle.core_trees.specs.SpelledTree.{Graph}
+use Rattle.core_invariant.specs.PlainTree.{SeatInTree}
+use Rattle.core_invariant.specs.Reached.{plain_graph, HoldsPlain, has_let, ReachesRight, ReachRight}
+use Rattle.core_invariant.specs.LinkRule.{LinksLast}
+use Rattle.core_invariant.specs.SearchRule.{SearchRight}
+use Rattle.core_invariant.specs.StillRule.{StillRight, KnownRight}
+use Rattle.core_invariant.specs.TurnRule.{TurnsRight, LeavesMarked}
 use Rattle.core_invariant.specs.SpentViews.{IsSpent}
 use Rattle.core_invariant.specs.Rule.{Rule, InRule}
 use Rattle.core_invariant.proofs.Frames.{bundle_weaker}
+use Rattle.core_kept.proofs.OtherOrder.{tree_over, search_over}
+use Rattle.core_invariant.proofs.Undone.{Passing, any_from, any_item}
 
 module _ (v : View) (vs : List View) where
   abbrev turned : List View
@@ -45,12 +55,19 @@ module _ (v : View) (vs : List View) where
   item_turned : (k : ℕ) (x : View) → IsItem (v ∷ vs) k x → (j : ℕ) × IsItem turned j x
   item_turned zero x at =
       (length vs, record { within = omega (arith, length-append vs (v ∷ [])); is = λ d. get_or_push vs v d (length vs) refl ∙ at.is d })
-  item_turned (suc k) x at = (k, record { within = omega (arith, at.within, length-append vs (v ∷ [])); is = λ d. front vs k d (omega (arith, at.within)) ∙ at.is d })
+  item_turned (suc k) x at =
+      (k, record { within = omega (arith, at.within, length-append vs (v ∷ [])); is = λ d. front vs k d (omega (arith, at.within)) ∙ at.is d })
     where
       front : (xs : List View) (k : ℕ) (d : View) → k < length xs → get_or (xs ++ v ∷ []) k d ≡ get_or xs k d
       front [] k d within = absurd (omega (arith, within))
       front (x ∷ xs) zero d within = refl
       front (x ∷ xs) (suc k) d within = front xs k d (omega (arith, within))
+
+  any_turned : (test : View → Bool) → list_any test (v ∷ vs) ≡ true → list_any test turned ≡ true
+  any_turned test some =
+      let p : Passing test (v ∷ vs) = any_item test (v ∷ vs) some in
+      let there = item_turned p.place p.item p.at in
+      any_from test turned there.0 p.item there.1 p.passes
 
   knows_turned : (updates : List Update) → KnowsAll updates (v ∷ vs) → KnowsAll updates turned
   knows_turned updates knows =
@@ -78,7 +95,9 @@ module _ (v : View) (vs : List View) where
             one = λ e. ap (λ n. n + (linked_by g).entries e) (sum_turned (own entries_in e)) ∙ rule.slots.entries.one e;
             unheld = unheld_turned entries_in (HoldsEntry g.bundles) rule.slots.entries.unheld;
           };
-          grace = all_turned (λ w. All (G w) turned) (All-weaker (λ w. All (G w) (v ∷ vs)) (λ w. All (G w) turned) (λ w each. all_turned (G w) each) (v ∷ vs) rule.slots.grace);
+          grace =
+              all_turned (λ w. All (G w) turned) (All-weaker (λ w. All (G w) (v ∷ vs)) (λ w. All (G w) turned)
+              (λ w each. all_turned (G w) each) (v ∷ vs) rule.slots.grace);
           retired = all_turned K rule.slots.retired;
         }
 
@@ -90,7 +109,8 @@ module _ (v : View) (vs : List View) where
 
     bundle_turned : (k : ℕ) → IsLive z turned k → (side : Side) → IsBundle m turned g k side
     bundle_turned k live side =
-        bundle_weaker (m Stamp) (λ e. m (Entry Next e)) (λ e. m (Entry Number e)) g.bundles.number (IsPendingAt (v ∷ vs) k) (IsPendingAt turned k) (m (Node (Head side) k))
+        bundle_weaker (m Stamp) (λ e. m (Entry Next e)) (λ e. m (Entry Number e)) g.bundles.number (IsPendingAt (v ∷ vs) k)
+        (IsPendingAt turned k) (m (Node (Head side) k))
         (g.bundles.bundle side k) (pending_turned k) (rule.bundles k (live_before k live) side)
 
     rule_turned : Rule z m turned g
@@ -109,7 +129,9 @@ module _ (v : View) (vs : List View) where
       tree = rule.tree;
       marks = rule.marks;
       bundles = bundle_turned;
-      pairs = all_turned (λ w. All (LookedRight w) turned) (All-weaker (λ w. All (LookedRight w) (v ∷ vs)) (λ w. All (LookedRight w) turned) (λ w each. all_turned (LookedRight w) each) (v ∷ vs) rule.pairs);
+      pairs =
+          all_turned (λ w. All (LookedRight w) turned)
+          (All-weaker (λ w. All (LookedRight w) (v ∷ vs)) (λ w. All (LookedRight w) turned) (λ w each. all_turned (LookedRight w) each) (v ∷ vs) rule.pairs);
       single = λ e. omega (arith, sum_turned (pending_count e), rule.single e);
       seats = all_turned (SeatRight z m g) rule.seats;
     }
@@ -121,6 +143,23 @@ module _ (v : View) (vs : List View) where
       seats = all_turned (SeatPlain (λ s k. m (Node (Link s) k)) (child_at (λ e. m (Entry Child e)) g.bundles (m Stamp)) g.tree) right.seats;
     }
 
+    reach_turned : (gr : Graph) → ReachRight z gr (v ∷ vs) → ReachRight z gr turned
+    reach_turned gr right = all_turned (ReachesRight z gr turned) (All-weaker (ReachesRight z gr (v ∷ vs)) (ReachesRight z gr turned) own_turned (v ∷ vs) right)
+      where
+        own_turned : (t : View) → ReachesRight z gr (v ∷ vs) t → ReachesRight z gr turned t
+        own_turned t of = record {
+          there = of.there;
+          unheld = λ k holds. sum_turned (own_free nodes_of k) ∙ of.unheld k holds;
+          apart = of.apart;
+          own = of.own;
+          grace = all_turned (λ (u : View). (k : ℕ) → HoldsPlain gr t k → 0 < count k u.batch.nodes → has_let u.grace t.number t.section_word ≡ false) of.grace;
+        }
+
+    searches_turned : (gr : Graph) (now plain : NamedTree) → All (SearchRight gr (v ∷ vs) now plain) (v ∷ vs) → All (SearchRight gr turned now plain) turned
+    searches_turned gr now plain right =
+        all_turned (SearchRight gr turned now plain)
+        (All-weaker (SearchRight gr (v ∷ vs) now plain) (SearchRight gr turned now plain) (search_over gr (v ∷ vs) turned now plain any_turned) (v ∷ vs) right)
+
   -- a table whose first view stands last
   pub turned_right : (z : Layout) (words : List ℕ) → InRule z words (v ∷ vs) → InRule z words (vs ++ v ∷ [])
   turned_right z words right = record {
@@ -128,6 +167,16 @@ module _ (v : View) (vs : List View) where
     meaning = right.meaning;
     rule = rule_turned z (memory z words) right.meaning right.rule;
     plain = plain_turned z (memory z words) right.meaning right.rule right.plain;
+    plain_tree = right.plain_tree;
+    trees = tree_over (plain_graph (memory z words)) (v ∷ vs) turned right.meaning.tree right.plain_tree any_turned
+        (all_turned (SeatInTree (plain_graph (memory z words)) right.plain_tree right.meaning.tree) right.trees.seats) right.trees;
+    searches = searches_turned z (memory z words) right.meaning right.rule (plain_graph (memory z words)) right.meaning.tree right.plain_tree right.searches;
+    reach = reach_turned z (memory z words) right.meaning right.rule (plain_graph (memory z words)) right.reach;
+    turns = all_turned (TurnsRight (plain_graph (memory z words)) right.plain_tree) right.turns;
+    leaving = all_turned (LeavesMarked (λ k. memory z words (Node Mark k)) right.plain_tree) right.leaving;
+    still = all_turned (StillRight z (plain_graph (memory z words)) (λ side k. memory z words (Node (Tag side) k)) right.plain_tree) right.still;
+    known = all_turned (KnownRight z (plain_graph (memory z words)) (λ side k. memory z words (Node (Tag side) k))) right.known;
+    linking = all_turned LinksLast right.linking;
     spent = all_turned IsSpent right.spent;
     spare = all_turned (IsSpare (memory z words)) right.spare;
     places = all_turned KnowsPlaces right.places;

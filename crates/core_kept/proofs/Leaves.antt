@@ -33,13 +33,16 @@ use Rattle.core_invariant.proofs.OneView.{history_kept, seat_at}
 use Rattle.core_invariant.proofs.Waits.{waiting_none}
 use Rattle.core_kept.proofs.Stores.{apart_from, own_stored, other_stored}
 
-module _ (z : Layout) (linked : Linked) (hn he : View → ℕ → Type 0) (vs : List View) (rule : SlotRule z linked hn he vs) (i : ℕ) (v w : View) (at : IsItem vs i v) where
+module _ (z : Layout) (linked : Linked) (hn he : View → ℕ → Type 0) (vs : List View) (rule : SlotRule z linked hn he vs) (i : ℕ) (v w : View)
+    (at : IsItem vs i v) where
   -- a view that holds nothing of the batch
   none_column : (u : View) → HoldsNone hn he u.batch w → GraceRight hn he u v → GraceRight hn he u w
   none_column u none right = record {
     passed = every_weaker (λ n. v.number ≡ Some n → HoldsNone hn he u.batch v) (λ n. w.number ≡ Some n → HoldsNone hn he u.batch w) u.grace.passed
         (λ n known is. none) right.passed;
-    found = every_weaker (λ (f : SectionFound). v.number ≡ Some f.pass → v.section_word ≢ f.word → HoldsNone hn he u.batch v) (λ (f : SectionFound). w.number ≡ Some f.pass → w.section_word ≢ f.word → HoldsNone hn he u.batch w) u.grace.found
+    found =
+        every_weaker (λ (f : SectionFound). v.number ≡ Some f.pass → v.section_word ≢ f.word → HoldsNone hn he u.batch v)
+        (λ (f : SectionFound). w.number ≡ Some f.pass → w.section_word ≢ f.word → HoldsNone hn he u.batch w) u.grace.found
         (λ f known is differs. none) right.found;
   }
 
@@ -64,8 +67,10 @@ module _ (z : Layout) (linked : Linked) (hn he : View → ℕ → Type 0) (vs : 
       }
 
 -- a leave with nothing pending, where each lock that is held is one of those that are kept
-module _ (z : Layout) (m : Memory) (vs : List View) (g : Meaning) (rule : Rule z m vs g) (i n value : ℕ) (v : View) (at : IsItem vs i v) (named : v.number ≡ Some n) (inside : is_even v.section_word ≡ false)
-    (nothing : v.update.pending ≡ []) (kept : Every (IsKeptLock v.update.taken) v.held.nodes) (past : (v.held.nodes ≡ []) ⊎ (is_some v.update.raised ≡ true)) where
+module _ (z : Layout) (m : Memory) (vs : List View) (g : Meaning) (rule : Rule z m vs g) (i n value : ℕ) (v : View) (at : IsItem vs i v)
+    (named : v.number ≡ Some n) (inside : is_even v.section_word ≡ false)
+    (nothing : v.update.pending ≡ []) (kept : Every (IsKeptLock v.update.taken) v.held.nodes)
+    (past : (v.held.nodes ≡ []) ⊎ (is_some v.update.raised ≡ true)) where
   abbrev m' : Memory
   m' = written m (Section n) value
 
@@ -157,7 +162,9 @@ module _ (z : Layout) (m : Memory) (vs : List View) (g : Meaning) (rule : Rule z
     locks = λ k. sum_kept (lock_count k) vs i v w at refl ∙ rule.locks k;
     tree = rule.tree;
     marks = record { root = rule.marks.root; nodes = rule.marks.nodes };
-    bundles = λ k live side. bundle_weaker _ _ _ _ (IsPendingAt vs k) (IsPendingAt (set vs i w) k) _ _ (pending_kept k) (rule.bundles k (live_moved z vs i k v w at (omega arith) live) side);
+    bundles = λ k live side.
+        bundle_weaker _ _ _ _ (IsPendingAt vs k) (IsPendingAt (set vs i w) k) _ _ (pending_kept k)
+        (rule.bundles k (live_moved z vs i k v w at (omega arith) live) side);
     pairs = pairs_idle vs i v w at refl refl rule.pairs;
     single = λ e. omega (arith, sum_kept (pending_count e) vs i v w at refl, rule.single e);
     seats = all_moved (SeatRight z m g) (SeatRight z m' g) vs i v w at rule.seats own_now other_now;

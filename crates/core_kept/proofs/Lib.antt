@@ -82,6 +82,8 @@ pub mod StepLocks
 pub mod Prepare
 -- Prepare: the bundles, and what each number selects, once a free entry is the head of one of them.
 pub mod PrepareBundles
+-- Prepare: what a seat reads, and where it stands, once a free entry is put in front of a bundle.
+pub mod PreparePlaces
 -- Prepare keeps the rule: a free entry, which has the old head behind it, becomes the head of a bundle.
 pub mod PrepareSeats
 -- Finalise keeps the rule: the number of the raise is written into a pending entry.
@@ -138,3 +140,114 @@ pub mod CutSeats
 pub mod StepCuts
 -- An event that is allowed keeps the rule, and what each number up to the stamp selects.
 pub mod StepLaw
+-- A view that has turned elsewhere in its search on plain links keeps the rule.
+pub mod Turns
+-- What searches on plain links reach, where one view moves.
+pub mod ReachMoves
+-- The nodes of the plain tree are in no free list and in no batch.
+pub mod PlainNodes
+-- A view searches at no other nodes than before, after each kind of event that moves it so.
+pub mod ReachSteps
+-- What searches on plain links reach, where the lists of slots of one view change.
+pub mod ReachLists
+-- The links that are still to be set, by the view that has them.
+pub mod LinkItems
+-- A set link that is allowed: what the law on stores of plain links asks is so.
+pub mod MaySet
+-- The plain tree after a set link, and what each view has still to do then.
+pub mod SetTree
+-- What a search claims at one node, after a set link.
+pub mod SetClaims
+-- What searches claim, and what they reach, after a set link.
+pub mod SetSearch
+-- What a view's search claims, where the view moves and its search stays where it is, or ends.
+pub mod SearchSteps
+-- The plain tree, and what searches claim, where one view moves and no plain link of a linked node does.
+pub mod SearchMoves
+-- A search on plain links goes on by one link: what it claims then, and what it reaches.
+pub mod WalkSteps
+-- A raise: what the update has to do comes to what others have to do, and the nodes that it has locked were settled.
+pub mod RaiseTree
+-- A raised put of an absent key: its search on plain links has found the gap of the key in the plain tree.
+pub mod RaiseGap
+-- A raised put keeps the match of the plain tree and the tree at the stamp.
+pub mod RaisePuts
+-- A raised removal keeps it, in each of its cases.
+pub mod RaiseRemoves
+-- The kinds of events that leave a view's search where it is, or end it.
+pub mod QuietKinds
+-- The plain tree, what searches claim and what they reach, after the kinds of events that move no plain link of a linked node.
+pub mod SearchKept
+-- The same after the kinds of stores to other words than keys and plain links.
+pub mod SearchStores
+-- The same after a set link, and where a view comes to stand nowhere.
+pub mod SearchNowhere
+-- A raise: what is known of the links that its update has then still to set.
+pub mod RaiseItems
+-- The plain tree after a raised put.
+pub mod RaisePutTree
+-- The same after a try of a lock.
+pub mod SearchLocks
+-- The same after a leave: the view reaches nothing then, and forgets the node that its update brought in.
+pub mod SearchLeaves
+-- A seat that rests: it has nothing to do at plain links, searches for nothing, and reaches nothing.
+pub mod RestingSeats
+-- The plain tree, what searches claim and what they reach, over another list of views: one with more views, or in another order.
+pub mod OtherOrder
+-- A seat that is made, or split off: the plain tree stays, and with it what searches claim and what they reach.
+pub mod MadeSearches
+-- The plain tree, what searches claim and what they reach, after a seat is split off.
+pub mod SearchSeats
+-- The plain tree after a raised removal: of a node with one child at most, and with two.
+pub mod RaiseLifts
+pub mod RaiseRemoveTree
+-- The plain tree, what searches claim and what they reach, after a raise.
+pub mod RaiseSearches
+-- The end of an update: what it took out is not in the plain tree.
+pub mod EndedUpdates
+-- The plain tree, what searches claim and what they reach, after an unlock.
+pub mod SearchUnlocks
+-- A store to a word of a free node: the plain tree has it not, and no search reaches it.
+pub mod FreeStores
+-- The plain tree, what searches claim and what they reach, after a fill.
+pub mod SearchFills
+-- No event but a raise stores to the stamp.
+pub mod StampWords
+-- The plain tree, what searches claim and what they reach, after every event, over the tree that is at the stamp then.
+pub mod StepSearches
+-- The plain tree, what searches claim and what they reach, where the retired slots become a batch, or a batch becomes free.
+pub mod SearchLists
+-- A look at a section word lets nobody pass that is inside the section in which it was found.
+pub mod LooksLetting
+-- The plain tree, what searches claim and what they reach, after an enter, and after a look at a section word.
+pub mod SearchLooks
+-- At the wait of a removal the only link that is still to be set is that to the successor.
+pub mod WaitItems
+-- The plain tree, what searches claim and what they reach, after a look at a section word at the wait of a removal.
+pub mod SearchWaits
+-- The plain tree, what searches claim and what they reach, after a seat is joined into another one.
+pub mod SearchJoins
+-- What a seat knows of the plain links and the tags of the nodes that it has locked.
+pub mod KnownHeld
+-- What is said of turns, of nodes that leave the plain tree, and of a table of one pass, where one view moves and the plain tree stays.
+pub mod TurnFrames
+-- The same after the kinds of events that leave a view's turns and the plain tree as they are.
+pub mod TurnKinds
+-- The same after stores to other words than keys, values, plain links and tags, and after a try of a lock.
+pub mod TurnStores
+-- The same where a view comes to stand nowhere, or to have read nothing, after a look at a section, and where seats are made or joined.
+pub mod TurnSeats
+-- The same after a load of a plain link: a search that stands there turns, and goes on.
+pub mod TurnWalks
+-- On a table of one pass a seat that has raised is the only one that can be inside a section; and a store to a tag.
+pub mod TurnAlone
+-- The same after a set link, in each of its forms.
+pub mod TurnSets
+-- The same after a fill: a free node is in no search, nor in the plain tree.
+pub mod TurnFills
+-- The same after a raise: the search stands nowhere, and what is taken out is in the plain tree.
+pub mod TurnRaises
+-- What is said of turns, of nodes that leave the plain tree, and of a table of one pass, after every event.
+pub mod StepTurns
+-- As long as an entry is pending, the link to the node that an update has brought in is still to be set: after every event.
+pub mod LinkedLast

@@ -45,7 +45,8 @@ unselected : (f : Option ℕ) (locked : Bool) → is_selected None f locked ≡ 
 unselected None locked is = cc
 unselected (Some x) locked is = cc
 
-module _ (z : Layout) (m : Memory) (vs : List View) (g : Meaning) (rule : Rule z m vs g) (i : ℕ) (v : View) (at : IsItem vs i v) (node : ℕ) (side : Side) (e : ℕ) (found : Option ℕ) (here : v.reading.place ≡ AtEntry node side e found) (some : 0 < e) where
+module _ (z : Layout) (m : Memory) (vs : List View) (g : Meaning) (rule : Rule z m vs g) (i : ℕ) (v : View) (at : IsItem vs i v) (node : ℕ) (side : Side)
+    (e : ℕ) (found : Option ℕ) (here : v.reading.place ≡ AtEntry node side e found) (some : 0 < e) where
   abbrev stamp : ℕ → ℕ
   stamp d = m (Entry Number d)
 
@@ -84,13 +85,15 @@ module _ (z : Layout) (m : Memory) (vs : List View) (g : Meaning) (rule : Rule z
       (subst (λ (p : Place). PlaceRight z stamp g.bundles w (place_known x p)) (sym here) (record {
         reach = reach_back z m vs g rule i v at w.counts w.held.nodes w.held.nexts w.reading.place w.reading.above w.reading.links same node right.reach;
         stands = λ above watched.
-            let stood = stands_there z m vs g rule i v at node side e found here some (watched_back z m vs g rule i v at w.counts w.held.nodes w.held.nexts w.reading.place w.reading.above w.reading.links same node watched) in
+            let stood = stands_there z m vs g rule i v at node side e found here some
+            (watched_back z m vs g rule i v at w.counts w.held.nodes w.held.nexts w.reading.place w.reading.above w.reading.links same node watched) in
             record {
               front = stood.front;
               back = stood.back;
               splits = stood.splits;
               passed = every_map (IsPassed g.bundles.number v node) (IsPassed g.bundles.number w node) stood.front
-                  (λ d is. passed_back z m vs g rule i v at w.counts w.held.nodes w.held.nexts w.reading.place w.reading.above w.reading.links same node d is) stood.passed;
+                  (λ d is. passed_back z m vs g rule i v at w.counts w.held.nodes w.held.nexts w.reading.place w.reading.above w.reading.links same node d is)
+                  stood.passed;
               found = λ _. refl;
               falls = stood.falls;
             };
@@ -106,9 +109,15 @@ module _ (z : Layout) (m : Memory) (vs : List View) (g : Meaning) (rule : Rule z
       read_kept z m vs g rule i v at w.counts w.held.nodes w.held.nexts w.reading.place w.reading.above w.reading.links refl inside
       seat.loaded.nodes seat.loaded.nexts seat.place
       (subst (λ (p : Place). Every (LinkRight z (λ d. m (Entry Child d)) g.bundles w) (child_links v p c)) (sym here)
-      (links_push (LinkRight z (λ d. m (Entry Child d)) g.bundles w) (is_selected v.reading.section found (locks node v.held.nodes)) v.reading.links (bundle_link node side c e)
+      (links_push (LinkRight z (λ d. m (Entry Child d)) g.bundles w) (is_selected v.reading.section found (locks node v.held.nodes))
+      v.reading.links (bundle_link node side c e)
       seat.links
-      (λ is. record { reach = right.reach; selected = entry_by v.reading.section found (locks node v.held.nodes) is (selected_by z m vs g rule i v at node side e found here some v.reading.section found (locks node v.held.nodes) (unlocked_is z m vs g rule i v at node side e found here some) is refl refl) })))
+      (λ is. record {
+        reach = right.reach;
+        selected = entry_by v.reading.section found (locks node v.held.nodes) is
+            (selected_by z m vs g rule i v at node side e found here some v.reading.section found (locks node v.held.nodes)
+            (unlocked_is z m vs g rule i v at node side e found here some) is refl refl);
+      })))
     where
       entry_by : (o f : Option ℕ) (locked : Bool) → is_selected o f locked ≡ true → IfSome o (λ t. select g.bundles.number t es ≡ e)
           → EntryRight (λ d. m (Entry Child d)) g.bundles.number es o (m (Entry Child e)) e
@@ -116,20 +125,29 @@ module _ (z : Layout) (m : Memory) (vs : List View) (g : Meaning) (rule : Rule z
       entry_by (Some t) f locked known is = (is, child_is z m vs g rule i v at node side e found here some)
 
   -- past the entry, in a view that has the same locks
-  passes_by : (w : View) (o : Option ℕ) → v.reading.section ≡ o → (IsLocked v node → IsLocked w node) → IsLocked v node ⊎ (is_above v e found ≡ true) → IfSome o (λ t. IsLocked w node ⊎ (t < g.bundles.number e))
+  passes_by : (w : View) (o : Option ℕ) → v.reading.section ≡ o → (IsLocked v node → IsLocked w node) → IsLocked v node ⊎ (is_above v e found ≡ true)
+      → IfSome o (λ t. IsLocked w node ⊎ (t < g.bundles.number e))
   passes_by w None section locks may = tt
   passes_by w (Some t) section locks (inl locked) = inl (locks locked)
-  passes_by w (Some t) section locks (inr above) = inr (subst (λ (y : Option ℕ). IfSome y (λ n. n < g.bundles.number e)) section (above_is z m vs g rule i v at node side e found here some above))
+  passes_by w (Some t) section locks (inr above) =
+      inr (subst (λ (y : Option ℕ). IfSome y (λ n. n < g.bundles.number e)) section (above_is z m vs g rule i v at node side e found here some above))
 
   locked_has : locks node v.held.nodes ≡ true → IsLocked v node
   locked_has is = locks-count node v.held.nodes is
 
   nexts_by : (c : Bool) → (c ≡ true → IsLocked v node)
-      → Every (IsNextAt m g.bundles v.held.nodes) (cond c (v.held.nexts ++ record { node = node; entry = e; stamp = found; next = m (Entry Next e) } ∷ []) v.held.nexts)
+      → Every (IsNextAt m g.bundles v.held.nodes)
+      (cond c (v.held.nexts ++ record { node = node; entry = e; stamp = found; next = m (Entry Next e) } ∷ []) v.held.nexts)
   nexts_by false locked = seat.loaded.nexts
   nexts_by true locked =
       every_push (IsNextAt m g.bundles v.held.nodes) v.held.nexts (record { node = node; entry = e; stamp = found; next = m (Entry Next e) }) seat.loaded.nexts
-      (record { is = refl; locked = locked refl; here = in_entries g.bundles node e side (member_of z m vs g rule i v at node side e found here some (inl (locked refl))); found = (stands_there z m vs g rule i v at node side e found here some (inl (locked refl))).found })
+      (record {
+        is = refl;
+        locked = locked refl;
+        here = in_entries g.bundles node e side
+            (member_of z m vs g rule i v at node side e found here some (inl (locked refl)));
+        found = (stands_there z m vs g rule i v at node side e found here some (inl (locked refl))).found;
+      })
 
   abbrev next_word : ℕ
   next_word = m (Entry Next e)
@@ -142,14 +160,20 @@ module _ (z : Layout) (m : Memory) (vs : List View) (g : Meaning) (rule : Rule z
   pub load_next_kept : IsLocked v node ⊎ (is_above v e found ≡ true) → Rule z m (set vs i (next_loaded v e (m (Entry Next e)))) g
   load_next_kept may =
       subst (λ (p : Place). Rule z m (set vs i (next_at v p e (m (Entry Next e)))) g) (sym here)
-      (read_kept z m vs g rule i v at next_view.counts next_view.held.nodes next_view.held.nexts next_view.reading.place next_view.reading.above next_view.reading.links refl inside
+      (read_kept z m vs g rule i v at next_view.counts next_view.held.nodes next_view.held.nexts next_view.reading.place next_view.reading.above
+      next_view.reading.links refl inside
       seat.loaded.nodes
       (nexts_by (locks node v.held.nodes) locked_has)
       (record { reach = right.reach; stands = stands_behind })
       (links_push (LinkRight z (λ d. m (Entry Child d)) g.bundles next_view) (eqb next_word 0 && is_above v e found) v.reading.links (bundle_link node side 0 0)
       seat.links
       (λ is. let parts = and_parts (eqb next_word 0) (is_above v e found) is in
-      record { reach = right.reach; selected = entry_by v.reading.section (last_by z m vs g rule i v at node side e found here some v.reading.section refl (eqb-true next_word 0 parts.0) (above_is z m vs g rule i v at node side e found here some parts.1)) })))
+      record {
+        reach = right.reach;
+        selected = entry_by v.reading.section
+            (last_by z m vs g rule i v at node side e found here some v.reading.section refl (eqb-true next_word 0 parts.0)
+            (above_is z m vs g rule i v at node side e found here some parts.1));
+      })))
     where
       entry_by : (o : Option ℕ) → IfSome o (λ t. select g.bundles.number t es ≡ 0) → EntryRight (λ d. m (Entry Child d)) g.bundles.number es o 0 0
       entry_by None is = (refl, refl)
@@ -159,12 +183,15 @@ module _ (z : Layout) (m : Memory) (vs : List View) (g : Meaning) (rule : Rule z
       stands_behind low watched =
           let stood = stands_there z m vs g rule i v at node side e found here some watched in
           let chain = subst (IsChain (λ d. m (Entry Next d)) (m (Node (Head side) node))) stood.splits bundle.chain in
-          let behind = behind_of (λ d. m (Entry Next d)) e stood.back (chain_behind (λ d. m (Entry Next d)) (m (Node (Head side) node)) e stood.front stood.back chain) low in
+          let behind = behind_of (λ d. m (Entry Next d)) e stood.back
+          (chain_behind (λ d. m (Entry Next d)) (m (Node (Head side) node)) e stood.front stood.back chain) low in
           record {
             front = stood.front ++ e ∷ [];
             back = behind.rest;
             splits = stood.splits ∙ ap (λ xs. stood.front ++ e ∷ xs) behind.is ∙ sym (append_assoc stood.front (e ∷ []) (next_word ∷ behind.rest));
-            passed = every_push (IsPassed g.bundles.number next_view node) stood.front e stood.passed (passes_by next_view v.reading.section refl (λ locked. locked) may);
+            passed =
+                every_push (IsPassed g.bundles.number next_view node) stood.front e stood.passed
+                (passes_by next_view v.reading.section refl (λ locked. locked) may);
             found = tt;
             falls = falls_by found refl;
           }

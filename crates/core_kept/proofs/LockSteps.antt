@@ -14,16 +14,16 @@ use Rattle.core_grace.specs.Sections.{is_even}
 use Rattle.core_invariant.specs.Meanings.{Meaning}
 use Rattle.core_events.specs.Needs.{is_lock, nothing_pending}
 use Rattle.core_events.specs.LoadMoves.{locks, raised_if}
-use Rattle.core_events.specs.LoadNeeds.{is_reachable}
 use Rattle.core_events.specs.PlainNeeds.{is_done_at}
-use Rattle.core_events.specs.LockNeeds.{is_mark, names_pass, may_try_lock, may_unlock, may_load_mark, may_mark}
+use Rattle.core_events.specs.LockNeeds.{is_mark, names_pass, may_lock, may_try_lock, may_unlock, may_load_mark, may_mark}
 use Rattle.core_events.specs.LockMoves.{locked_view, names_other, met_lock, unlocked_view, with_mark, finds_mark, mark_loaded}
+use Rattle.core_invariant.specs.Reached.{plain_graph, ReachesRight}
 use Rattle.core_invariant.specs.Rule.{Rule}
 use Rattle.core_invariant.specs.LinkLaw.{Kept}
 use Rattle.core_invariant.proofs.HeldFacts.{locks-count}
 use Rattle.core_events.proofs.Tests.{never, not_true}
-use Rattle.core_invariant.proofs.Needed.{reach_is}
 use Rattle.core_invariant.proofs.WaitNeeds.{nothing_is, unlinked_is}
+use Rattle.core_invariant.proofs.LockReach.{can_lock}
 use Rattle.core_kept.proofs.TryLocks.{lock_kept, met_kept}
 use Rattle.core_kept.proofs.Unlocks.{unlock_kept}
 use Rattle.core_kept.proofs.Marks.{slots_marked, load_mark_kept, mark_kept}
@@ -43,32 +43,33 @@ own_lock (Some n) word met = record { n = n; named = refl; is = eqb-true word (n
 
 module _ (z : Layout) (m : Memory) (vs : List View) (g : Meaning) (rule : Rule z m vs g) (i : ℕ) (v : View) (at : IsItem vs i v) where
   -- a lock that is free
-  pub lock_by : (f : Field) (k value : ℕ) → k ≤ z.nodes → may_try_lock v (Node f k) value ≡ true → m (Node f k) ≡ 0
+  pub lock_by : (f : Field) (k value : ℕ) → ReachesRight z (plain_graph m) vs v → k ≤ z.nodes → may_try_lock v (Node f k) value ≡ true → m (Node f k) ≡ 0
       → Kept z m vs g (written m (Node f k) value) (set vs i (locked_view v k))
-  lock_by Lock k value there met free =
+  lock_by Lock k value reach there met free =
       let b = not (is_even v.section_word) in
-      let c = is_reachable v k in
+      let c = may_lock v k in
       let d = not (locks k v.held.nodes) in
       let one = and_parts (is_lock Lock && b && c && d) (names_pass v.number value) met in
       let two = and_parts (is_lock Lock && b && c) d one.0 in
       let three = and_parts (is_lock Lock && b) c two.0 in
       let own = own_lock v.number value one.1 in
+      let inside = not_true (is_even v.section_word) (and_parts (is_lock Lock) b three.0).1 in
       subst (λ x. Kept z m vs g (written m (Node Lock k) x) (set vs i (locked_view v k))) (sym own.is)
       (kept_same z m vs g (written m (Node Lock k) (own.n + 1)) (set vs i (locked_view v k))
-      (lock_kept z m vs g rule i k own.n v at (not_true (is_even v.section_word) (and_parts (is_lock Lock) b three.0).1) (reach_is z v k there three.1) own.named free)
+      (lock_kept z m vs g rule i k own.n v at inside (can_lock z m vs g rule i v at (plain_graph m) reach inside k there three.1) own.named free)
       (plain_quiet m g vs i v (locked_view v k) at (locked_work v k)))
-  lock_by Key k value there met free = absurd (never met)
-  lock_by Val k value there met free = absurd (never met)
-  lock_by Mark k value there met free = absurd (never met)
-  lock_by (Head side) k value there met free = absurd (never met)
-  lock_by (Link side) k value there met free = absurd (never met)
-  lock_by (Tag side) k value there met free = absurd (never met)
+  lock_by Key k value reach there met free = absurd (never met)
+  lock_by Val k value reach there met free = absurd (never met)
+  lock_by Mark k value reach there met free = absurd (never met)
+  lock_by (Head side) k value reach there met free = absurd (never met)
+  lock_by (Link side) k value reach there met free = absurd (never met)
+  lock_by (Tag side) k value reach there met free = absurd (never met)
 
   -- a lock that was found held
   pub met_by : (f : Field) (k value found : ℕ) → may_try_lock v (Node f k) value ≡ true → Rule z m (set vs i (met_lock v value found)) g
   met_by f k value found met =
       let b = not (is_even v.section_word) in
-      let c = is_reachable v k in
+      let c = may_lock v k in
       let d = not (locks k v.held.nodes) in
       let one = and_parts (is_lock f && b && c && d) (names_pass v.number value) met in
       let two = and_parts (is_lock f && b && c) d one.0 in
@@ -86,8 +87,10 @@ module _ (z : Layout) (m : Memory) (vs : List View) (g : Meaning) (rule : Rule z
       let none = nothing_is m v two.1 in
       subst (λ x. Kept z m vs g (written m (Node Lock k) x) (set vs i (unlocked_view v k))) (sym (eqb-true value 0 one.1))
       (kept_same z m vs g (written m (Node Lock k) 0) (set vs i (unlocked_view v k))
-      (unlock_kept z m vs g rule i k v at (locks-count k v.held.nodes (and_parts (is_lock Lock) b two.0).1) none.pending none.marked (unlinked_is k v.update some.1))
-      (plain_unlocked (λ t j. m (Node (Link t) j)) (λ t j. m (Node (Tag t) j)) (child_at (λ e. m (Entry Child e)) g.bundles (m Stamp)) (greatest_of g.bundles (m Stamp)) g.tree vs i k v at some.1))
+      (unlock_kept z m vs g rule i k v at (locks-count k v.held.nodes (and_parts (is_lock Lock) b two.0).1) none.pending none.marked
+      (unlinked_is k v.update some.1))
+      (plain_unlocked (λ t j. m (Node (Link t) j)) (λ t j. m (Node (Tag t) j)) (child_at (λ e. m (Entry Child e)) g.bundles (m Stamp))
+      (greatest_of g.bundles (m Stamp)) g.tree vs i k v at some.1))
   unlock_by Key k value met = absurd (never met)
   unlock_by Val k value met = absurd (never met)
   unlock_by Mark k value met = absurd (never met)
@@ -100,7 +103,8 @@ module _ (z : Layout) (m : Memory) (vs : List View) (g : Meaning) (rule : Rule z
       let b = not (is_even v.section_word) in
       let one = and_parts (is_mark Mark && b) (eqb value 0) met in
       let x = m (Node Mark k) in
-      load_mark_kept z m vs g rule i k x v at (record v.counts { moves = raised_if (finds_mark v k x) v.counts.moves }) (not_true (is_even v.section_word) (and_parts (is_mark Mark) b one.0).1) refl
+      load_mark_kept z m vs g rule i k x v at (record v.counts { moves = raised_if (finds_mark v k x) v.counts.moves })
+      (not_true (is_even v.section_word) (and_parts (is_mark Mark) b one.0).1) refl
   load_mark_by Key k value met = absurd (never met)
   load_mark_by Val k value met = absurd (never met)
   load_mark_by Lock k value met = absurd (never met)

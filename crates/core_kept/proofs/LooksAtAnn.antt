@@ -92,7 +92,8 @@ module _ (z : Layout) (m : Memory) (vs : List View) (g : Meaning) (rule : Rule z
   row_by u beside None old = tt
   row_by u beside (Some n) old =
       every_push (Reads (smaller n word) u) v.reading.looked p
-      (every_map (Reads n u) (Reads (smaller n word) u) v.reading.looked (λ q known is. lower n (smaller n word) u.reading.section (smaller_low n word) (known is)) old)
+      (every_map (Reads n u) (Reads (smaller n word) u) v.reading.looked
+      (λ q known is. lower n (smaller n word) u.reading.section (smaller_low n word) (known is)) old)
       (looked_now u beside n)
 
   -- its own section number is at least its least number
@@ -103,7 +104,8 @@ module _ (z : Layout) (m : Memory) (vs : List View) (g : Meaning) (rule : Rule z
 
   pairs_looked : PairsRight (set vs i w)
   pairs_looked =
-      pairs_moved LookedRight LookedRight vs i v w at rule.pairs (here_by (lowered v.reading.least word) (least_by v.reading.least seat.announced.least) w.reading.looked)
+      pairs_moved LookedRight LookedRight vs i v w at rule.pairs
+      (here_by (lowered v.reading.least word) (least_by v.reading.least seat.announced.least) w.reading.looked)
       (λ u beside of. row_by u beside v.reading.least of) (λ u beside of. of) (λ t u beside other of. of)
 
   pub look_ann_kept : (is_even v.section_word ≡ true → ⊥) → Rule z m (set vs i w) g

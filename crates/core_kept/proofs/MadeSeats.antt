@@ -31,12 +31,14 @@ from_length first (suc n) = omega (arith, length-append (from_up first n) ((firs
 taken_up : (first m n : ℕ) → take m (from_up first (m + n)) ≡ from_up first m
 taken_up first m n =
     ap (take m) (from_both first m n)
-    ∙ subst (λ k. take k (from_up first m ++ from_up (first + m) n) ≡ from_up first m) (from_length first m) (take-append_seam (from_up first m) (from_up (first + m) n))
+    ∙ subst (λ k. take k (from_up first m ++ from_up (first + m) n) ≡ from_up first m) (from_length first m)
+    (take-append_seam (from_up first m) (from_up (first + m) n))
 
 dropped_up : (first m n : ℕ) → drop m (from_up first (m + n)) ≡ from_up (first + m) n
 dropped_up first m n =
     ap (drop m) (from_both first m n)
-    ∙ subst (λ k. drop k (from_up first m ++ from_up (first + m) n) ≡ from_up (first + m) n) (from_length first m) (drop-append_seam (from_up first m) (from_up (first + m) n))
+    ∙ subst (λ k. drop k (from_up first m ++ from_up (first + m) n) ≡ from_up (first + m) n) (from_length first m)
+    (drop-append_seam (from_up first m) (from_up (first + m) n))
 
 -- a view by the numbers that it has still to give, its calls and its free slots
 abbrev with_free : Layout → List ℕ → ℕ → List ℕ → List ℕ → View
@@ -63,17 +65,23 @@ module _ (z : Layout) (k a b : ℕ) (size : PassSize) (sizes : List PassSize) wh
   abbrev v : View
   v = giving z k a b (size ∷ sizes)
 
-  counts : (length (size ∷ sizes) ≡ 1 + length sizes) × ((all_nodes (size ∷ sizes) ≡ size.nodes + all_nodes sizes) × ((all_entries (size ∷ sizes) ≡ size.entries + all_entries sizes) × (all_calls (size ∷ sizes) ≡ size.calls + all_calls sizes)))
+  counts : (length (size ∷ sizes) ≡ 1 + length sizes)
+      × ((all_nodes (size ∷ sizes) ≡ size.nodes + all_nodes sizes)
+      × ((all_entries (size ∷ sizes) ≡ size.entries + all_entries sizes) × (all_calls (size ∷ sizes) ≡ size.calls + all_calls sizes)))
   counts = (
     omega arith,
-    (sum_by-cons (λ (s : PassSize). s.nodes) size sizes, (sum_by-cons (λ (s : PassSize). s.entries) size sizes, sum_by-cons (λ (s : PassSize). s.calls) size sizes)),
+    (
+      sum_by-cons (λ (s : PassSize). s.nodes) size sizes,
+      (sum_by-cons (λ (s : PassSize). s.entries) size sizes, sum_by-cons (λ (s : PassSize). s.calls) size sizes),
+    ),
   )
 
   -- what is left gives the rest
   pub left_gives : made_left v size ≡ giving z (k + 1) (a + size.nodes) (b + size.entries) sizes
   left_gives =
       with_same z (drop 1 v.to_give) (from_up (k + 1) (length sizes)) (v.history.left - size.calls) (all_calls sizes)
-      (drop size.nodes v.free.nodes) (from_up (a + size.nodes) (all_nodes sizes)) (drop size.entries v.free.entries) (from_up (b + size.entries) (all_entries sizes))
+      (drop size.nodes v.free.nodes) (from_up (a + size.nodes) (all_nodes sizes)) (drop size.entries v.free.entries)
+      (from_up (b + size.entries) (all_entries sizes))
       (ap (λ n. drop 1 (from_up k n)) counts.0 ∙ dropped_up k 1 (length sizes))
       (omega (arith, counts.1.1.1))
       (ap (λ n. drop size.nodes (from_up a n)) counts.1.0 ∙ dropped_up a size.nodes (all_nodes sizes))
@@ -82,8 +90,10 @@ module _ (z : Layout) (k a b : ℕ) (size : PassSize) (sizes : List PassSize) wh
   -- and the new view is the pass's
   pub right_is : made_right v k size ≡ pass_view z k a b size
   right_is =
-      ap (λ xs. pass_with z k size.calls xs (take size.entries v.free.entries)) (ap (λ n. take size.nodes (from_up a n)) counts.1.0 ∙ taken_up a size.nodes (all_nodes sizes))
-      ∙ ap (λ xs. pass_with z k size.calls (from_up a size.nodes) xs) (ap (λ n. take size.entries (from_up b n)) counts.1.1.0 ∙ taken_up b size.entries (all_entries sizes))
+      ap (λ xs. pass_with z k size.calls xs (take size.entries v.free.entries))
+      (ap (λ n. take size.nodes (from_up a n)) counts.1.0 ∙ taken_up a size.nodes (all_nodes sizes))
+      ∙ ap (λ xs. pass_with z k size.calls (from_up a size.nodes) xs)
+      (ap (λ n. take size.entries (from_up b n)) counts.1.1.0 ∙ taken_up b size.entries (all_entries sizes))
 
   pub may_make : MayMake v k size
   may_make =
@@ -103,19 +113,24 @@ all_made z words front k a b (size ∷ sizes) right =
     let v : View = giving z k a b (size ∷ sizes) in
     let y : View = pass_view z k a b size in
     let at : IsItem (v ∷ front) 0 v = record { within = omega arith; is = λ d. refl } in
-    let one : InRule z words (made_left v size ∷ (front ++ made_right v k size ∷ [])) = made z words (v ∷ front) 0 k v size at right (may_make z k a b size sizes) in
+    let one : InRule z words (made_left v size ∷ (front ++ made_right v k size ∷ []))
+    = made z words (v ∷ front) 0 k v size at right (may_make z k a b size sizes) in
     let two : InRule z words (giving z (k + 1) (a + size.nodes) (b + size.entries) sizes ∷ (front ++ y ∷ []))
     = subst (λ (x : View). InRule z words (x ∷ (front ++ y ∷ []))) (left_gives z k a b size sizes)
     (subst (λ (x : View). InRule z words (made_left v size ∷ (front ++ x ∷ []))) (right_is z k a b size sizes) one) in
-    subst (λ (vs : List View). InRule z words (empty_view z ∷ vs)) (append_assoc front (y ∷ []) (pass_views z (k + 1) (a + size.nodes) (b + size.entries) sizes))
+    subst (λ (vs : List View). InRule z words (empty_view z ∷ vs))
+    (append_assoc front (y ∷ []) (pass_views z (k + 1) (a + size.nodes) (b + size.entries) sizes))
     (all_made z words (front ++ y ∷ []) (k + 1) (a + size.nodes) (b + size.entries) sizes two)
 
 -- from the table with the first view alone
 pub opening_made : (z : Layout) (sizes : List PassSize) → z ≡ layout_of sizes → IsRight (first_table z)
     → InRule z (first_table z).words (empty_view z ∷ pass_views z 0 1 1 sizes)
-opening_made z sizes is right = all_made z (first_table z).words [] 0 1 1 sizes (subst (λ (v : View). InRule z (first_table z).words (v ∷ [])) (first_gives is) right)
+opening_made z sizes is right =
+    all_made z (first_table z).words [] 0 1 1 sizes (subst (λ (v : View). InRule z (first_table z).words (v ∷ [])) (first_gives is) right)
   where
     first_gives : z ≡ layout_of sizes → first_view z ≡ giving z 0 1 1 sizes
     first_gives is =
-        with_same z (from_up 0 z.passes) (from_up 0 (length sizes)) z.calls (all_calls sizes) (from_up 1 z.nodes) (from_up 1 (all_nodes sizes)) (from_up 1 z.entries) (from_up 1 (all_entries sizes))
-        (ap (λ (y : Layout). from_up 0 y.passes) is) (ap (λ (y : Layout). y.calls) is) (ap (λ (y : Layout). from_up 1 y.nodes) is) (ap (λ (y : Layout). from_up 1 y.entries) is)
+        with_same z (from_up 0 z.passes) (from_up 0 (length sizes)) z.calls (all_calls sizes) (from_up 1 z.nodes) (from_up 1 (all_nodes sizes))
+        (from_up 1 z.entries) (from_up 1 (all_entries sizes))
+        (ap (λ (y : Layout). from_up 0 y.passes) is) (ap (λ (y : Layout). y.calls) is) (ap (λ (y : Layout). from_up 1 y.nodes) is)
+        (ap (λ (y : Layout). from_up 1 y.entries) is)

@@ -14,6 +14,10 @@ use Rattle.core_grace.specs.Slots.{own_free, nodes_of}
 use Rattle.core_grace.proofs.TwoSeats.{split_slots}
 use Rattle.core_invariant.proofs.Pairs.{pairs_same, pairs_push}
 use Rattle.core_invariant.specs.Meanings.{Meaning, linked_by}
+use Rattle.core_invariant.specs.LinkRule.{LinksLast}
+use Rattle.core_invariant.specs.Reached.{plain_graph}
+use Rattle.index_words.specs.declared.word.Field.TheVariants.{Mark, Tag}
+use Rattle.core_kept.specs.TurnLaws.{TurnsKept}
 use Rattle.core_invariant.specs.Numbers.{number_count, IsSpare}
 use Rattle.core_invariant.specs.Histories.{place_count, calls_left}
 use Rattle.core_invariant.specs.OwnPlaces.{KnowsPlaces}
@@ -33,7 +37,12 @@ use Rattle.core_invariant.proofs.Filled.{every_filled}
 use Rattle.core_invariant.proofs.SpentViews.{live_spent}
 use Rattle.core_kept.proofs.TwoViews.{WorksIf, count-take-drop, knows_push, idle_bare}
 use Rattle.core_kept.proofs.FreeWords.{LessOf, subset_less, less_right}
+use Rattle.core_kept.proofs.KnownHeld.{same_known}
+use Rattle.core_kept.proofs.LinkedLast.{last_same, nothing_brought}
+use Rattle.core_kept.proofs.MadeSearches.{SameSeat, OnlyFree, tree_made, searches_made, reach_made}
 use Rattle.core_kept.proofs.PlainKept.{quiet_work, quiet_pushed}
+use Rattle.core_kept.proofs.TurnFrames.{same_kept, turns_before}
+use Rattle.core_kept.proofs.TurnSeats.{turns_pushed}
 
 either_none : (b : Bool) → 0 + cond b 0 0 ≡ 0
 either_none true = refl
@@ -89,7 +98,14 @@ module _ (z : Layout) (m : Memory) (vs : List View) (g : Meaning) where
       tree = tt;
       locks = λ k some. absurd (omega (arith, some));
       loaded = record { nodes = tt; nexts = tt };
-      marks = record { retired = λ k some. absurd (omega (arith, some)); batch = λ k some. absurd (omega (arith, some)); taken = λ k some. absurd (omega (arith, some)) };
+      marks = record {
+        retired = λ k some. absurd (omega (
+          arith,
+          some,
+        ));
+        batch = λ k some. absurd (omega (arith, some));
+        taken = λ k some. absurd (omega (arith, some));
+      };
       pending = tt;
       place = tt;
       filled = tt;
@@ -118,31 +134,39 @@ module _ (z : Layout) (m : Memory) (vs : List View) (g : Meaning) where
         };
         slots = split_slots z (linked_by g) HoldsNode (HoldsEntry g.bundles) vs i v w y at rule.slots
             (record { number = refl; section_word = refl; batch = refl; grace = refl; nodes = λ k h. h; entries = λ e h. h })
-            (idle_bare z m vs g y idle refl) (λ k. count-take-drop k size.nodes v.free.nodes) (λ e. count-take-drop e size.entries v.free.entries) refl refl refl;
+            (idle_bare z m vs g y idle refl) (λ k. count-take-drop k size.nodes v.free.nodes)
+            (λ e. count-take-drop e size.entries v.free.entries) refl refl refl;
         locks = λ k. sum_split (lock_count k) vs i v w y at (omega arith) ∙ rule.locks k;
         tree = rule.tree;
         marks = rule.marks;
         bundles = λ k alive side. bundle_weaker _ _ _ _ (IsPendingAt vs k) (IsPendingAt us k) _ _
             (λ e is. (
               sum_split (pending_count e) vs i v w y at (omega arith) ∙ is.0,
-              All-push (WorksIf k e) (set vs i w) y (all_moved (WorksIf k e) (WorksIf k e) vs i v w at is.1 (at_item (WorksIf k e) vs i v at is.1) (λ u beside of. of)) (λ some. absurd (omega (arith, some))),
+              All-push (WorksIf k e) (set vs i w) y (all_moved (WorksIf k e) (WorksIf k e) vs i v w at is.1 (at_item (WorksIf k e) vs i v at is.1)
+                  (λ u beside of. of)) (λ some. absurd (omega (arith, some))),
             ))
             (rule.bundles k (alive.0, sym (sum_split (own_free nodes_of k) vs i v w y at (count-take-drop k size.nodes v.free.nodes)) ∙ alive.1) side);
         pairs = pairs_push (set vs i w) y refl refl (pairs_same vs i v w at refl rule.pairs);
         single = λ e. omega (arith, sum_split (pending_count e) vs i v w y at (omega arith), rule.single e);
-        seats = All-push (SeatRight z m g) (set vs i w) y (all_moved (SeatRight z m g) (SeatRight z m g) vs i v w at rule.seats seats.0 (λ u beside of. of)) seats.1;
+        seats =
+            All-push (SeatRight z m g) (set vs i w) y (all_moved (SeatRight z m g) (SeatRight z m g) vs i v w at rule.seats seats.0 (λ u beside of. of))
+            seats.1;
       }
 
 -- both views have slots of the one that was there
 left_less : (v : View) (size : PassSize) → LessOf v.free v.unused (made_left v size).free (made_left v size).unused
 left_less v size =
-    subset_less v.free v.unused (made_left v size).free (made_left v size).unused (λ k some. omega (arith, some, count-take-drop k size.nodes v.free.nodes)) (λ e some. omega (arith, some, count-take-drop e size.entries v.free.entries))
-    (λ k some. omega (arith, some, count-take-drop k size.nodes v.unused.nodes)) (λ e some. omega (arith, some, count-take-drop e size.entries v.unused.entries))
+    subset_less v.free v.unused (made_left v size).free (made_left v size).unused (λ k some. omega (arith, some, count-take-drop k size.nodes v.free.nodes))
+    (λ e some. omega (arith, some, count-take-drop e size.entries v.free.entries))
+    (λ k some. omega (arith, some, count-take-drop k size.nodes v.unused.nodes))
+    (λ e some. omega (arith, some, count-take-drop e size.entries v.unused.entries))
 
 right_less : (v : View) (n : ℕ) (size : PassSize) → LessOf v.free v.unused (made_right v n size).free (made_right v n size).unused
 right_less v n size =
-    subset_less v.free v.unused (made_right v n size).free (made_right v n size).unused (λ k some. omega (arith, some, count-take-drop k size.nodes v.free.nodes)) (λ e some. omega (arith, some, count-take-drop e size.entries v.free.entries))
-    (λ k some. omega (arith, some, count-take-drop k size.nodes v.unused.nodes)) (λ e some. omega (arith, some, count-take-drop e size.entries v.unused.entries))
+    subset_less v.free v.unused (made_right v n size).free (made_right v n size).unused
+    (λ k some. omega (arith, some, count-take-drop k size.nodes v.free.nodes)) (λ e some. omega (arith, some, count-take-drop e size.entries v.free.entries))
+    (λ k some. omega (arith, some, count-take-drop k size.nodes v.unused.nodes))
+    (λ e some. omega (arith, some, count-take-drop e size.entries v.unused.entries))
 
 module _ (z : Layout) (words : List ℕ) where
   abbrev m : Memory
@@ -163,11 +187,30 @@ module _ (z : Layout) (words : List ℕ) where
       let knows : KnowsPlaces v = at_item KnowsPlaces vs i v at right.places in
       let waits : WaitsRight v = at_item WaitsRight vs i v at right.waits in
       let unused : UnusedRight m v = at_item (UnusedRight m) vs i v at right.unused in
+      let same : SameSeat v w = record { work = refl; number = refl; word = refl; reading = refl; held = refl; batch = refl; retired = refl; grace = refl } in
+      let bare : OnlyFree y = record { reading = refl; update = refl; held = refl; word = refl; batch = refl } in
+      let turns : TurnsKept z (plain_graph m) (λ k. m (Node Mark k)) (λ side k. m (Node (Tag side) k)) (set vs i w ++ y ∷ []) right.plain_tree
+      = turns_pushed z (plain_graph m) (λ k. m (Node Mark k)) (λ side k. m (Node (Tag side) k)) right.plain_tree (set vs i w) y
+      (record { left = refl; right = refl; place = refl; links = refl }) refl
+      (same_kept z (plain_graph m) (λ k. m (Node Mark k)) (λ side k. m (Node (Tag side) k)) right.plain_tree vs i v w at
+      (turns_before z words vs right) refl refl refl refl
+      (same_known (plain_graph m) (λ side k. m (Node (Tag side) k)) v.held.nodes w.held.nodes refl)) in
       record {
         size = right.size;
         meaning = right.meaning;
         rule = make_kept z m vs right.meaning i n v size at right.rule may spare.0;
         plain = quiet_pushed m right.meaning vs i v w y at (quiet_work v w refl refl refl refl) refl right.plain;
+        plain_tree = right.plain_tree;
+        trees = tree_made z (plain_graph m) vs i v w y at same bare right.meaning.tree right.plain_tree right.trees;
+        searches = searches_made z (plain_graph m) vs i v w y at same bare right.meaning.tree right.plain_tree right.searches;
+        reach = reach_made z (plain_graph m) vs i v w y at same bare (λ k. count-take-drop k size.nodes v.free.nodes) right.reach;
+        turns = turns.turns;
+        leaving = turns.leaving;
+        still = turns.still;
+        known = turns.known;
+        linking =
+            All-push LinksLast (set vs i w) y (All-set LinksLast vs i w (last_same v w refl (at_item LinksLast vs i v at right.linking)) right.linking)
+            (nothing_brought y refl);
         spent = All-push IsSpent (set vs i w) y (All-set IsSpent vs i w (live_spent w may.live) right.spent) (live_spent y refl);
         spare = All-push (IsSpare m) (set vs i w) y (All-set (IsSpare m) vs i w kept right.spare) tt;
         places = All-push KnowsPlaces (set vs i w) y
@@ -175,5 +218,7 @@ module _ (z : Layout) (words : List ℕ) where
             (record { own = refl; given = tt; section = tt; opened = tt });
         waits = All-push WaitsRight (set vs i w) y (All-set WaitsRight vs i w (record { apart = waits.apart; owned = waits.owned }) right.waits)
             (record { apart = λ k some holds. omega (arith, some); owned = λ nameless. (refl, refl) });
-        unused = All-push (UnusedRight m) (set vs i w) y (All-set (UnusedRight m) vs i w (less_right m v w (left_less v size) unused) right.unused) (less_right m v y (right_less v n size) unused);
+        unused =
+            All-push (UnusedRight m) (set vs i w) y (All-set (UnusedRight m) vs i w (less_right m v w (left_less v size) unused) right.unused)
+            (less_right m v y (right_less v n size) unused);
       }

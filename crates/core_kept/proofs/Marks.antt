@@ -5,6 +5,8 @@ use Rattle.std.proofs.lemmas.Option.{IfSome_then}
 use Rattle.index_words.specs.declared.layout.Layout.{Layout}
 use Rattle.index_words.specs.declared.view.View.{View}
 use Rattle.index_words.specs.declared.view.history.Counts.{Counts}
+use Rattle.index_words.specs.declared.view.reading.Place.{Place}
+use Rattle.index_words.specs.declared.view.reading.Place.TheVariants.{Nowhere, Entry as AtEntry, Node as AtNode, Gap}
 use Rattle.index_words.specs.declared.view.update.HeldNode.{HeldNode}
 use Rattle.index_words.specs.declared.word.Field.{Field}
 use Rattle.index_words.specs.declared.word.Field.TheVariants.{Key, Val, Lock, Mark, Head, Link, Tag}
@@ -14,7 +16,7 @@ use Rattle.index_words.specs.Words.{Memory, written}
 use Rattle.key_map.specs.Lists.{count, IsItem}
 use Rattle.index_words.proofs.Seats.{Beside, sum_kept, one_term, all_moved}
 use Rattle.core_grace.specs.Sections.{is_even}
-use Rattle.core_grace.specs.Holds.{HoldsNode, HoldsEntry, held_slots, work_nodes}
+use Rattle.core_grace.specs.Holds.{Bundles, HoldsNode, HoldsEntry, held_slots, work_nodes}
 use Rattle.core_grace.specs.Slots.{nodes_of, own}
 use Rattle.core_grace.proofs.RuleMoves.{quiet, same_looks}
 use Rattle.core_events.specs.Versions.{slots_of}
@@ -24,8 +26,10 @@ use Rattle.core_invariant.specs.Numbers.{number_count}
 use Rattle.core_invariant.specs.Locks.{lock_count, IsNodeAt, IsTakenOut}
 use Rattle.core_invariant.specs.BundleRule.{IsPendingAt, IsPending, pending_count}
 use Rattle.core_invariant.specs.SectionRule.{IsKeptLock}
+use Rattle.core_invariant.specs.Readers.{PlaceRight}
 use Rattle.core_invariant.specs.SeatRule.{SeatRight}
-use Rattle.core_events.specs.LockMoves.{mark_known, with_mark, pair_known, pair_loaded}
+use Rattle.core_events.specs.LoadMoves.{with_held, with_place}
+use Rattle.core_events.specs.LockMoves.{mark_known, with_mark, pair_known, place_paired, pair_loaded}
 use Rattle.core_invariant.specs.Rule.{Rule}
 use Rattle.core_invariant.proofs.Frames.{every_map, every_named, live_moved, pending_moved, bundle_weaker, every_mapped}
 use Rattle.core_invariant.proofs.OneView.{history_kept, seat_at}
@@ -110,12 +114,26 @@ pair_right : (m : Memory) (f : Field) (k x : ℕ) (h : HeldNode) → x ≡ m (No
 pair_right m Key k x h found right = key_by (eqb h.node k) refl
   where
     key_by : (b : Bool) → eqb h.node k ≡ b → IsNodeAt m (cond b (record h { key = Some x }) h)
-    key_by true is = record { key = ap (λ n. m (Node Key n)) (eqb-true h.node k is) ∙ sym found; val = right.val; mark = right.mark; left = right.left; right = right.right; plain = right.plain }
+    key_by true is = record {
+      key = ap (λ n. m (Node Key n)) (eqb-true h.node k is) ∙ sym found;
+      val = right.val;
+      mark = right.mark;
+      left = right.left;
+      right = right.right;
+      plain = right.plain;
+    }
     key_by false is = right
 pair_right m Val k x h found right = val_by (eqb h.node k) refl
   where
     val_by : (b : Bool) → eqb h.node k ≡ b → IsNodeAt m (cond b (record h { val = Some x }) h)
-    val_by true is = record { key = right.key; val = ap (λ n. m (Node Val n)) (eqb-true h.node k is) ∙ sym found; mark = right.mark; left = right.left; right = right.right; plain = right.plain }
+    val_by true is = record {
+      key = right.key;
+      val = ap (λ n. m (Node Val n)) (eqb-true h.node k is) ∙ sym found;
+      mark = right.mark;
+      left = right.left;
+      right = right.right;
+      plain = right.plain;
+    }
     val_by false is = right
 pair_right m Lock k x h found right = right
 pair_right m Mark k x h found right = right
@@ -123,21 +141,44 @@ pair_right m (Head s) k x h found right = right
 pair_right m (Link s) k x h found right = right
 pair_right m (Tag s) k x h found right = right
 
+-- a key that is kept with the place of a search
+paired_place : (z : Layout) (stamp : ℕ → ℕ) (b : Bundles) (v : View) (f : Field) (k x : ℕ) (p : Place) → PlaceRight z stamp b v p
+    → PlaceRight z stamp b v (place_paired f k x p)
+paired_place z stamp b v Key k x Nowhere right = tt
+paired_place z stamp b v Key k x (AtNode node key) right = by (eqb node k)
+  where
+    by : (here : Bool) → PlaceRight z stamp b v (cond here (AtNode node (Some x)) (AtNode node key))
+    by true = tt
+    by false = tt
+paired_place z stamp b v Key k x (AtEntry node side entry found) right = right
+paired_place z stamp b v Key k x (Gap node side) right = tt
+paired_place z stamp b v Val k x p right = right
+paired_place z stamp b v Lock k x p right = right
+paired_place z stamp b v Mark k x p right = right
+paired_place z stamp b v (Head s) k x p right = right
+paired_place z stamp b v (Link s) k x p right = right
+paired_place z stamp b v (Tag s) k x p right = right
+
 -- a load of a key or a value
-pub load_pair_kept : (z : Layout) (m : Memory) (vs : List View) (g : Meaning) (i k : ℕ) (f : Field) (v : View) → Rule z m vs g → IsItem vs i v → is_even v.section_word ≡ false
+pub load_pair_kept : (z : Layout) (m : Memory) (vs : List View) (g : Meaning) (i k : ℕ) (f : Field) (v : View) → Rule z m vs g → IsItem vs i v
+    → is_even v.section_word ≡ false
     → Rule z m (set vs i (pair_loaded v f k (m (Node f k)))) g
 load_pair_kept z m vs g i k f v rule at inside =
     let x : ℕ = m (Node f k) in
     let seat = seat_at z m vs g i v at rule in
     let nodes : List HeldNode = map (pair_known f k x) v.held.nodes in
+    let place : Place = place_paired f k x v.reading.place in
     let same = slots_paired f k x v.held.nodes in
-    read_kept z m vs g rule i v at v.counts nodes v.held.nexts v.reading.place v.reading.above v.reading.links same inside
+    let w : View = record (with_place (with_held v nodes v.held.nexts) place v.reading.above v.reading.links) { counts = v.counts } in
+    read_kept z m vs g rule i v at v.counts nodes v.held.nexts place v.reading.above v.reading.links same inside
     (every_mapped (IsNodeAt m) (IsNodeAt m) (pair_known f k x) v.held.nodes (λ h right. pair_right m f k x h refl right) seat.loaded.nodes)
-    (nexts_back z m vs g rule i v at v.counts nodes v.held.nexts v.reading.place v.reading.above v.reading.links same)
-    (place_back z m vs g rule i v at v.counts nodes v.held.nexts v.reading.place v.reading.above v.reading.links same refl v.reading.place seat.place)
-    (links_back z m vs g rule i v at v.counts nodes v.held.nexts v.reading.place v.reading.above v.reading.links same)
+    (nexts_back z m vs g rule i v at v.counts nodes v.held.nexts place v.reading.above v.reading.links same)
+    (paired_place z (λ e. m (Entry Number e)) g.bundles w f k x v.reading.place
+    (place_back z m vs g rule i v at v.counts nodes v.held.nexts place v.reading.above v.reading.links same refl v.reading.place seat.place))
+    (links_back z m vs g rule i v at v.counts nodes v.held.nexts place v.reading.above v.reading.links same)
 
-module _ (z : Layout) (m : Memory) (vs : List View) (g : Meaning) (rule : Rule z m vs g) (i k : ℕ) (v : View) (at : IsItem vs i v) (locked : 0 < lock_count k v) (taken : 0 < count k v.update.taken) where
+module _ (z : Layout) (m : Memory) (vs : List View) (g : Meaning) (rule : Rule z m vs g) (i k : ℕ) (v : View) (at : IsItem vs i v)
+    (locked : 0 < lock_count k v) (taken : 0 < count k v.update.taken) where
   abbrev m' : Memory
   m' = written m (Node Mark k) 1
 
@@ -180,12 +221,20 @@ module _ (z : Layout) (m : Memory) (vs : List View) (g : Meaning) (rule : Rule z
 
   entry_same : (x : ℕ) → HoldsEntry g.bundles w x → HoldsEntry g.bundles v x
   entry_same x (inl reads) = inl reads
-  entry_same x (inr stands) = inr (record { node = stands.node; side = stands.side; of = subst (λ xs. 0 < count stands.node xs) works_same stands.of; here = stands.here })
+  entry_same x (inr stands) =
+      inr (record { node = stands.node; side = stands.side; of = subst (λ xs. 0 < count stands.node xs) works_same stands.of; here = stands.here })
 
   node_now : (h : HeldNode) (b : Bool) → eqb h.node k ≡ b
       → IsNodeAt m h
       → IsNodeAt m' (cond b (record h { mark = Some 1 }) h)
-  node_now h true is right = record { key = right.key; val = right.val; mark = ap (λ b. cond b 1 (m (Node Mark h.node))) is; left = right.left; right = right.right; plain = right.plain }
+  node_now h true is right = record {
+    key = right.key;
+    val = right.val;
+    mark = ap (λ b. cond b 1 (m (Node Mark h.node))) is;
+    left = right.left;
+    right = right.right;
+    plain = right.plain;
+  }
   node_now h false is right = record {
     key = right.key;
     val = right.val;
@@ -211,7 +260,10 @@ module _ (z : Layout) (m : Memory) (vs : List View) (g : Meaning) (rule : Rule z
       section = seat.section.section;
       announced = seat.section.announced;
       outside = seat.section.outside;
-      unlocked = λ even. still_waits v nodes (λ none. omega (arith, locked, ap (λ (hs : List HeldNode). count k (held_slots hs)) none)) (every_mapped (IsKeptLock v.update.taken) (IsKeptLock v.update.taken) (mark_known k 1) v.held.nodes (λ h is. mark_keeps h (eqb h.node k) refl is)) (seat.section.unlocked even);
+      unlocked = λ even.
+          still_waits v nodes (λ none. omega (arith, locked, ap (λ (hs : List HeldNode). count k (held_slots hs)) none))
+          (every_mapped (IsKeptLock v.update.taken) (IsKeptLock v.update.taken) (mark_known k 1) v.held.nodes (λ h is. mark_keeps h (eqb h.node k) refl is))
+          (seat.section.unlocked even);
       done = λ none. absurd (omega (arith, locked, ap (count k) locks_same, ap (λ (hs : List HeldNode). count k (held_slots hs)) none));
       waits = seat.section.waits;
     };
@@ -234,10 +286,25 @@ module _ (z : Layout) (m : Memory) (vs : List View) (g : Meaning) (rule : Rule z
       batch = λ j waits. still_marked j (seat.marks.batch j waits);
       taken = seat.marks.taken;
     };
-    pending = every_map (IsPending z (λ s j. m (Node (Head s) j)) (λ d. m (Entry Number d)) g.bundles.number v) (IsPending z (λ s j. m (Node (Head s) j)) (λ d. m (Entry Number d)) g.bundles.number w) v.update.pending
-        (λ d old. (old.0, old.1, record { node = old.2.node; side = old.2.side; there = old.2.there; is = old.2.is; some = old.2.some; of = subst (λ xs. 0 < count old.2.node xs) (sym works_same) old.2.of })) seat.pending;
-    place = place_back z m vs g rule i v at v.counts nodes v.held.nexts v.reading.place v.reading.above v.reading.links locks_same refl v.reading.place seat.place;
-    filled = every_filled m m' v.free v.free v.update v.update v.reading.filled (λ y is. is) (node_apart m v.free v.update Mark k 1 (unfree i v at)) seat.filled;
+    pending =
+        every_map (IsPending z (λ s j. m (Node (Head s) j)) (λ d. m (Entry Number d)) g.bundles.number v)
+        (IsPending z (λ s j. m (Node (Head s) j)) (λ d. m (Entry Number d)) g.bundles.number w) v.update.pending
+        (λ d old. (
+          old.0,
+          old.1,
+          record {
+            node = old.2.node;
+            side = old.2.side;
+            there = old.2.there;
+            is = old.2.is;
+            some = old.2.some;
+            of = subst (λ xs. 0 < count old.2.node xs) (sym works_same) old.2.of;
+          },
+        )) seat.pending;
+    place =
+        place_back z m vs g rule i v at v.counts nodes v.held.nexts v.reading.place v.reading.above v.reading.links locks_same refl v.reading.place seat.place;
+    filled =
+        every_filled m m' v.free v.free v.update v.update v.reading.filled (λ y is. is) (node_apart m v.free v.update Mark k 1 (unfree i v at)) seat.filled;
     links = links_back z m vs g rule i v at v.counts nodes v.held.nexts v.reading.place v.reading.above v.reading.links locks_same;
   }
 
@@ -248,7 +315,14 @@ module _ (z : Layout) (m : Memory) (vs : List View) (g : Meaning) (rule : Rule z
   other_now : (u : View) → Beside vs i u → SeatRight z m g u → SeatRight z m' g u
   other_now u beside of = record {
     layout = of.layout;
-    section = record { section = of.section.section; announced = of.section.announced; outside = of.section.outside; unlocked = of.section.unlocked; done = of.section.done; waits = of.section.waits };
+    section = record {
+      section = of.section.section;
+      announced = of.section.announced;
+      outside = of.section.outside;
+      unlocked = of.section.unlocked;
+      done = of.section.done;
+      waits = of.section.waits;
+    };
     seen = of.seen;
     update = of.update;
     version = of.version;
@@ -278,7 +352,9 @@ module _ (z : Layout) (m : Memory) (vs : List View) (g : Meaning) (rule : Rule z
     };
     pending = of.pending;
     place = of.place;
-    filled = every_filled m m' u.free u.free u.update u.update u.reading.filled (λ y is. is) (node_apart m u.free u.update Mark k 1 (unfree beside.place u beside.at)) of.filled;
+    filled =
+        every_filled m m' u.free u.free u.update u.update u.reading.filled (λ y is. is)
+        (node_apart m u.free u.update Mark k 1 (unfree beside.place u beside.at)) of.filled;
     links = of.links;
   }
 
@@ -289,7 +365,8 @@ module _ (z : Layout) (m : Memory) (vs : List View) (g : Meaning) (rule : Rule z
     history = history_kept z _ g vs i v w at refl refl rule.history;
     slots = quiet z (linked_by g) HoldsNode (HoldsEntry g.bundles) vs i v w at rule.slots refl refl refl
         (record {
-          nodes = λ j holds. inl (holds_same z m vs g rule i v at v.counts nodes v.held.nexts v.reading.place v.reading.above v.reading.links locks_same j holds);
+          nodes = λ j holds.
+              inl (holds_same z m vs g rule i v at v.counts nodes v.held.nexts v.reading.place v.reading.above v.reading.links locks_same j holds);
           entries = λ x holds. inl (entry_same x holds);
         }) (record { number = refl; section = inl refl })
         (λ known. same_looks z (linked_by g) HoldsNode (HoldsEntry g.bundles) v w w refl refl known)
@@ -298,10 +375,12 @@ module _ (z : Layout) (m : Memory) (vs : List View) (g : Meaning) (rule : Rule z
     tree = rule.tree;
     marks = record {
       root = node_other m Mark Mark k 0 1 root_apart ∙ rule.marks.root;
-      nodes = λ j some. node_other m Mark Mark k j 1 (λ is. omega (arith, unlinked, subst (λ n. 0 < count n (slots_of g.tree)) is some)) ∙ rule.marks.nodes j some;
+      nodes = λ j some.
+          node_other m Mark Mark k j 1 (λ is. omega (arith, unlinked, subst (λ n. 0 < count n (slots_of g.tree)) is some)) ∙ rule.marks.nodes j some;
     };
     bundles = λ j live side. bundle_weaker _ _ _ _ (IsPendingAt vs j) (IsPendingAt ws j) _ _
-        (λ d. pending_moved vs i j d v w at refl (λ works. subst (λ xs. 0 < count j xs) (sym works_same) works)) (rule.bundles j (live_moved z vs i j v w at (omega arith) live) side);
+        (λ d. pending_moved vs i j d v w at refl (λ works. subst (λ xs. 0 < count j xs) (sym works_same) works))
+        (rule.bundles j (live_moved z vs i j v w at (omega arith) live) side);
     pairs = pairs_same vs i v w at refl rule.pairs;
     single = λ d. omega (arith, sum_kept (pending_count d) vs i v w at refl, rule.single d);
     seats = all_moved (SeatRight z m g) (SeatRight z m' g) vs i v w at rule.seats own_now other_now;

@@ -20,7 +20,8 @@ opening_right z sizes is few =
     (opening_made z sizes is (first_right z (omega (arith, few, ap (λ (y : Layout). y.calls) is))))
 
 -- the same for what the code makes
-pub started : (z : Layout) (sizes : List PassSize) (words : List ℕ) (views : List View) (n : ℕ) → FitTable sizes → z ≡ layout_of sizes → n ≡ word_count z → words ≡ replicate n 0
+pub started : (z : Layout) (sizes : List PassSize) (words : List ℕ) (views : List View) (n : ℕ) → FitTable sizes → z ≡ layout_of sizes → n ≡ word_count z
+    → words ≡ replicate n 0
     → views ≡ pass_views z 0 1 1 sizes ++ empty_view z ∷ [] → InRule z words views
 started z sizes words views n fit is count_is words_are views_are =
     let words_now : words ≡ replicate (word_count z) 0 = words_are ∙ ap (λ k. replicate k 0) count_is in

@@ -110,19 +110,26 @@ not_own_place n p (Some k) mine none = by_test (eqb k n) none
     by_test false none = refl
 
 -- an own place lies within what is seen
-past_own : (n p : ℕ) (number : Option ℕ) (mine : List ℕ) (seen : List Update) → length seen < p → IfSome number (λ k. mine ≡ own_places k seen) → own_place n p number mine ≡ 0
+past_own : (n p : ℕ) (number : Option ℕ) (mine : List ℕ) (seen : List Update) → length seen < p → IfSome number (λ k. mine ≡ own_places k seen)
+    → own_place n p number mine ≡ 0
 past_own n p None mine seen past own = refl
 past_own n p (Some k) mine seen past own = by_test (eqb k n)
   where
     by_test : (b : Bool) → cond b (count p mine) 0 ≡ 0
-    by_test true = ap (count p) own ∙ none_counted p (own_places k seen) (1 + length seen) (omega (arith, past)) (places_within k 1 (1 + length seen) seen (omega arith))
+    by_test true =
+        ap (count p) own ∙ none_counted p (own_places k seen) (1 + length seen) (omega (arith, past)) (places_within k 1 (1 + length seen) seen (omega arith))
     by_test false = refl
 
 pub past_place : (n p : ℕ) (v : View) → KnowsPlaces v → length v.history.seen < p → place_count n p v ≡ 0
 past_place n p v knows past =
-    omega (arith, past_own n p v.number v.history.mine v.history.seen past knows.own, past_ended n p (length v.history.seen) v.history.ended_places past knows.given)
+    omega (
+      arith,
+      past_own n p v.number v.history.mine v.history.seen past knows.own,
+      past_ended n p (length v.history.seen) v.history.ended_places past knows.given,
+    )
 
-mapped_within : (n limit top : ℕ) (ps : List ℕ) → top ≤ limit + 1 → Every (λ p. (1 ≤ p) × (p < top)) ps → Every (λ (q : EndedPlace). q.at ≤ limit) (map (λ (p : ℕ). record { pass = n; at = p }) ps)
+mapped_within : (n limit top : ℕ) (ps : List ℕ) → top ≤ limit + 1 → Every (λ p. (1 ≤ p) × (p < top)) ps
+    → Every (λ (q : EndedPlace). q.at ≤ limit) (map (λ (p : ℕ). record { pass = n; at = p }) ps)
 mapped_within n limit top [] low all = tt
 mapped_within n limit top (p ∷ ps) low all = (omega (arith, low, all.0.1), mapped_within n limit top ps low all.1)
 
@@ -172,7 +179,9 @@ module _ (z : Layout) (m : Memory) (vs : List View) (g : Meaning) (rule : Rule z
       ∙ sym (own_of n (length xs) has long) ∙ ap (own_places n) (sym begins)
 
   given_longer : (limit : ℕ) → length v.history.seen ≤ limit → Every (λ (p : EndedPlace). p.at ≤ limit) v.history.ended_places
-  given_longer limit long = every_weaker (λ (p : EndedPlace). p.at ≤ length v.history.seen) (λ (p : EndedPlace). p.at ≤ limit) v.history.ended_places (λ p low. omega (arith, low, long)) knows.given
+  given_longer limit long =
+      every_weaker (λ (p : EndedPlace). p.at ≤ length v.history.seen) (λ (p : EndedPlace). p.at ≤ limit) v.history.ended_places
+      (λ p low. omega (arith, low, long)) knows.given
 
   -- a view that has been given every number knows the whole history
   pub knows_whole : ((n : ℕ) → n < z.passes → HasNumber v n) → v.history.seen ≡ g.updates
@@ -189,13 +198,16 @@ module _ (z : Layout) (m : Memory) (vs : List View) (g : Meaning) (rule : Rule z
       last_by : (o : Option Update) → slice_get g.updates (length v.history.seen) ≡ o → length v.history.seen < length g.updates → ⊥
       last_by None is short = some_there g.updates (length v.history.seen) short is
       last_by (Some u) is short =
-          not_made u.client (length v.history.seen) u (counted u.client (all u.client (every_get (λ (x : Update). x.client < z.passes) g.updates (length v.history.seen) u rule.history.clients is))) (omega arith) is refl
+          not_made u.client (length v.history.seen) u (counted u.client
+          (all u.client (every_get (λ (x : Update). x.client < z.passes) g.updates (length v.history.seen) u rule.history.clients is))) (omega arith) is refl
 
   -- a load of the stamp: with an announcement the section number is the stamp, and without one it stays
-  pub stamp_places : (known : List Update) (fixes : Bool) (nodes : List TreeNode) → v.reading.opened ≡ None → known ≡ g.updates → KnowsPlaces (stamp_loaded known v (m Stamp) fixes nodes)
+  pub stamp_places : (known : List Update) (fixes : Bool) (nodes : List TreeNode) → v.reading.opened ≡ None → known ≡ g.updates
+      → KnowsPlaces (stamp_loaded known v (m Stamp) fixes nodes)
   stamp_places known fixes nodes closed all =
       let whole_known : Begins g.updates known = all ∙ sym (take_all (length known) g.updates (omega (arith, ap length all))) in
-      let short : length v.history.seen ≤ length known = omega (arith, begins-le g.updates v.history.seen (seat_at z m vs g i v at rule).seen.seen, ap length all) in
+      let short : length v.history.seen ≤ length known
+      = omega (arith, begins-le g.updates v.history.seen (seat_at z m vs g i v at rule).seen.seen, ap length all) in
       record {
         own = own_longer v.number known refl whole_known short knows.own;
         given = given_longer (length known) short;
@@ -203,7 +215,8 @@ module _ (z : Layout) (m : Memory) (vs : List View) (g : Meaning) (rule : Rule z
         opened = opened_by (has_announced v) fixes;
       }
     where
-      section_by : (c : Bool) → length v.history.seen ≤ length known → m Stamp ≤ length known → IfSome (stamp_reading v.reading c (m Stamp) fixes nodes).section (λ t. t ≤ length known)
+      section_by : (c : Bool) → length v.history.seen ≤ length known → m Stamp ≤ length known
+          → IfSome (stamp_reading v.reading c (m Stamp) fixes nodes).section (λ t. t ≤ length known)
       section_by true short long = long
       section_by false short long = IfSome_then v.reading.section knows.section (λ t low. omega (arith, low, short))
 
@@ -213,11 +226,13 @@ module _ (z : Layout) (m : Memory) (vs : List View) (g : Meaning) (rule : Rule z
       opened_by false b = subst (λ (o : Option ℕ). IfSome o (λ t. cond b (m Stamp) v.history.found ≡ t)) (sym closed) tt
 
   -- a raise
-  pub raise_places : (known : List Update) (u : Update) (move : TreeMove) → known ≡ g.updates → v.number ≡ Some u.client → KnowsPlaces (raised_view known v (m Stamp) u move)
+  pub raise_places : (known : List Update) (u : Update) (move : TreeMove) → known ≡ g.updates → v.number ≡ Some u.client
+      → KnowsPlaces (raised_view known v (m Stamp) u move)
   raise_places known u move all named =
       let known_whole : Begins g.updates known = all ∙ sym (take_all (length known) g.updates (omega (arith, ap length all))) in
       let more : length (known ++ u ∷ []) ≡ length known + 1 = omega (arith, length-append known (u ∷ [])) in
-      let short : length v.history.seen ≤ length known = omega (arith, begins-le g.updates v.history.seen (seat_at z m vs g i v at rule).seen.seen, ap length all) in
+      let short : length v.history.seen ≤ length known
+      = omega (arith, begins-le g.updates v.history.seen (seat_at z m vs g i v at rule).seen.seen, ap length all) in
       let place : length known + 1 ≡ m Stamp + 1 = ap (λ n. n + 1) (ap length all ∙ rule.history.long) in
       record {
         own = pushed v.number refl (own_longer v.number known refl known_whole short knows.own) place;
@@ -243,7 +258,9 @@ module _ (z : Layout) (m : Memory) (vs : List View) (g : Meaning) (rule : Rule z
       let limit : ℕ = length (longer v.history.seen u.history.seen) in
       let within : EndedPlace → Type 0 = λ (p : EndedPlace). p.at ≤ limit in
       record {
-        own = own_longer v.number (longer v.history.seen u.history.seen) refl (longer_begins g.updates v.history.seen u.history.seen mine.seen theirs.seen) long.1 knows.own;
+        own =
+            own_longer v.number (longer v.history.seen u.history.seen) refl
+            (longer_begins g.updates v.history.seen u.history.seen mine.seen theirs.seen) long.1 knows.own;
         given = every_append within v.history.ended_places (u.history.ended_places ++ own_ended u.number u.history.mine) (given_longer limit long.1)
             (every_append within u.history.ended_places (own_ended u.number u.history.mine)
             (every_weaker (λ (p : EndedPlace). p.at ≤ length u.history.seen) within u.history.ended_places (λ p low. omega (arith, low, long.0)) other.given)
@@ -253,10 +270,12 @@ module _ (z : Layout) (m : Memory) (vs : List View) (g : Meaning) (rule : Rule z
       }
 
 -- a raise is at the stamp
-pub raise_needed : (z : Layout) (m : Memory) (vs : List View) (v : View) (w : Word) (value : ℕ) (o : Option Update) → may_raise z m vs v w value o ≡ true → is_stamp w ≡ true
+pub raise_needed : (z : Layout) (m : Memory) (vs : List View) (v : View) (w : Word) (value : ℕ) (o : Option Update) → may_raise z m vs v w value o ≡ true
+    → is_stamp w ≡ true
 raise_needed z m vs v w value o met =
     let a = is_stamp w in
-    let one = and_parts (a && eqb value 0 && is_none v.update.raised && not (eqb v.history.left 0)) (not (eqb (length v.update.pending) 0)) (and_parts (may_raise_number v w value) (is_raise_of z m vs v o) met).0 in
+    let one = and_parts (a && eqb value 0 && is_none v.update.raised && not (eqb v.history.left 0)) (not (eqb (length v.update.pending) 0))
+    (and_parts (may_raise_number v w value) (is_raise_of z m vs v o) met).0 in
     let two = and_parts (a && eqb value 0 && is_none v.update.raised) (not (eqb v.history.left 0)) one.0 in
     (and_parts a (eqb value 0) (and_parts (a && eqb value 0) (is_none v.update.raised) two.0).0).0
 
@@ -268,7 +287,8 @@ module _ (z : Layout) (words : List ℕ) (vs : List View) (right : InRule z word
   abbrev knows' : KnowsPlaces v
   knows' = at_item KnowsPlaces vs i v at right.places
 
-  still_places : (u : View) → u.number ≡ v.number → u.history ≡ v.history → u.reading.section ≡ v.reading.section → u.reading.opened ≡ v.reading.opened → KnowsPlaces u
+  still_places : (u : View) → u.number ≡ v.number → u.history ≡ v.history → u.reading.section ≡ v.reading.section → u.reading.opened ≡ v.reading.opened
+      → KnowsPlaces u
   still_places u number history section opened = record {
     own = subst (λ (o : Option ℕ). IfSome o (λ n. u.history.mine ≡ own_places n u.history.seen)) (sym number)
         (subst (λ (h : SeenHistory). IfSome v.number (λ n. h.mine ≡ own_places n h.seen)) (sym history) knows'.own);
@@ -281,12 +301,14 @@ module _ (z : Layout) (words : List ℕ) (vs : List View) (right : InRule z word
 
   part_places : (u : View) → part_of u ≡ part_of v → KnowsPlaces u
   part_places u same =
-      still_places u (ap (λ (p : SeatPart). p.owner.number) same) (ap (λ (p : SeatPart). p.history) same) (ap (λ (p : SeatPart). p.section) same) (ap (λ (p : SeatPart). p.opened) same)
+      still_places u (ap (λ (p : SeatPart). p.owner.number) same) (ap (λ (p : SeatPart). p.history) same) (ap (λ (p : SeatPart). p.section) same)
+      (ap (λ (p : SeatPart). p.opened) same)
 
   entered_places : KnowsPlaces (entered z.passes v value)
   entered_places =
       let same = entered_part z.passes value v in
-      still_places (entered z.passes v value) (ap (λ (p : SeatPart). p.owner.number) same) (ap (λ (p : SeatPart). p.history) same) (ap (λ (p : SeatPart). p.section) same) (ap (λ (p : SeatPart). p.opened) same)
+      still_places (entered z.passes v value) (ap (λ (p : SeatPart). p.owner.number) same) (ap (λ (p : SeatPart). p.history) same)
+      (ap (λ (p : SeatPart). p.section) same) (ap (λ (p : SeatPart). p.opened) same)
 
   named_by : (n : ℕ) (number : Option ℕ) → is_number n number ≡ true → number ≡ Some n
   named_by n None e = cc
@@ -296,12 +318,14 @@ module _ (z : Layout) (words : List ℕ) (vs : List View) (right : InRule z word
   raised_places x None is own = knows'
   raised_places x (Some u) is own =
       subst (λ n. KnowsPlaces (raised_from z m' vs v n (Some u))) (sym is)
-      (raise_places z m' vs right.meaning right.rule i v at knows' (longest vs) u (tree_move z m' vs v u) (longest_is z m' vs right.meaning right.rule) (named_by u.client v.number own))
+      (raise_places z m' vs right.meaning right.rule i v at knows' (longest vs) u (tree_move z m' vs v u) (longest_is z m' vs right.meaning right.rule)
+      (named_by u.client v.number own))
 
   loaded_places : (x : ℕ) → v.reading.opened ≡ None → x ≡ m' Stamp → KnowsPlaces (stamp_loaded (longest vs) v x (eqb value 1) (tree_nodes (tree_now z m' vs)))
   loaded_places x closed is =
       subst (λ n. KnowsPlaces (stamp_loaded (longest vs) v n (eqb value 1) (tree_nodes (tree_now z m' vs)))) (sym is)
-      (stamp_places z m' vs right.meaning right.rule i v at knows' (longest vs) (eqb value 1) (tree_nodes (tree_now z m' vs)) closed (longest_is z m' vs right.meaning right.rule))
+      (stamp_places z m' vs right.meaning right.rule i v at knows' (longest vs) (eqb value 1) (tree_nodes (tree_now z m' vs)) closed
+      (longest_is z m' vs right.meaning right.rule))
 
   -- a load of the stamp and a raise are at the stamp
   at_stamp : is_stamp w ≡ true → m' w ≡ m' Stamp
@@ -311,7 +335,9 @@ module _ (z : Layout) (words : List ℕ) (vs : List View) (right : InRule z word
   moved u knows = All-set KnowsPlaces vs i u knows right.places
 
   still : (kind : Kind) (o : Option Update) → is_still kind ≡ true → All KnowsPlaces (set vs i (view_after kind z m' vs v w (m' w) value o))
-  still kind o is = moved (view_after kind z m' vs v w (m' w) value o) (part_places (view_after kind z m' vs v w (m' w) value o) (still_kept z m' vs v w (m' w) value o kind is))
+  still kind o is =
+      moved (view_after kind z m' vs v w (m' w) value o)
+      (part_places (view_after kind z m' vs v w (m' w) value o) (still_kept z m' vs v w (m' w) value o kind is))
 
   joined_by : (o : Option View) → slice_get vs value ≡ o → All KnowsPlaces (join_found vs i v value o)
   joined_by None is = right.places
@@ -327,7 +353,8 @@ module _ (z : Layout) (words : List ℕ) (vs : List View) (right : InRule z word
       (record { own = tt; given = tt; section = tt; opened = tt })
 
   -- each view knows where its own updates stand after an event whose needs are met
-  pub places_after : (kind : Kind) (o : Option Update) → carries kind v o ≡ true → needs kind z m' vs i v w value o ≡ true → All KnowsPlaces (views_after kind z m' vs i v w value o)
+  pub places_after : (kind : Kind) (o : Option Update) → carries kind v o ≡ true → needs kind z m' vs i v w value o ≡ true
+      → All KnowsPlaces (views_after kind z m' vs i v w value o)
   places_after MakeSeat o own met = right.places
   places_after SplitSeat o own met = split_places
   places_after JoinSeat o own met = joined_by (slice_get vs value) refl
@@ -335,5 +362,6 @@ module _ (z : Layout) (words : List ℕ) (vs : List View) (right : InRule z word
   places_after Leave o own met = moved (left v value) (record { own = knows'.own; given = knows'.given; section = tt; opened = tt })
   places_after LoadStamp o own met = let needs = stamp_needs v w value met in moved _ (loaded_places (m' w) needs.closed (at_stamp needs.stamp))
   places_after Raise o own met = moved _ (raised_places (m' w) o (at_stamp (raise_needed z m' vs v w value o met)) own)
-  places_after Announce o own met = moved (announced_view v value) (record { own = knows'.own; given = knows'.given; section = knows'.section; opened = knows'.opened })
+  places_after Announce o own met =
+      moved (announced_view v value) (record { own = knows'.own; given = knows'.given; section = knows'.section; opened = knows'.opened })
   places_after kind o own met = still kind o refl

@@ -63,11 +63,14 @@ quiet_work v w unset owed raised locks =
     record { unset = unset; owed = owed; raised = raised; locks = λ k some. subst (λ ks. 0 < count k ks) (sym locks) some }
 
 taken_work : (v : View) → HasSameWork v (batch_taken v)
-taken_work v = work_by (is_empty v.batch) v (record v { retired = no_slots; batch = v.retired; grace = no_looks }) v (quiet_work v _ refl refl refl refl) (quiet_work v v refl refl refl refl)
+taken_work v =
+    work_by (is_empty v.batch) v (record v { retired = no_slots; batch = v.retired; grace = no_looks }) v (quiet_work v _ refl refl refl refl)
+    (quiet_work v v refl refl refl refl)
 
 settled_work : (passes : ℕ) (v w : View) → HasSameWork v w → HasSameWork v (settled passes w)
 settled_work passes v w same =
-    work_by (all_passed passes w.number w.grace.passed) v (batch_freed w) w (record { unset = same.unset; owed = same.owed; raised = same.raised; locks = same.locks }) same
+    work_by (all_passed passes w.number w.grace.passed) v (batch_freed w) w
+    (record { unset = same.unset; owed = same.owed; raised = same.raised; locks = same.locks }) same
 
 pub entered_work : (passes value : ℕ) (v : View) → HasSameWork v (entered passes v value)
 entered_work passes value v =
@@ -79,11 +82,13 @@ looked_slots : (passes pass word : ℕ) (v : View) → HasSameWork v (looked pas
 looked_slots passes pass word v =
     let u : View = batch_taken v in
     let taken = taken_work v in
-    settled_work passes v (record u { grace = looked_at u.grace pass word }) (record { unset = taken.unset; owed = taken.owed; raised = taken.raised; locks = taken.locks })
+    settled_work passes v (record u { grace = looked_at u.grace pass word })
+    (record { unset = taken.unset; owed = taken.owed; raised = taken.raised; locks = taken.locks })
 
 pub looked_work : (passes pass word : ℕ) (v : View) → HasSameWork v (looked_by passes v pass word)
 looked_work passes pass word v =
-    work_by (has_no_lock v) v (looked passes v pass word) (looked_waiting v pass word) (looked_slots passes pass word v) (quiet_work v (looked_waiting v pass word) refl refl refl refl)
+    work_by (has_no_lock v) v (looked passes v pass word) (looked_waiting v pass word) (looked_slots passes pass word v)
+    (quiet_work v (looked_waiting v pass word) refl refl refl refl)
 
 filled_work : (v : View) (w : Word) (value : ℕ) → HasSameWork v (filled_view v w value)
 filled_work v w value =
@@ -105,20 +110,25 @@ locked_work v k = record {
 }
 
 -- where one view moves that has the same to do
-pub plain_quiet : (m : Memory) (g : Meaning) (vs : List View) (i : ℕ) (v w : View) → IsItem vs i v → HasSameWork v w → PlainRight m vs g → PlainRight m (set vs i w) g
+pub plain_quiet : (m : Memory) (g : Meaning) (vs : List View) (i : ℕ) (v w : View) → IsItem vs i v → HasSameWork v w → PlainRight m vs g
+    → PlainRight m (set vs i w) g
 plain_quiet m g vs i v w at same right =
-    plain_moved (λ s k. m (Node (Link s) k)) (λ s k. m (Node (Tag s) k)) (child_at (λ e. m (Entry Child e)) g.bundles (m Stamp)) (greatest_of g.bundles (m Stamp)) g.tree vs i v w at right same
+    plain_moved (λ s k. m (Node (Link s) k)) (λ s k. m (Node (Tag s) k)) (child_at (λ e. m (Entry Child e)) g.bundles (m Stamp))
+    (greatest_of g.bundles (m Stamp)) g.tree vs i v w at right same
 
 -- and another one is put behind the others, or is given up, which has nothing to do
 pub quiet_pushed : (m : Memory) (g : Meaning) (vs : List View) (i : ℕ) (v w y : View) → IsItem vs i v → HasSameWork v w → y.update ≡ no_update
     → PlainRight m vs g → PlainRight m (set vs i w ++ y ∷ []) g
 quiet_pushed m g vs i v w y at same idle right =
-    plain_pushed (λ s k. m (Node (Link s) k)) (λ s k. m (Node (Tag s) k)) (child_at (λ e. m (Entry Child e)) g.bundles (m Stamp)) (greatest_of g.bundles (m Stamp)) g.tree vs i v w at right same y idle
+    plain_pushed (λ s k. m (Node (Link s) k)) (λ s k. m (Node (Tag s) k)) (child_at (λ e. m (Entry Child e)) g.bundles (m Stamp))
+    (greatest_of g.bundles (m Stamp)) g.tree vs i v w at right same y idle
 
-pub quiet_joined : (m : Memory) (g : Meaning) (vs : List View) (i j : ℕ) (v w u : View) → IsItem vs i v → IsItem vs j u → (j ≡ i → ⊥) → HasSameWork v w → u.update ≡ no_update
+pub quiet_joined : (m : Memory) (g : Meaning) (vs : List View) (i j : ℕ) (v w u : View) → IsItem vs i v → IsItem vs j u → (j ≡ i → ⊥) → HasSameWork v w
+    → u.update ≡ no_update
     → PlainRight m vs g → PlainRight m (set (set vs i w) j spent_view) g
 quiet_joined m g vs i j v w u at of other same idle right =
-    plain_joined (λ s k. m (Node (Link s) k)) (λ s k. m (Node (Tag s) k)) (child_at (λ e. m (Entry Child e)) g.bundles (m Stamp)) (greatest_of g.bundles (m Stamp)) g.tree vs i v w at right
+    plain_joined (λ s k. m (Node (Link s) k)) (λ s k. m (Node (Tag s) k)) (child_at (λ e. m (Entry Child e)) g.bundles (m Stamp))
+    (greatest_of g.bundles (m Stamp)) g.tree vs i v w at right
     same j u of other idle
 
 module _ (z : Layout) (m : Memory) (vs : List View) (g : Meaning) (rule : Rule z m vs g) where
@@ -127,7 +137,8 @@ module _ (z : Layout) (m : Memory) (vs : List View) (g : Meaning) (rule : Rule z
 
   -- what a seat stores to a free slot is no word of the tree
   module _ (i : ℕ) (v : View) (at : IsItem vs i v) (x : ℕ) where
-    node_same : (f h : Field) (j k : ℕ) (side : Side) → 0 < count j v.free.nodes → IsLinkIn 0 Right g.tree k side → written m (Node f j) x (Node h k) ≡ m (Node h k)
+    node_same : (f h : Field) (j k : ℕ) (side : Side) → 0 < count j v.free.nodes → IsLinkIn 0 Right g.tree k side
+        → written m (Node f j) x (Node h k) ≡ m (Node h k)
     node_same f h j k side free there =
         node_other m f h j k x (λ is. free_not_live z vs g rule.slots i j v at free (subst (IsLive z vs) is (link_live z m vs g rule k side there)))
 
@@ -142,19 +153,27 @@ module _ (z : Layout) (m : Memory) (vs : List View) (g : Meaning) (rule : Rule z
               let d : ℕ = selected_of g.bundles s side k in
               ap (λ n. cond (eqb d 0) 0 n)
               (entry_other m p Child e d x
-              (λ is. not_in_bundle z vs g rule.slots i k e v at free (link_live z m vs g rule k side there) (in_entries g.bundles k e side (subst (λ n. 0 < count n (g.bundles.bundle side k)) is here))))
+              (λ is. not_in_bundle z vs g rule.slots i k e v at free (link_live z m vs g rule k side there)
+              (in_entries g.bundles k e side (subst (λ n. 0 < count n (g.bundles.bundle side k)) is here))))
         ]
 
     plain_stored : (w : Word) → may_fill v w ≡ true → PlainRight m vs g → PlainRight (written m w x) vs g
     plain_stored (Node f j) met right =
         let free : 0 < count j v.free.nodes = has-count j v.free.nodes (and_parts (not (is_lock f)) (has j v.free.nodes) met).1 in
         plain_framed (λ t k. m (Node (Link t) k)) (λ t k. m (Node (Tag t) k)) (child_at (λ e. m (Entry Child e)) g.bundles s) (greatest_of g.bundles s)
-        (λ t k. written m (Node f j) x (Node (Link t) k)) (λ t k. written m (Node f j) x (Node (Tag t) k)) (child_at (λ e. m (Entry Child e)) g.bundles s) (greatest_of g.bundles s) g.tree vs
-        (λ k side there. record { same_link = node_same f (Link side) j k side free there; same_tag = node_same f (Tag side) j k side free there; same_child = refl; no_less = omega arith }) right
+        (λ t k. written m (Node f j) x (Node (Link t) k)) (λ t k. written m (Node f j) x (Node (Tag t) k)) (child_at (λ e. m (Entry Child e)) g.bundles s)
+        (greatest_of g.bundles s) g.tree vs
+        (λ k side there. record {
+          same_link = node_same f (Link side) j k side free there;
+          same_tag = node_same f (Tag side) j k side free there;
+          same_child = refl;
+          no_less = omega arith;
+        }) right
     plain_stored (Entry p e) met right =
         let free : 0 < count e v.free.entries = has-count e v.free.entries met in
         plain_framed (λ t k. m (Node (Link t) k)) (λ t k. m (Node (Tag t) k)) (child_at (λ d. m (Entry Child d)) g.bundles s) (greatest_of g.bundles s)
-        (λ t k. m (Node (Link t) k)) (λ t k. m (Node (Tag t) k)) (child_at (λ d. written m (Entry p e) x (Entry Child d)) g.bundles s) (greatest_of g.bundles s) g.tree vs
+        (λ t k. m (Node (Link t) k)) (λ t k. m (Node (Tag t) k)) (child_at (λ d. written m (Entry p e) x (Entry Child d)) g.bundles s)
+        (greatest_of g.bundles s) g.tree vs
         (λ k side there. record { same_link = refl; same_tag = refl; same_child = child_same p e k side free there; no_less = omega arith }) right
     plain_stored Stamp met right = absurd (never met)
     plain_stored (Section k) met right = absurd (never met)
@@ -172,7 +191,8 @@ module _ (z : Layout) (m : Memory) (vs : List View) (g : Meaning) (rule : Rule z
   plain_same h ws same live numbers right =
       plain_selected (λ t k. m (Node (Link t) k)) (λ t k. m (Node (Tag t) k)) (λ e. m (Entry Child e)) g.bundles h.bundles s g.tree ws
       (λ k side there. let alive = link_live z m vs g rule k side there in sym (same s k side (inl refl) alive (live k alive)))
-      (λ k side there some. elim (select_low g.bundles.number s (g.bundles.bundle side k)) as (λ _. g.bundles.number (selected_of g.bundles s side k) ≤ h.bundles.number (selected_of g.bundles s side k)) [
+      (λ k side there some. elim (select_low g.bundles.number s (g.bundles.bundle side k))
+      as (λ _. g.bundles.number (selected_of g.bundles s side k) ≤ h.bundles.number (selected_of g.bundles s side k)) [
         | inl none ↦ absurd (omega (arith, some, none))
         | inr low ↦ numbers (selected_of g.bundles s side k) low
       ]) right
@@ -181,7 +201,8 @@ not_at : (a b : ℕ) → eqb a b ≡ false → a ≡ b → ⊥
 not_at a b off same = never (sym off ∙ eq-eqb a b same)
 
 -- unlock: what is still to be done is done at other nodes, which stay locked
-module _ (link tag child greatest : Side → ℕ → ℕ) (tree : NamedTree) (vs : List View) (i k : ℕ) (v : View) (at : IsItem vs i v) (done : is_done_at k v.update ≡ true) (right : LinksRight link tag child greatest tree vs) where
+module _ (link tag child greatest : Side → ℕ → ℕ) (tree : NamedTree) (vs : List View) (i k : ℕ) (v : View) (at : IsItem vs i v)
+    (done : is_done_at k v.update ≡ true) (right : LinksRight link tag child greatest tree vs) where
   abbrev others : List HeldNode
   others = other_nodes k v.held.nodes
 
@@ -228,15 +249,17 @@ module _ (link tag child greatest : Side → ℕ → ℕ) (tree : NamedTree) (vs
       (λ o is. record { there = is.1.there; held = still_locked o.node is.0 is.1.held }) owed_apart
 
   -- with the last lock nothing is left to be done
-  last_unset : eqb (length others) 0 ≡ true → v.update.unset ≡ []
-  last_unset none = none_left v.update.unset (every_map (Unset (held_slots others)) (λ u. ⊥) v.update.unset (λ u is. unlocked u.node others none is.held) unset_now)
+  pub last_unset : eqb (length others) 0 ≡ true → v.update.unset ≡ []
+  last_unset none =
+      none_left v.update.unset (every_map (Unset (held_slots others)) (λ u. ⊥) v.update.unset (λ u is. unlocked u.node others none is.held) unset_now)
     where
       unlocked : (j : ℕ) (hs : List HeldNode) → eqb (length hs) 0 ≡ true → 0 < count j (held_slots hs) → ⊥
       unlocked j [] none some = omega (arith, some)
       unlocked j (h ∷ hs) none some = let long : length (h ∷ hs) ≡ 0 = eqb-true (length (h ∷ hs)) 0 none in omega arith
 
   last_owed : eqb (length others) 0 ≡ true → v.update.owed ≡ []
-  last_owed none = none_left v.update.owed (every_map (OwedRight tree (held_slots others)) (λ o. ⊥) v.update.owed (λ o is. unlocked o.node others none is.held) owed_now)
+  last_owed none =
+      none_left v.update.owed (every_map (OwedRight tree (held_slots others)) (λ o. ⊥) v.update.owed (λ o is. unlocked o.node others none is.held) owed_now)
     where
       unlocked : (j : ℕ) (hs : List HeldNode) → eqb (length hs) 0 ≡ true → 0 < count j (held_slots hs) → ⊥
       unlocked j [] none some = omega (arith, some)

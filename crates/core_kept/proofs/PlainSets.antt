@@ -42,7 +42,8 @@ gone f (x ∷ xs) = by (f x) refl (gone f xs)
     by true is rest = rest
     by false is rest = ap (λ c. length (cond c (x ∷ filter f (filter (λ y. not (f y)) xs)) (filter f (filter (λ y. not (f y)) xs)))) is ∙ rest
 
-stay : {X : Type 0} (f h : X → Bool) (xs : List X) → ((x : X) → f x ≡ true → h x ≡ true → ⊥) → length (filter h (filter (λ x. not (f x)) xs)) ≡ length (filter h xs)
+stay : {X : Type 0} (f h : X → Bool) (xs : List X) → ((x : X) → f x ≡ true → h x ≡ true → ⊥)
+    → length (filter h (filter (λ x. not (f x)) xs)) ≡ length (filter h xs)
 stay f h [] apart = refl
 stay f h (x ∷ xs) apart = by (f x) (h x) refl refl (stay f h xs apart)
   where
@@ -58,11 +59,11 @@ stay f h (x ∷ xs) apart = by (f x) (h x) refl refl (stay f h xs apart)
     by false c is too same = longer (h x) same
 
 -- two links compared
-data SameLink (j k : ℕ) (t side : Side) : Type 0 where
+pub data SameLink (j k : ℕ) (t side : Side) : Type 0 where
   equal : j ≡ k → t ≡ side → SameLink j k t side
   other : (same_side t side && eqb j k) ≡ false → ((j ≡ k) → (t ≡ side) → ⊥) → SameLink j k t side
 
-same_link : (j k : ℕ) (t side : Side) → SameLink j k t side
+pub same_link : (j k : ℕ) (t side : Side) → SameLink j k t side
 same_link j k t side = by (same_side t side && eqb j k) refl
   where
     by : (b : Bool) → (same_side t side && eqb j k) ≡ b → SameLink j k t side
@@ -87,7 +88,8 @@ not_true : (b : Bool) → not b ≡ true → b ≡ false
 not_true true is = cc
 not_true false is = refl
 
-module _ (z : Layout) (m : Memory) (vs : List View) (g : Meaning) (rule : Rule z m vs g) (i k : ℕ) (side : Side) (x : ℕ) (v : View) (at : IsItem vs i v) (locked : 0 < lock_count k v) (right : PlainRight m vs g) where
+module _ (z : Layout) (m : Memory) (vs : List View) (g : Meaning) (rule : Rule z m vs g) (i k : ℕ) (side : Side) (x : ℕ) (v : View) (at : IsItem vs i v)
+    (locked : 0 < lock_count k v) (right : PlainRight m vs g) where
   abbrev child : Side → ℕ → ℕ
   child = child_at (λ e. m (Entry Child e)) g.bundles (m Stamp)
 
@@ -108,21 +110,22 @@ module _ (z : Layout) (m : Memory) (vs : List View) (g : Meaning) (rule : Rule z
     abbrev w : View
     w = link_set v k side x
 
-    item : Passing (λ (u : UnsetLink). is_link_of k side u && eqb u.child x) (UnsetRight link child g.tree (held_slots v.held.nodes))
+    pub item : Passing (λ (u : UnsetLink). is_link_of k side u && eqb u.child x) (UnsetRight link child g.tree (held_slots v.held.nodes))
     item =
-        passing (λ (u : UnsetLink). is_link_of k side u && eqb u.child x) (UnsetRight link child g.tree (held_slots v.held.nodes)) v.update.unset seat.unset asked
+        passing (λ (u : UnsetLink). is_link_of k side u && eqb u.child x) (UnsetRight link child g.tree (held_slots v.held.nodes))
+        v.update.unset seat.unset asked
 
     -- it leads there in the tree
-    child_is : x ≡ child side k
+    pub child_is : x ≡ child side k
     child_is =
         let parts = and_parts (is_link_of k side item.item) (eqb item.item.child x) item.passes in
         let place = link_parts k side item.item parts.0 in
         sym (eqb-true item.item.child x parts.1) ∙ sym item.right.asked ∙ ap (λ j. child item.item.side j) place.0 ∙ ap (λ t. child t k) place.1
 
-    link_other : (j : ℕ) (t : Side) → (same_side t side && eqb j k) ≡ false → link' t j ≡ link t j
+    pub link_other : (j : ℕ) (t : Side) → (same_side t side && eqb j k) ≡ false → link' t j ≡ link t j
     link_other j t off = ap (λ b. cond b x (m (Node (Link t) j))) off
 
-    link_here : link' side k ≡ x
+    pub link_here : link' side k ≡ x
     link_here = ap (λ b. cond b x (m (Node (Link side) k))) (and_from (same_side side side) (eqb k k) (same_side-refl side) (eq-eqb k k refl))
 
     linked_by : (j : ℕ) (t : Side) → SameLink j k t side → IsLinkIn 0 Right g.tree j t → sum_by (unset_count j t) (set vs i w) ≡ 0 → link' t j ≡ child t j
@@ -130,9 +133,11 @@ module _ (z : Layout) (m : Memory) (vs : List View) (g : Meaning) (rule : Rule z
         subst (λ n. link' t n ≡ child t n) (sym node) (subst (λ s. link' s k ≡ child s k) (sym same) (link_here ∙ child_is))
     linked_by j t (other off apart) there none =
         link_other j t off
-        ∙ right.linked j t there (sym (sum_kept (unset_count j t) vs i v w at (stay (is_link_of k side) (is_link_of j t) v.update.unset (links_apart j k t side apart))) ∙ none)
+        ∙ right.linked j t there (sym (sum_kept (unset_count j t) vs i v w at
+        (stay (is_link_of k side) (is_link_of j t) v.update.unset (links_apart j k t side apart))) ∙ none)
 
-    own_item : (u : UnsetLink) → is_link_of k side u ≡ false → UnsetRight link child g.tree (held_slots v.held.nodes) u → UnsetRight link' child g.tree (held_slots w.held.nodes) u
+    own_item : (u : UnsetLink) → is_link_of k side u ≡ false → UnsetRight link child g.tree (held_slots v.held.nodes) u
+        → UnsetRight link' child g.tree (held_slots w.held.nodes) u
     own_item u off is = record {
       there = is.there;
       held = subst (λ ks. 0 < count u.node ks) (sym (slots_link k side x v.held.nodes)) is.held;
@@ -142,12 +147,15 @@ module _ (z : Layout) (m : Memory) (vs : List View) (g : Meaning) (rule : Rule z
       where
         link_by : SameLink u.node k u.side side → link' u.side u.node ≡ u.was
         link_by (equal node same) =
-            absurd (never (sym off ∙ and_from (eqb u.node k) (same_side u.side side) (eq-eqb u.node k node) (ap (same_side u.side) (sym same) ∙ same_side-refl u.side)))
+            absurd (never (sym off ∙ and_from (eqb u.node k) (same_side u.side side) (eq-eqb u.node k node)
+            (ap (same_side u.side) (sym same) ∙ same_side-refl u.side)))
         link_by (other apart differ) = link_other u.node u.side apart ∙ is.before
 
     own_seat : SeatPlain link' child g.tree w
     own_seat = record {
-      unset = every_filter (UnsetRight link child g.tree (held_slots v.held.nodes)) (UnsetRight link' child g.tree (held_slots w.held.nodes)) (λ (u : UnsetLink). not (is_link_of k side u)) v.update.unset
+      unset =
+          every_filter (UnsetRight link child g.tree (held_slots v.held.nodes)) (UnsetRight link' child g.tree (held_slots w.held.nodes))
+          (λ (u : UnsetLink). not (is_link_of k side u)) v.update.unset
           (λ u kept is. own_item u (not_true (is_link_of k side u) kept) is) seat.unset;
       owed = every_map (OwedRight g.tree (held_slots v.held.nodes)) (OwedRight g.tree (held_slots w.held.nodes)) v.update.owed
           (λ o is. record { there = is.there; held = subst (λ ks. 0 < count o.node ks) (sym (slots_link k side x v.held.nodes)) is.held }) seat.owed;
@@ -164,7 +172,8 @@ module _ (z : Layout) (m : Memory) (vs : List View) (g : Meaning) (rule : Rule z
     }
       where
         link_by : (u : UnsetLink) → UnsetRight link child g.tree (held_slots y.held.nodes) u → SameLink u.node k u.side side → link' u.side u.node ≡ u.was
-        link_by u is (equal node same) = absurd (omega (arith, locked_apart z m vs g rule i k v y at beside locked, subst (λ n. 0 < lock_count n y) node is.held))
+        link_by u is (equal node same) =
+            absurd (omega (arith, locked_apart z m vs g rule i k v y at beside locked, subst (λ n. 0 < lock_count n y) node is.held))
         link_by u is (other apart differ) = link_other u.node u.side apart ∙ is.before
 
     pub plain_set : PlainRight (written m (Node (Link side) k) x) (set vs i w) g
@@ -216,8 +225,15 @@ module _ (z : Layout) (m : Memory) (vs : List View) (g : Meaning) (rule : Rule z
     raised_seat : Seat y
     raised_seat = record {
       unset = every_map (UnsetRight link child g.tree (held_slots v.held.nodes)) (UnsetRight link child g.tree (held_slots y.held.nodes)) v.update.unset
-          (λ u is. record { there = is.there; held = subst (λ ks. 0 < count u.node ks) (sym (slots_tag k side x v.held.nodes)) is.held; before = is.before; asked = is.asked }) seat.unset;
-      owed = every_filter (OwedRight g.tree (held_slots v.held.nodes)) (OwedRight g.tree (held_slots y.held.nodes)) (λ (o : OwedTag). not (is_owed_at k side o)) v.update.owed
+          (λ u is. record {
+            there = is.there;
+            held = subst (λ ks. 0 < count u.node ks) (sym (slots_tag k side x v.held.nodes)) is.held;
+            before = is.before;
+            asked = is.asked;
+          }) seat.unset;
+      owed =
+          every_filter (OwedRight g.tree (held_slots v.held.nodes)) (OwedRight g.tree (held_slots y.held.nodes))
+          (λ (o : OwedTag). not (is_owed_at k side o)) v.update.owed
           (λ o kept is. record { there = is.there; held = subst (λ ks. 0 < count o.node ks) (sym (slots_tag k side x v.held.nodes)) is.held }) seat.owed;
       first = λ none. let old = seat.first none in (old.0, ap (other_tags k side) old.1);
     }

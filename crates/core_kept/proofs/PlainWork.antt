@@ -36,7 +36,8 @@ use Rattle.core_invariant.proofs.Filled.{every_filled}
 abbrev pub with_work : View → List UnsetLink → List OwedTag → Option Unlinking → Looks → View
 with_work v us os u l = record v { update = record v.update { unset = us; owed = os; unlinking = u; waiting = l } }
 
-module _ (z : Layout) (m : Memory) (vs : List View) (g : Meaning) (rule : Rule z m vs g) (i : ℕ) (v : View) (at : IsItem vs i v) (us : List UnsetLink) (os : List OwedTag) (ul : Option Unlinking) (l : Looks)
+module _ (z : Layout) (m : Memory) (vs : List View) (g : Meaning) (rule : Rule z m vs g) (i : ℕ) (v : View) (at : IsItem vs i v) (us : List UnsetLink)
+    (os : List OwedTag) (ul : Option Unlinking) (l : Looks)
     (holds : v.held.nodes ≡ [] → ⊥) (fresh : is_even v.section_word ≡ false → l ≡ no_looks) where
   abbrev y : View
   y = with_work v us os ul l

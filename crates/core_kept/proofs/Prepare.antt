@@ -26,7 +26,8 @@ use Rattle.core_invariant.proofs.Fronts.{held-known, fronted, count-fronted, lin
 use Rattle.core_invariant.proofs.Locked.{locked_linked}
 use Rattle.core_invariant.proofs.Needed.{Ready}
 
-module _ (z : Layout) (m : Memory) (vs : List View) (g : Meaning) (rule : Rule z m vs g) (i k e : ℕ) (side : Side) (v : View) (at : IsItem vs i v) (ready : Ready m v side k e) where
+module _ (z : Layout) (m : Memory) (vs : List View) (g : Meaning) (rule : Rule z m vs g) (i k e : ℕ) (side : Side) (v : View) (at : IsItem vs i v)
+    (ready : Ready m v side k e) where
   abbrev pub known : LoadedHead
   known = record { entry = e; stamp = None }
 
@@ -49,7 +50,14 @@ module _ (z : Layout) (m : Memory) (vs : List View) (g : Meaning) (rule : Rule z
   taken x =
       elim (eqb_tells e x) as (λ _. count x (without e v.free.entries) + one_at e x ≡ count x v.free.entries) [
         | inl same ↦ subst (λ y. count y (without e v.free.entries) + one_at e y ≡ count y v.free.entries) same.1
-            (omega (arith, count-without_same e v.free.entries, new_one (eqb e e) (eqb_same e), once_entry z vs g rule.slots e, one_term (own entries_in e) vs i v at, ready.free))
+            (omega (
+              arith,
+              count-without_same e v.free.entries,
+              new_one (eqb e e) (eqb_same e),
+              once_entry z vs g rule.slots e,
+              one_term (own entries_in e) vs i v at,
+              ready.free,
+            ))
         | inr other ↦ omega (arith, count-without_other x e v.free.entries (λ same. other.1 (sym same)), no_one (eqb e x) (ne_eqb e x other.1))
       ]
     where
@@ -68,7 +76,8 @@ module _ (z : Layout) (m : Memory) (vs : List View) (g : Meaning) (rule : Rule z
   linked_once = locked_linked z m vs g rule i k v at ready.locked ready.raised ready.unmarked
 
   -- the entry stands in no bundle that a seat may read
-  pub apart_in : (j n : ℕ) (u : View) (s : Side) (d : ℕ) → IsItem vs j u → (n ≤ z.nodes) × ((n ≡ 0) ⊎ HoldsNode u n) → 0 < count d (g.bundles.bundle s n) → d ≡ e → ⊥
+  pub apart_in : (j n : ℕ) (u : View) (s : Side) (d : ℕ) → IsItem vs j u → (n ≤ z.nodes) × ((n ≡ 0) ⊎ HoldsNode u n) → 0 < count d (g.bundles.bundle s n)
+      → d ≡ e → ⊥
   apart_in j n u s d of reach here same =
       not_in_bundle z vs g rule.slots i n e v at ready.free (reachable_live z vs g rule.slots j n u of reach)
       (in_entries g.bundles n e s (subst (λ x. 0 < count x (g.bundles.bundle s n)) same here))
@@ -78,7 +87,8 @@ module _ (z : Layout) (m : Memory) (vs : List View) (g : Meaning) (rule : Rule z
   tree_reach j n u of (inr some) =
       ((seat_at z m vs g j u of rule).version.there n some, inr (omega (arith, some, count-append n (tree_slots u.reading.tree) (work_nodes u))))
 
-  holds_by : (j : ℕ) (u u' : View) (x : ℕ) → IsItem vs j u → work_nodes u' ≡ work_nodes u → u'.reading ≡ u.reading → HoldsEntry b' u' x → HoldsEntry g.bundles u x ⊎ (x ≡ e)
+  holds_by : (j : ℕ) (u u' : View) (x : ℕ) → IsItem vs j u → work_nodes u' ≡ work_nodes u → u'.reading ≡ u.reading → HoldsEntry b' u' x
+      → HoldsEntry g.bundles u x ⊎ (x ≡ e)
   holds_by j u u' x of work reading (inl reads) =
       elim (reads-fronted g.bundles side k e u.reading.section (tree_slots u.reading.tree) x
       (λ s n d reach here. apart_in j n u s d of (tree_reach j n u of reach) here)
@@ -95,7 +105,13 @@ module _ (z : Layout) (m : Memory) (vs : List View) (g : Meaning) (rule : Rule z
   -- a node that waits to be free is not the prepared one
   waits_apart : (j n : ℕ) (u : View) → IsItem vs j u → 0 < own_waiting nodes_of n u → n ≡ k → ⊥
   waits_apart j n u of some same =
-      root_or (eqb 0 k) (omega (arith, linked_once, once_node z vs g rule.slots k, one_term (own nodes_of k) vs j u of, subst (λ y. 0 < own_waiting nodes_of y u) same some)) refl
+      root_or (eqb 0 k) (omega (
+        arith,
+        linked_once,
+        once_node z vs g rule.slots k,
+        one_term (own nodes_of k) vs j u of,
+        subst (λ y. 0 < own_waiting nodes_of y u) same some,
+      )) refl
     where
       root_or : (c : Bool) → 0 < cond c 1 0 → eqb 0 k ≡ c → ⊥
       root_or false some is = omega (arith, some)
@@ -103,13 +119,15 @@ module _ (z : Layout) (m : Memory) (vs : List View) (g : Meaning) (rule : Rule z
           let root : 0 ≡ k = grind (arith, nat_tests) in
           omega (arith, rule.slots.nodes.one 0, one_term (own nodes_of 0) vs j u of, subst (λ y. 0 < own_waiting nodes_of y u) (same ∙ sym root) some)
 
-  links : Links z (linked_by g) (linked_by (prepared_meaning g side k e)) HoldsNode (HoldsEntry g.bundles) (HoldsEntry b') vs i e v w.held w.update w.free at rule.slots
+  links : Links z (linked_by g) (linked_by (prepared_meaning g side k e)) HoldsNode (HoldsEntry g.bundles) (HoldsEntry b') vs i e v
+      w.held w.update w.free at rule.slots
   links = record {
     free_nodes = refl;
     was_free = ready.free;
     taken = taken;
     nodes = λ n. refl;
-    entries = λ x. linked-fronted g.bundles side k e x (0 ∷ slots_of g.tree) ∙ ap (λ n. linked_in g.bundles x (0 ∷ slots_of g.tree) + cond (eqb e x) n 0) linked_once;
+    entries = λ x.
+        linked-fronted g.bundles side k e x (0 ∷ slots_of g.tree) ∙ ap (λ n. linked_in g.bundles x (0 ∷ slots_of g.tree) + cond (eqb e x) n 0) linked_once;
     holds_node = same_holds;
     holds = λ x holds. holds_by i v w x at same_work refl holds;
     others_hold = λ u beside x holds. holds_by beside.place u u x beside.at refl refl holds;
@@ -122,4 +140,6 @@ module _ (z : Layout) (m : Memory) (vs : List View) (g : Meaning) (rule : Rule z
       other_node false n e = refl
 
   pub prepared_slots : SlotRule z (linked_by (prepared_meaning g side k e)) HoldsNode (HoldsEntry b') (set vs i w)
-  prepared_slots = slots_linked z (linked_by g) (linked_by (prepared_meaning g side k e)) HoldsNode (HoldsEntry g.bundles) (HoldsEntry b') vs i e v w.held w.update w.free at rule.slots links
+  prepared_slots =
+      slots_linked z (linked_by g) (linked_by (prepared_meaning g side k e)) HoldsNode (HoldsEntry g.bundles) (HoldsEntry b') vs i e v w.held
+      w.update w.free at rule.slots links

@@ -34,7 +34,8 @@ use Rattle.core_invariant.proofs.Sides.{same_side-true}
 use Rattle.core_invariant.proofs.Needed.{Ready}
 use Rattle.core_kept.proofs.Prepare.{same_locks, same_work}
 
-module _ (z : Layout) (m : Memory) (vs : List View) (g : Meaning) (rule : Rule z m vs g) (i k e : ℕ) (side : Side) (v : View) (at : IsItem vs i v) (ready : Ready m v side k e) where
+module _ (z : Layout) (m : Memory) (vs : List View) (g : Meaning) (rule : Rule z m vs g) (i k e : ℕ) (side : Side) (v : View) (at : IsItem vs i v)
+    (ready : Ready m v side k e) where
   abbrev stamp : ℕ → ℕ
   stamp d = m (Entry Number d)
 
@@ -116,7 +117,8 @@ module _ (z : Layout) (m : Memory) (vs : List View) (g : Meaning) (rule : Rule z
   new_pending =
       let P : View → Type 0 = λ u. pending_count e u ≡ 0 in
       let Q : View → Type 0 = λ u. 0 < pending_count e u → 0 < count k (work_nodes u) in
-      let none : All P vs = λ j d within. omega (arith, not_pending, one_term (pending_count e) vs j _ (record { within = within; is = λ c. get_or_default vs j c d within })) in (
+      let none : All P vs
+      = λ j d within. omega (arith, not_pending, one_term (pending_count e) vs j _ (record { within = within; is = λ c. get_or_default vs j c d within })) in (
         omega (arith, sum_moved (pending_count e) vs i v v' at, pending_new, not_pending, one_term (pending_count e) vs i v at),
         all_moved P Q vs i v v' at none
             (λ _. subst (λ xs. 0 < count k xs) (sym work_same) (omega (arith, ready.locked, count-append k (held_slots v.held.nodes) (listed v.update.added))))
@@ -128,11 +130,13 @@ module _ (z : Layout) (m : Memory) (vs : List View) (g : Meaning) (rule : Rule z
       let P : View → Type 0 = λ u. 0 < pending_count d u → 0 < count j (work_nodes u) in
       let same = pending_same d apart in (
         sum_kept (pending_count d) vs i v v' at same ∙ is.0,
-        all_moved P P vs i v v' at is.1 (λ more. subst (λ xs. 0 < count j xs) (sym work_same) (at_item P vs i v at is.1 (omega (arith, same, more)))) (λ u beside of. of),
+        all_moved P P vs i v v' at is.1 (λ more. subst (λ xs. 0 < count j xs) (sym work_same) (at_item P vs i v at is.1 (omega (arith, same, more))))
+            (λ u beside of. of),
       )
 
   -- a bundle of another link
-  other_bundle : (j : ℕ) → IsLive z vs j → (s : Side) → BundleRight (m Stamp) (λ d. m (Entry Next d)) stamp number' (IsPendingAt ws j) (head s j) (g.bundles.bundle s j)
+  other_bundle : (j : ℕ) → IsLive z vs j → (s : Side)
+      → BundleRight (m Stamp) (λ d. m (Entry Next d)) stamp number' (IsPendingAt ws j) (head s j) (g.bundles.bundle s j)
   other_bundle j live s =
       let right = rule.bundles j live s in
       record {
@@ -165,16 +169,23 @@ module _ (z : Layout) (m : Memory) (vs : List View) (g : Meaning) (rule : Rule z
           subst (λ n. Falls number' n es) (sym (numbered_new g.bundles.number e))
               (falls_below (m Stamp) (suc no_number) no_number stamp number' es low other.numbers old_written other.falls),
         );
-        owned = ((λ none. new_pending), every_map (λ d. 0 < stamp d) (λ d. stamp d ≡ 0 → IsPendingAt ws k d) es (λ d above none. absurd (omega (arith, above, none))) old_written);
+        owned = (
+          (λ none. new_pending),
+          every_map (λ d. 0 < stamp d) (λ d. stamp d ≡ 0 → IsPendingAt ws k d) es
+              (λ d above none. absurd (omega (arith, above, none))) old_written,
+        );
       }
 
   bundle_by : (j : ℕ) → IsLive z vs j → (s : Side) (c : Bool) → (same_side s side && eqb j k) ≡ c
-      → BundleRight (m Stamp) (λ d. m (Entry Next d)) stamp number' (IsPendingAt ws j) (cond c e (head s j)) (cond c (e ∷ g.bundles.bundle s j) (g.bundles.bundle s j))
+      → BundleRight (m Stamp) (λ d. m (Entry Next d)) stamp number' (IsPendingAt ws j) (cond c e (head s j))
+      (cond c (e ∷ g.bundles.bundle s j) (g.bundles.bundle s j))
   bundle_by j live s false is = other_bundle j live s
   bundle_by j live s true is =
       let parts = and_parts (same_side s side) (eqb j k) is in
-      subst (λ t. BundleRight (m Stamp) (λ d. m (Entry Next d)) stamp number' (IsPendingAt ws j) e (e ∷ g.bundles.bundle t j)) (sym (same_side-true s side parts.0))
-      (subst (λ n. BundleRight (m Stamp) (λ d. m (Entry Next d)) stamp number' (IsPendingAt ws n) e (e ∷ g.bundles.bundle side n)) (sym (eqb-true j k parts.1)) new_bundle)
+      subst (λ t. BundleRight (m Stamp) (λ d. m (Entry Next d)) stamp number' (IsPendingAt ws j) e (e ∷ g.bundles.bundle t j))
+      (sym (same_side-true s side parts.0))
+      (subst (λ n. BundleRight (m Stamp) (λ d. m (Entry Next d)) stamp number' (IsPendingAt ws n) e (e ∷ g.bundles.bundle side n))
+      (sym (eqb-true j k parts.1)) new_bundle)
 
   live_before : (j : ℕ) → IsLive z ws j → IsLive z vs j
   live_before j live = live_moved z vs i j v v' at (omega arith) live
@@ -187,12 +198,14 @@ module _ (z : Layout) (m : Memory) (vs : List View) (g : Meaning) (rule : Rule z
   select_same t j s live =
       sym (select_frame t g.bundles.number number' (g.bundles.bundle s j) (λ d here. inl (sym (numbers_same j d s live here))))
 
-  select_by : (t j : ℕ) (s : Side) → t ≤ m Stamp → IsLive z vs j → (c : Bool) → select number' t (cond c (e ∷ g.bundles.bundle s j) (g.bundles.bundle s j)) ≡ select g.bundles.number t (g.bundles.bundle s j)
+  select_by : (t j : ℕ) (s : Side) → t ≤ m Stamp → IsLive z vs j → (c : Bool)
+      → select number' t (cond c (e ∷ g.bundles.bundle s j) (g.bundles.bundle s j)) ≡ select g.bundles.number t (g.bundles.bundle s j)
   select_by t j s past live false = select_same t j s live
   select_by t j s past live true =
       select-behind number' t e (g.bundles.bundle s j) (omega (arith, past, low, numbered_new g.bundles.number e)) ∙ select_same t j s live
 
-  pub selects : (t j : ℕ) (s : Side) → t ≤ m Stamp → IsLive z vs j → select number' t (in_front g.bundles.bundle side k e s j) ≡ select g.bundles.number t (g.bundles.bundle s j)
+  pub selects : (t j : ℕ) (s : Side) → t ≤ m Stamp → IsLive z vs j
+      → select number' t (in_front g.bundles.bundle side k e s j) ≡ select g.bundles.number t (g.bundles.bundle s j)
   selects t j s past live = select_by t j s past live (same_side s side && eqb j k)
 
   -- a number is still above what it was above

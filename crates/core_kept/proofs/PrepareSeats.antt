@@ -1,6 +1,5 @@
 -- Prepare keeps the rule: a free entry, which has the old head behind it, becomes the head of a bundle.
-use Rattle.std.proofs.Common.{◌≡◌, ℕ, ◌<◌, ◌≤◌, ◌⊎◌, cond, List, [], ◌∷◌, ◌++◌, Bool, true, false, eqb, ◌&&◌, is_some, set, arith, refl, ap, ◌∙◌, sym, subst, inl, inr, Option, Some, None}
-use Rattle.std.specs.Prelude.{IfSome}
+use Rattle.std.proofs.Common.{◌≡◌, ℕ, ◌<◌, ◌≤◌, ◌⊎◌, cond, List, [], Bool, true, false, eqb, ◌&&◌, is_some, set, arith, refl, ap, ◌∙◌, sym, subst, inl, inr, Option, Some, None}
 use Rattle.std.specs.List.{sum_by}
 use Rattle.std.proofs.lemmas.Bool.{eq-eqb}
 use Rattle.std.proofs.lemmas.Bool.Decides.{eqb_tells}
@@ -8,55 +7,49 @@ use Rattle.index_words.specs.declared.layout.Layout.{Layout}
 use Rattle.index_words.specs.declared.side.Side.{Side}
 use Rattle.index_words.specs.declared.side.Side.TheVariants.{Left, Right}
 use Rattle.index_words.specs.declared.view.View.{View}
-use Rattle.index_words.specs.declared.view.slots.Slots.{Slots}
-use Rattle.index_words.specs.declared.view.reading.Place.{Place}
-use Rattle.index_words.specs.declared.view.reading.Place.TheVariants.{Nowhere, Entry as AtEntry, Node as AtNode, Gap}
-use Rattle.index_words.specs.declared.view.reading.LinkSource.{LinkSource}
-use Rattle.index_words.specs.declared.view.reading.LinkSource.TheVariants.{Bundle, Plain}
 use Rattle.index_words.specs.declared.view.update.Held.{Held}
 use Rattle.index_words.specs.declared.view.update.HeldNode.{HeldNode}
-use Rattle.index_words.specs.declared.view.update.Updating.{Updating}
 use Rattle.index_words.specs.declared.word.Field.TheVariants.{Mark, Head}
 use Rattle.index_words.specs.declared.word.Part.{Part}
-use Rattle.index_words.specs.declared.word.Part.TheVariants.{Child, Stamp as Number}
+use Rattle.index_words.specs.declared.word.Part.TheVariants.{Stamp as Number}
 use Rattle.index_words.specs.declared.word.Word.{Word}
 use Rattle.index_words.specs.declared.word.Word.TheVariants.{Stamp, Section, Announced, Node, Entry}
 use Rattle.index_words.specs.Words.{Memory, written, same_side}
-use Rattle.key_map.specs.Lists.{count, Every, IsItem}
+use Rattle.key_map.specs.Lists.{count, IsItem}
 use Rattle.index_words.proofs.Seats.{Beside, sum_kept, one_term, all_moved}
 use Rattle.key_map.proofs.Counting.{count-append}
-use Rattle.core_grace.specs.Holds.{HoldsNode, held_slots, listed, work_nodes, tree_slots, entries_of}
+use Rattle.core_grace.specs.Holds.{held_slots, listed, work_nodes}
 use Rattle.core_grace.proofs.RuleMoves.{every_push}
 use Rattle.core_links.specs.Bundle.{no_number}
 use Rattle.core_events.specs.Numbered.{shown}
 use Rattle.core_invariant.proofs.Pairs.{pairs_same}
 use Rattle.core_invariant.specs.Meanings.{Meaning}
 use Rattle.core_invariant.specs.Numbers.{number_count}
-use Rattle.core_invariant.specs.Locks.{lock_count, SideRight, IsNodeAt, IsNextAt, IsTakenOut}
+use Rattle.core_invariant.specs.Locks.{lock_count, SideRight, IsNodeAt, IsTakenOut}
 use Rattle.core_invariant.specs.BundleRule.{IsLive, IsHeadOf, IsPending, pending_count}
-use Rattle.core_invariant.specs.Readers.{IsReachable, IsLocked, IsWatched, StandsAt, IsPassed, PlaceRight, EntryRight, SourceRight, LinkRight}
 use Rattle.core_invariant.specs.FilledRule.{IsOwnSlotWord}
-use Rattle.core_invariant.specs.SeatRule.{TreeRight, SeatRight}
+use Rattle.core_invariant.specs.SeatRule.{SeatRight}
 use Rattle.core_events.specs.UpdateMoves.{head_known, known_at, prepared}
-use Rattle.core_invariant.specs.MeaningMoves.{in_front, unnumbered, prepared_meaning}
+use Rattle.core_invariant.specs.MeaningMoves.{unnumbered, prepared_meaning}
 use Rattle.core_invariant.specs.Rule.{Rule}
 use Rattle.core_invariant.specs.LinkLaw.{IsRead, Kept, SelectsSame}
-use Rattle.core_invariant.proofs.Frames.{every_map, every_listed, every_named, every_mapped}
+use Rattle.core_invariant.proofs.Frames.{every_listed, every_named, every_mapped}
 use Rattle.core_invariant.proofs.Filled.{node_other, every_filled, node_apart}
 use Rattle.core_invariant.proofs.Without.{count-without-le}
 use Rattle.core_invariant.proofs.OneView.{history_kept, seat_at, read_past}
-use Rattle.core_invariant.proofs.Owned.{reachable_live, free_entry_some, free_not_live}
-use Rattle.core_invariant.proofs.TreeFrames.{SameNode, version_frame, reads_frame, linked_live, read_live}
-use Rattle.core_invariant.proofs.Fronts.{count-fronted, numbered_other, numbered_new}
+use Rattle.core_invariant.proofs.Owned.{free_entry_some, free_not_live}
+use Rattle.core_invariant.proofs.TreeFrames.{version_frame, linked_live}
+use Rattle.core_invariant.proofs.Fronts.{numbered_other, numbered_new}
 use Rattle.core_invariant.proofs.Locked.{locked_live, locked_apart}
 use Rattle.core_invariant.proofs.Needed.{Ready}
 use Rattle.core_kept.proofs.Prepare.{same_locks, same_work, prepared_slots}
 use Rattle.core_invariant.proofs.Sides.{same_side-refl}
-use Rattle.core_kept.proofs.PrepareBundles.{not_pending, pending_same, new_pending, bundle_now, selects, above_still, pending_head}
+use Rattle.core_kept.proofs.PrepareBundles.{not_pending, pending_same, new_pending, bundle_now, selects, pending_head}
 use Rattle.core_grace.specs.Slots.{nodes_of, own_free}
 use Rattle.core_invariant.proofs.TreeNow.{stamp_low}
 use Rattle.core_kept.proofs.PlainKept.{quiet_work, plain_quiet, plain_same}
 use Rattle.core_kept.proofs.WaitingLocks.{unraised_inside}
+use Rattle.core_kept.proofs.PreparePlaces.{node_same, place_now, links_now, tree_now, nexts_now, pending_now}
 
 -- the heads that are known of a locked node once one of them is stored
 node_now : (m : Memory) (side : Side) (k e : ℕ) (h : HeldNode) (c : Bool) → eqb h.node k ≡ c → IsNodeAt m h
@@ -94,7 +87,8 @@ node_now m Right k e h false is right = record {
   plain = right.plain;
 }
 
-module _ (z : Layout) (m : Memory) (vs : List View) (g : Meaning) (rule : Rule z m vs g) (i k e : ℕ) (side : Side) (v : View) (at : IsItem vs i v) (ready : Ready m v side k e) where
+module _ (z : Layout) (m : Memory) (vs : List View) (g : Meaning) (rule : Rule z m vs g) (i k e : ℕ) (side : Side) (v : View) (at : IsItem vs i v)
+    (ready : Ready m v side k e) where
   abbrev stamp : ℕ → ℕ
   stamp d = m (Entry Number d)
 
@@ -137,110 +131,6 @@ module _ (z : Layout) (m : Memory) (vs : List View) (g : Meaning) (rule : Rule z
   live_k : IsLive z vs k
   live_k = locked_live z m vs g rule i k v at ready.locked
 
-  -- the same is read of a live node, at each number up to the stamp
-  node_same : (t n : ℕ) → t ≤ m Stamp → IsLive z vs n → SameNode m m' g.bundles g'.bundles t n
-  node_same t n past live = record { key = refl; val = refl; entry = λ s. sym ((selects z m vs g rule i k e side v at ready) t n s past live); child = λ s. refl }
-
-  -- another view, or the moved one, with what it reads as before
-  module _ (j : ℕ) (u : View) (of : IsItem vs j u) (h : Held) (p : Updating) (f : Slots) (locks : held_slots h.nodes ≡ held_slots u.held.nodes) (work : work_nodes (record u { held = h; update = p; free = f }) ≡ work_nodes u) where
-    abbrev u' : View
-    u' = record u { held = h; update = p; free = f }
-
-    seat : SeatRight z m g u
-    seat = seat_at z m vs g j u of rule
-
-    reach : (n : ℕ) → IsReachable z u n → IsReachable z u' n
-    reach n old = (
-      old.0,
-      elim old.1 as (λ _. (n ≡ 0) ⊎ HoldsNode u' n) [
-        | inl root ↦ inl root
-        | inr holds ↦ inr (subst (λ xs. 0 < count n (tree_slots u.reading.tree ++ xs)) (sym work) holds)
-      ],
-    )
-
-    watched_before : (n : ℕ) → IsWatched u' n → IsWatched u n
-    watched_before n watched = elim watched as (λ _. IsWatched u n) [ inl locked ↦ inl (subst (λ xs. 0 < count n xs) locks locked) | inr reads ↦ inr reads ]
-
-    passed_by : (n d : ℕ) (o : Option ℕ) → IfSome o (λ t. t ≤ m Stamp) → IfSome o (λ t. IsLocked u n ⊎ (t < g.bundles.number d)) → IfSome o (λ t. IsLocked u' n ⊎ (t < number' d))
-    passed_by n d None past old = tt
-    passed_by n d (Some t) past (inl locked) = inl (subst (λ xs. 0 < count n xs) (sym locks) locked)
-    passed_by n d (Some t) past (inr above) = inr ((above_still z m vs g rule i k e side v at ready) t d past above)
-
-    front_by : (n : ℕ) (o : Option ℕ) → IfSome o (λ t. t ≤ m Stamp) → IfSome o (λ t. IsLocked u' n ⊎ (t < number' e))
-    front_by n None past = tt
-    front_by n (Some t) past = inr (omega (arith, past, low, numbered_new g.bundles.number e))
-
-    stands_same : (n entry : ℕ) (found above : Option ℕ) (es : List ℕ) → StandsAt stamp es entry found above (IsPassed g.bundles.number u n) → StandsAt stamp es entry found above (IsPassed number' u' n)
-    stands_same n entry found above es old = record {
-      front = old.front;
-      back = old.back;
-      splits = old.splits;
-      passed = every_map (IsPassed g.bundles.number u n) (IsPassed number' u' n) old.front (λ d is. passed_by n d u.reading.section seat.version.past is) old.passed;
-      found = old.found;
-      falls = old.falls;
-    }
-
-    stands_by : (n entry : ℕ) (found above : Option ℕ) (es : List ℕ) (c : Bool) → StandsAt stamp es entry found above (IsPassed g.bundles.number u n)
-        → StandsAt stamp (cond c (e ∷ es) es) entry found above (IsPassed number' u' n)
-    stands_by n entry found above es false old = stands_same n entry found above es old
-    stands_by n entry found above es true old =
-        let rest = stands_same n entry found above es old in
-        record {
-          front = e ∷ rest.front;
-          back = rest.back;
-          splits = ap (λ xs. e ∷ xs) rest.splits;
-          passed = (front_by n u.reading.section seat.version.past, rest.passed);
-          found = rest.found;
-          falls = rest.falls;
-        }
-
-    place_now : (place : Place) → PlaceRight z stamp g.bundles u place → PlaceRight z stamp g'.bundles u' place
-    place_now Nowhere right = tt
-    place_now (AtNode n key) right = tt
-    place_now (Gap n s) right = tt
-    place_now (AtEntry n s entry found) right = record {
-      reach = reach n right.reach;
-      stands = λ some watched. stands_by n entry found u.reading.above (g.bundles.bundle s n) (same_side s side && eqb n k) (right.stands some (watched_before n watched));
-    }
-
-    entry_now : (n c entry : ℕ) (s : Side) (o : Option ℕ) → IfSome o (λ t. t ≤ m Stamp) → IsLive z vs n
-        → EntryRight (λ d. m (Entry Child d)) g.bundles.number (g.bundles.bundle s n) o c entry
-        → EntryRight (λ d. m (Entry Child d)) number' (in_front g.bundles.bundle side k e s n) o c entry
-    entry_now n c entry s None past live right = right
-    entry_now n c entry s (Some t) past live right = ((selects z m vs g rule i k e side v at ready) t n s past live ∙ right.0, right.1)
-
-    source_now : (n c : ℕ) (s : Side) (source : LinkSource)
-        → SourceRight (IsReachable z u n) (λ d. m (Entry Child d)) g.bundles.number (g.bundles.bundle s n) u.reading.section c source
-        → SourceRight (IsReachable z u' n) (λ d. m (Entry Child d)) number' (in_front g.bundles.bundle side k e s n) u.reading.section c source
-    source_now n c s (Plain tag above below) right = tt
-    source_now n c s (Bundle entry) right = record {
-      reach = reach n right.reach;
-      selected = entry_now n c entry s u.reading.section seat.version.past (reachable_live z vs g rule.slots j n u of right.reach) right.selected;
-    }
-
-    links_now : Every (LinkRight z (λ d. m (Entry Child d)) g'.bundles u') u.reading.links
-    links_now = every_map (LinkRight z (λ d. m (Entry Child d)) g.bundles u) (LinkRight z (λ d. m (Entry Child d)) g'.bundles u') u.reading.links
-        (λ l old. source_now l.node l.child l.side l.source old) seat.links
-
-    tree_now : TreeRight m' g' u.reading.section u.reading.tree
-    tree_now = reads_frame m m' g.bundles g'.bundles (λ t. t ≤ m Stamp) g.updates (m Stamp) g.tree u.reading.tree u.reading.section
-        (λ t n past here. node_same t n past (read_live z vs g rule.slots (m Stamp) j n u of seat.version here)) (omega arith) seat.version.past seat.tree
-
-    entries_more : (n x : ℕ) → 0 < count x (entries_of g.bundles n) → 0 < count x (entries_of g'.bundles n)
-    entries_more n x here = omega (arith, count-fronted g.bundles side k e n x, here)
-
-    nexts_now : Every (IsNextAt m g'.bundles h.nodes) u.held.nexts
-    nexts_now = every_map (IsNextAt m g.bundles u.held.nodes) (IsNextAt m g'.bundles h.nodes) u.held.nexts
-        (λ l old. record { is = old.is; locked = subst (λ xs. 0 < count l.node xs) (sym locks) old.locked; here = entries_more l.node l.entry old.here; found = old.found }) seat.loaded.nexts
-
-    pending_now : Every (IsPending z head' stamp number' u) u.update.pending
-    pending_now = every_listed (IsPending z head stamp g.bundles.number u) (IsPending z head' stamp number' u) u.update.pending
-        (λ d within is. (
-          is.0,
-          numbered_other g.bundles.number e d (λ same. omega (arith, (not_pending z m vs g rule i k e side v at ready), one_term (pending_count e) vs j u of, subst (λ x. 0 < count x u.update.pending) same within)) ∙ is.1,
-          (pending_head z m vs g rule i k e side v at ready) (work_nodes u) (work_nodes u) d refl is.0 is.2,
-        )) seat.pending
-
   lock_there : (hs : List HeldNode) → 0 < count k (held_slots hs) → hs ≡ [] → ⊥
   lock_there hs locked none = omega (arith, locked, ap (λ (xs : List HeldNode). count k (held_slots xs)) none)
 
@@ -252,7 +142,8 @@ module _ (z : Layout) (m : Memory) (vs : List View) (g : Meaning) (rule : Rule z
   unfree j u of free = free_not_live z vs g rule.slots j k u of free live_k
 
   -- a word of the seat's slots was one before: the entry was free, and is pending now
-  entry_before : (p : Part) (d : ℕ) → (0 < count d v'.free.entries) ⊎ ((v'.update.raised ≡ None) × (0 < count d v'.update.pending)) → IsOwnSlotWord v.free v.update (Entry p d)
+  entry_before : (p : Part) (d : ℕ) → (0 < count d v'.free.entries) ⊎ ((v'.update.raised ≡ None) × (0 < count d v'.update.pending))
+      → IsOwnSlotWord v.free v.update (Entry p d)
   entry_before p d (inl free) = inl (omega (arith, free, count-without-le d e v.free.entries))
   entry_before p d (inr yet) =
       elim (eqb_tells d e) as (λ _. IsOwnSlotWord v.free v.update (Entry p d)) [
@@ -287,12 +178,12 @@ module _ (z : Layout) (m : Memory) (vs : List View) (g : Meaning) (rule : Rule z
         update = record { raised = own.update.raised; first = own.update.first };
         version = own.version;
         announced = record { low = own.announced.low; read = own.announced.read; least = own.announced.least };
-        tree = tree_now i v at h v'.update v'.free locks_same work_same;
+        tree = tree_now z m vs g rule i k e side v at ready i v at h v'.update v'.free locks_same work_same;
         locks = λ j held. own.locks j (subst (λ xs. 0 < count j xs) locks_same held);
         loaded = record {
           nodes = every_mapped (IsNodeAt m) (IsNodeAt m')
               (known_at k side (record { entry = e; stamp = None })) v.held.nodes (λ x is. node_now m side k e x (eqb x.node k) refl is) own.loaded.nodes;
-          nexts = nexts_now i v at h v'.update v'.free locks_same work_same;
+          nexts = nexts_now z m vs g rule i k e side v at ready i v at h v'.update v'.free locks_same work_same;
         };
         marks = record {
           retired = λ j waits. elim (own.marks.retired j waits) as (λ _. (m (Node Mark j) ≡ 1) ⊎ IsTakenOut v' j) [
@@ -306,13 +197,21 @@ module _ (z : Layout) (m : Memory) (vs : List View) (g : Meaning) (rule : Rule z
             (every_listed (IsPending z head stamp g.bundles.number v) (IsPending z head' stamp number' v') v.update.pending
             (λ d within is. (
               is.0,
-              numbered_other g.bundles.number e d (λ same. omega (arith, (not_pending z m vs g rule i k e side v at ready), one_term (pending_count e) vs i v at, subst (λ x. 0 < count x v.update.pending) same within)) ∙ is.1,
+              numbered_other g.bundles.number e d (λ same.
+                  omega (
+                    arith,
+                    (not_pending z m vs g rule i k e side v at ready),
+                    one_term (pending_count e) vs i v at,
+                    subst (λ x. 0 < count x v.update.pending) same within,
+                  )) ∙ is.1,
               (pending_head z m vs g rule i k e side v at ready) (work_nodes v) (work_nodes v') d work_same is.0 is.2,
             )) own.pending)
             (ready.unnumbered, numbered_new g.bundles.number e ∙ sym (ap shown ready.raised), new_head);
-        place = place_now i v at h v'.update v'.free locks_same work_same v.reading.place own.place;
-        filled = every_filled m m' v.free v'.free v.update v'.update v.reading.filled own_before (node_apart m v'.free v'.update (Head side) k e (unfree i v at)) own.filled;
-        links = links_now i v at h v'.update v'.free locks_same work_same;
+        place = place_now z m vs g rule i k e side v at ready i v at h v'.update v'.free locks_same work_same v.reading.place own.place;
+        filled =
+            every_filled m m' v.free v'.free v.update v'.update v.reading.filled own_before
+            (node_apart m v'.free v'.update (Head side) k e (unfree i v at)) own.filled;
+        links = links_now z m vs g rule i k e side v at ready i v at h v'.update v'.free locks_same work_same;
       }
     where
       unraised : (o : Option ℕ) → o ≡ None → is_some o ≡ true → ⊥
@@ -341,12 +240,19 @@ module _ (z : Layout) (m : Memory) (vs : List View) (g : Meaning) (rule : Rule z
   other_now : (u : View) → Beside vs i u → SeatRight z m g u → SeatRight z m' g' u
   other_now u beside of = record {
     layout = of.layout;
-    section = record { section = of.section.section; announced = of.section.announced; outside = of.section.outside; unlocked = of.section.unlocked; done = of.section.done; waits = of.section.waits };
+    section = record {
+      section = of.section.section;
+      announced = of.section.announced;
+      outside = of.section.outside;
+      unlocked = of.section.unlocked;
+      done = of.section.done;
+      waits = of.section.waits;
+    };
     seen = of.seen;
     update = of.update;
     version = of.version;
     announced = of.announced;
-    tree = tree_now beside.place u beside.at u.held u.update u.free refl refl;
+    tree = tree_now z m vs g rule i k e side v at ready beside.place u beside.at u.held u.update u.free refl refl;
     locks = of.locks;
     loaded = record {
       nodes = every_named (λ (h : HeldNode). h.node) (IsNodeAt m) (IsNodeAt m') u.held.nodes
@@ -358,13 +264,15 @@ module _ (z : Layout) (m : Memory) (vs : List View) (g : Meaning) (rule : Rule z
             right = subst (λ x. SideRight x stamp h.right) (sym (node_other m (Head side) (Head Right) k h.node e (holder_apart u h beside held))) is.right;
             plain = is.plain;
           }) of.loaded.nodes;
-      nexts = nexts_now beside.place u beside.at u.held u.update u.free refl refl;
+      nexts = nexts_now z m vs g rule i k e side v at ready beside.place u beside.at u.held u.update u.free refl refl;
     };
     marks = record { retired = of.marks.retired; batch = of.marks.batch; taken = of.marks.taken };
-    pending = pending_now beside.place u beside.at u.held u.update u.free refl refl;
-    place = place_now beside.place u beside.at u.held u.update u.free refl refl u.reading.place of.place;
-    filled = every_filled m m' u.free u.free u.update u.update u.reading.filled (λ w is. is) (node_apart m u.free u.update (Head side) k e (unfree beside.place u beside.at)) of.filled;
-    links = links_now beside.place u beside.at u.held u.update u.free refl refl;
+    pending = pending_now z m vs g rule i k e side v at ready beside.place u beside.at u.held u.update u.free refl refl;
+    place = place_now z m vs g rule i k e side v at ready beside.place u beside.at u.held u.update u.free refl refl u.reading.place of.place;
+    filled =
+        every_filled m m' u.free u.free u.update u.update u.reading.filled (λ w is. is)
+        (node_apart m u.free u.update (Head side) k e (unfree beside.place u beside.at)) of.filled;
+    links = links_now z m vs g rule i k e side v at ready beside.place u beside.at u.held u.update u.free refl refl;
   }
 
   single_now : (d : ℕ) → sum_by (pending_count d) ws ≤ 1
@@ -390,7 +298,7 @@ module _ (z : Layout) (m : Memory) (vs : List View) (g : Meaning) (rule : Rule z
       slots = prepared_slots z m vs g rule i k e side v at ready;
       locks = λ j. sum_kept (lock_count j) vs i v v' at (ap (count j) locks_same) ∙ rule.locks j;
       tree = version_frame m m' g.bundles g'.bundles g.updates (m Stamp) g.tree
-          (λ n here. node_same (m Stamp) n (omega arith) (linked_live z vs g rule.slots n here)) rule.tree;
+          (λ n here. node_same z m vs g rule i k e side v at ready (m Stamp) n (omega arith) (linked_live z vs g rule.slots n here)) rule.tree;
       marks = record { root = rule.marks.root; nodes = rule.marks.nodes };
       bundles = (bundle_now z m vs g rule i k e side v at ready);
       pairs = pairs_same vs i v v' at refl rule.pairs;
@@ -400,4 +308,5 @@ module _ (z : Layout) (m : Memory) (vs : List View) (g : Meaning) (rule : Rule z
     same = selects_same;
     plain = λ right. plain_same z m vs g rule g' ws selects_same (λ j live. (live.0, sum_kept (own_free nodes_of j) vs i v v' at refl ∙ live.1))
         (λ d low. number_by (eqb d e) (g.bundles.number d) low) (plain_quiet m g vs i v v' at (quiet_work v v' refl refl refl locks_same) right);
+    stays = λ e. refl;
   }

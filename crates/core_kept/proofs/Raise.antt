@@ -1,6 +1,6 @@
 -- Raise keeps the rule: the stamp rises by one, the pending entries and those of the new node have that number, and
 -- the tree is the one after the update.
-use Rattle.std.proofs.Common.{◌≡◌, ℕ, ◌+◌, List, set, refl, ◌∙◌}
+use Rattle.std.proofs.Common.{◌≡◌, ℕ, ◌+◌, List, set, arith, refl, ◌∙◌}
 use Rattle.index_words.specs.declared.layout.Layout.{Layout}
 use Rattle.key_map.specs.declared.update.Update.{Update}
 use Rattle.index_words.specs.declared.view.View.{View}
@@ -20,7 +20,7 @@ use Rattle.core_invariant.specs.Rule.{Rule}
 use Rattle.core_invariant.specs.LinkLaw.{Kept}
 use Rattle.core_kept.proofs.TreeMoved.{MovesTree, meaning_after}
 use Rattle.core_invariant.proofs.OneView.{read_past}
-pub use Rattle.core_invariant.proofs.Needed.{CanRaise}
+use Rattle.core_invariant.proofs.Needed.{CanRaise}
 use Rattle.core_kept.proofs.RaiseHistory.{history_now}
 use Rattle.core_kept.proofs.RaiseNumbers.{selects}
 use Rattle.core_kept.proofs.RaiseBundles.{bundle_now}
@@ -30,7 +30,8 @@ use Rattle.core_kept.proofs.RaiseSlots.{slots_after}
 use Rattle.core_kept.proofs.RaiseTrees.{unmarked_now}
 use Rattle.core_kept.proofs.RaiseSeats.{own_now, other_now}
 
-module _ (z : Layout) (m : Memory) (vs : List View) (g : Meaning) (rule : Rule z m vs g) (i : ℕ) (v : View) (u : Update) (known : List Update) (move : TreeMove) (tree : NamedTree) (at : IsItem vs i v) (can : CanRaise v u) (all : known ≡ g.updates) (moves : MovesTree m g v u move tree) where
+module _ (z : Layout) (m : Memory) (vs : List View) (g : Meaning) (rule : Rule z m vs g) (i : ℕ) (v : View) (u : Update) (known : List Update)
+    (move : TreeMove) (tree : NamedTree) (at : IsItem vs i v) (can : CanRaise v u) (all : known ≡ g.updates) (moves : MovesTree m g v u move tree) where
   abbrev m' : Memory
   m' = written m Stamp (m Stamp + 1)
 
@@ -65,4 +66,5 @@ module _ (z : Layout) (m : Memory) (vs : List View) (g : Meaning) (rule : Rule z
     rule = raised_rule;
     same = λ t k w read live live'. selects z m vs g rule i v u move tree at can moves t k w (read_past z m vs g rule t read) live;
     plain = plain_raised z m vs g rule i v u known move tree at can moves;
+    stays = λ e. absurd (omega (arith, e));
   }

@@ -76,7 +76,8 @@ head_new m k Right some =
       count-append (m (Node (Head Right) k)) (listed_entry (m (Node (Head Left) k))) (listed_entry (m (Node (Head Right) k))),
     )
 
-module _ (z : Layout) (m : Memory) (vs : List View) (g : Meaning) (rule : Rule z m vs g) (i : ℕ) (v : View) (u : Update) (known : List Update) (move : TreeMove) (tree : NamedTree) (at : IsItem vs i v) (can : CanRaise v u) (moves : MovesTree m g v u move tree) where
+module _ (z : Layout) (m : Memory) (vs : List View) (g : Meaning) (rule : Rule z m vs g) (i : ℕ) (v : View) (u : Update) (known : List Update)
+    (move : TreeMove) (tree : NamedTree) (at : IsItem vs i v) (can : CanRaise v u) (moves : MovesTree m g v u move tree) where
   abbrev s : ℕ
   s = m Stamp
 
@@ -146,7 +147,8 @@ module _ (z : Layout) (m : Memory) (vs : List View) (g : Meaning) (rule : Rule z
       let P : View → Type 0 = λ y. pending_count d y ≡ 0 in
       let Q : View → Type 0 = λ y. 0 < pending_count d y → 0 < count k (work_nodes y) in
       let before : sum_by (pending_count d) vs ≡ 0 = none_pending z m vs g rule i v u move tree at moves d new in
-      let none : All P vs = λ j c within. omega (arith, before, one_term (pending_count d) vs j _ (record { within = within; is = λ b. get_or_default vs j b c within })) in (
+      let none : All P vs
+      = λ j c within. omega (arith, before, one_term (pending_count d) vs j _ (record { within = within; is = λ b. get_or_default vs j b c within })) in (
         omega (arith, pending_sum d, before, new, moves.once d),
         all_moved P Q vs i v v' at none (λ _. works_added k here) (λ y beside of more. absurd (omega (arith, of, more))),
       )
@@ -179,7 +181,14 @@ module _ (z : Layout) (m : Memory) (vs : List View) (g : Meaning) (rule : Rule z
         chain = (refl, some, fresh.2);
         numbers = ((λ above. absurd (omega (arith, above, fresh.1))), tt);
         tail = tt;
-        falls = (omega (arith, low z m vs g rule i v u move tree at can moves, numbered_now z m vs g rule i v u move tree at can moves e (omega (arith, new some, count-append e v.update.pending move.entries))), tt);
+        falls = (
+          omega (
+            arith,
+            low z m vs g rule i v u move tree at can moves,
+            numbered_now z m vs g rule i v u move tree at can moves e (omega (arith, new some, count-append e v.update.pending move.entries)),
+          ),
+          tt,
+        );
         owned = ((λ none. new_pending k e here (new some)), tt);
       }
     where
@@ -192,7 +201,8 @@ module _ (z : Layout) (m : Memory) (vs : List View) (g : Meaning) (rule : Rule z
 
   bundle_by : (k : ℕ) (w : Side) (c : Bool) → has k (listed move.added) ≡ c → IsLive z ws k
       → BundleRight (s + 1) next stamp number' (IsPendingAt ws k) (head w k) (cond c (listed_entry (head w k)) (g.bundles.bundle w k))
-  bundle_by k w true is live = new_right k (head w k) (eqb (head w k) 0) refl (has-count k (listed move.added) is) (new_head k w (has-count k (listed move.added) is))
+  bundle_by k w true is live =
+      new_right k (head w k) (eqb (head w k) 0) refl (has-count k (listed move.added) is) (new_head k w (has-count k (listed move.added) is))
   bundle_by k w false is live =
       old_right k w (live_moved z vs i k v v' at (omega (arith, without_kept k (listed move.added) v.free.nodes (has_not k (listed move.added) is))) live)
 

@@ -25,7 +25,8 @@ use Rattle.core_invariant.proofs.Joins.{begins-le, at_suc}
 use Rattle.core_invariant.proofs.Needed.{CanRaise}
 
 -- one update more
-get_push : (us : List Update) (u : Update) (n p : ℕ) → made_by n (slice_get (us ++ u ∷ []) p) ≡ made_by n (slice_get us p) + cond (eqb u.client n) (cond (eqb (length us) p) 1 0) 0
+get_push : (us : List Update) (u : Update) (n p : ℕ)
+    → made_by n (slice_get (us ++ u ∷ []) p) ≡ made_by n (slice_get us p) + cond (eqb u.client n) (cond (eqb (length us) p) 1 0) 0
 get_push [] u n zero = omega arith
 get_push [] u n (suc p) = no_more (eqb u.client n)
   where
@@ -69,7 +70,8 @@ own_push n p c (Some k) mine s is =
     push_by true = count-push p mine s
     push_by false = refl
 
-module _ (z : Layout) (m : Memory) (vs : List View) (g : Meaning) (rule : Rule z m vs g) (i : ℕ) (v : View) (u : Update) (known : List Update) (move : TreeMove) (at : IsItem vs i v) (can : CanRaise v u) (all : known ≡ g.updates) where
+module _ (z : Layout) (m : Memory) (vs : List View) (g : Meaning) (rule : Rule z m vs g) (i : ℕ) (v : View) (u : Update) (known : List Update)
+    (move : TreeMove) (at : IsItem vs i v) (can : CanRaise v u) (all : known ≡ g.updates) where
   abbrev s : ℕ
   s = m Stamp
 
@@ -107,14 +109,22 @@ module _ (z : Layout) (m : Memory) (vs : List View) (g : Meaning) (rule : Rule z
   begins_more xs begins = begins ∙ sym (take-append-le (length xs) g.updates (u ∷ []) (begins-le g.updates xs begins))
 
   pub seen_more : (h : SeenHistory) → SeenRight g.updates h → SeenRight updates' h
-  seen_more h right = record { seen = begins_more h.seen right.seen; told = begins_more h.told right.told; known = right.known; found = right.found; given = right.given }
+  seen_more h right = record {
+    seen = begins_more h.seen right.seen;
+    told = begins_more h.told right.told;
+    known = right.known;
+    found = right.found;
+    given = right.given;
+  }
 
   pub own_seen : SeenRight updates' v'.history
   own_seen =
       let long : length (known ++ u ∷ []) ≡ length known + 1 = omega (arith, length-append known (u ∷ [])) in
       let short : length v.history.seen ≤ length known = omega (arith, begins-le g.updates v.history.seen own.seen.seen, ap length all) in
       record {
-        seen = ap (λ (us : List Update). us ++ u ∷ []) all ∙ sym (take_all (length (known ++ u ∷ [])) (g.updates ++ u ∷ []) (omega (arith, ap (λ (us : List Update). length (us ++ u ∷ [])) all)));
+        seen =
+            ap (λ (us : List Update). us ++ u ∷ []) all ∙ sym
+            (take_all (length (known ++ u ∷ [])) (g.updates ++ u ∷ []) (omega (arith, ap (λ (us : List Update). length (us ++ u ∷ [])) all)));
         told = begins_more v.history.told own.seen.told;
         known = omega (arith, own.seen.known, long, short);
         found = omega (arith, own.seen.found, long, short);

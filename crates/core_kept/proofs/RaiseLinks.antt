@@ -72,7 +72,8 @@ more_by true d n t low = omega arith
 more_by false true n t low = omega (arith, low)
 more_by false false n t low = omega arith
 
-module _ (z : Layout) (m : Memory) (vs : List View) (g : Meaning) (rule : Rule z m vs g) (i : ℕ) (v : View) (u : Update) (known : List Update) (move : TreeMove) (tree : NamedTree) (at : IsItem vs i v) (can : CanRaise v u) (moves : MovesTree m g v u move tree) where
+module _ (z : Layout) (m : Memory) (vs : List View) (g : Meaning) (rule : Rule z m vs g) (i : ℕ) (v : View) (u : Update) (known : List Update)
+    (move : TreeMove) (tree : NamedTree) (at : IsItem vs i v) (can : CanRaise v u) (moves : MovesTree m g v u move tree) where
   abbrev s : ℕ
   s = m Stamp
 
@@ -175,7 +176,9 @@ module _ (z : Layout) (m : Memory) (vs : List View) (g : Meaning) (rule : Rule z
 
   -- the greatest number of an old link's bundle is no less than before, and is the new stamp where its child changes
   pub old_low : (k : ℕ) (side : Side) → greatest side k ≤ s
-  old_low k side = greatest_low (selected_of g.bundles s side k) (g.bundles.number (selected_of g.bundles s side k)) s (select_low g.bundles.number s (g.bundles.bundle side k))
+  old_low k side =
+      greatest_low (selected_of g.bundles s side k) (g.bundles.number (selected_of g.bundles s side k)) s
+      (select_low g.bundles.number s (g.bundles.bundle side k))
 
   old_selected : (k : ℕ) (side : Side) → IsOld k side → selected_of g'.bundles (s + 1) side k ≡ select number' (s + 1) (g.bundles.bundle side k)
   old_selected k side old = ap (select number' (s + 1)) (live_bundle z m vs g rule i v u move tree at moves k side (link_live z m vs g rule k side old))
@@ -200,7 +203,9 @@ module _ (z : Layout) (m : Memory) (vs : List View) (g : Meaning) (rule : Rule z
   greatest_grows k side old =
       elim (old_moves k side old) as (λ _. greatest side k ≤ greatest' side k) [
         | rises new ↦ omega (arith, new, old_low k side)
-        | stays same ↦ subst (λ d. greatest side k ≤ cond (eqb d 0) 0 (number' d)) (sym same) (kept (selected_of g.bundles s side k) (select_low g.bundles.number s (g.bundles.bundle side k)))
+        | stays same ↦
+            subst (λ d. greatest side k ≤ cond (eqb d 0) 0 (number' d)) (sym same)
+            (kept (selected_of g.bundles s side k) (select_low g.bundles.number s (g.bundles.bundle side k)))
       ]
     where
       kept : (e : ℕ) → (e ≡ 0) ⊎ (g.bundles.number e ≤ s) → cond (eqb e 0) 0 (g.bundles.number e) ≤ cond (eqb e 0) 0 (number' e)

@@ -12,7 +12,8 @@ use Rattle.core_grace.proofs.SlotMoves.{is_slot-le}
 use Rattle.core_invariant.proofs.Frames.{every_map}
 use Rattle.core_invariant.proofs.Owned.{own_waiting}
 
-module _ (pick : Slots → List ℕ) (size : ℕ) (l l' : ℕ → ℕ) (h h' : View → ℕ → Type 0) (vs : List View) (i : ℕ) (v w : View) (new : List ℕ) (at : IsItem vs i v) (right : SlotsRight pick size l h vs) where
+module _ (pick : Slots → List ℕ) (size : ℕ) (l l' : ℕ → ℕ) (h h' : View → ℕ → Type 0) (vs : List View) (i : ℕ) (v w : View) (new : List ℕ) (at : IsItem vs i v)
+    (right : SlotsRight pick size l h vs) where
   -- the new slots are not free any more, and linked; what is linked no longer waits; the moved view holds at most them beside what it held
   pub record Brings : Type 0 where
     pub free : (k : ℕ) → count k (pick w.free) + count k new ≡ count k (pick v.free)

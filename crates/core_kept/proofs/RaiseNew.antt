@@ -59,13 +59,15 @@ linked_new : (m : Memory) (b : Bundles) (number : ℕ → ℕ) (o : Option ℕ) 
     → linked_in (record { bundle = with_added b.bundle (λ w k. m (Node (Head w) k)) o; number = number }) e (listed o) ≡ count e (new_entries m o)
 linked_new m b number None e = refl
 linked_new m b number (Some k) e =
-    ap (λ c. count e (cond (c || false) (listed_entry (m (Node (Head Left) k))) (b.bundle Left k) ++ cond (c || false) (listed_entry (m (Node (Head Right) k))) (b.bundle Right k)) + 0) (eq-eqb k k refl)
+    ap (λ c. count e (cond (c || false) (listed_entry (m (Node (Head Left) k))) (b.bundle Left k) ++ cond (c || false) (listed_entry (m (Node (Head Right) k)))
+    (b.bundle Right k)) + 0) (eq-eqb k k refl)
     ∙ plain (count e (new_entries m (Some k)))
   where
     plain : (n : ℕ) → n + 0 ≡ n
     plain n = omega arith
 
-module _ (z : Layout) (m : Memory) (vs : List View) (g : Meaning) (rule : Rule z m vs g) (i : ℕ) (v : View) (u : Update) (move : TreeMove) (tree : NamedTree) (at : IsItem vs i v) (moves : MovesTree m g v u move tree) where
+module _ (z : Layout) (m : Memory) (vs : List View) (g : Meaning) (rule : Rule z m vs g) (i : ℕ) (v : View) (u : Update) (move : TreeMove) (tree : NamedTree)
+    (at : IsItem vs i v) (moves : MovesTree m g v u move tree) where
   abbrev s : ℕ
   s = m Stamp
 
@@ -111,7 +113,8 @@ module _ (z : Layout) (m : Memory) (vs : List View) (g : Meaning) (rule : Rule z
 
   pub held_old : (j k : ℕ) (y : View) → IsItem vs j y → HoldsNode y k → IsOld k
   held_old j k y of holds =
-      let gone : sum_by (own_free nodes_of k) vs ≡ 0 = at_item (λ (x : View). (n : ℕ) → HoldsNode x n → sum_by (own_free nodes_of n) vs ≡ 0) vs j y of rule.slots.nodes.unheld k holds in
+      let gone : sum_by (own_free nodes_of k) vs ≡ 0
+      = at_item (λ (x : View). (n : ℕ) → HoldsNode x n → sum_by (own_free nodes_of n) vs ≡ 0) vs j y of rule.slots.nodes.unheld k holds in
       zero_unless (count k (listed move.added)) (λ some. omega (arith, gone, one_term (own_free nodes_of k) vs i v at, added_free k some))
 
   pub waiting_old : (j k : ℕ) (y : View) → IsItem vs j y → 0 < own_waiting nodes_of k y → IsOld k
@@ -157,14 +160,24 @@ module _ (z : Layout) (m : Memory) (vs : List View) (g : Meaning) (rule : Rule z
       let is = every_at (IsPending z head (λ d. m (Entry Number d)) b.number y) e y.update.pending (seat_at z m vs g j y of rule).pending here in
       let live : IsLive z vs is.2.node = work_live j is.2.node y of is.2.there is.2.of in
       let first : 0 < count (head is.2.side is.2.node) (b.bundle is.2.side is.2.node)
-      = head_in (λ d. m (Entry Next d)) (head is.2.side is.2.node) (b.bundle is.2.side is.2.node) (rule.bundles is.2.node live is.2.side).chain (subst (λ x. 0 < x) (sym is.2.is) is.2.some) in
+      = head_in (λ d. m (Entry Next d)) (head is.2.side is.2.node) (b.bundle is.2.side is.2.node) (rule.bundles is.2.node live is.2.side).chain
+      (subst (λ x. 0 < x) (sym is.2.is) is.2.some) in
       entry_apart is.2.node e is.2.side live (subst (λ x. 0 < count x (b.bundle is.2.side is.2.node)) is.2.is first)
 
   pub live_before : (known : List Update) (k : ℕ) → IsLive z (set vs i (raised known)) k → IsLive z vs k ⊎ IsNew k
   live_before known k live =
       elim (cases_lt 0 (count k (listed move.added))) as (λ _. IsLive z vs k ⊎ IsNew k) [
         | inl some ↦ inr some
-        | inr none ↦ inl (live.0, omega (arith, live.1, sum_moved (own_free nodes_of k) vs i v (raised known) at, without_kept k (listed move.added) v.free.nodes (omega (arith, none))))
+        | inr none ↦
+            inl (
+              live.0,
+              omega (
+                arith,
+                live.1,
+                sum_moved (own_free nodes_of k) vs i v (raised known) at,
+                without_kept k (listed move.added) v.free.nodes (omega (arith, none)),
+              ),
+            )
       ]
 
   -- the added node is a slot of the table
@@ -200,7 +213,9 @@ module _ (z : Layout) (m : Memory) (vs : List View) (g : Meaning) (rule : Rule z
   )
 
   pub none_pending : (e : ℕ) → 0 < count e move.entries → sum_by (pending_count e) vs ≡ 0
-  none_pending e some = zero_unless (sum_by (pending_count e) vs) (λ more. let term = term_of (pending_count e) vs more in omega (arith, some, entry_pending term.place e term.item term.at term.some))
+  none_pending e some =
+      zero_unless (sum_by (pending_count e) vs) (λ more.
+      let term = term_of (pending_count e) vs more in omega (arith, some, entry_pending term.place e term.item term.at term.some))
 
   -- after the raise an entry is pending once where it is new, and else as often as before
   pub pending_after : (known : List Update) (e : ℕ) → sum_by (pending_count e) (set vs i (raised known)) ≡ sum_by (pending_count e) vs + count e move.entries

@@ -39,13 +39,6 @@ has_either d xs ys is =
       | inr none ↦ inr (omega (arith, none, count-append d xs ys, has-count d (xs ++ ys) is))
     ]
 
-not_has_by : (d : ℕ) (xs : List ℕ) (c : Bool) → has d xs ≡ c → count d xs ≡ 0 → c ≡ false
-not_has_by d xs true is none = absurd (omega (arith, none, has-count d xs is))
-not_has_by d xs false is none = refl
-
-pub not_has : (d : ℕ) (xs : List ℕ) → count d xs ≡ 0 → has d xs ≡ false
-not_has d xs none = not_has_by d xs (has d xs) refl none
-
 -- numbers that fall from the front lie below the top
 falls_member : (number : ℕ → ℕ) (top d : ℕ) (es : List ℕ) → Falls number top es → 0 < count d es → number d < top
 falls_member number top d [] falls here = absurd (omega (arith, here))
@@ -73,13 +66,15 @@ select-between next number t s n head top (e ∷ es) low high chain falls same =
       | inl above ↦ elim (cases_lt n (number e)) as (λ _. select number s (e ∷ es) ≡ select number t (e ∷ es)) [
         | inl over ↦
             select-behind number s e es (omega (arith, over, high))
-            ∙ select-between next number t s n (next e) (number e) es low high chain.2 falls.1 (sym (select-behind number t e es above) ∙ same ∙ select-behind number n e es over)
+            ∙ select-between next number t s n (next e) (number e) es low high chain.2 falls.1
+            (sym (select-behind number t e es above) ∙ same ∙ select-behind number n e es over)
             ∙ sym (select-behind number t e es above)
         | inr here ↦ absurd (not_front number t e es chain.1 falls.1 (sym (select-behind number t e es above) ∙ same ∙ select-here number n e es here))
       ]
     ]
 
-module _ (z : Layout) (m : Memory) (vs : List View) (g : Meaning) (rule : Rule z m vs g) (i : ℕ) (v : View) (u : Update) (move : TreeMove) (tree : NamedTree) (at : IsItem vs i v) (can : CanRaise v u) (moves : MovesTree m g v u move tree) where
+module _ (z : Layout) (m : Memory) (vs : List View) (g : Meaning) (rule : Rule z m vs g) (i : ℕ) (v : View) (u : Update) (move : TreeMove) (tree : NamedTree)
+    (at : IsItem vs i v) (can : CanRaise v u) (moves : MovesTree m g v u move tree) where
   abbrev s : ℕ
   s = m Stamp
 
@@ -134,13 +129,15 @@ module _ (z : Layout) (m : Memory) (vs : List View) (g : Meaning) (rule : Rule z
       → Falls number' (g.bundles.number d) es → Falls number' (cond c (s + 1) (g.bundles.number d)) es
   falls_by d es false numbers written rest = rest
   falls_by d es true numbers written rest =
-      falls_below s (g.bundles.number d) (s + 1) stamp number' es (omega arith) (every_map (IsNumbered s stamp g.bundles.number) (IsNumbered s stamp number') es same_now numbers) written rest
+      falls_below s (g.bundles.number d) (s + 1) stamp number' es (omega arith)
+      (every_map (IsNumbered s stamp g.bundles.number) (IsNumbered s stamp number') es same_now numbers) written rest
 
   top_by : (d : ℕ) (c : Bool) → g.bundles.number d < suc no_number → cond c (s + 1) (g.bundles.number d) < suc no_number
   top_by d true below = omega (arith, low)
   top_by d false below = below
 
-  falls_now : (es : List ℕ) → Every (IsNumbered s stamp g.bundles.number) es → TailWritten stamp es → Falls g.bundles.number (suc no_number) es → Falls number' (suc no_number) es
+  falls_now : (es : List ℕ) → Every (IsNumbered s stamp g.bundles.number) es → TailWritten stamp es → Falls g.bundles.number (suc no_number) es
+      → Falls number' (suc no_number) es
   falls_now [] numbers written right = tt
   falls_now (d ∷ es) numbers written right = (
     top_by d (has d pending') right.0,
@@ -163,13 +160,15 @@ module _ (z : Layout) (m : Memory) (vs : List View) (g : Meaning) (rule : Rule z
   numberless : (d : ℕ) → has d pending' ≡ true → count d move.entries ≡ 0 → g.bundles.number d ≡ no_number
   numberless d is old = (pending_is d (omega (arith, has-count d pending' is, count-append d v.update.pending move.entries, old))).1 ∙ ap shown can.raised
 
-  agree_by : (t d : ℕ) (c : Bool) → has d pending' ≡ c → t ≤ s → count d move.entries ≡ 0 → AgreeAt t g.bundles.number (λ x. cond c (s + 1) (g.bundles.number x)) d
+  agree_by : (t d : ℕ) (c : Bool) → has d pending' ≡ c → t ≤ s → count d move.entries ≡ 0
+      → AgreeAt t g.bundles.number (λ x. cond c (s + 1) (g.bundles.number x)) d
   agree_by t d true is past old = inr (omega (arith, past, low, numberless d is old), omega (arith, past))
   agree_by t d false is past old = inl refl
 
   pub selects_old : (t k : ℕ) (w : Side) → t ≤ s → IsLive z vs k → select g.bundles.number t (g.bundles.bundle w k) ≡ select number' t (g.bundles.bundle w k)
   selects_old t k w past live =
-      select_frame t g.bundles.number number' (g.bundles.bundle w k) (λ d here. agree_by t d (has d pending') refl past (entry_apart z m vs g rule i v u move tree at moves k d w live here))
+      select_frame t g.bundles.number number' (g.bundles.bundle w k)
+      (λ d here. agree_by t d (has d pending') refl past (entry_apart z m vs g rule i v u move tree at moves k d w live here))
 
   pub selects : (t k : ℕ) (w : Side) → t ≤ s → IsLive z vs k → select g.bundles.number t (g.bundles.bundle w k) ≡ select number' t (bundle' w k)
   selects t k w past live = selects_old t k w past live ∙ ap (select number' t) (sym (live_bundle z m vs g rule i v u move tree at moves k w live))

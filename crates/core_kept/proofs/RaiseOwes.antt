@@ -32,7 +32,8 @@ use Rattle.core_kept.proofs.RaiseLinks.{old_apart, kept_child}
 use Rattle.core_kept.proofs.TreeMoved.{MovesTree, meaning_after}
 use Rattle.core_kept.proofs.TreeNeeds.{moves_tree}
 
-module _ (z : Layout) (m : Memory) (vs : List View) (g : Meaning) (rule : Rule z m vs g) (i : ℕ) (v : View) (u : Update) (known : List Update) (move : TreeMove) (tree : NamedTree) (at : IsItem vs i v) (can : CanRaise v u) (all : known ≡ g.updates) (moves : MovesTree m g v u move tree) where
+module _ (z : Layout) (m : Memory) (vs : List View) (g : Meaning) (rule : Rule z m vs g) (i : ℕ) (v : View) (u : Update) (known : List Update)
+    (move : TreeMove) (tree : NamedTree) (at : IsItem vs i v) (can : CanRaise v u) (all : known ≡ g.updates) (moves : MovesTree m g v u move tree) where
   abbrev m' : Memory
   m' = written m Stamp (m Stamp + 1)
 
@@ -57,10 +58,20 @@ module _ (z : Layout) (m : Memory) (vs : List View) (g : Meaning) (rule : Rule z
       let apart : count k (listed move.added) ≡ 0 = old_apart z m vs g rule i v u known move tree at can moves k side old in
       elim (cases_lt 0 (length (filter (is_link_of k side) move.plain.unset))) as (λ _. owes k side move.plain.owed ≡ true) [
         | inl sets ↦ moves.plain.nulls k side sets (sym is ∙ null)
-        | inr none ↦ absurd (omega (arith, led, null, was, is, kept_child z m vs g rule i v u known move tree at can moves k side still apart (λ sets. omega (arith, none, sets))))
+        | inr none ↦
+            absurd (omega (
+              arith,
+              led,
+              null,
+              was,
+              is,
+              kept_child z m vs g rule i v u known move tree at can moves k side still apart
+                  (λ sets. omega (arith, none, sets)),
+            ))
       ]
 
-module _ (z : Layout) (words : List ℕ) (vs : List View) (right : InRule z words vs) (i n value : ℕ) (v : View) (at : IsItem vs i v) (is : word_at z n ≡ Some Stamp) where
+module _ (z : Layout) (words : List ℕ) (vs : List View) (right : InRule z words vs) (i n value : ℕ) (v : View) (at : IsItem vs i v)
+    (is : word_at z n ≡ Some Stamp) where
   abbrev m : Memory
   m = memory z words
 

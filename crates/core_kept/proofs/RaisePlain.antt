@@ -43,7 +43,8 @@ use Rattle.core_invariant.proofs.TreeSteps.{count_sum}
 use Rattle.core_kept.proofs.TreeMoved.{MovesTree, meaning_after}
 use Rattle.core_kept.proofs.RaiseLinks.{old_apart, was_old, kept_child, sets_locked, new_selected, old_low, greatest_grows, rises_at}
 
-module _ (z : Layout) (m : Memory) (vs : List View) (g : Meaning) (rule : Rule z m vs g) (i : ℕ) (v : View) (u : Update) (known : List Update) (move : TreeMove) (tree : NamedTree) (at : IsItem vs i v) (can : CanRaise v u) (moves : MovesTree m g v u move tree) (right : PlainRight m vs g) where
+module _ (z : Layout) (m : Memory) (vs : List View) (g : Meaning) (rule : Rule z m vs g) (i : ℕ) (v : View) (u : Update) (known : List Update)
+    (move : TreeMove) (tree : NamedTree) (at : IsItem vs i v) (can : CanRaise v u) (moves : MovesTree m g v u move tree) (right : PlainRight m vs g) where
   abbrev s : ℕ
   s = m Stamp
 
@@ -123,21 +124,29 @@ module _ (z : Layout) (m : Memory) (vs : List View) (g : Meaning) (rule : Rule z
               let term : Term (owed_count k side) vs = term_of (owed_count k side) vs before in
               let its : SeatPlain link child g.tree term.item = at_item (SeatPlain link child g.tree) vs term.place term.item term.at right.seats in
               let one : Passing (is_owed_at k side) (OwedRight g.tree (held_slots term.item.held.nodes))
-              = passing (is_owed_at k side) (OwedRight g.tree (held_slots term.item.held.nodes)) term.item.update.owed its.owed (any_counted (is_owed_at k side) term.item.update.owed term.some) in
+              = passing (is_owed_at k side) (OwedRight g.tree (held_slots term.item.held.nodes)) term.item.update.owed its.owed
+              (any_counted (is_owed_at k side) term.item.update.owed term.some) in
               let parts = tag_parts k side one.item one.passes in
-              absurd (omega (arith, new, old_apart z m vs g rule i v u known move tree at can moves k side (link_named g.tree one.item.node k one.item.side side parts.0 parts.1 one.right.there)))
+              absurd (omega (
+                arith,
+                new,
+                old_apart z m vs g rule i v u known move tree at can moves k side
+                    (link_named g.tree one.item.node k one.item.side side parts.0 parts.1 one.right.there),
+              ))
         ]
       ]
 
   linked_by : (k : ℕ) (side : Side) → IsNow k side → sum_by (unset_count k side) ws ≡ 0 → link side k ≡ child' side k
   linked_by k side there none =
       elim (cases_lt 0 (count k (listed move.added))) as (λ _. link side k ≡ child' side k) [
-        | inl new ↦ (moves.plain.new k side new).0 ∙ sym (ap (child_of_entry entry_child) (new_selected z m vs g rule i v u known move tree at can moves k side new))
+        | inl new ↦
+            (moves.plain.new k side new).0 ∙ sym (ap (child_of_entry entry_child) (new_selected z m vs g rule i v u known move tree at can moves k side new))
         | inr apart ↦
             let old : count k (listed move.added) ≡ 0 = omega (arith, apart) in
             let off : unset_count k side v' ≡ 0 = omega (arith, none, one_term (unset_count k side) ws i v' (item_set vs i v v' at)) in
             let before : sum_by (unset_count k side) vs ≡ 0 = omega (arith, none, off, unset_none k side, sum_moved (unset_count k side) vs i v v' at) in
-            right.linked k side (was_old z m vs g rule i v u known move tree at can moves k side there old) before ∙ sym (kept_child z m vs g rule i v u known move tree at can moves k side there old (λ sets. omega (arith, off, sets)))
+            right.linked k side (was_old z m vs g rule i v u known move tree at can moves k side there old) before
+            ∙ sym (kept_child z m vs g rule i v u known move tree at can moves k side there old (λ sets. omega (arith, off, sets)))
       ]
 
   tags_by : (k : ℕ) (side : Side) → IsNow k side → tag side k + sum_by (owed_count k side) ws ≤ greatest' side k
@@ -157,18 +166,32 @@ module _ (z : Layout) (m : Memory) (vs : List View) (g : Meaning) (rule : Rule z
                     owed_none k side,
                     sum_moved (owed_count k side) vs i v v' at,
                   )
-              | inr none ↦ omega (arith, right.tags k side old, greatest_grows z m vs g rule i v u known move tree at can moves k side old, none, owed_none k side, sum_moved (owed_count k side) vs i v v' at)
+              | inr none ↦
+                  omega (
+                    arith,
+                    right.tags k side old,
+                    greatest_grows z m vs g rule i v u known move tree at can moves k side old,
+                    none,
+                    owed_none k side,
+                    sum_moved (owed_count k side) vs i v v' at,
+                  )
             ]
       ]
 
   -- the seat that raises
   own_seat : SeatPlain link child' tree v'
   own_seat = record {
-    unset = every_map (λ (x : UnsetLink). IsWork child' g.tree tree x × ((link x.side x.node ≡ x.was) × (locks x.node v.held.nodes ≡ true))) (UnsetRight link child' tree (held_slots v.held.nodes)) move.plain.unset
+    unset =
+        every_map (λ (x : UnsetLink). IsWork child' g.tree tree x × ((link x.side x.node ≡ x.was) × (locks x.node v.held.nodes ≡ true)))
+        (UnsetRight link child' tree (held_slots v.held.nodes)) move.plain.unset
         (λ x is. record { there = is.0.still; held = locks-count x.node v.held.nodes is.1.1; before = is.1.0; asked = is.0.asked })
-        (both_hold (IsWork child' g.tree tree) (λ (x : UnsetLink). (link x.side x.node ≡ x.was) × (locks x.node v.held.nodes ≡ true)) move.plain.unset moves.plain.work
-        (both_hold (λ (x : UnsetLink). link x.side x.node ≡ x.was) (λ (x : UnsetLink). locks x.node v.held.nodes ≡ true) move.plain.unset moves.plain.was moves.plain.locked));
-    owed = every_map (λ (o : OwedTag). IsLinkIn 0 Right tree o.node o.side × (locks o.node v.held.nodes ≡ true)) (OwedRight tree (held_slots v.held.nodes)) move.plain.owed
+        (both_hold (IsWork child' g.tree tree) (λ (x : UnsetLink). (link x.side x.node ≡ x.was) × (locks x.node v.held.nodes ≡ true))
+        move.plain.unset moves.plain.work
+        (both_hold (λ (x : UnsetLink). link x.side x.node ≡ x.was) (λ (x : UnsetLink). locks x.node v.held.nodes ≡ true) move.plain.unset
+        moves.plain.was moves.plain.locked));
+    owed =
+        every_map (λ (o : OwedTag). IsLinkIn 0 Right tree o.node o.side × (locks o.node v.held.nodes ≡ true))
+        (OwedRight tree (held_slots v.held.nodes)) move.plain.owed
         (λ o is. record { there = is.0; held = locks-count o.node v.held.nodes is.1 }) moves.plain.owed;
     first = λ none. cc;
   }
@@ -187,7 +210,8 @@ module _ (z : Layout) (m : Memory) (vs : List View) (g : Meaning) (rule : Rule z
             ]
 
     not_set : (k : ℕ) (side : Side) → 0 < lock_count k y → Sets k side move.plain.unset → ⊥
-    not_set k side locked sets = omega (arith, locked, locked_apart z m vs g rule i k v y at beside (sets_locked z m vs g rule i v u known move tree at can moves k side sets))
+    not_set k side locked sets =
+        omega (arith, locked, locked_apart z m vs g rule i k v y at beside (sets_locked z m vs g rule i v u known move tree at can moves k side sets))
 
     other_seat : SeatPlain link child g.tree y → SeatPlain link child' tree y
     other_seat of = record {
@@ -198,7 +222,9 @@ module _ (z : Layout) (m : Memory) (vs : List View) (g : Meaning) (rule : Rule z
             there = there;
             held = is.held;
             before = is.before;
-            asked = kept_child z m vs g rule i v u known move tree at can moves x.node x.side there (old_apart z m vs g rule i v u known move tree at can moves x.node x.side is.there) (not_set x.node x.side is.held) ∙ is.asked;
+            asked =
+                kept_child z m vs g rule i v u known move tree at can moves x.node x.side there
+                (old_apart z m vs g rule i v u known move tree at can moves x.node x.side is.there) (not_set x.node x.side is.held) ∙ is.asked;
           }) of.unset;
       owed = every_map (OwedRight g.tree (held_slots y.held.nodes)) (OwedRight tree (held_slots y.held.nodes)) y.update.owed
           (λ o is. record { there = still_there o.node o.side is.there is.held; held = is.held }) of.owed;
@@ -212,7 +238,8 @@ module _ (z : Layout) (m : Memory) (vs : List View) (g : Meaning) (rule : Rule z
     seats = all_moved (SeatPlain link child g.tree) (SeatPlain link child' tree) vs i v v' at right.seats own_seat (λ y beside of. other_seat y beside of);
   }
 
-pub plain_raised : (z : Layout) (m : Memory) (vs : List View) (g : Meaning) (rule : Rule z m vs g) (i : ℕ) (v : View) (u : Update) (known : List Update) (move : TreeMove) (tree : NamedTree)
+pub plain_raised : (z : Layout) (m : Memory) (vs : List View) (g : Meaning) (rule : Rule z m vs g) (i : ℕ) (v : View) (u : Update) (known : List Update)
+    (move : TreeMove) (tree : NamedTree)
     → (at : IsItem vs i v) → CanRaise v u → (moves : MovesTree m g v u move tree) → PlainRight m vs g
     → PlainRight (written m Stamp (m Stamp + 1)) (set vs i (raised_view known v (m Stamp) u move)) (meaning_after m g v u move tree)
 plain_raised z m vs g rule i v u known move tree at can moves right = plain_after z m vs g rule i v u known move tree at can moves right

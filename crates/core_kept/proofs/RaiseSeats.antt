@@ -95,7 +95,8 @@ new_of m (Some k) e here =
       }
     ]
 
-module _ (z : Layout) (m : Memory) (vs : List View) (g : Meaning) (rule : Rule z m vs g) (i : ℕ) (v : View) (u : Update) (known : List Update) (move : TreeMove) (tree : NamedTree) (at : IsItem vs i v) (can : CanRaise v u) (all : known ≡ g.updates) (moves : MovesTree m g v u move tree) where
+module _ (z : Layout) (m : Memory) (vs : List View) (g : Meaning) (rule : Rule z m vs g) (i : ℕ) (v : View) (u : Update) (known : List Update)
+    (move : TreeMove) (tree : NamedTree) (at : IsItem vs i v) (can : CanRaise v u) (all : known ≡ g.updates) (moves : MovesTree m g v u move tree) where
   abbrev s : ℕ
   s = m Stamp
 
@@ -177,7 +178,8 @@ module _ (z : Layout) (m : Memory) (vs : List View) (g : Meaning) (rule : Rule z
       apart some =
           elim (cases_lt 0 (count d move.entries)) as (λ _. ⊥) [
             | inl new ↦ omega (arith, none_pending z m vs g rule i v u move tree at moves d new, one_term (pending_count d) vs beside.place y beside.at, here)
-            | inr old ↦ omega (arith, rule.single d, two_terms (pending_count d) vs i v y at beside, some, old, count-append d v.update.pending move.entries, here)
+            | inr old ↦
+                omega (arith, rule.single d, two_terms (pending_count d) vs i v y at beside, some, old, count-append d v.update.pending move.entries, here)
           ]
 
       number_by : (c : Bool) → has d (v.update.pending ++ move.entries) ≡ c → cond c (s + 1) (g.bundles.number d) ≡ g.bundles.number d
@@ -250,7 +252,8 @@ module _ (z : Layout) (m : Memory) (vs : List View) (g : Meaning) (rule : Rule z
   }
 
   -- where another seat stands, and what it remembers
-  passed_by : (y : View) (k d : ℕ) (o : Option ℕ) → IfSome o (λ t. t ≤ s) → IfSome o (λ t. IsLocked y k ⊎ (t < g.bundles.number d)) → IfSome o (λ t. IsLocked y k ⊎ (t < number' d))
+  passed_by : (y : View) (k d : ℕ) (o : Option ℕ) → IfSome o (λ t. t ≤ s) → IfSome o (λ t. IsLocked y k ⊎ (t < g.bundles.number d))
+      → IfSome o (λ t. IsLocked y k ⊎ (t < number' d))
   passed_by y k d None past old = tt
   passed_by y k d (Some t) past (inl locked) = inl locked
   passed_by y k d (Some t) past (inr above) = inr (above_still z m vs g rule i v u move tree at can moves t d past above)
@@ -266,7 +269,8 @@ module _ (z : Layout) (m : Memory) (vs : List View) (g : Meaning) (rule : Rule z
     falls = old.falls;
   }
 
-  place_now : (j : ℕ) (y : View) (place : Place) → IsItem vs j y → IfSome y.reading.section (λ t. t ≤ s) → PlaceRight z stamp g.bundles y place → PlaceRight z stamp g'.bundles y place
+  place_now : (j : ℕ) (y : View) (place : Place) → IsItem vs j y → IfSome y.reading.section (λ t. t ≤ s) → PlaceRight z stamp g.bundles y place
+      → PlaceRight z stamp g'.bundles y place
   place_now j y Nowhere of past right = tt
   place_now j y (AtNode k key) of past right = tt
   place_now j y (Gap k w) of past right = tt
@@ -294,11 +298,26 @@ module _ (z : Layout) (m : Memory) (vs : List View) (g : Meaning) (rule : Rule z
   pub other_now : (y : View) → Beside vs i y → SeatRight z m g y → SeatRight z m' g' y
   other_now y beside of = record {
     layout = of.layout;
-    section = record { section = of.section.section; announced = of.section.announced; outside = of.section.outside; unlocked = of.section.unlocked; done = of.section.done; waits = of.section.waits };
+    section = record {
+      section = of.section.section;
+      announced = of.section.announced;
+      outside = of.section.outside;
+      unlocked = of.section.unlocked;
+      done = of.section.done;
+      waits = of.section.waits;
+    };
     seen = seen_more z m vs g rule i v u known move at can all y.history of.seen;
     update = record { raised = IfSome_then y.update.raised of.update.raised (λ r is. (is.0, omega (arith, is.1))); first = of.update.first };
     announced = announced_same s (s + 1) y y (omega arith) refl of.announced;
-    version = record { past = IfSome_then y.reading.section of.version.past (λ t past. omega (arith, past)); opened = of.version.opened; bare = of.version.bare; there = of.version.there };
+    version = record {
+      past = IfSome_then y.reading.section of.version.past (λ t past. omega (
+        arith,
+        past,
+      ));
+      opened = of.version.opened;
+      bare = of.version.bare;
+      there = of.version.there;
+    };
     tree = tree_now z m vs g rule i v u move tree at can moves beside.place y beside.at;
     locks = of.locks;
     loaded = record { nodes = of.loaded.nodes; nexts = nexts_now beside.place y beside.at of };

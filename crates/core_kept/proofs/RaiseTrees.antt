@@ -47,7 +47,8 @@ listed_sum : (k : ℕ) (o : Option ℕ) → sum_by (one_at k) (listed o) ≡ cou
 listed_sum k None = refl
 listed_sum k (Some j) = omega (arith, one_other k j)
 
-module _ (z : Layout) (m : Memory) (vs : List View) (g : Meaning) (rule : Rule z m vs g) (i : ℕ) (v : View) (u : Update) (move : TreeMove) (tree : NamedTree) (at : IsItem vs i v) (can : CanRaise v u) (moves : MovesTree m g v u move tree) where
+module _ (z : Layout) (m : Memory) (vs : List View) (g : Meaning) (rule : Rule z m vs g) (i : ℕ) (v : View) (u : Update) (move : TreeMove) (tree : NamedTree)
+    (at : IsItem vs i v) (can : CanRaise v u) (moves : MovesTree m g v u move tree) where
   abbrev s : ℕ
   s = m Stamp
 
@@ -96,7 +97,8 @@ module _ (z : Layout) (m : Memory) (vs : List View) (g : Meaning) (rule : Rule z
     -- a node of the seat's tree is live
     read_live : (k : ℕ) (read : NamedTree) → y.reading.tree ≡ tree_nodes read → 0 < occurs k read → IsLive z vs k
     read_live k read is here =
-        let within : 0 < count k (tree_slots y.reading.tree) = subst (λ (ns : List TreeNode). 0 < count k (tree_slots ns)) (sym is) (omega (arith, here, count_slots k read)) in
+        let within : 0 < count k (tree_slots y.reading.tree)
+        = subst (λ (ns : List TreeNode). 0 < count k (tree_slots ns)) (sym is) (omega (arith, here, count_slots k read)) in
         held_live z vs g rule.slots j k y of (omega (arith, within, count-append k (tree_slots y.reading.tree) (work_nodes y))) (seat.version.there k within)
 
     reads_live : (k : ℕ) (read : NamedTree) → y.reading.tree ≡ tree_nodes read → (k ≡ 0) ⊎ (0 < occurs k read) → IsLive z vs k
@@ -124,17 +126,20 @@ module _ (z : Layout) (m : Memory) (vs : List View) (g : Meaning) (rule : Rule z
     null_before t k w past live null =
         let same = between t k w past live null.0 in
         let first = selects z m vs g rule i v u move tree at can moves t k w past live in (
-          selects_old z m vs g rule i v u move tree at can moves t k w past live ∙ sym same ∙ sym (selects_old z m vs g rule i v u move tree at can moves s k w (omega arith) live),
+          selects_old z m vs g rule i v u move tree at can moves t k w past live ∙ sym same
+              ∙ sym (selects_old z m vs g rule i v u move tree at can moves s k w (omega arith) live),
           ap (child_of_entry child) first ∙ null.1,
         )
 
     null_at : (t k : ℕ) (w : Side) → t ≤ s → IsLive z vs k → IsNullAtBoth child g'.bundles t (s + 1) w k → IsNullAtBoth child g'.bundles s (s + 1) w k
     null_at t k w past live null =
         let here : select number' s (bundle' w k) ≡ select number' t (bundle' w k) =
-        subst (λ es. select number' s es ≡ select number' t es) (sym (live_bundle z m vs g rule i v u move tree at moves k w live)) (between t k w past live null.0) in
+        subst (λ es. select number' s es ≡ select number' t es) (sym (live_bundle z m vs g rule i v u move tree at moves k w live))
+        (between t k w past live null.0) in
         (here ∙ null.0, ap (child_of_entry child) here ∙ null.1)
 
-    gaps_now : (t : ℕ) → t ≤ s → (old : ReadsVersion key val child g.bundles g.updates s g.tree t y.reading.tree) → (k x : ℕ) (w : Side) → 0 < occurs k old.tree → 0 < occurs k tree
+    gaps_now : (t : ℕ) → t ≤ s → (old : ReadsVersion key val child g.bundles g.updates s g.tree t y.reading.tree) → (k x : ℕ) (w : Side)
+        → 0 < occurs k old.tree → 0 < occurs k tree
         → IsNullAtBoth child g'.bundles t (s + 1) w k → IsInGap w (key k) x old.tree → IsInGap w (key k) x tree
     gaps_now t past old k x w read there null gap =
         let live = read_live k old.tree old.read read in

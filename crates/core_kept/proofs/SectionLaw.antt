@@ -34,7 +34,8 @@ module _ (t : Table) (e : Event) (right : IsRight t) (v : View) (at : IsItem t.v
   -- the own word holds what the view says, and what is stored to it is what is found after
   own_held : (n : ℕ) → v.number ≡ Some n → section_of t n ≡ v.section_word
   own_held n named =
-      own_word (λ k. held_by t (Section k)) (λ k. held_by t (Announced k)) v n (seat_at t.layout (held_by t) t.views right.meaning e.seat v at right.rule).section named
+      own_word (λ k. held_by t (Section k)) (λ k. held_by t (Announced k)) v n
+      (seat_at t.layout (held_by t) t.views right.meaning e.seat v at right.rule).section named
 
   own_after : (n x : ℕ) → v.number ≡ Some n → (own : OwnSection v.number w) → memory t.layout (set t.words e.word x) (Section n) ≡ x
   own_after n x named own =
@@ -43,7 +44,8 @@ module _ (t : Table) (e : Event) (right : IsRight t) (v : View) (at : IsItem t.v
       ∙ ap (λ (u : Word). written (held_by t) u x (Section n)) own.word
       ∙ ap (λ (b : Bool). cond b x (held_by t (Section n))) (eq-eqb n own.n same)
 
-  entered_word : (n : ℕ) → v.number ≡ Some n → may_enter v w e.value ≡ true → (is_even (section_of t n) ≡ true) × (is_even (memory t.layout (set t.words e.word e.value) (Section n)) ≡ false)
+  entered_word : (n : ℕ) → v.number ≡ Some n → may_enter v w e.value ≡ true
+      → (is_even (section_of t n) ≡ true) × (is_even (memory t.layout (set t.words e.word e.value) (Section n)) ≡ false)
   entered_word n named met =
       let parts = and_parts (is_own_section v.number w && is_outside v) (eqb e.value (v.section_word + 1)) met in
       let out = (and_parts (is_own_section v.number w) (is_outside v) parts.0).1 in
@@ -53,14 +55,16 @@ module _ (t : Table) (e : Event) (right : IsRight t) (v : View) (at : IsItem t.v
         ap is_even (own_after n e.value named (own_enter v w e.value met) ∙ value) ∙ odd_next v.section_word even,
       )
 
-  left_own : (n : ℕ) → v.number ≡ Some n → may_leave (held_by t) v w e.value ≡ true → (is_even (section_of t n) ≡ false) × (is_even (memory t.layout (set t.words e.word e.value) (Section n)) ≡ true)
+  left_own : (n : ℕ) → v.number ≡ Some n → may_leave (held_by t) v w e.value ≡ true
+      → (is_even (section_of t n) ≡ false) × (is_even (memory t.layout (set t.words e.word e.value) (Section n)) ≡ true)
   left_own n named met =
       let can = can_leave (held_by t) v w e.value met in (
         ap is_even (own_held n named) ∙ can.inside,
         ap is_even (own_after n e.value named can.own ∙ can.value_is) ∙ even_left v.section_word can.inside,
       )
 
-moves_at : (t : Table) (e : Event) (a : Option View) (b : Option Word) → slice_get t.views e.seat ≡ a → word_at t.layout e.word ≡ b → IsRight t → allowed_at t e a b ≡ true → MovesSections t e (after_at t e a b)
+moves_at : (t : Table) (e : Event) (a : Option View) (b : Option Word) → slice_get t.views e.seat ≡ a → word_at t.layout e.word ≡ b → IsRight t
+    → allowed_at t e a b ≡ true → MovesSections t e (after_at t e a b)
 moves_at t e None b is found right met = absurd (never met)
 moves_at t e (Some v) None is found right met = absurd (never met)
 moves_at t e (Some v) (Some w) is found right met =

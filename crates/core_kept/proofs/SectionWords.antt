@@ -146,7 +146,8 @@ not_own number own x old n true named e other =
     absurd (never (sym other ∙ ap (is_number n) named ∙ eq-eqb own n (sym is)))
 not_own number own x old n false named e other = refl
 
-module _ (z : Layout) (words : List ℕ) (vs : List View) (i : ℕ) (v : View) (at : ℕ) (w : Word) (long : length words ≡ word_count z) (found : word_at z at ≡ Some w) (value : ℕ) (o : Option Update) where
+module _ (z : Layout) (words : List ℕ) (vs : List View) (i : ℕ) (v : View) (at : ℕ) (w : Word) (long : length words ≡ word_count z)
+    (found : word_at z at ≡ Some w) (value : ℕ) (o : Option Update) where
   abbrev m : Memory
   m = memory z words
 
@@ -161,11 +162,15 @@ module _ (z : Layout) (words : List ℕ) (vs : List View) (i : ℕ) (v : View) (
       subst (Same kind) (sym (stored_at z words at w x long found))
       (record { section = λ n other. apart.sections m x n; announcement = λ n other. apart.announced m x n })
 
-  own_stored : (kind : Kind) (x : ℕ) → OwnSection v.number w → ((n : ℕ) → LeavesSection kind v n → is_number n v.number ≡ false) → Same kind (memory z (set words at x))
+  own_stored : (kind : Kind) (x : ℕ) → OwnSection v.number w → ((n : ℕ) → LeavesSection kind v n → is_number n v.number ≡ false)
+      → Same kind (memory z (set words at x))
   own_stored kind x own others =
       subst (Same kind) (sym (stored_at z words at w x long found))
       (subst (λ (u : Word). Same kind (written m u x)) (sym own.word)
-      (record { section = λ n other. not_own v.number own.n x (m (Section n)) n (eqb n own.n) own.named refl (others n other); announcement = λ n other. refl }))
+      (record {
+        section = λ n other. not_own v.number own.n x (m (Section n)) n (eqb n own.n) own.named refl (others n other);
+        announcement = λ n other. refl;
+      }))
 
   announced_stored : (x : ℕ) → OwnAnnounced v.number w → Same Announce (memory z (set words at x))
   announced_stored x own =
@@ -196,7 +201,8 @@ module _ (z : Layout) (words : List ℕ) (vs : List View) (i : ℕ) (v : View) (
   raise_apart met = subst IsApart (sym (stamp_named w (raise_needed z m vs v w value o met))) stamp_apart
 
   -- no event changes another pass's section word, or its announcement
-  pub same_words : (kind : Kind) → needs kind z m vs i v w value o ≡ true → SameWords (LeavesSection kind v) (LeavesAnnouncement kind v) m (memory z (words_after kind words at value))
+  pub same_words : (kind : Kind) → needs kind z m vs i v w value o ≡ true
+      → SameWords (LeavesSection kind v) (LeavesAnnouncement kind v) m (memory z (words_after kind words at value))
   same_words Enter met = own_stored Enter value (own_enter v w value met) enter_others
   same_words Leave met = own_stored Leave value (own_leave m v w value met) leave_others
   same_words Fill met = stored Fill value (fill_apart v w met)
@@ -218,7 +224,8 @@ every_in P Q [] step all = tt
 every_in P Q (x ∷ xs) step all =
     (step x (omega (arith, ap (λ (b : Bool). cond b 1 0 + count x xs) (eq-eqb x x refl))) all.0, every_in P Q xs (λ n some. step n (omega (arith, some))) all.1)
 
-module _ (z : Layout) (words : List ℕ) (vs : List View) (right : InRule z words vs) (i : ℕ) (v : View) (of : IsItem vs i v) (at : ℕ) (w : Word) (found : word_at z at ≡ Some w) (value : ℕ) (o : Option Update) where
+module _ (z : Layout) (words : List ℕ) (vs : List View) (right : InRule z words vs) (i : ℕ) (v : View) (of : IsItem vs i v) (at : ℕ) (w : Word)
+    (found : word_at z at ≡ Some w) (value : ℕ) (o : Option Update) where
   abbrev old : Memory
   old = memory z words
 
@@ -231,9 +238,24 @@ module _ (z : Layout) (words : List ℕ) (vs : List View) (right : InRule z word
           elim (eqb_tells j i) as (λ _. ⊥) [
             | inl here ↦
                 let same : v ≡ u = same_item vs i j v u of item here.1 in
-                omega (arith, some, own_count n v.number named, one_term (number_count n) vs i v of, right.rule.numbers n, cond-le (ltb n z.passes), ap (λ (x : View). count n x.to_give) same)
+                omega (
+                  arith,
+                  some,
+                  own_count n v.number named,
+                  one_term (number_count n) vs i v of,
+                  right.rule.numbers n,
+                  cond-le (ltb n z.passes),
+                  ap (λ (x : View). count n x.to_give) same,
+                )
             | inr other ↦
-                omega (arith, some, own_count n v.number named, two_terms (number_count n) vs i v u of (record { place = j; at = item; other = other.1 }), right.rule.numbers n, cond-le (ltb n z.passes))
+                omega (
+                  arith,
+                  some,
+                  own_count n v.number named,
+                  two_terms (number_count n) vs i v u of (record { place = j; at = item; other = other.1 }),
+                  right.rule.numbers n,
+                  cond-le (ltb n z.passes),
+                )
           ]
 
       named_by : (number : Option ℕ) → is_number n number ≡ true → number ≡ Some n
@@ -244,7 +266,8 @@ module _ (z : Layout) (words : List ℕ) (vs : List View) (right : InRule z word
       tells true e = absurd (twice (named_by v.number e))
       tells false e = e
 
-  spare_words : (m' : Memory) → SameWords (λ n. is_number n v.number ≡ false) (λ n. is_number n v.number ≡ false) old m' → (j : ℕ) (u : View) → IsItem vs j u → IsSpare old u → IsSpare m' u
+  spare_words : (m' : Memory) → SameWords (λ n. is_number n v.number ≡ false) (λ n. is_number n v.number ≡ false) old m' → (j : ℕ) (u : View) → IsItem vs j u
+      → IsSpare old u → IsSpare m' u
   spare_words m' same j u item spare =
       every_in (λ n. (old (Section n) ≡ 0) × (old (Announced n) ≡ 0)) (λ n. (m' (Section n) ≡ 0) × (m' (Announced n) ≡ 0)) u.to_give
       (λ n some none. (same.section n (not_given_yet j n u item some) ∙ none.0, same.announcement n (not_given_yet j n u item some) ∙ none.1)) spare
@@ -267,7 +290,8 @@ module _ (z : Layout) (words : List ℕ) (vs : List View) (right : InRule z word
     joined_spare (Some u) is =
         All-set (IsSpare m') (set vs i (joined_with v u)) value spent_view tt
         (All-set (IsSpare m') vs i (joined_with v u)
-        (every_append (λ n. (m' (Section n) ≡ 0) × (m' (Announced n) ≡ 0)) v.to_give u.to_give own_spare (at_item (IsSpare m') vs value u (item_from_get vs value u is) all)) all)
+        (every_append (λ n. (m' (Section n) ≡ 0) × (m' (Announced n) ≡ 0)) v.to_give u.to_give own_spare
+        (at_item (IsSpare m') vs value u (item_from_get vs value u is) all)) all)
 
     still_spare : (kind : Kind) → All (IsSpare m') (set vs i (view_after kind z old vs v w (old w) value o))
     still_spare kind = moved_spare (view_after kind z old vs v w (old w) value o) (to_give_kept z old vs v w (old w) value o kind)
@@ -279,7 +303,8 @@ module _ (z : Layout) (words : List ℕ) (vs : List View) (right : InRule z word
     views_spare kind = still_spare kind
 
   -- the words of a number that is still to be given are 0 after an event whose needs are met
-  pub spare_after : (kind : Kind) → needs kind z old vs i v w value o ≡ true → All (IsSpare (memory z (words_after kind words at value))) (views_after kind z old vs i v w value o)
+  pub spare_after : (kind : Kind) → needs kind z old vs i v w value o ≡ true
+      → All (IsSpare (memory z (words_after kind words at value))) (views_after kind z old vs i v w value o)
   spare_after kind met =
       let m' = memory z (words_after kind words at value) in
       let same = same_words z words vs i v at w right.size found value o kind met in

@@ -75,7 +75,8 @@ item_unpushed us k y w low at = record { within = low; is = λ d. sym (get_or_ap
 goes_push : (vs us : List View) (y : View) → GoesOn vs us → length us ≡ length vs → GoesOn vs (us ++ y ∷ [])
 goes_push vs us y goes long k v w at of live = goes k v w at (item_unpushed us k y w (omega (arith, at.within, long)) of) live
 
-module _ (z : Layout) (words : List ℕ) (vs : List View) (right : InRule z words vs) (i : ℕ) (v : View) (at : IsItem vs i v) (w : Word) (value : ℕ) (o : Option Update) where
+module _ (z : Layout) (words : List ℕ) (vs : List View) (right : InRule z words vs) (i : ℕ) (v : View) (at : IsItem vs i v) (w : Word) (value : ℕ)
+    (o : Option Update) where
   abbrev m : Memory
   m = memory z words
 
@@ -104,7 +105,8 @@ module _ (z : Layout) (words : List ℕ) (vs : List View) (right : InRule z word
   still_goes : (kind : Kind) → is_still kind ≡ true → GoesOn vs (set vs i (view_after kind z m vs v w (m w) value o))
   still_goes kind still =
       own_goes (view_after kind z m vs v w (m w) value o)
-      (begins_same v.history.seen (view_after kind z m vs v w (m w) value o).history.seen (ap (λ (p : SeatPart). p.history.seen) (still_kept z m vs v w (m w) value o kind still)))
+      (begins_same v.history.seen (view_after kind z m vs v w (m w) value o).history.seen
+      (ap (λ (p : SeatPart). p.history.seen) (still_kept z m vs v w (m w) value o kind still)))
 
   joined_begins : (u : View) (k : ℕ) → IsItem vs k u → IsBeginning u.history.seen (longer v.history.seen u.history.seen)
   joined_begins u k of =
@@ -119,16 +121,22 @@ module _ (z : Layout) (words : List ℕ) (vs : List View) (right : InRule z word
       = begins_of updates v.history.seen (longer v.history.seen u.history.seen) (begins i v at)
       (longer_begins updates v.history.seen u.history.seen (begins i v at) (begins value u of)) (longer_long v.history.seen u.history.seen).1 in
       goes_set vs (set vs i (joined_with v u)) value (get_or (set vs i (joined_with v u)) value v) spent_view (own_goes (joined_with v u) known)
-      (record { within = omega (arith, of.within, length-set vs i (joined_with v u)); is = λ d. get_or_default (set vs i (joined_with v u)) value d v (omega (arith, of.within, length-set vs i (joined_with v u))) })
+      (record {
+        within = omega (arith, of.within, length-set vs i (joined_with v u));
+        is = λ d. get_or_default (set vs i (joined_with v u)) value d v (omega (arith, of.within, length-set vs i (joined_with v u)));
+      })
       (λ x here live. cc)
 
   pub goes_on : (kind : Kind) → GoesOn vs (views_after kind z m vs i v w value o)
   goes_on MakeSeat = goes_same vs
-  goes_on SplitSeat = goes_push vs (set vs i (split_left v value)) (split_right v value) (own_goes (split_left v value) (begins_self v.history.seen)) (length-set vs i (split_left v value))
+  goes_on SplitSeat =
+      goes_push vs (set vs i (split_left v value)) (split_right v value) (own_goes (split_left v value) (begins_self v.history.seen))
+      (length-set vs i (split_left v value))
   goes_on JoinSeat = joined_goes (slice_get vs value) refl
   goes_on Enter =
       own_goes (view_after Enter z m vs v w (m w) value o)
-      (begins_same v.history.seen (view_after Enter z m vs v w (m w) value o).history.seen (ap (λ (p : SeatPart). p.history.seen) (entered_part z.passes value v)))
+      (begins_same v.history.seen (view_after Enter z m vs v w (m w) value o).history.seen
+      (ap (λ (p : SeatPart). p.history.seen) (entered_part z.passes value v)))
   goes_on Leave = own_goes (view_after Leave z m vs v w (m w) value o) (begins_self v.history.seen)
   goes_on LoadStamp = own_goes (view_after LoadStamp z m vs v w (m w) value o) (whole_known i v at)
   goes_on Raise = own_goes (view_after Raise z m vs v w (m w) value o) (raised_goes (m w) o)
@@ -145,28 +153,34 @@ module _ (z : Layout) (words : List ℕ) (vs : List View) (right : InRule z word
       (record {
         long = ap length all ∙ right.rule.history.long;
         begins = λ k y item. elim (eqb_tells k i) as (λ _. IsBeginning y.history.seen (longest vs)) [
-          | inl here ↦ begins_same y.history.seen (longest vs) (ap (λ (u : View). u.history.seen) (same_item (set vs i loaded_view) i k loaded_view y (item_set vs i v loaded_view at) item here.1))
+          | inl here ↦
+              begins_same y.history.seen (longest vs) (ap (λ (u : View). u.history.seen)
+              (same_item (set vs i loaded_view) i k loaded_view y (item_set vs i v loaded_view at) item here.1))
           | inr other ↦ whole_known k y (item_unset vs i k loaded_view y item other.1)
         ];
       })
 
-  loaded_fixed : is_stamp w ≡ true → has_announced v ≡ true → value ≡ 1 → (x : View) → IsItem (set vs i loaded_view) i x → (x.reading.opened ≡ Some (m Stamp)) × (x.history.found ≡ m Stamp)
+  loaded_fixed : is_stamp w ≡ true → has_announced v ≡ true → value ≡ 1 → (x : View) → IsItem (set vs i loaded_view) i x
+      → (x.reading.opened ≡ Some (m Stamp)) × (x.history.found ≡ m Stamp)
   loaded_fixed stamp told one x of =
       let is : loaded_view ≡ x = same_item (set vs i loaded_view) i i loaded_view x (item_set vs i v loaded_view at) of refl in
       let fixes : eqb value 1 ≡ true = eq-eqb value 1 one in
       let here : m w ≡ m Stamp = ap m (stamp_named w stamp) in
       subst (λ (y : View). (y.reading.opened ≡ Some (m Stamp)) × (y.history.found ≡ m Stamp)) is (
-        ap (λ (c : Bool). (stamp_reading v.reading c (m w) (eqb value 1) (tree_nodes (tree_now z m vs))).opened) told ∙ ap (λ (b : Bool). cond b (Some (m w)) None) fixes ∙ ap Some here,
+        ap (λ (c : Bool). (stamp_reading v.reading c (m w) (eqb value 1) (tree_nodes (tree_now z m vs))).opened) told
+            ∙ ap (λ (b : Bool). cond b (Some (m w)) None) fixes ∙ ap Some here,
         ap (λ (b : Bool). cond b (m w) v.history.found) fixes ∙ here,
       )
 
   split_seen : (x y : View) → IsItem vs i x → IsItem (set vs i (split_left v value) ++ split_right v value ∷ []) (length vs) y → y.history.seen ≡ x.history.seen
   split_seen x y here there =
       let own : v ≡ x = same_item vs i i v x at here refl in
-      let new : split_right v value ≡ y = sym (get_or_push (set vs i (split_left v value)) (split_right v value) y (length vs) (length-set vs i (split_left v value))) ∙ there.is y in
+      let new : split_right v value ≡ y
+      = sym (get_or_push (set vs i (split_left v value)) (split_right v value) y (length vs) (length-set vs i (split_left v value))) ∙ there.is y in
       ap (λ (u : View). u.history.seen) (sym new) ∙ ap (λ (u : View). u.history.seen) own
 
-  joined_told : (value ≡ i → ⊥) → (found : Option View) → slice_get vs value ≡ found → (u y : View) → IsItem vs value u → IsItem (join_found vs i v value found) i y → may_join_found v found ≡ true → IsTold u y
+  joined_told : (value ≡ i → ⊥) → (found : Option View) → slice_get vs value ≡ found → (u y : View) → IsItem vs value u
+      → IsItem (join_found vs i v value found) i y → may_join_found v found ≡ true → IsTold u y
   joined_told apart None is u y of there met = absurd (never met)
   joined_told apart (Some x) is u y of there met =
       let same : x ≡ u = same_item vs value value x u (item_from_get vs value x is) of refl in
@@ -176,7 +190,8 @@ module _ (z : Layout) (words : List ℕ) (vs : List View) (right : InRule z word
       let new : joined_with v x ≡ y = same_item (set (set vs i (joined_with v x)) value spent_view) i i (joined_with v x) y stands there refl in
       subst (λ (s : View). IsTold s y) same (subst (IsTold x) new (record { told = refl; known = joined_begins x value (item_from_get vs value x is) }))
 
-seen_at : (t : Table) (e : Event) (a : Option View) (b : Option Word) → slice_get t.views e.seat ≡ a → word_at t.layout e.word ≡ b → IsRight t → allowed_at t e a b ≡ true → KeepsSeen t e (after_at t e a b)
+seen_at : (t : Table) (e : Event) (a : Option View) (b : Option Word) → slice_get t.views e.seat ≡ a → word_at t.layout e.word ≡ b → IsRight t
+    → allowed_at t e a b ≡ true → KeepsSeen t e (after_at t e a b)
 seen_at t e None b is found right met = absurd (never met)
 seen_at t e (Some v) None is found right met = absurd (never met)
 seen_at t e (Some v) (Some w) is found right met =
@@ -188,19 +203,31 @@ seen_at t e (Some v) (Some w) is found right met =
     = λ k same. subst (λ (j : Kind). needs j z m t.views e.seat v w e.value e.update ≡ true) same need in
     let views_of : (k : Kind) → e.kind ≡ k → views_after e.kind z m t.views e.seat v w e.value e.update ≡ views_after k z m t.views e.seat v w e.value e.update
     = λ k same. ap (λ (j : Kind). views_after j z m t.views e.seat v w e.value e.update) same in
-    let table_of : (k : Kind) → e.kind ≡ k → after_at t e (Some v) (Some w) ≡ record { layout = z; words = words_after k t.words e.word e.value; views = views_after k z m t.views e.seat v w e.value e.update }
-    = λ k same. ap (λ (j : Kind). record { layout = z; words = words_after j t.words e.word e.value; views = views_after j z m t.views e.seat v w e.value e.update }) same in
+    let table_of : (k : Kind) → e.kind ≡ k → after_at t e (Some v) (Some w)
+    ≡ record { layout = z; words = words_after k t.words e.word e.value; views = views_after k z m t.views e.seat v w e.value e.update }
+    = λ k same. ap (λ (j : Kind). record {
+      layout = z;
+      words = words_after j t.words e.word e.value;
+      views = views_after j z m t.views e.seat v w e.value e.update;
+    }) same in
     record {
       kept = goes_on z t.words t.views right e.seat v at w e.value e.update e.kind;
-      loaded = λ same. subst (λ (u : Table). (x : View) → IsItem u.views e.seat x → IsWhole u x.history.seen) (sym (table_of LoadStamp same)) (loaded_whole z t.words t.views right e.seat v at w e.value e.update);
-      fixed = λ same one. subst (λ (u : Table). (x : View) → IsItem u.views e.seat x → (x.reading.opened ≡ Some (held_by u Stamp)) × (x.history.found ≡ held_by u Stamp)) (sym (table_of LoadStamp same))
-          (loaded_fixed z t.words t.views right e.seat v at w e.value e.update (stamp_needs v w e.value (met_of LoadStamp same)).stamp ((stamp_needs v w e.value (met_of LoadStamp same)).fixes one) one);
+      loaded = λ same.
+          subst (λ (u : Table). (x : View) → IsItem u.views e.seat x → IsWhole u x.history.seen) (sym (table_of LoadStamp same))
+          (loaded_whole z t.words t.views right e.seat v at w e.value e.update);
+      fixed = λ same one.
+          subst (λ (u : Table). (x : View) → IsItem u.views e.seat x → (x.reading.opened ≡ Some (held_by u Stamp)) × (x.history.found ≡ held_by u Stamp))
+          (sym (table_of LoadStamp same))
+          (loaded_fixed z t.words t.views right e.seat v at w e.value e.update (stamp_needs v w e.value (met_of LoadStamp same)).stamp
+          ((stamp_needs v w e.value (met_of LoadStamp same)).fixes one) one);
       split = λ same x y here there.
-          split_seen z t.words t.views right e.seat v at w e.value e.update x y here (subst (λ (us : List View). IsItem us (length t.views) y) (views_of SplitSeat same) there);
+          split_seen z t.words t.views right e.seat v at w e.value e.update x y here
+          (subst (λ (us : List View). IsItem us (length t.views) y) (views_of SplitSeat same) there);
       joined = λ same u y of there.
           let join = met_of JoinSeat same in
           let parts = and_parts (is_stamp w && not (eqb e.value e.seat)) (may_join_found v (slice_get t.views e.value)) join in
-          joined_told z t.words t.views right e.seat v at w e.value e.update (not_equal e.value e.seat (and_parts (is_stamp w) (not (eqb e.value e.seat)) parts.0).1)
+          joined_told z t.words t.views right e.seat v at w e.value e.update
+          (not_equal e.value e.seat (and_parts (is_stamp w) (not (eqb e.value e.seat)) parts.0).1)
           (slice_get t.views e.value) refl u y of (subst (λ (us : List View). IsItem us e.seat y) (views_of JoinSeat same) there) parts.1;
     }
 

@@ -35,7 +35,8 @@ use Rattle.core_invariant.proofs.Pairs.{least_low, pairs_same}
 use Rattle.core_invariant.proofs.Quiet.{quiet_kept}
 use Rattle.core_invariant.proofs.ReadMoves.{inside_only}
 
-member_by : (x e : ℕ) (c : Bool) (rest es : List ℕ) → (0 < count x rest → 0 < count x es) → 0 < cond (eqb e x) 1 0 + count x (cond c [] rest) → 0 < count x (e ∷ es)
+member_by : (x e : ℕ) (c : Bool) (rest es : List ℕ) → (0 < count x rest → 0 < count x es) → 0 < cond (eqb e x) 1 0 + count x (cond c [] rest)
+    → 0 < count x (e ∷ es)
 member_by x e true rest es later some = omega (arith, some)
 member_by x e false rest es later some =
     elim (cases_lt 0 (count x rest)) as (λ _. 0 < count x (e ∷ es)) [
@@ -76,7 +77,8 @@ module _ (z : Layout) (m : Memory) (vs : List View) (g : Meaning) (rule : Rule z
       found_by false new old = old
 
   -- an entry of a bundle of the root or of a node of the tree
-  tree_linked : (k x : ℕ) (side : Side) → (k ≡ 0) ⊎ (0 < count k (slots_of g.tree)) → 0 < count x (g.bundles.bundle side k) → 0 < linked_in g.bundles x (0 ∷ slots_of g.tree)
+  tree_linked : (k x : ℕ) (side : Side) → (k ≡ 0) ⊎ (0 < count k (slots_of g.tree)) → 0 < count x (g.bundles.bundle side k)
+      → 0 < linked_in g.bundles x (0 ∷ slots_of g.tree)
   tree_linked k x side of here =
       let among : 0 < count k (0 ∷ slots_of g.tree) = elim of as (λ _. 0 < count k (0 ∷ slots_of g.tree)) [
         | inl root ↦ subst (λ j. 0 < count j (0 ∷ slots_of g.tree)) (sym root) (omega arith)
@@ -89,7 +91,10 @@ module _ (z : Layout) (m : Memory) (vs : List View) (g : Meaning) (rule : Rule z
 
   stamp_holds : (v : View) (known : List Update) (fixes : Bool) (nodes : List TreeNode) → nodes ≡ tree_nodes g.tree
       → HoldsFrom z (linked_by g) HoldsNode (HoldsEntry g.bundles) v (reading_view v known fixes nodes)
-  stamp_holds v known fixes nodes all = record { nodes = λ k holds. node_by k (cases_lt 0 (count k (work_nodes v))) holds; entries = λ x holds. entry_by x holds }
+  stamp_holds v known fixes nodes all = record {
+    nodes = λ k holds. node_by k (cases_lt 0 (count k (work_nodes v))) holds;
+    entries = λ x holds. entry_by x holds;
+  }
     where
       node_by : (k : ℕ) → (0 < count k (work_nodes v)) ⊎ (count k (work_nodes v) ≤ 0) → HoldsNode (reading_view v known fixes nodes) k
           → HoldsNode v k ⊎ (0 < (linked_by g).nodes k)
@@ -106,7 +111,8 @@ module _ (z : Layout) (m : Memory) (vs : List View) (g : Meaning) (rule : Rule z
           ]) (read_member g.bundles.number (m Stamp) x (g.bundles.bundle reads.side reads.node) reads.read))
 
   -- no least number is above the stamp, which is the section number now
-  low_by : (u w : View) → w.reading.section ≡ Some (m Stamp) → (o : Option ℕ) → IfSome o (λ n. IsSomeAnd u.reading.section (λ t. n ≤ t)) → IfSome u.reading.section (λ t. t ≤ m Stamp)
+  low_by : (u w : View) → w.reading.section ≡ Some (m Stamp) → (o : Option ℕ) → IfSome o (λ n. IsSomeAnd u.reading.section (λ t. n ≤ t))
+      → IfSome u.reading.section (λ t. t ≤ m Stamp)
       → IfSome o (λ n. Every (λ q. w.number ≡ Some q → ReadsFrom n w) u.reading.looked)
   low_by u w is None least past = tt
   low_by u w is (Some n) least past = each u.reading.looked
@@ -115,7 +121,8 @@ module _ (z : Layout) (m : Memory) (vs : List View) (g : Meaning) (rule : Rule z
       each [] = tt
       each (q ∷ qs) = ((λ named. subst (λ (o : Option ℕ). IfSome o (λ t. n ≤ t)) (sym is) (least_low (m Stamp) n u.reading.section least past)), each qs)
 
-  pairs_read : (i : ℕ) (v : View) (known : List Update) (fixes : Bool) (nodes : List TreeNode) → IsItem vs i v → PairsRight (set vs i (reading_view v known fixes nodes))
+  pairs_read : (i : ℕ) (v : View) (known : List Update) (fixes : Bool) (nodes : List TreeNode) → IsItem vs i v
+      → PairsRight (set vs i (reading_view v known fixes nodes))
   pairs_read i v known fixes nodes at =
       let w : View = reading_view v known fixes nodes in
       pairs_moved LookedRight LookedRight vs i v w at rule.pairs tt (λ u beside of. tt)
@@ -125,7 +132,8 @@ module _ (z : Layout) (m : Memory) (vs : List View) (g : Meaning) (rule : Rule z
       (λ t u beside other of. of)
 
   -- a seat that has announced
-  reads_kept : (i : ℕ) (v : View) (known : List Update) (fixes : Bool) (nodes : List TreeNode) → 0 < v.announced → IsItem vs i v → is_even v.section_word ≡ false
+  reads_kept : (i : ℕ) (v : View) (known : List Update) (fixes : Bool) (nodes : List TreeNode) → 0 < v.announced → IsItem vs i v
+      → is_even v.section_word ≡ false
       → known ≡ g.updates → nodes ≡ tree_nodes g.tree → Rule z m (set vs i (reading_view v known fixes nodes)) g
   reads_kept i v known fixes nodes told at inside all whole =
       let w : View = reading_view v known fixes nodes in
@@ -144,7 +152,12 @@ module _ (z : Layout) (m : Memory) (vs : List View) (g : Meaning) (rule : Rule z
         };
         seen = stamp_seen v known fixes nodes seat all;
         update = seat.update;
-        version = record { past = omega arith; opened = opened_by fixes; bare = λ none. cc; there = λ k here. slot_there k (omega (arith, here, read_slots nodes k whole)) };
+        version = record {
+          past = omega arith;
+          opened = opened_by fixes;
+          bare = λ none. cc;
+          there = λ k here. slot_there k (omega (arith, here, read_slots nodes k whole));
+        };
         announced = record { low = seat.announced.low; read = (told, seat.announced.low); least = omega arith };
         tree = record { tree = g.tree; version = rule.tree; read = whole; gaps = λ k y side here there null gap. gap };
         locks = seat.locks;
@@ -170,7 +183,8 @@ module _ (z : Layout) (m : Memory) (vs : List View) (g : Meaning) (rule : Rule z
       let w : View = knowing_view v known fixes nodes in
       let seat = seat_at z m vs g i v at rule in
       quiet_kept z m vs g rule i v at w.history w.counts w.reading w.held (pairs_same vs i v w at refl rule.pairs)
-      (record { mine = refl; ended = refl; ended_places = refl; left = refl }) (λ _. all) refl (record { nodes = λ k holds. inl holds; entries = λ x holds. inl holds })
+      (record { mine = refl; ended = refl; ended_places = refl; left = refl }) (λ _. all) refl
+      (record { nodes = λ k holds. inl holds; entries = λ x holds. inl holds })
       (record {
         layout = seat.layout;
         section = record {
@@ -195,9 +209,11 @@ module _ (z : Layout) (m : Memory) (vs : List View) (g : Meaning) (rule : Rule z
         links = tt;
       })
 
-  load_by : (i : ℕ) (v : View) (known : List Update) (fixes : Bool) (nodes : List TreeNode) (told : Bool) → has_announced v ≡ told → IsItem vs i v → is_even v.section_word ≡ false
+  load_by : (i : ℕ) (v : View) (known : List Update) (fixes : Bool) (nodes : List TreeNode) (told : Bool) → has_announced v ≡ told → IsItem vs i v
+      → is_even v.section_word ≡ false
       → known ≡ g.updates → nodes ≡ tree_nodes g.tree
-      → Rule z m (set vs i (record v { history = stamp_history known v.history (m Stamp) fixes; reading = stamp_reading v.reading told (m Stamp) fixes nodes })) g
+      → Rule z m
+      (set vs i (record v { history = stamp_history known v.history (m Stamp) fixes; reading = stamp_reading v.reading told (m Stamp) fixes nodes })) g
   load_by i v known fixes nodes true told at inside all whole = reads_kept i v known fixes nodes (announced_some v told) at inside all whole
   load_by i v known fixes nodes false none at inside all whole = knows_kept i v known fixes nodes at inside all
 

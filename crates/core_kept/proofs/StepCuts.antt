@@ -59,8 +59,10 @@ module _ (z : Layout) (words : List ℕ) (vs : List View) (right : InRule z word
   cut_word Child e value met = absurd (never met)
   cut_word Number e value met = absurd (never met)
 
-  cut_found : (n : ℕ) (w : Word) → word_at z n ≡ Some w → (value : ℕ) → may_cut z m vs v w value ≡ true → After z words vs right (set words n value) (set vs i (cut_from z m v w))
-  cut_found n (Entry p e) found value met = store_right z words vs n value (Entry p e) right (set vs i (cut_from z m v (Entry p e))) found (cut_word p e value met)
+  cut_found : (n : ℕ) (w : Word) → word_at z n ≡ Some w → (value : ℕ) → may_cut z m vs v w value ≡ true
+      → After z words vs right (set words n value) (set vs i (cut_from z m v w))
+  cut_found n (Entry p e) found value met =
+      store_right z words vs n value (Entry p e) right (set vs i (cut_from z m v (Entry p e))) found (cut_word p e value met)
   cut_found n Stamp found value met = absurd (never met)
   cut_found n (Section k) found value met = absurd (never met)
   cut_found n (Announced k) found value met = absurd (never met)

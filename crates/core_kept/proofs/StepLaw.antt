@@ -12,10 +12,14 @@ use Rattle.core_events.specs.declared.event.Event.{Event}
 use Rattle.core_events.specs.declared.event.Kind.{Kind}
 use Rattle.core_events.specs.declared.event.Kind.TheVariants.{MakeSeat, SplitSeat, JoinSeat, Enter, Leave, LookSec, Fill, LoadStamp, LoadHead, LoadTs, LoadPtr, LoadNext, Prepare, Raise, Finalise, TryLock, Unlock, LoadMark, Mark as MarkNode, LoadKeyOrVal, Announce, LookAnn, Cut, LoadLink, SetLink, LoadTag, SetTag}
 use Rattle.core_events.specs.Tables.{Table, held_by}
+use Rattle.core_invariant.specs.Reached.{plain_graph}
 use Rattle.core_invariant.specs.Rule.{InRule, IsRight}
 use Rattle.core_invariant.specs.LinkLaw.{KeepsSelections}
 use Rattle.core_events.specs.Steps.{needs, carries, allowed, allowed_at, after, after_at, views_after, words_after}
 use Rattle.core_kept.specs.KeepsRule.{KeepsLaw}
+use Rattle.core_kept.specs.SearchLaws.{SearchesAfter}
+use Rattle.core_kept.specs.TurnLaws.{TurnsAfter}
+use Rattle.core_invariant.specs.LinkRule.{LinksLast}
 use Rattle.core_invariant.specs.SpentViews.{IsSpent}
 use Rattle.core_invariant.specs.Numbers.{IsSpare}
 use Rattle.core_invariant.specs.OwnPlaces.{KnowsPlaces}
@@ -36,8 +40,12 @@ use Rattle.core_kept.proofs.StepLocks.{lock_law, unlock_law, load_mark_law, mark
 use Rattle.core_kept.proofs.StepSeats.{split_law, join_law, enter_law, leave_law, look_law, fill_law, announce_law}
 use Rattle.core_kept.proofs.StepCuts.{look_ann_law, cut_law}
 use Rattle.core_kept.proofs.StepPlain.{load_link_law, set_link_law, load_tag_law, set_tag_law}
+use Rattle.core_kept.proofs.LinkedLast.{linking_after}
+use Rattle.core_kept.proofs.StepSearches.{searches_after}
+use Rattle.core_kept.proofs.StepTurns.{turns_after}
 
-module _ (z : Layout) (words : List ℕ) (vs : List View) (right : InRule z words vs) (i : ℕ) (v : View) (at : IsItem vs i v) (live : v.joined ≡ false) (n : ℕ) (w : Word) (found : word_at z n ≡ Some w) (value : ℕ) where
+module _ (z : Layout) (words : List ℕ) (vs : List View) (right : InRule z words vs) (i : ℕ) (v : View) (at : IsItem vs i v) (live : v.joined ≡ false) (n : ℕ)
+    (w : Word) (found : word_at z n ≡ Some w) (value : ℕ) where
   abbrev m : Memory
   m = memory z words
 
@@ -79,14 +87,39 @@ pub record AfterTable (t u : Table) : Type 0 where
   pub right : IsRight u
   pub same : KeepsSelections t u
 
-after_of : (z : Layout) (words : List ℕ) (vs : List View) (right : InRule z words vs) (words' : List ℕ) (ws : List View) → After z words vs right words' ws → All IsSpent ws → All (IsSpare (memory z words')) ws → All KnowsPlaces ws → All WaitsRight ws → All (UnusedRight (memory z words')) ws
+after_of : (z : Layout) (words : List ℕ) (vs : List View) (right : InRule z words vs) (words' : List ℕ) (ws : List View)
+    (gives : After z words vs right words' ws)
+    → SearchesAfter z (plain_graph (memory z words')) ws gives.kept.meaning.tree → TurnsAfter z (memory z words') ws → All LinksLast ws
+    → All IsSpent ws → All (IsSpare (memory z words')) ws → All KnowsPlaces ws → All WaitsRight ws → All (UnusedRight (memory z words')) ws
     → AfterTable (record { layout = z; words = words; views = vs }) (record { layout = z; words = words'; views = ws })
-after_of z words vs right words' ws gives spent spare places waits unused = record {
-  right = record { size = gives.size; meaning = gives.kept.meaning; rule = gives.kept.rule; plain = gives.kept.plain right.plain; spent = spent; spare = spare; places = places; waits = waits; unused = unused };
-  same = selections_kept z (memory z words) (memory z words') vs ws right.meaning gives.kept.meaning right.rule gives.kept.rule gives.kept.same;
-}
+after_of z words vs right words' ws gives searches turned linking spent spare places waits unused =
+    let turns = turned searches.plain_tree searches.trees.spelled in
+    record {
+      right = record {
+        size = gives.size;
+        meaning = gives.kept.meaning;
+        rule = gives.kept.rule;
+        plain = gives.kept.plain right.plain;
+        plain_tree = searches.plain_tree;
+        trees = searches.trees;
+        searches = searches.searches;
+        reach = searches.reach;
+        turns = turns.turns;
+        leaving = turns.leaving;
+        still = turns.still;
+        known = turns.known;
+        linking = linking;
+        spent = spent;
+        spare = spare;
+        places = places;
+        waits = waits;
+        unused = unused;
+      };
+      same = selections_kept z (memory z words) (memory z words') vs ws right.meaning gives.kept.meaning right.rule gives.kept.rule gives.kept.same;
+    }
 
-after_right : (t : Table) (e : Event) (o : Option View) (w : Option Word) → slice_get t.views e.seat ≡ o → word_at t.layout e.word ≡ w → IsRight t → allowed_at t e o w ≡ true → AfterTable t (after_at t e o w)
+after_right : (t : Table) (e : Event) (o : Option View) (w : Option Word) → slice_get t.views e.seat ≡ o → word_at t.layout e.word ≡ w → IsRight t
+    → allowed_at t e o w ≡ true → AfterTable t (after_at t e o w)
 after_right t e None w is found right met = absurd (never met)
 after_right t e (Some v) None is found right met = absurd (never met)
 after_right t e (Some v) (Some w) is found right met =
@@ -97,7 +130,11 @@ after_right t e (Some v) (Some w) is found right met =
     let two = and_parts a b one.0 in
     let live : v.joined ≡ false = not_true v.joined two.1 in
     let at = item_from_get t.views e.seat v is in
-    after_of t.layout t.words t.views right _ _ (kind_right t.layout t.words t.views right e.seat v at live e.word w found e.value e.kind e.update two.0 one.1)
+    let gives = kind_right t.layout t.words t.views right e.seat v at live e.word w found e.value e.kind e.update two.0 one.1 in
+    after_of t.layout t.words t.views right _ _ gives
+    (searches_after t.layout t.words t.views right e.seat v at live e.word w found e.value e.update e.kind gives two.0 one.1)
+    (turns_after e.kind t.layout t.words t.views right e.seat v at live e.word w found e.value e.update two.0 one.1)
+    (linking_after t.layout t.words t.views right e.seat v at e.value e.kind w e.update one.1)
     (spent_after t.layout (held_by t) t.views e.seat v w e.value e.update right.spent live e.kind)
     (spare_after t.layout t.words t.views right e.seat v at e.word w found e.value e.update e.kind one.1)
     (places_after t.layout t.words t.views right e.seat v at w e.value e.kind e.update two.0 one.1)

@@ -31,7 +31,8 @@ use Rattle.core_invariant.proofs.StepGives.{load_right}
 use Rattle.core_invariant.proofs.Fronts.{held-found}
 use Rattle.core_kept.proofs.PlainKept.{quiet_work, next_work, plain_quiet}
 
-module _ (z : Layout) (words : List ℕ) (vs : List View) (right : InRule z words vs) (i : ℕ) (v : View) (at : IsItem vs i v) (live : v.joined ≡ false) (n : ℕ) (w : Word) (found : word_at z n ≡ Some w) (value : ℕ) where
+module _ (z : Layout) (words : List ℕ) (vs : List View) (right : InRule z words vs) (i : ℕ) (v : View) (at : IsItem vs i v) (live : v.joined ≡ false) (n : ℕ)
+    (w : Word) (found : word_at z n ≡ Some w) (value : ℕ) where
   abbrev m : Memory
   m = memory z words
 
@@ -43,20 +44,23 @@ module _ (z : Layout) (words : List ℕ) (vs : List View) (right : InRule z word
       load_right z words vs right (set vs i (stamp_loaded (longest vs) v (m Stamp) (eqb value 1) (tree_nodes (tree_now z m vs))))
       (load_stamp_kept z m vs right.meaning right.rule i v (longest vs) (eqb value 1) (tree_nodes (tree_now z m vs)) at (stamp_needs v Stamp value met).inside
       (longest_is z m vs right.meaning right.rule) (ap tree_nodes (tree_is z m vs right.meaning right.rule)))
-      (plain_quiet m right.meaning vs i v (stamp_loaded (longest vs) v (m Stamp) (eqb value 1) (tree_nodes (tree_now z m vs))) at (quiet_work v _ refl refl refl refl))
+      (plain_quiet m right.meaning vs i v (stamp_loaded (longest vs) v (m Stamp) (eqb value 1) (tree_nodes (tree_now z m vs))) at
+      (quiet_work v _ refl refl refl refl))
   stamp_found (Section k) met = absurd (never met)
   stamp_found (Announced k) met = absurd (never met)
   stamp_found (Node f k) met = absurd (never met)
   stamp_found (Entry p e) met = absurd (never met)
 
-  head_at_found : (f : Field) (k : ℕ) → word_at z n ≡ Some (Node f k) → may_load_field v f k value ≡ true → Gives words (views_after LoadHead z m vs i v (Node f k) value None)
+  head_at_found : (f : Field) (k : ℕ) → word_at z n ≡ Some (Node f k) → may_load_field v f k value ≡ true
+      → Gives words (views_after LoadHead z m vs i v (Node f k) value None)
   head_at_found (Head side) k is met =
       let b = not (is_even v.section_word) in
       let c = is_reachable v k in
       let one = and_parts (b && c) (eqb value 0) met in
       let two = and_parts b c one.0 in
       load_right z words vs right (set vs i (head_loaded v k side (m (Node (Head side) k)) (m (Entry Number (m (Node (Head side) k))))))
-      (load_head_kept z m vs right.meaning right.rule i k side (m (Entry Number (m (Node (Head side) k)))) v at (not_true (is_even v.section_word) two.0) (reach_is z v k (node_there z n k (Head side) is) two.1))
+      (load_head_kept z m vs right.meaning right.rule i k side (m (Entry Number (m (Node (Head side) k)))) v at (not_true (is_even v.section_word) two.0)
+      (reach_is z v k (node_there z n k (Head side) is) two.1))
       (plain_quiet m right.meaning vs i v (head_loaded v k side (m (Node (Head side) k)) (m (Entry Number (m (Node (Head side) k))))) at
       (quiet_work v _ refl refl refl (held-found k side (m (Node (Head side) k)) v.held.nodes)))
   head_at_found Key k is met = absurd (never met)
@@ -79,7 +83,8 @@ module _ (z : Layout) (words : List ℕ) (vs : List View) (right : InRule z word
       let stood = standing v e (and_parts (is_part Number Number) (stands_at v.reading.place e) one.0).1 in
       load_right z words vs right (set vs i (ts_loaded v e (m (Entry Number e))))
       (load_ts_kept z m vs right.meaning right.rule i v at stood.node stood.side e stood.found stood.here (entry_there z n e Number is))
-      (plain_quiet m right.meaning vs i v (ts_loaded v e (m (Entry Number e))) at (quiet_work v _ refl refl refl (side_node e (m (Entry Number e)) v.held.nodes)))
+      (plain_quiet m right.meaning vs i v (ts_loaded v e (m (Entry Number e))) at
+      (quiet_work v _ refl refl refl (side_node e (m (Entry Number e)) v.held.nodes)))
   ts_found (Entry Child e) is met = absurd (never met)
   ts_found (Entry Next e) is met = absurd (never met)
   ts_found Stamp is met = absurd (never met)
@@ -107,7 +112,8 @@ module _ (z : Layout) (words : List ℕ) (vs : List View) (right : InRule z word
       let one = and_parts (is_part Next Next && stands_at v.reading.place e) (eqb value 0) first.0 in
       let stood = standing v e (and_parts (is_part Next Next) (stands_at v.reading.place e) one.0).1 in
       load_right z words vs right (set vs i (next_loaded v e (m (Entry Next e))))
-      (load_next_kept z m vs right.meaning right.rule i v at stood.node stood.side e stood.found stood.here (entry_there z n e Next is) (going_on v e stood.node stood.side stood.found stood.here first.1))
+      (load_next_kept z m vs right.meaning right.rule i v at stood.node stood.side e stood.found stood.here (entry_there z n e Next is)
+      (going_on v e stood.node stood.side stood.found stood.here first.1))
       (plain_quiet m right.meaning vs i v (next_loaded v e (m (Entry Next e))) at (next_work v v.reading.place e (m (Entry Next e))))
   next_found (Entry Number e) is met = absurd (never met)
   next_found (Entry Child e) is met = absurd (never met)

@@ -7,11 +7,13 @@ use Rattle.index_words.specs.declared.word.Word.{Word}
 use Rattle.index_words.specs.declared.word.Word.TheVariants.{Stamp, Section, Announced, Node, Entry}
 use Rattle.index_words.specs.Words.{Memory, memory, address, word_at}
 use Rattle.key_map.specs.Lists.{IsItem}
+use Rattle.index_words.proofs.Seats.{at_item}
 use Rattle.index_words.proofs.Store.{word_there}
 use Rattle.core_grace.specs.Sections.{is_even}
 use Rattle.core_events.specs.declared.event.Kind.TheVariants.{TryLock, Unlock, LoadMark, Mark as MarkNode, LoadKeyOrVal}
 use Rattle.core_events.specs.LockNeeds.{is_pair, may_try_lock, may_unlock, may_load_mark, may_mark, may_load_pair}
 use Rattle.core_events.specs.LockMoves.{locked_view, met_lock, tried, unlocked_view, with_mark, mark_loaded, pair_loaded}
+use Rattle.core_invariant.specs.Reached.{plain_graph, ReachesRight}
 use Rattle.core_invariant.specs.Rule.{InRule}
 use Rattle.core_events.specs.Steps.{views_after, words_after}
 use Rattle.core_kept.proofs.LockSteps.{lock_by, met_by, unlock_by, load_mark_by, mark_by}
@@ -21,7 +23,8 @@ use Rattle.core_events.proofs.Tests.{never, not_true, node_there}
 use Rattle.core_invariant.specs.KeptRule.{After, KeepsRuleAt}
 use Rattle.core_invariant.proofs.StepGives.{store_right, load_right}
 
-module _ (z : Layout) (words : List ℕ) (vs : List View) (right : InRule z words vs) (i : ℕ) (v : View) (at : IsItem vs i v) (live : v.joined ≡ false) (n : ℕ) (w : Word) (found : word_at z n ≡ Some w) (value : ℕ) where
+module _ (z : Layout) (words : List ℕ) (vs : List View) (right : InRule z words vs) (i : ℕ) (v : View) (at : IsItem vs i v) (live : v.joined ≡ false) (n : ℕ)
+    (w : Word) (found : word_at z n ≡ Some w) (value : ℕ) where
   abbrev m : Memory
   m = memory z words
 
@@ -33,14 +36,18 @@ module _ (z : Layout) (words : List ℕ) (vs : List View) (right : InRule z word
       let there = word_there z n u is in
       ap (slice_index words) (sym there.1) ∙ sym (ap (λ b. cond b (slice_index words (address z u)) 0) there.0)
 
-  pub try_lock_found : (u : Word) → word_at z n ≡ Some u → may_try_lock v u value ≡ true → Gives (words_after TryLock words n value) (views_after TryLock z m vs i v u value None)
+  pub try_lock_found : (u : Word) → word_at z n ≡ Some u → may_try_lock v u value ≡ true
+      → Gives (words_after TryLock words n value) (views_after TryLock z m vs i v u value None)
   try_lock_found (Node f k) is met =
-      subst (λ x. Gives (cond (eqb x 0) (set words n value) words) (set vs i (tried v k value (m (Node f k))))) (sym (found_in (Node f k) is)) (tried_by (eqb (m (Node f k)) 0) refl)
+      subst (λ x. Gives (cond (eqb x 0) (set words n value) words) (set vs i (tried v k value (m (Node f k))))) (sym (found_in (Node f k) is))
+      (tried_by (eqb (m (Node f k)) 0) refl)
     where
-      tried_by : (c : Bool) → eqb (m (Node f k)) 0 ≡ c → Gives (cond c (set words n value) words) (set vs i (cond c (locked_view v k) (met_lock v value (m (Node f k)))))
+      tried_by : (c : Bool) → eqb (m (Node f k)) 0 ≡ c
+          → Gives (cond c (set words n value) words) (set vs i (cond c (locked_view v k) (met_lock v value (m (Node f k)))))
       tried_by true free =
           store_right z words vs n value (Node f k) right (set vs i (locked_view v k)) is
-          (lock_by z m vs right.meaning right.rule i v at f k value (node_there z n k f is) met (eqb-true (m (Node f k)) 0 free))
+          (lock_by z m vs right.meaning right.rule i v at f k value (at_item (ReachesRight z (plain_graph m) vs) vs i v at right.reach) (node_there z n k f is)
+          met (eqb-true (m (Node f k)) 0 free))
       tried_by false held =
           load_right z words vs right (set vs i (met_lock v value (m (Node f k)))) (met_by z m vs right.meaning right.rule i v at f k value (m (Node f k)) met)
           (plain_quiet m right.meaning vs i v (met_lock v value (m (Node f k))) at (quiet_work v _ refl refl refl refl))

@@ -1,5 +1,5 @@
 -- An event that loads or stores a plain link or its tag, and is allowed, keeps the rule.
-use Rattle.std.proofs.Common.{◌≡◌, ℕ, ◌+◌, ◌<◌, List, [], true, false, eqb, ◌&&◌, not, set, arith, refl, ap, sym, subst, Some, None}
+use Rattle.std.proofs.Common.{◌≡◌, ℕ, ◌+◌, ◌<◌, List, [], true, eqb, ◌&&◌, ◌||◌, not, set, arith, refl, ap, sym, subst, Some, None}
 use Rattle.std.proofs.lemmas.Bool.{and_parts, eqb-true}
 use Rattle.std.proofs.lemmas.List.{set-set}
 use Rattle.index_words.specs.declared.layout.Layout.{Layout}
@@ -17,8 +17,9 @@ use Rattle.core_grace.specs.Sections.{is_even}
 use Rattle.core_grace.specs.Holds.{held_slots}
 use Rattle.core_events.specs.declared.event.Kind.TheVariants.{LoadLink, SetLink, LoadTag, SetTag}
 use Rattle.core_events.specs.LoadMoves.{locks}
-use Rattle.core_events.specs.PlainNeeds.{owes, may_look_under, may_load_link, may_load_tag, may_set_field, may_set_link, may_raise_tag, may_set_tag}
-use Rattle.core_events.specs.PlainMoves.{link_loaded, tag_loaded, link_set, tag_set, other_links, other_tags, still_unlinking}
+use Rattle.core_events.specs.PlainNeeds.{owes, may_load_link, may_load_tag, may_set_field, may_set_link, may_raise_tag, may_set_tag}
+use Rattle.core_events.specs.Searches.{searches_at}
+use Rattle.core_events.specs.PlainMoves.{link_kept, tag_kept, link_loaded, tag_loaded, link_set, tag_set, other_links, other_tags, still_unlinking}
 use Rattle.core_events.specs.Steps.{link_at, tag_at, set_at, raised_tag_at, views_after}
 use Rattle.core_events.proofs.Tests.{never, not_true}
 use Rattle.core_invariant.specs.Meanings.{Meaning}
@@ -42,20 +43,22 @@ module _ (z : Layout) (m : Memory) (vs : List View) (g : Meaning) (rule : Rule z
 
   link_set_kept : (k : ℕ) (side : Side) (x : ℕ) → 0 < lock_count k v → Rule z (written m (Node (Link side) k) x) (set vs i (link_set v k side x)) g
   link_set_kept k side x locked =
-      let w : View = link_loaded v k side x in
+      let w : View = link_kept v k side x in
       let m' : Memory = written m (Node (Link side) k) x in
       let some : 0 < lock_count k w = subst (λ ks. 0 < count k ks) (sym (slots_link k side x v.held.nodes)) locked in
       subst (λ (ws : List View). Rule z m' ws g) (set-set vs i w (link_set v k side x))
-      (work_kept z m' (set vs i w) g (link_store_kept z m vs g rule i k side x v at locked) i w (item_set vs i v w at) (other_links k side v.update.unset) v.update.owed
+      (work_kept z m' (set vs i w) g (link_store_kept z m vs g rule i k side x v at locked) i w (item_set vs i v w at)
+      (other_links k side v.update.unset) v.update.owed
       (still_unlinking k side v.update.unlinking) v.update.waiting (none_locked k w.held.nodes some) (seat_at z m vs g i v at rule).section.waits)
 
   tag_set_kept : (k : ℕ) (side : Side) (x : ℕ) → 0 < lock_count k v → Rule z (written m (Node (Tag side) k) x) (set vs i (tag_set v k side x)) g
   tag_set_kept k side x locked =
-      let w : View = tag_loaded v k side x in
+      let w : View = tag_kept v k side x in
       let m' : Memory = written m (Node (Tag side) k) x in
       let some : 0 < lock_count k w = subst (λ ks. 0 < count k ks) (sym (slots_tag k side x v.held.nodes)) locked in
       subst (λ (ws : List View). Rule z m' ws g) (set-set vs i w (tag_set v k side x))
-      (work_kept z m' (set vs i w) g (tag_store_kept z m vs g rule i k side x v at locked) i w (item_set vs i v w at) v.update.unset (other_tags k side v.update.owed)
+      (work_kept z m' (set vs i w) g (tag_store_kept z m vs g rule i k side x v at locked) i w (item_set vs i v w at) v.update.unset
+      (other_tags k side v.update.owed)
       v.update.unlinking v.update.waiting (none_locked k w.held.nodes some) (seat_at z m vs g i v at rule).section.waits)
 
 module _ (z : Layout) (words : List ℕ) (vs : List View) (right : InRule z words vs) (i : ℕ) (v : View) (at : IsItem vs i v) (n : ℕ) (value : ℕ) where
@@ -65,15 +68,15 @@ module _ (z : Layout) (words : List ℕ) (vs : List View) (right : InRule z word
   abbrev Gives : List ℕ → List View → Type 0
   Gives = After z words vs right
 
-  inside_of : (k : ℕ) → may_look_under v k ≡ true → is_even v.section_word ≡ false
-  inside_of k met = not_true (is_even v.section_word) (and_parts (not (is_even v.section_word)) (locks k v.held.nodes) met).0
-
   load_link_field : (f : Field) (k : ℕ) → may_load_link v (Node f k) value ≡ true → Gives words (set vs i (link_at v f k (m (Node f k))))
   load_link_field (Link side) k met =
-      let one = and_parts (true && may_look_under v k) (eqb value 0) met in
+      let stands = locks k v.held.nodes || searches_at v.reading v.reading.place k side in
+      let one = and_parts (not (is_even v.section_word) && stands) (eqb value 0) met in
       load_right z words vs right (set vs i (link_loaded v k side (m (Node (Link side) k))))
-      (link_load_kept z m vs right.meaning i k side v right.rule at (inside_of k (and_parts true (may_look_under v k) one.0).1))
-      (plain_quiet m right.meaning vs i v (link_loaded v k side (m (Node (Link side) k))) at (quiet_work v _ refl refl refl (slots_link k side (m (Node (Link side) k)) v.held.nodes)))
+      (link_load_kept z m vs right.meaning i k side v right.rule at
+      (not_true (is_even v.section_word) (and_parts (not (is_even v.section_word)) stands one.0).0))
+      (plain_quiet m right.meaning vs i v (link_loaded v k side (m (Node (Link side) k))) at
+      (quiet_work v _ refl refl refl (slots_link k side (m (Node (Link side) k)) v.held.nodes)))
   load_link_field Key k met = absurd (never met)
   load_link_field Val k met = absurd (never met)
   load_link_field Lock k met = absurd (never met)
@@ -90,10 +93,11 @@ module _ (z : Layout) (words : List ℕ) (vs : List View) (right : InRule z word
 
   load_tag_field : (f : Field) (k : ℕ) → may_load_tag v (Node f k) value ≡ true → Gives words (set vs i (tag_at v f k (m (Node f k))))
   load_tag_field (Tag side) k met =
-      let one = and_parts (true && may_look_under v k) (eqb value 0) met in
+      let one = and_parts (true && not (is_even v.section_word)) (eqb value 0) met in
       load_right z words vs right (set vs i (tag_loaded v k side (m (Node (Tag side) k))))
-      (tag_load_kept z m vs right.meaning i k side v right.rule at (inside_of k (and_parts true (may_look_under v k) one.0).1))
-      (plain_quiet m right.meaning vs i v (tag_loaded v k side (m (Node (Tag side) k))) at (quiet_work v _ refl refl refl (slots_tag k side (m (Node (Tag side) k)) v.held.nodes)))
+      (tag_load_kept z m vs right.meaning i k side v right.rule at (not_true (is_even v.section_word) (and_parts true (not (is_even v.section_word)) one.0).1))
+      (plain_quiet m right.meaning vs i v (tag_loaded v k side (m (Node (Tag side) k))) at
+      (quiet_work v _ refl refl refl (slots_tag k side (m (Node (Tag side) k)) v.held.nodes)))
   load_tag_field Key k met = absurd (never met)
   load_tag_field Val k met = absurd (never met)
   load_tag_field Lock k met = absurd (never met)
@@ -108,7 +112,8 @@ module _ (z : Layout) (words : List ℕ) (vs : List View) (right : InRule z word
   load_tag_found (Announced j) met = absurd (never met)
   load_tag_found (Entry p e) met = absurd (never met)
 
-  set_link_field : (f : Field) (k : ℕ) → word_at z n ≡ Some (Node f k) → may_set_field z m v f k value ≡ true → Gives (set words n value) (set vs i (set_at v f k value))
+  set_link_field : (f : Field) (k : ℕ) → word_at z n ≡ Some (Node f k) → may_set_field z m v f k value ≡ true
+      → Gives (set words n value) (set vs i (set_at v f k value))
   set_link_field (Link side) k is met =
       let can = can_set z m v k side value met in
       store_right z words vs n value (Node (Link side) k) right (set vs i (link_set v k side value)) is
@@ -122,14 +127,16 @@ module _ (z : Layout) (words : List ℕ) (vs : List View) (right : InRule z word
   set_link_field (Head side) k is met = absurd (never met)
   set_link_field (Tag side) k is met = absurd (never met)
 
-  set_link_found : (u : Word) → word_at z n ≡ Some u → may_set_link z m v u value ≡ true → Gives (set words n value) (views_after SetLink z m vs i v u value None)
+  set_link_found : (u : Word) → word_at z n ≡ Some u → may_set_link z m v u value ≡ true
+      → Gives (set words n value) (views_after SetLink z m vs i v u value None)
   set_link_found (Node f k) is met = set_link_field f k is met
   set_link_found Stamp is met = absurd (never met)
   set_link_found (Section j) is met = absurd (never met)
   set_link_found (Announced j) is met = absurd (never met)
   set_link_found (Entry p e) is met = absurd (never met)
 
-  set_tag_field : (f : Field) (k : ℕ) → word_at z n ≡ Some (Node f k) → may_raise_tag m v f k value ≡ true → Gives (set words n value) (set vs i (raised_tag_at v f k value))
+  set_tag_field : (f : Field) (k : ℕ) → word_at z n ≡ Some (Node f k) → may_raise_tag m v f k value ≡ true
+      → Gives (set words n value) (set vs i (raised_tag_at v f k value))
   set_tag_field (Tag side) k is met =
       let a = locks k v.held.nodes in
       let b = owes k side v.update.owed in

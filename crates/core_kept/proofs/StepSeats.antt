@@ -16,7 +16,7 @@ use Rattle.index_words.specs.Views.{spent_view}
 use Rattle.core_grace.specs.Sections.{is_even}
 use Rattle.core_grace.specs.Batches.{looked}
 use Rattle.core_events.specs.declared.event.Kind.TheVariants.{SplitSeat, JoinSeat, Enter, Leave, LookSec, Fill, Announce}
-use Rattle.core_events.specs.Needs.{is_outside, is_own_section, may_enter, may_fill, may_join, may_join_found, may_join_view, is_stamp, is_lock}
+use Rattle.core_events.specs.Needs.{has_none_waiting, is_outside, is_own_section, may_enter, may_fill, may_join, may_join_found, may_join_view, is_stamp, is_lock}
 use Rattle.core_events.specs.Waits.{has_no_lock, looked_by, looked_waiting, may_leave, may_look}
 use Rattle.core_events.specs.FillMoves.{filled_view}
 use Rattle.core_events.specs.Announcing.{may_announce, is_own_announced, is_announcement, announced_view}
@@ -44,18 +44,21 @@ use Rattle.core_invariant.specs.PlainRule.{PlainRight}
 use Rattle.core_invariant.specs.KeptRule.{After, KeepsRuleAt}
 use Rattle.core_invariant.proofs.StepGives.{kept_same, store_right, load_right}
 
-module _ (z : Layout) (words : List ℕ) (vs : List View) (right : InRule z words vs) (i : ℕ) (v : View) (at : IsItem vs i v) (live : v.joined ≡ false) (n : ℕ) (w : Word) (found : word_at z n ≡ Some w) (value : ℕ) where
+module _ (z : Layout) (words : List ℕ) (vs : List View) (right : InRule z words vs) (i : ℕ) (v : View) (at : IsItem vs i v) (live : v.joined ≡ false) (n : ℕ)
+    (w : Word) (found : word_at z n ≡ Some w) (value : ℕ) where
   abbrev m : Memory
   m = memory z words
 
   abbrev Gives : List ℕ → List View → Type 0
   Gives = After z words vs right
 
-  one_kept : (m' : Memory) (ws : List View) → Rule z m' ws right.meaning → (PlainRight m vs right.meaning → PlainRight m' ws right.meaning) → Kept z m vs right.meaning m' ws
+  one_kept : (m' : Memory) (ws : List View) → Rule z m' ws right.meaning → (PlainRight m vs right.meaning → PlainRight m' ws right.meaning)
+      → Kept z m vs right.meaning m' ws
   one_kept m' ws rule plain = kept_same z m vs right.meaning m' ws rule plain
 
   -- at the own word of a section or of an announcement
-  word_plain : (u : Word) (y : View) → w ≡ u → (PlainRight m vs right.meaning → PlainRight (written m u value) (set vs i y) right.meaning) → PlainRight m vs right.meaning
+  word_plain : (u : Word) (y : View) → w ≡ u → (PlainRight m vs right.meaning → PlainRight (written m u value) (set vs i y) right.meaning)
+      → PlainRight m vs right.meaning
       → PlainRight (written m w value) (set vs i y) right.meaning
   word_plain u y is plain = subst (λ x. PlainRight m vs right.meaning → PlainRight (written m x value) (set vs i y) right.meaning) (sym is) plain
 
@@ -68,7 +71,8 @@ module _ (z : Layout) (words : List ℕ) (vs : List View) (right : InRule z word
       (one_kept (written m w value) (set vs i (entered z.passes v value))
       (subst (λ u. Rule z (written m u value) (set vs i (entered z.passes v value)) right.meaning) (sym own.word)
       (enter_kept z m vs right.meaning i own.n value v at right.rule own.named first.1))
-      (word_plain (Section own.n) (entered z.passes v value) own.word (plain_quiet m right.meaning vs i v (entered z.passes v value) at (entered_work z.passes value v))))
+      (word_plain (Section own.n) (entered z.passes v value) own.word
+      (plain_quiet m right.meaning vs i v (entered z.passes v value) at (entered_work z.passes value v))))
 
   -- each lock that is held at a leave is one of those that are kept
   leaves_with : NoLockOrWait v → Every (IsKeptLock v.update.taken) v.held.nodes × ((v.held.nodes ≡ []) ⊎ (is_some v.update.raised ≡ true))
@@ -84,9 +88,11 @@ module _ (z : Layout) (words : List ℕ) (vs : List View) (right : InRule z word
       (one_kept (written m w value) (set vs i (left v value))
       (subst (λ u. Rule z (written m u value) (set vs i (left v value)) right.meaning) (sym own.word)
       (leave_kept z m vs right.meaning right.rule i own.n value v at own.named can.inside (nothing_is m v can.nothing).pending ready.0 ready.1))
-      (word_plain (Section own.n) (left v value) own.word (plain_quiet m right.meaning vs i v (left v value) at (quiet_work v (left v value) refl refl refl refl))))
+      (word_plain (Section own.n) (left v value) own.word
+      (plain_quiet m right.meaning vs i v (left v value) at (quiet_work v (left v value) refl refl refl refl))))
 
-  announce_by : (even : Bool) → is_even v.section_word ≡ even → cond even (eqb value 0) (is_none v.reading.section && eqb value (length v.history.seen + 1)) ≡ true
+  announce_by : (even : Bool) → is_even v.section_word ≡ even
+      → cond even (eqb value 0) (is_none v.reading.section && eqb value (length v.history.seen + 1)) ≡ true
       → (v.reading.section ≡ None) × (value ≤ m Stamp + 1)
   announce_by true even met =
       let seat = seat_at z m vs right.meaning i v at right.rule in
@@ -105,7 +111,8 @@ module _ (z : Layout) (words : List ℕ) (vs : List View) (right : InRule z word
       (one_kept (written m w value) (set vs i (announced_view v value))
       (subst (λ u. Rule z (written m u value) (set vs i (announced_view v value)) right.meaning) (sym own.word)
       (announce_kept z m vs right.meaning right.rule i own.n value v at own.named may.0 may.1))
-      (word_plain (Announced own.n) (announced_view v value) own.word (plain_quiet m right.meaning vs i v (announced_view v value) at (quiet_work v (announced_view v value) refl refl refl refl))))
+      (word_plain (Announced own.n) (announced_view v value) own.word
+      (plain_quiet m right.meaning vs i v (announced_view v value) at (quiet_work v (announced_view v value) refl refl refl refl))))
 
   look_by : (pass : ℕ) → CanLook v pass → (b : Bool) → has_no_lock v ≡ b
       → Rule z m (set vs i (cond b (looked z.passes v pass (m (Section pass))) (looked_waiting v pass (m (Section pass))))) right.meaning
@@ -131,7 +138,8 @@ module _ (z : Layout) (words : List ℕ) (vs : List View) (right : InRule z word
       store_right z words vs n value (Node f k) right (set vs i (filled_view v (Node f k) value)) is
       (one_kept (written m (Node f k) value) (set vs i (filled_view v (Node f k) value))
       (fill_kept z m right.meaning i (Node f k) value vs right.rule v at
-      (λ us u rule here same fresh. node_stored z m us right.meaning rule i k u f value here (subst (λ (s : Slots). 0 < count k s.nodes) (sym same) free) (not_true (is_lock f) parts.0) fresh)
+      (λ us u rule here same fresh. node_stored z m us right.meaning rule i k u f value here (subst (λ (s : Slots). 0 < count k s.nodes) (sym same) free)
+      (not_true (is_lock f) parts.0) fresh)
       (node_zeros m v k f (at_item (UnusedRight m) vs i v at right.unused) free))
       (plain_filled z m vs right.meaning right.rule i v at value (Node f k) met))
   fill_found (Entry p e) is met =
@@ -139,7 +147,8 @@ module _ (z : Layout) (words : List ℕ) (vs : List View) (right : InRule z word
       store_right z words vs n value (Entry p e) right (set vs i (filled_view v (Entry p e) value)) is
       (one_kept (written m (Entry p e) value) (set vs i (filled_view v (Entry p e) value))
       (fill_kept z m right.meaning i (Entry p e) value vs right.rule v at
-      (λ us u rule here same fresh. entry_stored z m us right.meaning rule i e u here (subst (λ (s : Slots). 0 < count e s.entries) (sym same) free) p value fresh)
+      (λ us u rule here same fresh. entry_stored z m us right.meaning rule i e u here
+      (subst (λ (s : Slots). 0 < count e s.entries) (sym same) free) p value fresh)
       (entry_zeros m v e p (at_item (UnusedRight m) vs i v at right.unused) free))
       (plain_filled z m vs right.meaning right.rule i v at value (Entry p e) met))
   fill_found Stamp is met = absurd (never met)
@@ -152,18 +161,36 @@ module _ (z : Layout) (words : List ℕ) (vs : List View) (right : InRule z word
       (split_kept z m vs right.meaning i value v at right.rule live)
       (quiet_pushed m right.meaning vs i v (split_left v value) (split_right v value) at (quiet_work v _ refl refl refl refl) refl)
 
-  join_idle : (u : View) → IsItem vs value u → may_join_view v u ≡ true → IsIdle u
-  join_idle u of met =
-      elim (either_true (is_none u.number) (is_outside v && is_outside u) (and_parts (not u.joined) (is_none u.number || (is_outside v && is_outside u)) met).1) as (λ _. IsIdle u) [
-        | inl none ↦ nameless_idle (λ k. m (Section k)) (λ k. m (Announced k)) u (seat_at z m vs right.meaning value u of right.rule).section (none_of u.number none)
-        | inr both ↦ outside_idle z m vs right.meaning value u of right.rule (and_parts (is_outside v) (is_outside u) both).1
+  -- the other seat has nothing under way; and no slot of it waits, or the joining one is outside
+  pub record CanJoin (u : View) : Type 0 where
+    pub idle : IsIdle u
+    pub waits : (has_none_waiting u ≡ true) ⊎ (is_even v.section_word ≡ true)
+
+  pub can_join : (u : View) → IsItem vs value u → may_join_view v u ≡ true → CanJoin u
+  can_join u of met =
+      let bare : Bool = is_none u.number && has_none_waiting u in
+      elim (either_true bare (is_outside v && is_outside u) (and_parts (not u.joined) (bare || (is_outside v && is_outside u)) met).1) as (λ _. CanJoin u) [
+        | inl none ↦
+            let parts = and_parts (is_none u.number) (has_none_waiting u) none in
+            record {
+              idle =
+                  nameless_idle (λ k. m (Section k)) (λ k. m (Announced k)) u
+                  (seat_at z m vs right.meaning value u of right.rule).section (none_of u.number parts.0);
+              waits = inl parts.1;
+            }
+        | inr both ↦
+            let parts = and_parts (is_outside v) (is_outside u) both in
+            record {
+              idle = outside_idle z m vs right.meaning value u of right.rule parts.1;
+              waits = inr (and_parts (is_even v.section_word) (eqb (length v.held.nodes) 0) parts.0).0;
+            }
       ]
 
   join_by : (o : Option View) → slice_get vs value ≡ o → (value ≡ i → ⊥) → may_join_found v o ≡ true → Gives words (join_found vs i v value o)
   join_by None is other met = load_right z words vs right vs right.rule (λ plain. plain)
   join_by (Some u) is other met =
       let of = item_from_get vs value u is in
-      let idle = join_idle u of met in
+      let idle = (can_join u of met).idle in
       load_right z words vs right (set (set vs i (joined_with v u)) value spent_view)
       (join_kept z m vs right.meaning i value v u at of other idle right.rule)
       (quiet_joined m right.meaning vs i value v (joined_with v u) u at of other (quiet_work v _ refl refl refl refl) idle.update)

@@ -35,17 +35,20 @@ use Rattle.core_invariant.specs.KeptRule.{After, KeepsRuleAt}
 use Rattle.core_invariant.proofs.StepGives.{kept_same, store_right}
 use Rattle.core_kept.proofs.PlainKept.{quiet_work, plain_quiet}
 
-module _ (z : Layout) (words : List ℕ) (vs : List View) (right : InRule z words vs) (i : ℕ) (v : View) (at : IsItem vs i v) (live : v.joined ≡ false) (n : ℕ) (w : Word) (found : word_at z n ≡ Some w) (value : ℕ) where
+module _ (z : Layout) (words : List ℕ) (vs : List View) (right : InRule z words vs) (i : ℕ) (v : View) (at : IsItem vs i v) (live : v.joined ≡ false) (n : ℕ)
+    (w : Word) (found : word_at z n ≡ Some w) (value : ℕ) where
   abbrev m : Memory
   m = memory z words
 
   abbrev Gives : List ℕ → List View → Type 0
   Gives = After z words vs right
 
-  prepare_at_found : (f : Field) (k : ℕ) → word_at z n ≡ Some (Node f k) → may_prepare_head m v f k value ≡ true → Gives (set words n value) (views_after Prepare z m vs i v (Node f k) value None)
+  prepare_at_found : (f : Field) (k : ℕ) → word_at z n ≡ Some (Node f k) → may_prepare_head m v f k value ≡ true
+      → Gives (set words n value) (views_after Prepare z m vs i v (Node f k) value None)
   prepare_at_found (Head side) k is met =
       store_right z words vs n value (Node (Head side) k) right (set vs i (prepared v side k value)) is
-      (prepare_kept z m vs right.meaning right.rule i k value side v at (ready_is z m right.meaning v side k value (seat_at z m vs right.meaning i v at right.rule) met))
+      (prepare_kept z m vs right.meaning right.rule i k value side v at
+      (ready_is z m right.meaning v side k value (seat_at z m vs right.meaning i v at right.rule) met))
   prepare_at_found Key k is met = absurd (never met)
   prepare_at_found Val k is met = absurd (never met)
   prepare_at_found Lock k is met = absurd (never met)
@@ -53,14 +56,16 @@ module _ (z : Layout) (words : List ℕ) (vs : List View) (right : InRule z word
   prepare_at_found (Link side) k is met = absurd (never met)
   prepare_at_found (Tag side) k is met = absurd (never met)
 
-  pub prepare_found : (u : Word) → word_at z n ≡ Some u → may_prepare m v u value ≡ true → Gives (set words n value) (views_after Prepare z m vs i v u value None)
+  pub prepare_found : (u : Word) → word_at z n ≡ Some u → may_prepare m v u value ≡ true
+      → Gives (set words n value) (views_after Prepare z m vs i v u value None)
   prepare_found (Node f k) is met = prepare_at_found f k is met
   prepare_found Stamp is met = absurd (never met)
   prepare_found (Section k) is met = absurd (never met)
   prepare_found (Announced k) is met = absurd (never met)
   prepare_found (Entry p e) is met = absurd (never met)
 
-  pub finalise_found : (u : Word) → word_at z n ≡ Some u → may_finalise v u value ≡ true → Gives (set words n value) (views_after Finalise z m vs i v u value None)
+  pub finalise_found : (u : Word) → word_at z n ≡ Some u → may_finalise v u value ≡ true
+      → Gives (set words n value) (views_after Finalise z m vs i v u value None)
   finalise_found (Entry Number e) is met =
       let one = and_parts (is_part Number Number && has e v.update.pending) (is_number value v.update.raised) met in
       let two = and_parts (is_part Number Number) (has e v.update.pending) one.0 in

@@ -62,7 +62,8 @@ module _ (z : Layout) (m : Memory) (vs : List View) (g : Meaning) where
 
   -- a view that has read nothing
   idle_version : (s : ℕ) (w : View) → IsIdle w → VersionRight z s w.reading
-  idle_version s w idle = subst (VersionRight z s) (sym idle.reading) (record { past = tt; opened = tt; bare = λ none. refl; there = λ k some. absurd (omega (arith, some)) })
+  idle_version s w idle =
+      subst (VersionRight z s) (sym idle.reading) (record { past = tt; opened = tt; bare = λ none. refl; there = λ k some. absurd (omega (arith, some)) })
 
   idle_announced : (s : ℕ) (w : View) → IsIdle w → w.announced ≤ s + 1 → AnnouncedRight s w
   idle_announced s w idle low = announced_idle s w low (ap (λ (r : Reading). r.section) idle.reading) (ap (λ (r : Reading). r.least) idle.reading)
@@ -101,7 +102,14 @@ module _ (z : Layout) (m : Memory) (vs : List View) (g : Meaning) where
         seats = all_moved (SeatRight z m g) (SeatRight z m' g) vs i v w at rule.seats
             (record {
               layout = own.layout;
-              section = record { section = own_stored (λ k. m (Section k)) v.number n word named; announced = own.section.announced; outside = λ even. idle.reading; unlocked = λ even. inl idle.held; done = own.section.done; waits = λ odd. ap (λ (u : Updating). u.waiting) idle.update };
+              section = record {
+                section = own_stored (λ k. m (Section k)) v.number n word named;
+                announced = own.section.announced;
+                outside = λ even. idle.reading;
+                unlocked = λ even. inl idle.held;
+                done = own.section.done;
+                waits = λ odd. ap (λ (u : Updating). u.waiting) idle.update;
+              };
               seen = own.seen;
               update = own.update;
               version = idle_version (m Stamp) w idle;

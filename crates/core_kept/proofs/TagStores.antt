@@ -1,5 +1,5 @@
--- A load of the tag of a plain link of a locked node, and a store to one, keep the rule.
-use Rattle.std.proofs.Common.{◌≡◌, ℕ, ◌<◌, ◌⊎◌, cond, List, [], ◌∷◌, Bool, true, false, eqb, set, arith, refl, ap, ◌∙◌, sym, subst, inl, inr, Option, map}
+-- A load of the tag of a plain link, and a store to one of a locked node, keep the rule.
+use Rattle.std.proofs.Common.{◌≡◌, ℕ, ◌<◌, ◌⊎◌, cond, List, [], ◌∷◌, Bool, true, false, eqb, ◌&&◌, set, arith, refl, ap, ◌∙◌, sym, subst, inl, inr, Option, Some, None, map}
 use Rattle.std.specs.Prelude.{IfSome}
 use Rattle.std.proofs.lemmas.Bool.{eqb-true}
 use Rattle.std.proofs.lemmas.Option.{IfSome_then}
@@ -7,15 +7,19 @@ use Rattle.index_words.specs.declared.layout.Layout.{Layout}
 use Rattle.index_words.specs.declared.side.Side.{Side}
 use Rattle.index_words.specs.declared.side.Side.TheVariants.{Left, Right}
 use Rattle.index_words.specs.declared.view.View.{View}
+use Rattle.index_words.specs.declared.view.history.Counts.{Counts}
+use Rattle.index_words.specs.declared.view.reading.Link.{Link as ViewLink}
+use Rattle.index_words.specs.declared.view.reading.LinkSource.{LinkSource}
+use Rattle.index_words.specs.declared.view.reading.LinkSource.TheVariants.{Bundle, Plain}
 use Rattle.index_words.specs.declared.view.update.HeldNode.{HeldNode}
 use Rattle.index_words.specs.declared.word.Field.TheVariants.{Mark, Head, Tag}
-use Rattle.index_words.specs.declared.word.Part.TheVariants.{Stamp as Number}
+use Rattle.index_words.specs.declared.word.Part.TheVariants.{Child, Stamp as Number}
 use Rattle.index_words.specs.declared.word.Word.TheVariants.{Node, Entry}
-use Rattle.index_words.specs.Words.{Memory, written}
+use Rattle.index_words.specs.Words.{Memory, written, same_side}
 use Rattle.key_map.specs.Lists.{count, IsItem}
 use Rattle.index_words.proofs.Seats.{Beside, sum_kept, all_moved}
 use Rattle.core_grace.specs.Sections.{is_even}
-use Rattle.core_grace.specs.Holds.{HoldsNode, HoldsEntry, held_slots, work_nodes}
+use Rattle.core_grace.specs.Holds.{Bundles, HoldsNode, HoldsEntry, held_slots, work_nodes}
 use Rattle.core_grace.proofs.RuleMoves.{quiet, same_looks}
 use Rattle.core_invariant.proofs.Pairs.{pairs_same}
 use Rattle.core_invariant.specs.Meanings.{Meaning, linked_by}
@@ -23,8 +27,11 @@ use Rattle.core_invariant.specs.Numbers.{number_count}
 use Rattle.core_invariant.specs.Locks.{lock_count, IsNodeAt, IsTakenOut}
 use Rattle.core_invariant.specs.BundleRule.{IsPendingAt, IsPending, pending_count}
 use Rattle.core_invariant.specs.SectionRule.{IsKeptLock}
+use Rattle.core_invariant.specs.Readers.{SourceRight, LinkRight}
 use Rattle.core_invariant.specs.SeatRule.{SeatRight}
-use Rattle.core_events.specs.PlainMoves.{tag_known, tag_known_at, tag_loaded}
+use Rattle.core_events.specs.LoadMoves.{raised_if, with_held, with_place}
+use Rattle.core_events.specs.PlainMoves.{tag_known, tag_known_at, tag_kept, tag_loaded, tag_moved}
+use Rattle.core_events.specs.Searches.{tag_found, with_tag}
 use Rattle.core_invariant.specs.Rule.{Rule}
 use Rattle.core_invariant.proofs.Frames.{every_map, every_named, live_moved, pending_moved, bundle_weaker, every_mapped}
 use Rattle.core_invariant.proofs.OneView.{history_kept, seat_at}
@@ -65,19 +72,40 @@ tag_right m k Right x h true is found right = record {
   plain = (right.plain.0, (right.plain.1.0, ap (λ n. m (Node (Tag Right) n)) (eqb-true h.node k is) ∙ found));
 }
 
+-- a tag that is kept with a link says nothing of its bundle
+tagged_source : (reachable : Type 0) (child number : ℕ → ℕ) (es : List ℕ) (section : Option ℕ) (c x : ℕ) (s : LinkSource)
+    → SourceRight reachable child number es section c s
+    → SourceRight reachable child number es section c (tag_found x s)
+tagged_source reachable child number es section c x (Bundle entry) right = right
+tagged_source reachable child number es section c x (Plain None above below) right = tt
+tagged_source reachable child number es section c x (Plain (Some tag) above below) right = tt
+
+tagged_link : (z : Layout) (child : ℕ → ℕ) (b : Bundles) (w : View) (x : ℕ) (l : ViewLink) (here : Bool) → LinkRight z child b w l
+    → LinkRight z child b w (cond here (record l { source = tag_found x l.source }) l)
+tagged_link z child b w x l true right = tagged_source _ child b.number (b.bundle l.side l.node) w.reading.section l.child x l.source right
+tagged_link z child b w x l false right = right
+
 -- a load
-pub tag_load_kept : (z : Layout) (m : Memory) (vs : List View) (g : Meaning) (i k : ℕ) (side : Side) (v : View) → Rule z m vs g → IsItem vs i v → is_even v.section_word ≡ false
+pub tag_load_kept : (z : Layout) (m : Memory) (vs : List View) (g : Meaning) (i k : ℕ) (side : Side) (v : View) → Rule z m vs g → IsItem vs i v
+    → is_even v.section_word ≡ false
     → Rule z m (set vs i (tag_loaded v k side (m (Node (Tag side) k)))) g
 tag_load_kept z m vs g i k side v rule at inside =
     let x : ℕ = m (Node (Tag side) k) in
     let seat = seat_at z m vs g i v at rule in
     let nodes : List HeldNode = map (tag_known_at k side x) v.held.nodes in
+    let links : List ViewLink = map (with_tag k side x) v.reading.links in
+    let c : Counts = record v.counts { moves = raised_if (tag_moved v k side x) v.counts.moves } in
+    let w : View = record (with_place (with_held v nodes v.held.nexts) v.reading.place v.reading.above links) { counts = c } in
     let same = slots_tag k side x v.held.nodes in
-    read_kept z m vs g rule i v at v.counts nodes v.held.nexts v.reading.place v.reading.above v.reading.links same inside
-    (every_mapped (IsNodeAt m) (IsNodeAt m) (tag_known_at k side x) v.held.nodes (λ h right. tag_right m k side x h (eqb h.node k) refl refl right) seat.loaded.nodes)
-    (nexts_back z m vs g rule i v at v.counts nodes v.held.nexts v.reading.place v.reading.above v.reading.links same)
-    (place_back z m vs g rule i v at v.counts nodes v.held.nexts v.reading.place v.reading.above v.reading.links same refl v.reading.place seat.place)
-    (links_back z m vs g rule i v at v.counts nodes v.held.nexts v.reading.place v.reading.above v.reading.links same)
+    let Right : ViewLink → Type 0 = LinkRight z (λ e. m (Entry Child e)) g.bundles w in
+    read_kept z m vs g rule i v at c nodes v.held.nexts v.reading.place v.reading.above links same inside
+    (every_mapped (IsNodeAt m) (IsNodeAt m) (tag_known_at k side x) v.held.nodes
+    (λ h right. tag_right m k side x h (eqb h.node k) refl refl right) seat.loaded.nodes)
+    (nexts_back z m vs g rule i v at c nodes v.held.nexts v.reading.place v.reading.above links same)
+    (place_back z m vs g rule i v at c nodes v.held.nexts v.reading.place v.reading.above links same refl v.reading.place seat.place)
+    (every_mapped Right Right (with_tag k side x) v.reading.links
+    (λ l right. tagged_link z (λ e. m (Entry Child e)) g.bundles w x l (eqb l.node k && same_side l.side side) right)
+    (links_back z m vs g rule i v at c nodes v.held.nexts v.reading.place v.reading.above links same))
 
 -- what is known of a locked node after a store
 tag_stored : (m : Memory) (k : ℕ) (side : Side) (x : ℕ) (h : HeldNode) (c : Bool) → eqb h.node k ≡ c → IsNodeAt m h
@@ -116,12 +144,13 @@ tag_stored m k Right x h false is right = record {
 }
 
 -- a store, at a locked node
-module _ (z : Layout) (m : Memory) (vs : List View) (g : Meaning) (rule : Rule z m vs g) (i k : ℕ) (side : Side) (x : ℕ) (v : View) (at : IsItem vs i v) (locked : 0 < lock_count k v) where
+module _ (z : Layout) (m : Memory) (vs : List View) (g : Meaning) (rule : Rule z m vs g) (i k : ℕ) (side : Side) (x : ℕ) (v : View) (at : IsItem vs i v)
+    (locked : 0 < lock_count k v) where
   abbrev m' : Memory
   m' = written m (Node (Tag side) k) x
 
   abbrev w : View
-  w = tag_loaded v k side x
+  w = tag_kept v k side x
 
   abbrev ws : List View
   ws = set vs i w
@@ -140,7 +169,8 @@ module _ (z : Layout) (m : Memory) (vs : List View) (g : Meaning) (rule : Rule z
 
   entry_same : (d : ℕ) → HoldsEntry g.bundles w d → HoldsEntry g.bundles v d
   entry_same d (inl reads) = inl reads
-  entry_same d (inr stands) = inr (record { node = stands.node; side = stands.side; of = subst (λ xs. 0 < count stands.node xs) works_same stands.of; here = stands.here })
+  entry_same d (inr stands) =
+      inr (record { node = stands.node; side = stands.side; of = subst (λ xs. 0 < count stands.node xs) works_same stands.of; here = stands.here })
 
   -- the node is not free
   unfree : (j : ℕ) (u : View) → IsItem vs j u → 0 < count k u.free.nodes → ⊥
@@ -153,7 +183,10 @@ module _ (z : Layout) (m : Memory) (vs : List View) (g : Meaning) (rule : Rule z
       section = seat.section.section;
       announced = seat.section.announced;
       outside = seat.section.outside;
-      unlocked = λ even. still_waits v nodes (λ none. omega (arith, locked, ap (λ (hs : List HeldNode). count k (held_slots hs)) none)) (every_mapped (IsKeptLock v.update.taken) (IsKeptLock v.update.taken) (tag_known_at k side x) v.held.nodes (λ h is. tag_keeps v.update.taken side (eqb h.node k) x h is)) (seat.section.unlocked even);
+      unlocked = λ even.
+          still_waits v nodes (λ none. omega (arith, locked, ap (λ (hs : List HeldNode). count k (held_slots hs)) none))
+          (every_mapped (IsKeptLock v.update.taken) (IsKeptLock v.update.taken) (tag_known_at k side x) v.held.nodes
+          (λ h is. tag_keeps v.update.taken side (eqb h.node k) x h is)) (seat.section.unlocked even);
       done = λ none. absurd (omega (arith, locked, ap (count k) locks_same, ap (λ (hs : List HeldNode). count k (held_slots hs)) none));
       waits = seat.section.waits;
     };
@@ -176,10 +209,26 @@ module _ (z : Layout) (m : Memory) (vs : List View) (g : Meaning) (rule : Rule z
       batch = seat.marks.batch;
       taken = seat.marks.taken;
     };
-    pending = every_map (IsPending z (λ s j. m (Node (Head s) j)) (λ d. m (Entry Number d)) g.bundles.number v) (IsPending z (λ s j. m (Node (Head s) j)) (λ d. m (Entry Number d)) g.bundles.number w) v.update.pending
-        (λ d old. (old.0, old.1, record { node = old.2.node; side = old.2.side; there = old.2.there; is = old.2.is; some = old.2.some; of = subst (λ xs. 0 < count old.2.node xs) (sym works_same) old.2.of })) seat.pending;
-    place = place_back z m vs g rule i v at v.counts nodes v.held.nexts v.reading.place v.reading.above v.reading.links locks_same refl v.reading.place seat.place;
-    filled = every_filled m m' v.free v.free v.update v.update v.reading.filled (λ y is. is) (node_apart m v.free v.update (Tag side) k x (unfree i v at)) seat.filled;
+    pending =
+        every_map (IsPending z (λ s j. m (Node (Head s) j)) (λ d. m (Entry Number d)) g.bundles.number v)
+        (IsPending z (λ s j. m (Node (Head s) j)) (λ d. m (Entry Number d)) g.bundles.number w) v.update.pending
+        (λ d old. (
+          old.0,
+          old.1,
+          record {
+            node = old.2.node;
+            side = old.2.side;
+            there = old.2.there;
+            is = old.2.is;
+            some = old.2.some;
+            of = subst (λ xs. 0 < count old.2.node xs) (sym works_same) old.2.of;
+          },
+        )) seat.pending;
+    place =
+        place_back z m vs g rule i v at v.counts nodes v.held.nexts v.reading.place v.reading.above v.reading.links locks_same refl v.reading.place seat.place;
+    filled =
+        every_filled m m' v.free v.free v.update v.update v.reading.filled (λ y is. is)
+        (node_apart m v.free v.update (Tag side) k x (unfree i v at)) seat.filled;
     links = links_back z m vs g rule i v at v.counts nodes v.held.nexts v.reading.place v.reading.above v.reading.links locks_same;
   }
 
@@ -195,7 +244,14 @@ module _ (z : Layout) (m : Memory) (vs : List View) (g : Meaning) (rule : Rule z
   other_now : (u : View) → Beside vs i u → SeatRight z m g u → SeatRight z m' g u
   other_now u beside of = record {
     layout = of.layout;
-    section = record { section = of.section.section; announced = of.section.announced; outside = of.section.outside; unlocked = of.section.unlocked; done = of.section.done; waits = of.section.waits };
+    section = record {
+      section = of.section.section;
+      announced = of.section.announced;
+      outside = of.section.outside;
+      unlocked = of.section.unlocked;
+      done = of.section.done;
+      waits = of.section.waits;
+    };
     seen = of.seen;
     update = of.update;
     version = of.version;
@@ -210,14 +266,19 @@ module _ (z : Layout) (m : Memory) (vs : List View) (g : Meaning) (rule : Rule z
             mark = is.mark;
             left = is.left;
             right = is.right;
-            plain = ((is.plain.0.0, other_side u h Left beside held h.left.tag is.plain.0.1), (is.plain.1.0, other_side u h Right beside held h.right.tag is.plain.1.1));
+            plain = (
+              (is.plain.0.0, other_side u h Left beside held h.left.tag is.plain.0.1),
+              (is.plain.1.0, other_side u h Right beside held h.right.tag is.plain.1.1),
+            );
           }) of.loaded.nodes;
       nexts = of.loaded.nexts;
     };
     marks = of.marks;
     pending = of.pending;
     place = of.place;
-    filled = every_filled m m' u.free u.free u.update u.update u.reading.filled (λ y is. is) (node_apart m u.free u.update (Tag side) k x (unfree beside.place u beside.at)) of.filled;
+    filled =
+        every_filled m m' u.free u.free u.update u.update u.reading.filled (λ y is. is)
+        (node_apart m u.free u.update (Tag side) k x (unfree beside.place u beside.at)) of.filled;
     links = of.links;
   }
 
@@ -227,7 +288,8 @@ module _ (z : Layout) (m : Memory) (vs : List View) (g : Meaning) (rule : Rule z
     history = history_kept z _ g vs i v w at refl refl rule.history;
     slots = quiet z (linked_by g) HoldsNode (HoldsEntry g.bundles) vs i v w at rule.slots refl refl refl
         (record {
-          nodes = λ j holds. inl (holds_same z m vs g rule i v at v.counts nodes v.held.nexts v.reading.place v.reading.above v.reading.links locks_same j holds);
+          nodes = λ j holds.
+              inl (holds_same z m vs g rule i v at v.counts nodes v.held.nexts v.reading.place v.reading.above v.reading.links locks_same j holds);
           entries = λ d holds. inl (entry_same d holds);
         }) (record { number = refl; section = inl refl })
         (λ known. same_looks z (linked_by g) HoldsNode (HoldsEntry g.bundles) v w w refl refl known)
@@ -236,7 +298,8 @@ module _ (z : Layout) (m : Memory) (vs : List View) (g : Meaning) (rule : Rule z
     tree = rule.tree;
     marks = rule.marks;
     bundles = λ j live s. bundle_weaker _ _ _ _ (IsPendingAt vs j) (IsPendingAt ws j) _ _
-        (λ d. pending_moved vs i j d v w at refl (λ works. subst (λ xs. 0 < count j xs) (sym works_same) works)) (rule.bundles j (live_moved z vs i j v w at (omega arith) live) s);
+        (λ d. pending_moved vs i j d v w at refl (λ works. subst (λ xs. 0 < count j xs) (sym works_same) works))
+        (rule.bundles j (live_moved z vs i j v w at (omega arith) live) s);
     pairs = pairs_same vs i v w at refl rule.pairs;
     single = λ d. omega (arith, sum_kept (pending_count d) vs i v w at refl, rule.single d);
     seats = all_moved (SeatRight z m g) (SeatRight z m' g) vs i v w at rule.seats own_now other_now;

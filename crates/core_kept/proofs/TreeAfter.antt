@@ -63,7 +63,8 @@ module _ (m : Memory) (v : View) (a : ℕ) (new : is_new m v (Some a) ≡ true) 
 
   entry_new : (e : ℕ) → 0 < count e (new_entries m (Some a)) → (0 < count e v.free.entries) × (m (Entry Number e) ≡ 0) × (m (Entry Next e) ≡ 0)
   entry_new e some =
-      let two = and_parts (has e v.free.entries && eqb (m (Entry Number e)) 0) (eqb (m (Entry Next e)) 0) (tested_at (is_fresh m v) (new_entries m (Some a)) e new_parts.2 some) in
+      let two = and_parts (has e v.free.entries && eqb (m (Entry Number e)) 0) (eqb (m (Entry Next e)) 0)
+      (tested_at (is_fresh m v) (new_entries m (Some a)) e new_parts.2 some) in
       let one = and_parts (has e v.free.entries) (eqb (m (Entry Number e)) 0) two.0 in
       (has-count e v.free.entries one.0, eqb-true (m (Entry Number e)) 0 one.1, eqb-true (m (Entry Next e)) 0 two.1)
 
@@ -71,7 +72,8 @@ module _ (m : Memory) (v : View) (a : ℕ) (new : is_new m v (Some a) ≡ true) 
   entry_once e = once_listed e (m (Node (Head Left) a)) (m (Node (Head Right) a)) new_parts.3
 
 -- the same, where there is a new node or none
-pub added_new : (m : Memory) (v : View) (added : Option ℕ) → is_new m v added ≡ true → (k : ℕ) → 0 < count k (listed added) → (0 < count k v.free.nodes) × (m (Node Mark k) ≡ 0)
+pub added_new : (m : Memory) (v : View) (added : Option ℕ) → is_new m v added ≡ true → (k : ℕ) → 0 < count k (listed added)
+    → (0 < count k v.free.nodes) × (m (Node Mark k) ≡ 0)
 added_new m v None new k some = absurd (omega (arith, some))
 added_new m v (Some a) new k some = subst (λ n. (0 < count n v.free.nodes) × (m (Node Mark n) ≡ 0)) (listed_is k a some) (node_new m v a new)
 
@@ -85,18 +87,29 @@ entries_once m v None new e = omega arith
 entries_once m v (Some a) new e = entry_once m v a new e
 
 -- the head of a new node's link is one of its entries
-new_head : (m : Memory) (added : Option ℕ) (k : ℕ) (side : Side) → 0 < count k (listed added) → 0 < m (Node (Head side) k) → 0 < count (m (Node (Head side) k)) (new_entries m added)
+new_head : (m : Memory) (added : Option ℕ) (k : ℕ) (side : Side) → 0 < count k (listed added) → 0 < m (Node (Head side) k)
+    → 0 < count (m (Node (Head side) k)) (new_entries m added)
 new_head m None k side there some = absurd (omega (arith, there))
-new_head m (Some a) k side there some = subst (λ n. 0 < m (Node (Head side) n) → 0 < count (m (Node (Head side) n)) (new_entries m (Some a))) (listed_is k a there) (by side) some
+new_head m (Some a) k side there some =
+    subst (λ n. 0 < m (Node (Head side) n) → 0 < count (m (Node (Head side) n)) (new_entries m (Some a))) (listed_is k a there) (by side) some
   where
     by : (side : Side) → 0 < m (Node (Head side) a) → 0 < count (m (Node (Head side) a)) (new_entries m (Some a))
     by Left some =
-        omega (arith, in_listed (m (Node (Head Left) a)) some, count-append (m (Node (Head Left) a)) (listed_entry (m (Node (Head Left) a))) (listed_entry (m (Node (Head Right) a))))
+        omega (
+          arith,
+          in_listed (m (Node (Head Left) a)) some,
+          count-append (m (Node (Head Left) a)) (listed_entry (m (Node (Head Left) a))) (listed_entry (m (Node (Head Right) a))),
+        )
     by Right some =
-        omega (arith, in_listed (m (Node (Head Right) a)) some, count-append (m (Node (Head Right) a)) (listed_entry (m (Node (Head Left) a))) (listed_entry (m (Node (Head Right) a))))
+        omega (
+          arith,
+          in_listed (m (Node (Head Right) a)) some,
+          count-append (m (Node (Head Right) a)) (listed_entry (m (Node (Head Left) a))) (listed_entry (m (Node (Head Right) a))),
+        )
 
 -- the bundle of a new node's link is its head
-new_newest : (numbered : ℕ → Bool) (next number : ℕ → ℕ) (s head : ℕ) → (0 < head → (numbered head ≡ true) × (number head ≤ s)) → newest numbered next head ≡ select number s (listed_entry head)
+new_newest : (numbered : ℕ → Bool) (next number : ℕ → ℕ) (s head : ℕ) → (0 < head → (numbered head ≡ true) × (number head ≤ s))
+    → newest numbered next head ≡ select number s (listed_entry head)
 new_newest numbered next number s head known = by (eqb head 0) refl
   where
     positive : (x : ℕ) → eqb x 0 ≡ false → 0 < x
@@ -126,7 +139,8 @@ not_had k xs none = by (has k xs) refl
     by true is = absurd (omega (arith, none, has-count k xs is))
     by false is = refl
 
-module _ (z : Layout) (m : Memory) (vs : List View) (g : Meaning) (rule : Rule z m vs g) (i : ℕ) (v : View) (at : IsItem vs i v) (quiet : v.update.raised ≡ None) (left : 0 < v.history.left) where
+module _ (z : Layout) (m : Memory) (vs : List View) (g : Meaning) (rule : Rule z m vs g) (i : ℕ) (v : View) (at : IsItem vs i v)
+    (quiet : v.update.raised ≡ None) (left : 0 < v.history.left) where
   abbrev s : ℕ
   s = m Stamp
 
@@ -175,10 +189,12 @@ module _ (z : Layout) (m : Memory) (vs : List View) (g : Meaning) (rule : Rule z
         (number_tells z m vs g rule k live side d here) (numbered_or_none z m vs g rule k live side d here) room)
         (raised_tail g.bundles.number more s (g.bundles.bundle side k) (tail_low z m vs g rule k live side)))
 
-    head_numbered : (k : ℕ) (side : Side) → 0 < count k (listed added) → 0 < head side k → (has_number m vs more (head side k) ≡ true) × (number' (head side k) ≤ s + 1)
+    head_numbered : (k : ℕ) (side : Side) → 0 < count k (listed added) → 0 < head side k
+        → (has_number m vs more (head side k) ≡ true) × (number' (head side k) ≤ s + 1)
     head_numbered k side there some =
         let listed_head = new_head m added k side there some in
-        let pends : has (head side k) more ≡ true = count-has (head side k) more (omega (arith, count-append (head side k) v.update.pending (new_entries m added), listed_head)) in (
+        let pends : has (head side k) more ≡ true
+        = count-has (head side k) more (omega (arith, count-append (head side k) v.update.pending (new_entries m added), listed_head)) in (
           or_right (not (eqb (m (Entry Number (head side k))) 0) || was_raised (head side k) vs) (has (head side k) more) pends,
           low (has (head side k) more) (g.bundles.number (head side k)) pends,
         )
@@ -195,7 +211,8 @@ module _ (z : Layout) (m : Memory) (vs : List View) (g : Meaning) (rule : Rule z
     child_by k side false is live = child_stays k (live refl) side
 
     -- the child of a link of a node that is new or live, after the raise
-    pub child_after : (k : ℕ) → (has k (listed added) ≡ false → IsLive z vs k) → (side : Side) → child_now m vs more side k ≡ child_of_entry child (select number' (s + 1) (bundle' side k))
+    pub child_after : (k : ℕ) → (has k (listed added) ≡ false → IsLive z vs k) → (side : Side)
+        → child_now m vs more side k ≡ child_of_entry child (select number' (s + 1) (bundle' side k))
     child_after k live side = child_by k side (has k (listed added)) refl live
 
     -- an entry of a live node's bundle is not new
@@ -218,7 +235,8 @@ module _ (z : Layout) (m : Memory) (vs : List View) (g : Meaning) (rule : Rule z
 
         has_same : (e : ℕ) → count e (new_entries m added) ≡ 0 → has e more ≡ has e v.update.pending
         has_same e none =
-            either (has e more) (has e v.update.pending) (λ is. count-has e v.update.pending (omega (arith, has-count e more is, count-append e v.update.pending (new_entries m added), none)))
+            either (has e more) (has e v.update.pending)
+            (λ is. count-has e v.update.pending (omega (arith, has-count e more is, count-append e v.update.pending (new_entries m added), none)))
             (λ is. count-has e more (omega (arith, has-count e v.update.pending is, count-append e v.update.pending (new_entries m added))))
 
         apart : (x : ℕ) → eqb x 0 ≡ false → x ≡ 0 → ⊥
@@ -226,7 +244,8 @@ module _ (z : Layout) (m : Memory) (vs : List View) (g : Meaning) (rule : Rule z
 
         head_there : eqb (head side k) 0 ≡ false → 0 < count (head side k) (g.bundles.bundle side k)
         head_there some =
-            elim (chain_head (λ e. m (Entry Next e)) (head side k) (g.bundles.bundle side k) (rule.bundles k live side).chain) as (λ _. 0 < count (head side k) (g.bundles.bundle side k)) [
+            elim (chain_head (λ e. m (Entry Next e)) (head side k) (g.bundles.bundle side k) (rule.bundles k live side).chain)
+            as (λ _. 0 < count (head side k) (g.bundles.bundle side k)) [
               | inl none ↦ absurd (apart (head side k) some none)
               | inr here ↦ here
             ]
@@ -234,14 +253,17 @@ module _ (z : Layout) (m : Memory) (vs : List View) (g : Meaning) (rule : Rule z
         by : (c : Bool) → eqb (head side k) 0 ≡ c → child_now m vs more side k ≡ child_now m vs v.update.pending side k
         by true none =
             ap (child_of_entry child) (newest_none (has_number m vs more) (λ e. m (Entry Next e)) (head side k) (eqb-true (head side k) 0 none))
-            ∙ sym (ap (child_of_entry child) (newest_none (has_number m vs v.update.pending) (λ e. m (Entry Next e)) (head side k) (eqb-true (head side k) 0 none)))
+            ∙ sym (ap (child_of_entry child) (newest_none (has_number m vs v.update.pending) (λ e. m (Entry Next e)) (head side k)
+            (eqb-true (head side k) 0 none)))
         by false some =
-            ap (λ b. child_of_entry child (cond (eqb (head side k) 0 || (not (eqb (m (Entry Number (head side k))) 0) || was_raised (head side k) vs || b)) (head side k) (m (Entry Next (head side k)))))
+            ap (λ b. child_of_entry child (cond (eqb (head side k) 0 || (not (eqb (m (Entry Number (head side k))) 0) || was_raised (head side k) vs || b))
+            (head side k) (m (Entry Next (head side k)))))
             (has_same (head side k) (bundle_old k side (head side k) live (head_there some)))
 
     -- a tree is spelled at the next number, where its nodes are new or in the tree at the stamp
     pub spelled_after : (tree : NamedTree) → ((x : ℕ) → 0 < occurs x tree → has x (listed added) ≡ false → IsLive z vs x)
-        → spells (graph_now m vs more) (child_now m vs more Right 0) tree ≡ true → IsSpelledAt (λ k. m (Node Key k)) (λ k. m (Node Val k)) child number' bundle' (s + 1) 0 tree
+        → spells (graph_now m vs more) (child_now m vs more Right 0) tree ≡ true
+        → IsSpelledAt (λ k. m (Node Key k)) (λ k. m (Node Val k)) child number' bundle' (s + 1) 0 tree
     spelled_after tree live is =
         let then : Graph = graph_at (λ k. m (Node Key k)) (λ k. m (Node Val k)) child number' bundle' (s + 1) in
         subst (λ c. IsSpelled then c tree) (child_after 0 (λ lacks. root_lives z m vs g rule) Right)
@@ -254,7 +276,8 @@ module _ (z : Layout) (m : Memory) (vs : List View) (g : Meaning) (rule : Rule z
     unnumbered_before k side d live here some =
         elim (cases_lt 0 (count d v.update.pending)) as (λ _. s < g.bundles.number d) [
           | inl pends ↦
-              let known = every_at (IsPending z head (λ e. m (Entry Number e)) g.bundles.number v) d v.update.pending (seat_at z m vs g i v at rule).pending pends in
+              let known = every_at (IsPending z head (λ e. m (Entry Number e)) g.bundles.number v) d v.update.pending
+              (seat_at z m vs g i v at rule).pending pends in
               omega (arith, stamp_low z m vs g rule, known.1, ap shown quiet)
           | inr none ↦
               let free = (entries_new m v added new d (omega (arith, some, none, count-append d v.update.pending (new_entries m added)))).0 in
@@ -279,7 +302,8 @@ module _ (z : Layout) (m : Memory) (vs : List View) (g : Meaning) (rule : Rule z
         none : count k (listed added) ≡ 0
         none =
             elim (cases_lt 0 (count k (listed added))) as (λ _. count k (listed added) ≡ 0) [
-              | inl some ↦ absurd (omega (arith, there, count_slots k g.tree, (free_node_alone z vs g rule.slots i k v at (added_new m v added new k some).0).0))
+              | inl some ↦
+                  absurd (omega (arith, there, count_slots k g.tree, (free_node_alone z vs g rule.slots i k v at (added_new m v added new k some).0).0))
               | inr less ↦ omega (arith, less)
             ]
 
@@ -287,7 +311,8 @@ module _ (z : Layout) (m : Memory) (vs : List View) (g : Meaning) (rule : Rule z
     bundles' = record { bundle = bundle'; number = number' }
 
     -- a link of a node of the tree that is null at the stamp and at the next number is so before and after
-    pub null_before : (k : ℕ) (side : Side) → 0 < occurs k g.tree → IsNullAtBoth child bundles' s (s + 1) side k → child_of_entry child (select g.bundles.number s (g.bundles.bundle side k)) ≡ 0
+    pub null_before : (k : ℕ) (side : Side) → 0 < occurs k g.tree → IsNullAtBoth child bundles' s (s + 1) side k
+        → child_of_entry child (select g.bundles.number s (g.bundles.bundle side k)) ≡ 0
     null_before k side there both =
         ap (child_of_entry child) (selects_same k side (node_lives z m vs g rule k there) ∙ ap (select number' s) (sym (bundle_stays k side there))) ∙ both.1
 

@@ -47,9 +47,11 @@ pub record MovesPlain (m : Memory) (g : Meaning) (v : View) (u : Update) (move :
   pub owed : Every (λ (o : OwedTag). IsLinkIn 0 Right tree o.node o.side × (locks o.node v.held.nodes ≡ true)) move.plain.owed
   pub owed_once : (k : ℕ) (side : Side) → length (filter (is_owed_at k side) move.plain.owed) ≤ 1
   pub nulled : (k : ℕ) (side : Side) → 0 < length (filter (is_owed_at k side) move.plain.owed)
-      → IsNulled (child_at (λ e. m (Entry Child e)) g.bundles (m Stamp)) (child_at (λ e. m (Entry Child e)) (meaning_after m g v u move tree).bundles (m Stamp + 1)) g.tree k side
+      → IsNulled (child_at (λ e. m (Entry Child e)) g.bundles (m Stamp))
+      (child_at (λ e. m (Entry Child e)) (meaning_after m g v u move tree).bundles (m Stamp + 1)) g.tree k side
   -- and each link to be set that leads to none after is one whose tag is owed
-  pub nulls : (k : ℕ) (side : Side) → Sets k side move.plain.unset → child_at (λ e. m (Entry Child e)) (meaning_after m g v u move tree).bundles (m Stamp + 1) side k ≡ 0
+  pub nulls : (k : ℕ) (side : Side) → Sets k side move.plain.unset
+      → child_at (λ e. m (Entry Child e)) (meaning_after m g v u move tree).bundles (m Stamp + 1) side k ≡ 0
       → owes k side move.plain.owed ≡ true
   -- the new node's links lead to the children of its entries, and its tags are 0
   pub new : (k : ℕ) (side : Side) → 0 < count k (listed move.added)

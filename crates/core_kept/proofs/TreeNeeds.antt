@@ -32,7 +32,7 @@ use Rattle.core_invariant.specs.Meanings.{Meaning}
 use Rattle.core_invariant.specs.BundleRule.{IsLive}
 use Rattle.core_events.specs.LoadMoves.{locks}
 use Rattle.core_events.specs.SpelledNow.{tree_now}
-use Rattle.core_events.specs.TreeMoves.{tree_after, is_key, has_key, new_slot, move_at, tree_move, is_new, is_plain_at, is_plain_new, sets_locked, spells_after, is_step, is_tree_step, is_plain_step}
+use Rattle.core_events.specs.TreeMoves.{tree_after, is_key, has_key, new_slot, move_at, tree_move, is_new, is_plain_at, is_plain_new, sets_locked, spells_after, is_step, is_tree_step, is_plain_step, finds_gap}
 use Rattle.core_events.specs.Versions.{top_slot, IsNullAtBoth}
 use Rattle.core_invariant.specs.Rule.{Rule}
 use Rattle.core_invariant.proofs.HeldFacts.{locks-count}
@@ -63,7 +63,8 @@ plain_new m (Some a) is k side some = subst (λ x. IsPlainAt m x side) (listed_i
     by Left = one Left (and_parts (is_plain_at m a Left) (is_plain_at m a Right) is).0
     by Right = one Right (and_parts (is_plain_at m a Left) (is_plain_at m a Right) is).1
 
-module _ (z : Layout) (m : Memory) (vs : List View) (g : Meaning) (rule : Rule z m vs g) (i : ℕ) (v : View) (at : IsItem vs i v) (quiet : v.update.raised ≡ None) (left : 0 < v.history.left) (u : Update) (slot : ℕ) where
+module _ (z : Layout) (m : Memory) (vs : List View) (g : Meaning) (rule : Rule z m vs g) (i : ℕ) (v : View) (at : IsItem vs i v)
+    (quiet : v.update.raised ≡ None) (left : 0 < v.history.left) (u : Update) (slot : ℕ) where
   abbrev s : ℕ
   s = m Stamp
 
@@ -125,11 +126,13 @@ module _ (z : Layout) (m : Memory) (vs : List View) (g : Meaning) (rule : Rule z
           sym (child_after z m vs g rule i v at quiet left move.added new n (λ lacks. end_live) d)
           ∙ child_pending z m vs g rule i v at quiet left move.added new n d end_live ∙ sym ends
 
-      plain_next : has_key u.change u.key g.tree ≡ true → is_plain_step m v move ≡ true → MovesPlain m g v u move tree
+      plain_next : has_key u.change u.key g.tree ≡ true → is_plain_step m v u move g.tree ≡ true → MovesPlain m g v u move tree
       plain_next found is =
           let once : NamesOnce 0 g.tree = names_once z m vs g rule in
-          let parts = and_parts (list_all (sets_locked v) move.plain.unset) (is_plain_new m move.added) is in
-          let work : Every (IsWork then.child g.tree tree) move.plain.unset = set_work m u.key slot g.tree now then rule.tree.spelled once end_leads u.change spelled_next in
+          let parts = and_parts (list_all (sets_locked v) move.plain.unset) (is_plain_new m move.added)
+          (and_parts (list_all (sets_locked v) move.plain.unset && is_plain_new m move.added) (finds_gap m v u g.tree) is).0 in
+          let work : Every (IsWork then.child g.tree tree) move.plain.unset
+          = set_work m u.key slot g.tree now then rule.tree.spelled once end_leads u.change spelled_next in
           let locked : Every (λ (x : UnsetLink). locks x.node v.held.nodes ≡ true) move.plain.unset = all_passing (sets_locked v) move.plain.unset parts.0 in
           record {
             leads = after_child m slot u.change u.key g.tree;
@@ -137,7 +140,8 @@ module _ (z : Layout) (m : Memory) (vs : List View) (g : Meaning) (rule : Rule z
             was = set_was m u.change u.key slot g.tree;
             locked = locked;
             owed = owed_every (λ (x : UnsetLink). IsWork then.child g.tree tree x × (locks x.node v.held.nodes ≡ true))
-                (λ (o : OwedTag). IsLinkIn 0 Right tree o.node o.side × (locks o.node v.held.nodes ≡ true)) m u.change u.key slot g.tree (λ x known. (known.0.still, known.1))
+                (λ (o : OwedTag). IsLinkIn 0 Right tree o.node o.side × (locks o.node v.held.nodes ≡ true)) m u.change u.key slot g.tree
+                (λ x known. (known.0.still, known.1))
                 (both_hold (IsWork then.child g.tree tree) (λ (x : UnsetLink). locks x.node v.held.nodes ≡ true) move.plain.unset work locked);
             owed_once = owed_once m u.key slot g.tree now then rule.tree.spelled once end_leads u.change;
             nulled = owed_null m u.key slot g.tree now then rule.tree.spelled once end_leads u.change found spelled_next;
@@ -150,15 +154,16 @@ module _ (z : Layout) (m : Memory) (vs : List View) (g : Meaning) (rule : Rule z
         → IsInGap side (m (Node Key k)) y g.tree → IsInGap side (m (Node Key k)) y tree
     gap_next k y side there still both gap =
         let link : HasNullLink k (m (Node Key k)) side g.tree
-        = null_link_law now (now.child Right 0) k side g.tree rule.tree.spelled there (null_before z m vs g rule i v at quiet left move.added new k side there both) in
+        = null_link_law now (now.child Right 0) k side g.tree rule.tree.spelled there
+        (null_before z m vs g rule i v at quiet left move.added new k side there both) in
         gaps_after then u.change slot u.key k (m (Node Key k)) y side g.tree rule.tree.lawful link spelled_next
         (null_after z m vs g rule i v at quiet left move.added new k side both) gap
 
-  moves_by : slot ≡ new_slot m vs v u.key g.tree → is_step m vs v u slot move g.tree ≡ true → MovesTree m g v u move tree
+  pub moves_by : slot ≡ new_slot m vs v u.key g.tree → is_step m vs v u slot move g.tree ≡ true → MovesTree m g v u move tree
   moves_by ends is =
       let taken : Bool = list_all (λ k. locks k v.held.nodes) move.taken in
       let spelled : Bool = spells_after m vs v u slot move g.tree in
-      let five = and_parts (is_key u.key && has_key u.change u.key g.tree && taken && is_new m v move.added && spelled) (is_plain_step m v move) is in
+      let five = and_parts (is_key u.key && has_key u.change u.key g.tree && taken && is_new m v move.added && spelled) (is_plain_step m v u move g.tree) is in
       let four = and_parts (is_key u.key && has_key u.change u.key g.tree && taken && is_new m v move.added) spelled five.0 in
       let three = and_parts (is_key u.key && has_key u.change u.key g.tree && taken) (is_new m v move.added) four.0 in
       let two = and_parts (is_key u.key && has_key u.change u.key g.tree) taken three.0 in
@@ -171,7 +176,11 @@ module _ (z : Layout) (m : Memory) (vs : List View) (g : Meaning) (rule : Rule z
         locked = λ k there. locks-count k v.held.nodes (tested_at (λ n. locks n v.held.nodes) move.taken k two.1 there);
         taken_entries = λ e. entries_linked z m vs g rule i v at quiet left e move.taken taken_live;
         slots = moves;
-        version = record { spelled = spelled_next three.1 four.1; lawful = lawful_after u.change slot u.key g.tree (key_low u.key one.0) rule.tree.lawful; contents = contents_next };
+        version = record {
+          spelled = spelled_next three.1 four.1;
+          lawful = lawful_after u.change slot u.key g.tree (key_low u.key one.0) rule.tree.lawful;
+          contents = contents_next;
+        };
         gaps = gap_next three.1 four.1;
         plain = plain_next three.1 four.1 ends one.1 five.1;
       }

@@ -21,7 +21,7 @@ use Rattle.index_words.proofs.Seats.{Beside, sum_moved, sum_kept, one_term, at_i
 use Rattle.key_map.proofs.Counting.{count-append, count-push}
 use Rattle.core_grace.specs.Sections.{is_even}
 use Rattle.core_grace.specs.Holds.{HoldsNode, HoldsEntry, held_slots, listed, work_nodes, tree_slots, entries_of}
-use Rattle.core_grace.specs.Slots.{nodes_of, entries_in, own, own_free, HoldsNone, SlotRule}
+use Rattle.core_grace.specs.Slots.{nodes_of, entries_in, own_free, HoldsNone, SlotRule}
 use Rattle.core_grace.proofs.RuleMoves.{every_push}
 use Rattle.core_invariant.proofs.Pairs.{pairs_same}
 use Rattle.core_invariant.specs.Meanings.{Meaning, linked_by}
@@ -34,9 +34,11 @@ use Rattle.core_events.specs.LockMoves.{just_locked, place_locked, locked_view}
 use Rattle.core_invariant.specs.Rule.{Rule}
 use Rattle.core_invariant.proofs.Frames.{every_map, Term, term_of, live_moved, pending_moved, bundle_weaker}
 use Rattle.core_invariant.proofs.OneView.{history_kept, seat_at}
-use Rattle.core_invariant.proofs.Owned.{in_entries, not_in_bundle, reachable_live}
+use Rattle.core_invariant.specs.Reached.{has_let}
+use Rattle.core_invariant.proofs.Owned.{in_entries, not_in_bundle}
 use Rattle.core_invariant.proofs.Filled.{node_other, every_filled, lock_apart}
 use Rattle.core_kept.proofs.Holding.{holding_more, waits_with}
+use Rattle.core_invariant.proofs.LockReach.{CanLock}
 use Rattle.core_invariant.proofs.ReadMoves.{inside_only, read_kept}
 
 pub slots_push : (k : ℕ) (hs : List HeldNode) → held_slots (hs ++ just_locked k ∷ []) ≡ held_slots hs ++ k ∷ []
@@ -46,7 +48,8 @@ slots_push k (h ∷ hs) = ap (λ ns. h.node ∷ ns) (slots_push k hs)
 taken_word : (x : ℕ) → 0 < x → 0 + cond (eqb x 0) 0 1 ≡ 1
 taken_word x low = grind (arith, nat_tests)
 
-module _ (z : Layout) (m : Memory) (vs : List View) (g : Meaning) (rule : Rule z m vs g) (i k n : ℕ) (v : View) (at : IsItem vs i v) (inside : is_even v.section_word ≡ false) (reach : IsReachable z v k) (named : v.number ≡ Some n) (free : m (Node Lock k) ≡ 0) where
+module _ (z : Layout) (m : Memory) (vs : List View) (g : Meaning) (rule : Rule z m vs g) (i k n : ℕ) (v : View) (at : IsItem vs i v)
+    (inside : is_even v.section_word ≡ false) (can : CanLock z vs v k) (named : v.number ≡ Some n) (free : m (Node Lock k) ≡ 0) where
   abbrev m' : Memory
   m' = written m (Node Lock k) (n + 1)
 
@@ -72,7 +75,13 @@ module _ (z : Layout) (m : Memory) (vs : List View) (g : Meaning) (rule : Rule z
   locks_more j = omega (arith, ap (count j) (slots_push k v.held.nodes), count-push j (held_slots v.held.nodes) k)
 
   work_more : (j : ℕ) → count j (work_nodes w) ≡ count j (work_nodes v) + cond (eqb k j) 1 0
-  work_more j = omega (arith, locks_more j, count-append j (held_slots w.held.nodes) (listed v.update.added), count-append j (held_slots v.held.nodes) (listed v.update.added))
+  work_more j =
+      omega (
+        arith,
+        locks_more j,
+        count-append j (held_slots w.held.nodes) (listed v.update.added),
+        count-append j (held_slots v.held.nodes) (listed v.update.added),
+      )
 
   locked_here : lock_count k w ≡ lock_count k v + 1
   locked_here = locks_more k ∙ ap (λ b. lock_count k v + cond b 1 0) (eq-eqb k k refl)
@@ -91,7 +100,14 @@ module _ (z : Layout) (m : Memory) (vs : List View) (g : Meaning) (rule : Rule z
   works_from j some =
       elim (eqb_tells j k) as (λ _. (0 < count j (work_nodes v)) ⊎ (j ≡ k)) [
         | inl same ↦ inr same.1
-        | inr other ↦ inl (omega (arith, some, locked_other j other.1, count-append j (held_slots w.held.nodes) (listed v.update.added), count-append j (held_slots v.held.nodes) (listed v.update.added)))
+        | inr other ↦
+            inl (omega (
+              arith,
+              some,
+              locked_other j other.1,
+              count-append j (held_slots w.held.nodes) (listed v.update.added),
+              count-append j (held_slots v.held.nodes) (listed v.update.added),
+            ))
       ]
 
   holds_from : (j : ℕ) → HoldsNode w j → HoldsNode v j ⊎ (j ≡ k)
@@ -118,7 +134,7 @@ module _ (z : Layout) (m : Memory) (vs : List View) (g : Meaning) (rule : Rule z
       ]
 
   live : IsLive z vs k
-  live = reachable_live z vs g rule.slots i k v at reach
+  live = can.live
 
   node_unfree : (j : ℕ) → HoldsNode w j → sum_by (own_free nodes_of j) vs ≡ 0
   node_unfree j holds =
@@ -127,7 +143,8 @@ module _ (z : Layout) (m : Memory) (vs : List View) (g : Meaning) (rule : Rule z
         | inr same ↦ subst (λ x. sum_by (own_free nodes_of x) vs ≡ 0) (sym same) live.1
       ]
 
-  bundle_unfree : (x : ℕ) → 0 < count x (entries_of g.bundles k) → (0 < sum_by (own_free entries_in x) vs) ⊎ (sum_by (own_free entries_in x) vs ≤ 0) → sum_by (own_free entries_in x) vs ≡ 0
+  bundle_unfree : (x : ℕ) → 0 < count x (entries_of g.bundles k) → (0 < sum_by (own_free entries_in x) vs) ⊎ (sum_by (own_free entries_in x) vs ≤ 0)
+      → sum_by (own_free entries_in x) vs ≡ 0
   bundle_unfree x here (inr none) = omega (arith, none)
   bundle_unfree x here (inl some) =
       let term : Term (own_free entries_in x) vs = term_of (own_free entries_in x) vs some in
@@ -136,32 +153,34 @@ module _ (z : Layout) (m : Memory) (vs : List View) (g : Meaning) (rule : Rule z
   entry_unfree : (x : ℕ) → HoldsEntry g.bundles w x → sum_by (own_free entries_in x) vs ≡ 0
   entry_unfree x holds =
       elim (entry_from x holds) as (λ _. sum_by (own_free entries_in x) vs ≡ 0) [
-        | inl before ↦ at_item (λ (u : View). (d : ℕ) → HoldsEntry g.bundles u d → sum_by (own_free entries_in d) vs ≡ 0) vs i v at rule.slots.entries.unheld x before
+        | inl before ↦
+            at_item (λ (u : View). (d : ℕ) → HoldsEntry g.bundles u d → sum_by (own_free entries_in d) vs ≡ 0) vs i v at rule.slots.entries.unheld x before
         | inr here ↦ bundle_unfree x here (cases_lt 0 (sum_by (own_free entries_in x) vs))
       ]
 
-  -- the node is in no batch of which the view holds nothing
-  batch_apart : (j : ℕ) (u : View) → IsItem vs j u → HoldsNone HoldsNode (HoldsEntry g.bundles) u.batch v → 0 < count k u.batch.nodes → ⊥
-  batch_apart j u of none some =
-      elim reach.1 as (λ _. ⊥) [
-        | inl root ↦ omega (arith, rule.slots.nodes.one 0, one_term (own nodes_of 0) vs j u of, subst (λ x. 0 < count x u.batch.nodes) root some)
-        | inr holds ↦ none.nodes k some holds
-      ]
+  -- the node is in no batch of one who has let the view pass
+  batch_apart : (j : ℕ) (u : View) → IsItem vs j u → has_let u.grace v.number v.section_word ≡ true → 0 < count k u.batch.nodes → ⊥
+  batch_apart j u of lets some = both (has_let u.grace v.number v.section_word) lets (can.waits j u of some)
+    where
+      both : (b : Bool) → b ≡ true → b ≡ false → ⊥
+      both b is isnt = cc
 
-  none_now : (j : ℕ) (u : View) → IsItem vs j u → HoldsNone HoldsNode (HoldsEntry g.bundles) u.batch v → HoldsNone HoldsNode (HoldsEntry g.bundles) u.batch w
-  none_now j u of none = record {
+  none_now : (j : ℕ) (u : View) → IsItem vs j u → has_let u.grace v.number v.section_word ≡ true → HoldsNone HoldsNode (HoldsEntry g.bundles) u.batch v
+      → HoldsNone HoldsNode (HoldsEntry g.bundles) u.batch w
+  none_now j u of lets none = record {
     nodes = λ x some holds. elim (holds_from x holds) as (λ _. ⊥) [
       | inl before ↦ none.nodes x some before
-      | inr same ↦ batch_apart j u of none (subst (λ y. 0 < count y u.batch.nodes) same some)
+      | inr same ↦ batch_apart j u of lets (subst (λ y. 0 < count y u.batch.nodes) same some)
     ];
     entries = λ x some holds. elim (entry_from x holds) as (λ _. ⊥) [
       | inl before ↦ none.entries x some before
-      | inr here ↦ batch_apart j u of none (waits_with z vs g rule.slots j k x u of live here some)
+      | inr here ↦ batch_apart j u of lets (waits_with z vs g rule.slots j k x u of live here some)
     ];
   }
 
   slots_now : SlotRule z (linked_by g) HoldsNode (HoldsEntry g.bundles) ws
-  slots_now = holding_more z (linked_by g) HoldsNode (HoldsEntry g.bundles) vs rule.slots i v w at refl refl refl refl refl refl node_unfree entry_unfree none_now
+  slots_now =
+      holding_more z (linked_by g) HoldsNode (HoldsEntry g.bundles) vs rule.slots i v w at refl refl refl refl refl refl node_unfree entry_unfree none_now
 
   locks_now : (j : ℕ) → sum_by (lock_count j) ws ≡ cond (eqb (m' (Node Lock j)) 0) 0 1
   locks_now j =
@@ -178,7 +197,14 @@ module _ (z : Layout) (m : Memory) (vs : List View) (g : Meaning) (rule : Rule z
     old.0,
     elim old.1 as (λ _. (j ≡ 0) ⊎ HoldsNode w j) [
       | inl root ↦ inl root
-      | inr holds ↦ inr (omega (arith, holds, work_more j, count-append j (tree_slots v.reading.tree) (work_nodes v), count-append j (tree_slots v.reading.tree) (work_nodes w)))
+      | inr holds ↦
+          inr (omega (
+            arith,
+            holds,
+            work_more j,
+            count-append j (tree_slots v.reading.tree) (work_nodes v),
+            count-append j (tree_slots v.reading.tree) (work_nodes w),
+          ))
     ],
   )
 
@@ -193,7 +219,8 @@ module _ (z : Layout) (m : Memory) (vs : List View) (g : Meaning) (rule : Rule z
       passed_by (Some t) (inl locked) = inl (still_locked j locked)
       passed_by (Some t) (inr above) = inr above
 
-  stands_now : (j e : ℕ) (found : Option ℕ) (es : List ℕ) → StandsAt stamp es e found v.reading.above (IsPassed g.bundles.number v j) → StandsAt stamp es e found v.reading.above (IsPassed g.bundles.number w j)
+  stands_now : (j e : ℕ) (found : Option ℕ) (es : List ℕ) → StandsAt stamp es e found v.reading.above (IsPassed g.bundles.number v j)
+      → StandsAt stamp es e found v.reading.above (IsPassed g.bundles.number w j)
   stands_now j e found es stands = record {
     front = stands.front;
     back = stands.back;
@@ -235,7 +262,8 @@ module _ (z : Layout) (m : Memory) (vs : List View) (g : Meaning) (rule : Rule z
     stands = λ some watched. stands_now j e found (g.bundles.bundle side j) (right.stands some (inr (ap is_some is)));
   }
 
-  source_now : (j c : ℕ) (es : List ℕ) (source : LinkSource) → SourceRight (IsReachable z v j) (λ d. m (Entry Child d)) g.bundles.number es v.reading.section c source
+  source_now : (j c : ℕ) (es : List ℕ) (source : LinkSource)
+      → SourceRight (IsReachable z v j) (λ d. m (Entry Child d)) g.bundles.number es v.reading.section c source
       → SourceRight (IsReachable z w j) (λ d. m (Entry Child d)) g.bundles.number es v.reading.section c source
   source_now j c es (Bundle entry) old = record { reach = reach_now j old.reach; selected = old.selected }
   source_now j c es (Plain tag above below) old = tt
@@ -260,7 +288,7 @@ module _ (z : Layout) (m : Memory) (vs : List View) (g : Meaning) (rule : Rule z
     announced = record { low = own_seat.announced.low; read = own_seat.announced.read; least = own_seat.announced.least };
     tree = own_seat.tree;
     locks = λ j locked. elim (eqb_tells j k) as (λ _. (j ≤ z.nodes) × NamesHolder (m' (Node Lock j)) v.number) [
-      | inl same ↦ subst (λ x. (x ≤ z.nodes) × NamesHolder (m' (Node Lock x)) v.number) (sym same.1) (reach.0, named_now)
+      | inl same ↦ subst (λ x. (x ≤ z.nodes) × NamesHolder (m' (Node Lock x)) v.number) (sym same.1) (live.0, named_now)
       | inr other ↦
           let old = own_seat.locks j (omega (arith, locked, locked_other j other.1)) in
           (old.0, subst (λ x. NamesHolder x v.number) (sym (node_other m Lock Lock k j (n + 1) other.1)) old.1)
@@ -279,8 +307,21 @@ module _ (z : Layout) (m : Memory) (vs : List View) (g : Meaning) (rule : Rule z
       batch = own_seat.marks.batch;
       taken = own_seat.marks.taken;
     };
-    pending = every_map (IsPending z (λ s j. m (Node (Head s) j)) stamp g.bundles.number v) (IsPending z (λ s j. m (Node (Head s) j)) stamp g.bundles.number w) v.update.pending
-        (λ d old. (old.0, old.1, record { node = old.2.node; side = old.2.side; there = old.2.there; is = old.2.is; some = old.2.some; of = works old.2.node old.2.of })) own_seat.pending;
+    pending =
+        every_map (IsPending z (λ s j. m (Node (Head s) j)) stamp g.bundles.number v)
+        (IsPending z (λ s j. m (Node (Head s) j)) stamp g.bundles.number w) v.update.pending
+        (λ d old. (
+          old.0,
+          old.1,
+          record {
+            node = old.2.node;
+            side = old.2.side;
+            there = old.2.there;
+            is = old.2.is;
+            some = old.2.some;
+            of = works old.2.node old.2.of;
+          },
+        )) own_seat.pending;
     place = place_now v.reading.section v.reading.place refl own_seat.place;
     filled = every_filled m m' v.free v.free v.update v.update v.reading.filled (λ y is. is) (lock_apart m v.free v.update k (n + 1)) own_seat.filled;
     links = every_map (LinkRight z (λ d. m (Entry Child d)) g.bundles v) (LinkRight z (λ d. m (Entry Child d)) g.bundles w) v.reading.links
@@ -295,13 +336,24 @@ module _ (z : Layout) (m : Memory) (vs : List View) (g : Meaning) (rule : Rule z
   other_now : (u : View) → Beside vs i u → SeatRight z m g u → SeatRight z m' g u
   other_now u beside of = record {
     layout = of.layout;
-    section = record { section = of.section.section; announced = of.section.announced; outside = of.section.outside; unlocked = of.section.unlocked; done = of.section.done; waits = of.section.waits };
+    section = record {
+      section = of.section.section;
+      announced = of.section.announced;
+      outside = of.section.outside;
+      unlocked = of.section.unlocked;
+      done = of.section.done;
+      waits = of.section.waits;
+    };
     seen = of.seen;
     update = of.update;
     version = of.version;
     announced = of.announced;
     tree = of.tree;
-    locks = λ j locked. ((of.locks j locked).0, subst (λ x. NamesHolder x u.number) (sym (node_other m Lock Lock k j (n + 1) (locker_apart u j beside locked))) (of.locks j locked).1);
+    locks = λ j locked. (
+      (of.locks j locked).0,
+      subst (λ x. NamesHolder x u.number)
+          (sym (node_other m Lock Lock k j (n + 1) (locker_apart u j beside locked))) (of.locks j locked).1,
+    );
     loaded = record { nodes = of.loaded.nodes; nexts = of.loaded.nexts };
     marks = record { retired = of.marks.retired; batch = of.marks.batch; taken = of.marks.taken };
     pending = of.pending;
@@ -327,8 +379,10 @@ module _ (z : Layout) (m : Memory) (vs : List View) (g : Meaning) (rule : Rule z
   }
 
 -- a lock that was found held
-pub met_kept : (z : Layout) (m : Memory) (vs : List View) (g : Meaning) (i : ℕ) (v : View) (c : Counts) → Rule z m vs g → IsItem vs i v → is_even v.section_word ≡ false
+pub met_kept : (z : Layout) (m : Memory) (vs : List View) (g : Meaning) (i : ℕ) (v : View) (c : Counts) → Rule z m vs g → IsItem vs i v
+    → is_even v.section_word ≡ false
     → Rule z m (set vs i (record v { counts = c })) g
 met_kept z m vs g i v c rule at inside =
     let seat = seat_at z m vs g i v at rule in
-    read_kept z m vs g rule i v at c v.held.nodes v.held.nexts v.reading.place v.reading.above v.reading.links refl inside seat.loaded.nodes seat.loaded.nexts seat.place seat.links
+    read_kept z m vs g rule i v at c v.held.nodes v.held.nexts v.reading.place v.reading.above v.reading.links refl inside seat.loaded.nodes
+    seat.loaded.nexts seat.place seat.links

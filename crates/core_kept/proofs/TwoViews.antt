@@ -49,7 +49,14 @@ pub knows_push : (updates : List Update) (vs : List View) (y : View) → KnowsAl
 knows_push updates vs y knows = record {
   place = knows.place;
   view = knows.view;
-  at = record { within = omega (arith, length-append vs (y ∷ []), knows.at.within); is = λ d. get_or_append_left vs (y ∷ []) d knows.place knows.at.within ∙ knows.at.is d };
+  at = record {
+    within = omega (
+      arith,
+      length-append vs (y ∷ []),
+      knows.at.within,
+    );
+    is = λ d. get_or_append_left vs (y ∷ []) d knows.place knows.at.within ∙ knows.at.is d;
+  };
   all = knows.all;
 }
 
@@ -104,7 +111,14 @@ module _ (z : Layout) (m : Memory) (vs : List View) (g : Meaning) where
       tree = tt;
       locks = λ k some. absurd (omega (arith, some));
       loaded = record { nodes = tt; nexts = tt };
-      marks = record { retired = λ k some. absurd (omega (arith, some)); batch = λ k some. absurd (omega (arith, some)); taken = λ k some. absurd (omega (arith, some)) };
+      marks = record {
+        retired = λ k some. absurd (omega (
+          arith,
+          some,
+        ));
+        batch = λ k some. absurd (omega (arith, some));
+        taken = λ k some. absurd (omega (arith, some));
+      };
       pending = tt;
       place = tt;
       filled = tt;
@@ -140,19 +154,28 @@ module _ (z : Layout) (m : Memory) (vs : List View) (g : Meaning) where
         bundles = λ k alive side. bundle_weaker _ _ _ _ (IsPendingAt vs k) (IsPendingAt us k) _ _
             (λ e is. (
               sum_split (pending_count e) vs i v w y at (omega arith) ∙ is.0,
-              All-push (WorksIf k e) (set vs i w) y (all_moved (WorksIf k e) (WorksIf k e) vs i v w at is.1 (at_item (WorksIf k e) vs i v at is.1) (λ u beside of. of)) (λ some. absurd (omega (arith, some))),
+              All-push (WorksIf k e) (set vs i w) y (all_moved (WorksIf k e) (WorksIf k e) vs i v w at is.1 (at_item (WorksIf k e) vs i v at is.1)
+                  (λ u beside of. of)) (λ some. absurd (omega (arith, some))),
             ))
             (rule.bundles k (alive.0, sym (sum_split (own_free nodes_of k) vs i v w y at (count-take-drop k n v.free.nodes)) ∙ alive.1) side);
         pairs = pairs_push (set vs i w) y refl refl (pairs_same vs i v w at refl rule.pairs);
         single = λ e. omega (arith, sum_split (pending_count e) vs i v w y at (omega arith), rule.single e);
-        seats = All-push (SeatRight z m g) (set vs i w) y (all_moved (SeatRight z m g) (SeatRight z m g) vs i v w at rule.seats seats.0 (λ u beside of. of)) seats.1;
+        seats =
+            All-push (SeatRight z m g) (set vs i w) y (all_moved (SeatRight z m g) (SeatRight z m g) vs i v w at rule.seats seats.0 (λ u beside of. of))
+            seats.1;
       }
 
   numbers_joined : (n : ℕ) (v u : View) → number_count n (joined_with v u) + number_count n spent_view ≡ number_count n v + number_count n u
   numbers_joined n v u =
-      omega (arith, count-append n v.history.ended (u.history.ended ++ own_number u.number), count-append n u.history.ended (own_number u.number), count-append n v.to_give u.to_give)
+      omega (
+        arith,
+        count-append n v.history.ended (u.history.ended ++ own_number u.number),
+        count-append n u.history.ended (own_number u.number),
+        count-append n v.to_give u.to_give,
+      )
 
-  places_joined : (n place : ℕ) (v u : View) → place_count n place (joined_with v u) + place_count n place spent_view ≡ place_count n place v + place_count n place u
+  places_joined : (n place : ℕ) (v u : View) → place_count n place (joined_with v u) + place_count n place spent_view
+      ≡ place_count n place v + place_count n place u
   places_joined n place v u =
       omega (
         arith,
@@ -169,7 +192,15 @@ module _ (z : Layout) (m : Memory) (vs : List View) (g : Meaning) where
           | inl own ↦ seat.marks.retired k own
           | inr rest ↦ elim (cases_lt 0 (count k u.retired.nodes)) as (λ _. (m (Node Mark k) ≡ 1) ⊎ IsTakenOut v k) [
             | inl given ↦ inl (idle_marked z m vs g u k other idle given)
-            | inr last ↦ inl (other.marks.batch k (omega (arith, some, rest, last, count-append k v.retired.nodes (both u.retired u.batch).nodes, count-append k u.retired.nodes u.batch.nodes)))
+            | inr last ↦
+                inl (other.marks.batch k (omega (
+                  arith,
+                  some,
+                  rest,
+                  last,
+                  count-append k v.retired.nodes (both u.retired u.batch).nodes,
+                  count-append k u.retired.nodes u.batch.nodes,
+                )))
           ]
         ];
     batch = seat.marks.batch;
@@ -212,7 +243,14 @@ module _ (z : Layout) (m : Memory) (vs : List View) (g : Meaning) where
     tree = tt;
     locks = λ k some. absurd (omega (arith, some));
     loaded = record { nodes = tt; nexts = tt };
-    marks = record { retired = λ k some. absurd (omega (arith, some)); batch = λ k some. absurd (omega (arith, some)); taken = λ k some. absurd (omega (arith, some)) };
+    marks = record {
+      retired = λ k some. absurd (omega (
+        arith,
+        some,
+      ));
+      batch = λ k some. absurd (omega (arith, some));
+      taken = λ k some. absurd (omega (arith, some));
+    };
     pending = tt;
     place = tt;
     filled = tt;
@@ -227,7 +265,8 @@ module _ (z : Layout) (m : Memory) (vs : List View) (g : Meaning) where
       let us : List View = set (set vs i w) j spent_view in
       let seat = seat_at z m vs g i v at rule in
       let given = seat_at z m vs g j u of rule in
-      let unlocked : (k : ℕ) → lock_count k u ≡ 0 = λ k. ap (λ (hs : List HeldNode). lock_count k (record u { held = record u.held { nodes = hs } })) idle.held in
+      let unlocked : (k : ℕ) → lock_count k u ≡ 0
+      = λ k. ap (λ (hs : List HeldNode). lock_count k (record u { held = record u.held { nodes = hs } })) idle.held in
       let unpending : (e : ℕ) → pending_count e u ≡ 0 = λ e. ap (λ (x : Updating). pending_count e (record u { update = x })) idle.update in
       let idle' : IsIdle spent_view = record { reading = refl; held = refl; update = refl } in
       record {
@@ -257,7 +296,11 @@ module _ (z : Layout) (m : Memory) (vs : List View) (g : Meaning) where
               All-set (WorksIf k e) (set vs i w) j spent_view (λ some. absurd (omega (arith, some)))
                   (all_moved (WorksIf k e) (WorksIf k e) vs i v w at is.1 (at_item (WorksIf k e) vs i v at is.1) (λ x beside old. old)),
             ))
-            (rule.bundles k (alive.0, sym (sum_joined (own_free nodes_of k) vs i j v u w spent_view at of other (omega (arith, count-append k v.free.nodes u.free.nodes))) ∙ alive.1) side);
+            (rule.bundles k (
+              alive.0,
+              sym (sum_joined (own_free nodes_of k) vs i j v u w spent_view at of other
+                  (omega (arith, count-append k v.free.nodes u.free.nodes))) ∙ alive.1,
+            ) side);
         pairs = pairs_idle (set vs i w) j u spent_view (beside_item vs i j u w of other) refl refl (pairs_same vs i v w at refl rule.pairs);
         single = λ e. omega (arith, sum_joined (pending_count e) vs i j v u w spent_view at of other (omega (arith, unpending e)), rule.single e);
         seats = All-set (SeatRight z m g) (set vs i w) j spent_view spent_seat

@@ -81,7 +81,9 @@ not_equal a b off same = apart (eqb a b) off (eq-eqb a b same)
     apart true f t = cc
     apart false f t = cc
 
-module _ (z : Layout) (m : Memory) (vs : List View) (g : Meaning) (rule : Rule z m vs g) (i k : ℕ) (v : View) (at : IsItem vs i v) (locked : 0 < lock_count k v) (nothing : v.update.pending ≡ []) (marked : (j : ℕ) → 0 < count j v.update.taken → (m (Node Mark j) ≡ 1) ⊎ (is_successor j v.update.unlinking ≡ true))
+module _ (z : Layout) (m : Memory) (vs : List View) (g : Meaning) (rule : Rule z m vs g) (i k : ℕ) (v : View) (at : IsItem vs i v)
+    (locked : 0 < lock_count k v) (nothing : v.update.pending ≡ [])
+    (marked : (j : ℕ) → 0 < count j v.update.taken → (m (Node Mark j) ≡ 1) ⊎ (is_successor j v.update.unlinking ≡ true))
     (unlinked : is_successor k v.update.unlinking ≡ false) where
   abbrev m' : Memory
   m' = written m (Node Lock k) 0
@@ -138,7 +140,15 @@ module _ (z : Layout) (m : Memory) (vs : List View) (g : Meaning) (rule : Rule z
   locks_now j =
       elim (eqb_tells j k) as (λ _. sum_by (lock_count j) ws ≡ cond (eqb (m' (Node Lock j)) 0) 0 1) [
         | inl same ↦ subst (λ x. sum_by (lock_count x) ws ≡ cond (eqb (m' (Node Lock x)) 0) 0 1) (sym same.1)
-            (omega (arith, sum_moved (lock_count k) vs i v w at, none_here, locked, rule.locks k, one_term (lock_count k) vs i v at, one_lock (eqb (m (Node Lock k)) 0)) ∙ sym (ap (λ x. cond (eqb x 0) 0 1) free_now))
+            (omega (
+              arith,
+              sum_moved (lock_count k) vs i v w at,
+              none_here,
+              locked,
+              rule.locks k,
+              one_term (lock_count k) vs i v at,
+              one_lock (eqb (m (Node Lock k)) 0),
+            ) ∙ sym (ap (λ x. cond (eqb x 0) 0 1) free_now))
         | inr other ↦
             sum_kept (lock_count j) vs i v w at (locked_other j other.1) ∙ rule.locks j
             ∙ ap (λ x. cond (eqb x 0) 0 1) (sym (node_other m Lock Lock k j 0 other.1))
@@ -175,7 +185,9 @@ module _ (z : Layout) (m : Memory) (vs : List View) (g : Meaning) (rule : Rule z
 
   -- a view that waits goes on to wait with the locks that are left
   waits_by : IsWaiting v → (b : Bool) → eqb (length rest) 0 ≡ b
-      → (rest ≡ []) ⊎ Waits v.number rest (cond b no_update v.update).raised (cond b no_update v.update).added (cond b no_update v.update).pending (cond b no_update v.update).taken
+      → (rest ≡ [])
+      ⊎ Waits v.number rest (cond b no_update v.update).raised (cond b no_update v.update).added (cond b no_update v.update).pending
+      (cond b no_update v.update).taken
   waits_by waits true is = inl (length_empty rest is)
   waits_by waits false is =
       inr (record {
@@ -183,7 +195,9 @@ module _ (z : Layout) (m : Memory) (vs : List View) (g : Meaning) (rule : Rule z
         past = waits.past;
         bare = waits.bare;
         done = waits.done;
-        kept = every_filter (IsKeptLock v.update.taken) (IsKeptLock v.update.taken) (λ (h : HeldNode). not (eqb h.node k)) v.held.nodes (λ h off is. is) waits.kept;
+        kept =
+            every_filter (IsKeptLock v.update.taken) (IsKeptLock v.update.taken) (λ (h : HeldNode). not (eqb h.node k))
+            v.held.nodes (λ h off is. is) waits.kept;
       })
 
   waits_now : (v.held.nodes ≡ []) ⊎ IsWaiting v → (rest ≡ []) ⊎ IsWaiting w
@@ -234,7 +248,13 @@ module _ (z : Layout) (m : Memory) (vs : List View) (g : Meaning) (rule : Rule z
       nodes = every_filter (IsNodeAt m) (IsNodeAt m)
           (λ (h : HeldNode). not (eqb h.node k)) v.held.nodes (λ h off right. right) own_seat.loaded.nodes;
       nexts = every_filter (IsNextAt m g.bundles v.held.nodes) (IsNextAt m g.bundles rest)
-          (λ (l : HeldNext). not (eqb l.node k)) v.held.nexts (λ l off right. record { is = right.is; locked = omega (arith, right.locked, locked_other l.node (not_equal l.node k off)); here = right.here; found = right.found }) own_seat.loaded.nexts;
+          (λ (l : HeldNext). not (eqb l.node k)) v.held.nexts
+          (λ l off right. record {
+            is = right.is;
+            locked = omega (arith, right.locked, locked_other l.node (not_equal l.node k off));
+            here = right.here;
+            found = right.found;
+          }) own_seat.loaded.nexts;
     };
     marks = record {
       retired = λ j waits. elim (own_seat.marks.retired j waits) as (λ _. (m (Node Mark j) ≡ 1) ⊎ IsTakenOut w j) [
@@ -242,7 +262,9 @@ module _ (z : Layout) (m : Memory) (vs : List View) (g : Meaning) (rule : Rule z
         | inr out ↦ out_now j out
       ];
       batch = own_seat.marks.batch;
-      taken = until_by (λ (u : Updating). (j : ℕ) → 0 < count j u.taken → 0 < count j v.retired.nodes) rest v.update (λ j some. absurd (omega (arith, some))) own_seat.marks.taken;
+      taken =
+          until_by (λ (u : Updating). (j : ℕ) → 0 < count j u.taken → 0 < count j v.retired.nodes) rest v.update
+          (λ j some. absurd (omega (arith, some))) own_seat.marks.taken;
     };
     pending = subst (Every (IsPending z (λ s j. m (Node (Head s) j)) stamp g.bundles.number w)) (sym pending_none) tt;
     place = tt;
@@ -253,7 +275,14 @@ module _ (z : Layout) (m : Memory) (vs : List View) (g : Meaning) (rule : Rule z
   other_now : (u : View) → Beside vs i u → SeatRight z m g u → SeatRight z m' g u
   other_now u beside of = record {
     layout = of.layout;
-    section = record { section = of.section.section; announced = of.section.announced; outside = of.section.outside; unlocked = of.section.unlocked; done = of.section.done; waits = of.section.waits };
+    section = record {
+      section = of.section.section;
+      announced = of.section.announced;
+      outside = of.section.outside;
+      unlocked = of.section.unlocked;
+      done = of.section.done;
+      waits = of.section.waits;
+    };
     seen = of.seen;
     update = of.update;
     version = of.version;
@@ -261,7 +290,8 @@ module _ (z : Layout) (m : Memory) (vs : List View) (g : Meaning) (rule : Rule z
     tree = of.tree;
     locks = λ j some. (
       (of.locks j some).0,
-      names_kept u.number j (λ same. omega (arith, locked_apart z m vs g rule i k v u at beside locked, subst (λ x. 0 < lock_count x u) same some)) (of.locks j some).1,
+      names_kept u.number j (λ same. omega (arith, locked_apart z m vs g rule i k v u at beside locked, subst (λ x. 0 < lock_count x u) same some))
+          (of.locks j some).1,
     );
     loaded = record { nodes = of.loaded.nodes; nexts = of.loaded.nexts };
     marks = record { retired = of.marks.retired; batch = of.marks.batch; taken = of.marks.taken };
@@ -282,7 +312,8 @@ module _ (z : Layout) (m : Memory) (vs : List View) (g : Meaning) (rule : Rule z
     locks = locks_now;
     tree = rule.tree;
     marks = record { root = rule.marks.root; nodes = rule.marks.nodes };
-    bundles = λ j live side. bundle_weaker _ _ _ _ (IsPendingAt vs j) (IsPendingAt ws j) _ _ (pending_kept j) (rule.bundles j (live_moved z vs i j v w at (omega arith) live) side);
+    bundles = λ j live side.
+        bundle_weaker _ _ _ _ (IsPendingAt vs j) (IsPendingAt ws j) _ _ (pending_kept j) (rule.bundles j (live_moved z vs i j v w at (omega arith) live) side);
     pairs = pairs_same vs i v w at refl rule.pairs;
     single = λ d. omega (arith, sum_kept (pending_count d) vs i v w at (pending_same d), rule.single d);
     seats = all_moved (SeatRight z m g) (SeatRight z m' g) vs i v w at rule.seats own_now other_now;

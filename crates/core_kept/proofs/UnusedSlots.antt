@@ -46,7 +46,8 @@ use Rattle.core_invariant.proofs.Without.{count-without_same, count-without-le}
 use Rattle.core_kept.proofs.TwoViews.{count-take-drop}
 use Rattle.core_kept.proofs.FreeWords.{LessOf, apart_kept, both_less, none_less, fewer_less, less_right, taken_less, settled_less, Apart, written_apart, Leaves, leaves}
 
-module _ (z : Layout) (words : List ℕ) (vs : List View) (right : InRule z words vs) (i : ℕ) (v : View) (at : IsItem vs i v) (n : ℕ) (w : Word) (found : word_at z n ≡ Some w) (value : ℕ) where
+module _ (z : Layout) (words : List ℕ) (vs : List View) (right : InRule z words vs) (i : ℕ) (v : View) (at : IsItem vs i v) (n : ℕ) (w : Word)
+    (found : word_at z n ≡ Some w) (value : ℕ) where
   abbrev m : Memory
   m = memory z words
 
@@ -62,7 +63,8 @@ module _ (z : Layout) (words : List ℕ) (vs : List View) (right : InRule z word
       (all_moved (UnusedRight m) (UnusedRight m') vs i v v at right.unused (λ y is yet. left i v y at is ∙ own_right y is yet)
       (λ u beside old y is yet. left beside.place u y beside.at is ∙ old y is yet))
 
-  left_after : (kind : Kind) (o : Option Update) → kind ≢ Fill → needs kind z m vs i v w value o ≡ true → All (UnusedRight (memory z (words_after kind words n value))) vs
+  left_after : (kind : Kind) (o : Option Update) → kind ≢ Fill → needs kind z m vs i v w value o ≡ true
+      → All (UnusedRight (memory z (words_after kind words n value))) vs
   left_after kind o other met = all_left (memory z (words_after kind words n value)) (leaves z words vs right i v at n w found value kind o other met)
 
   -- the views after a kind that changes one view alone
@@ -143,7 +145,8 @@ module _ (z : Layout) (words : List ℕ) (vs : List View) (right : InRule z word
 
   prepare_at_less : (f : Field) (k e : ℕ) → Less (prepared_at v f k e)
   prepare_at_less (Head side) k e =
-      fewer_less v.free v.unused (record v.free { entries = without e v.free.entries }) (λ j some. some) (λ d some. omega (arith, some, count-without-le d e v.free.entries))
+      fewer_less v.free v.unused (record v.free { entries = without e v.free.entries }) (λ j some. some)
+      (λ d some. omega (arith, some, count-without-le d e v.free.entries))
   prepare_at_less Key k e = same
   prepare_at_less Val k e = same
   prepare_at_less Lock k e = same

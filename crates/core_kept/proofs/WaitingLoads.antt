@@ -25,13 +25,15 @@ use Rattle.core_events.specs.PlainMoves.{link_known_at, tag_known_at, link_loade
 
 module _ (v : View) (own_right : WaitsRight v) where
   -- a view with the same slots that reads and works on no other node
-  pub less : (u : View) → u.number ≡ v.number → u.history.ended ≡ v.history.ended → u.retired ≡ v.retired → u.batch ≡ v.batch → ((k : ℕ) → ReadsNode u k → ReadsNode v k) → WaitsRight u
+  pub less : (u : View) → u.number ≡ v.number → u.history.ended ≡ v.history.ended → u.retired ≡ v.retired → u.batch ≡ v.batch
+      → ((k : ℕ) → ReadsNode u k → ReadsNode v k) → WaitsRight u
   less u number ended retired batch reads = record {
     apart = λ k some holds. own_right.apart k (subst (λ (s : Slots). 0 < count k s.nodes) batch some) (reads k holds);
     owned = λ nameless. let none = own_right.owned (sym number ∙ nameless.0, sym ended ∙ nameless.1) in (retired ∙ none.0, batch ∙ none.1);
   }
 
-  pub same : (u : View) → u.number ≡ v.number → u.history.ended ≡ v.history.ended → u.retired ≡ v.retired → u.batch ≡ v.batch → held_nodes u ≡ held_nodes v → WaitsRight u
+  pub same : (u : View) → u.number ≡ v.number → u.history.ended ≡ v.history.ended → u.retired ≡ v.retired → u.batch ≡ v.batch → held_nodes u ≡ held_nodes v
+      → WaitsRight u
   same u number ended retired batch nodes = less u number ended retired batch (λ k some. subst (λ (ks : List ℕ). 0 < count k ks) nodes some)
 
   pub held_with : (ns : List ℕ) → ns ≡ held_slots v.held.nodes → tree_slots v.reading.tree ++ (ns ++ listed v.update.added) ≡ held_nodes v
@@ -40,7 +42,8 @@ module _ (v : View) (own_right : WaitsRight v) where
   -- the other loads
   pub head_waits : (f : Field) (k x number : ℕ) → WaitsRight (head_at v f k x number)
   head_waits (Head side) k x number =
-      same (head_loaded v k side x number) refl refl refl refl (held_with (held_slots (map (found_at k side x) v.held.nodes)) (held-found k side x v.held.nodes))
+      same (head_loaded v k side x number) refl refl refl refl
+      (held_with (held_slots (map (found_at k side x) v.held.nodes)) (held-found k side x v.held.nodes))
   head_waits Key k x number = own_right
   head_waits Val k x number = own_right
   head_waits Lock k x number = own_right
@@ -90,28 +93,32 @@ module _ (v : View) (own_right : WaitsRight v) where
   finalise_waits (Node f k) = own_right
 
   pub load_mark_waits : (u : Word) (x : ℕ) → WaitsRight (mark_from v u x)
-  load_mark_waits (Node f k) x = same (mark_loaded v k x) refl refl refl refl (held_with (held_slots (map (mark_known k x) v.held.nodes)) (slots_marked k x v.held.nodes))
+  load_mark_waits (Node f k) x =
+      same (mark_loaded v k x) refl refl refl refl (held_with (held_slots (map (mark_known k x) v.held.nodes)) (slots_marked k x v.held.nodes))
   load_mark_waits Stamp x = own_right
   load_mark_waits (Section k) x = own_right
   load_mark_waits (Announced k) x = own_right
   load_mark_waits (Entry p e) x = own_right
 
   pub mark_waits : (u : Word) → WaitsRight (marked_from v u)
-  mark_waits (Node f k) = same (with_mark v k 1) refl refl refl refl (held_with (held_slots (map (mark_known k 1) v.held.nodes)) (slots_marked k 1 v.held.nodes))
+  mark_waits (Node f k) =
+      same (with_mark v k 1) refl refl refl refl (held_with (held_slots (map (mark_known k 1) v.held.nodes)) (slots_marked k 1 v.held.nodes))
   mark_waits Stamp = own_right
   mark_waits (Section k) = own_right
   mark_waits (Announced k) = own_right
   mark_waits (Entry p e) = own_right
 
   pub pair_waits : (u : Word) (x : ℕ) → WaitsRight (pair_from v u x)
-  pair_waits (Node f k) x = same (pair_loaded v f k x) refl refl refl refl (held_with (held_slots (map (pair_known f k x) v.held.nodes)) (slots_paired f k x v.held.nodes))
+  pair_waits (Node f k) x =
+      same (pair_loaded v f k x) refl refl refl refl (held_with (held_slots (map (pair_known f k x) v.held.nodes)) (slots_paired f k x v.held.nodes))
   pair_waits Stamp x = own_right
   pair_waits (Section k) x = own_right
   pair_waits (Announced k) x = own_right
   pair_waits (Entry p e) x = own_right
 
   pub load_link_field : (f : Field) (k x : ℕ) → WaitsRight (link_at v f k x)
-  load_link_field (Link side) k x = same (link_loaded v k side x) refl refl refl refl (held_with (held_slots (map (link_known_at k side x) v.held.nodes)) (slots_link k side x v.held.nodes))
+  load_link_field (Link side) k x =
+      same (link_loaded v k side x) refl refl refl refl (held_with (held_slots (map (link_known_at k side x) v.held.nodes)) (slots_link k side x v.held.nodes))
   load_link_field Key k x = own_right
   load_link_field Val k x = own_right
   load_link_field Lock k x = own_right
@@ -127,7 +134,8 @@ module _ (v : View) (own_right : WaitsRight v) where
   load_link_waits (Entry p e) x = own_right
 
   pub set_link_field : (f : Field) (k x : ℕ) → WaitsRight (set_at v f k x)
-  set_link_field (Link side) k x = same (link_set v k side x) refl refl refl refl (held_with (held_slots (map (link_known_at k side x) v.held.nodes)) (slots_link k side x v.held.nodes))
+  set_link_field (Link side) k x =
+      same (link_set v k side x) refl refl refl refl (held_with (held_slots (map (link_known_at k side x) v.held.nodes)) (slots_link k side x v.held.nodes))
   set_link_field Key k x = own_right
   set_link_field Val k x = own_right
   set_link_field Lock k x = own_right
@@ -143,7 +151,8 @@ module _ (v : View) (own_right : WaitsRight v) where
   set_link_waits (Entry p e) x = own_right
 
   pub load_tag_field : (f : Field) (k x : ℕ) → WaitsRight (tag_at v f k x)
-  load_tag_field (Tag side) k x = same (tag_loaded v k side x) refl refl refl refl (held_with (held_slots (map (tag_known_at k side x) v.held.nodes)) (slots_tag k side x v.held.nodes))
+  load_tag_field (Tag side) k x =
+      same (tag_loaded v k side x) refl refl refl refl (held_with (held_slots (map (tag_known_at k side x) v.held.nodes)) (slots_tag k side x v.held.nodes))
   load_tag_field Key k x = own_right
   load_tag_field Val k x = own_right
   load_tag_field Lock k x = own_right
@@ -159,7 +168,8 @@ module _ (v : View) (own_right : WaitsRight v) where
   load_tag_waits (Entry p e) x = own_right
 
   pub set_tag_field : (f : Field) (k x : ℕ) → WaitsRight (raised_tag_at v f k x)
-  set_tag_field (Tag side) k x = same (tag_set v k side x) refl refl refl refl (held_with (held_slots (map (tag_known_at k side x) v.held.nodes)) (slots_tag k side x v.held.nodes))
+  set_tag_field (Tag side) k x =
+      same (tag_set v k side x) refl refl refl refl (held_with (held_slots (map (tag_known_at k side x) v.held.nodes)) (slots_tag k side x v.held.nodes))
   set_tag_field Key k x = own_right
   set_tag_field Val k x = own_right
   set_tag_field Lock k x = own_right

@@ -10,7 +10,8 @@ use Rattle.core_events.specs.PlainMoves.{link_known, tag_known}
 use Rattle.core_invariant.specs.SectionRule.{IsKeptLock, Waits, IsWaiting}
 
 -- with other knowledge of the same locked nodes
-pub still_waits : (v : View) (nodes : List HeldNode) → (v.held.nodes ≡ [] → ⊥) → (Every (IsKeptLock v.update.taken) v.held.nodes → Every (IsKeptLock v.update.taken) nodes)
+pub still_waits : (v : View) (nodes : List HeldNode) → (v.held.nodes ≡ [] → ⊥)
+    → (Every (IsKeptLock v.update.taken) v.held.nodes → Every (IsKeptLock v.update.taken) nodes)
     → (v.held.nodes ≡ []) ⊎ IsWaiting v
     → (nodes ≡ []) ⊎ Waits v.number nodes v.update.raised v.update.added v.update.pending v.update.taken
 still_waits v nodes holds step (inl none) = absurd (holds none)

@@ -1,6 +1,6 @@
 -- Each view's slots wait as they should, after every event: it works at none of the nodes of its batch, and without a
 -- pass number no slot of it waits.
-use Rattle.std.proofs.Common.{◌≡◌, ℕ, ◌+◌, ◌<◌, ◌≤◌, ◌⊎◌, cond, List, [], ◌∷◌, ◌++◌, map, Bool, true, false, not, eqb, ◌&&◌, set, arith, refl, ap, ◌∙◌, sym, subst, inl, inr, Option, Some, None}
+use Rattle.std.proofs.Common.{◌≡◌, ℕ, ◌+◌, ◌<◌, ◌≤◌, cond, List, [], ◌∷◌, ◌++◌, map, Bool, true, false, not, eqb, ◌&&◌, set, arith, refl, ap, ◌∙◌, sym, subst, inl, inr, Option, Some, None}
 use Rattle.std.specs.List.{All, slice_get}
 use Rattle.std.proofs.lemmas.Bool.{and_parts, cases_lt, eqb-true, and_from}
 use Rattle.std.proofs.lemmas.List.Elements.{All-set, All-push}
@@ -30,7 +30,7 @@ use Rattle.core_events.specs.declared.tree_move.TreeMove.{TreeMove}
 use Rattle.core_events.specs.Announcing.{announced_view, has_announced}
 use Rattle.core_events.specs.CutNeeds.{may_cut, may_cut_by}
 use Rattle.core_events.specs.FillMoves.{filled_view, filled_with, with_filled, known_before, used_view}
-use Rattle.core_events.specs.LoadMoves.{head_loaded, ts_loaded, ptr_loaded, next_at, node_known, found_at, longest, stamp_history, stamp_reading, stamp_loaded}
+use Rattle.core_events.specs.LoadMoves.{longest, stamp_history, stamp_reading, stamp_loaded}
 use Rattle.core_events.specs.LockMoves.{locked_view, met_lock, unlocked_view, other_nodes, just_locked, update_until}
 use Rattle.core_events.specs.LockNeeds.{may_try_lock, may_lock, names_pass}
 use Rattle.core_events.specs.Moves.{in_section, entered, left, split_left, split_right, joined_with, own_number}
@@ -40,19 +40,22 @@ use Rattle.core_invariant.proofs.WaitNeeds.{can_look}
 use Rattle.core_events.specs.SpelledNow.{tree_now}
 use Rattle.core_events.specs.Steps.{needs, carries, is_own_update, views_after, join_found, look_from, ts_from, ptr_from, next_from, prepared_at, prepared_from, raised_from, finalised_from, tried_from, unlocked_from, mark_from, marked_from, pair_from, ann_from, cut_from, link_from, tag_from, set_from, raised_tag_from}
 use Rattle.core_events.specs.TreeMoves.{is_tree_step, tree_move}
-use Rattle.core_events.specs.UpdateMoves.{prepared, known_at, without}
+use Rattle.core_events.specs.UpdateMoves.{prepared, known_at}
 use Rattle.core_events.specs.UpdateNeeds.{may_raise, may_raise_number}
 use Rattle.core_events.specs.Versions.{slots_of, tree_nodes}
-use Rattle.core_events.proofs.Tests.{never, node_there}
+use Rattle.core_events.proofs.Tests.{never, node_there, not_true}
 use Rattle.core_invariant.specs.SectionRule.{IsIdle}
+use Rattle.core_invariant.specs.Reached.{plain_graph, ReachesRight}
 use Rattle.core_invariant.specs.Rule.{InRule}
 use Rattle.core_invariant.specs.WaitingSlots.{IsNameless, HasNoneWaiting, WaitsRight}
 use Rattle.core_invariant.proofs.Fronts.{held-known}
 use Rattle.core_invariant.proofs.Idle.{idle_nodes, nameless_idle}
-use Rattle.core_invariant.proofs.Needed.{outside_idle, reach_is, can_raise}
+use Rattle.core_invariant.proofs.Needed.{outside_idle, can_raise}
 use Rattle.core_invariant.proofs.OneView.{item_from_get, seat_at}
 use Rattle.core_invariant.proofs.Owned.{once_node}
 use Rattle.core_invariant.proofs.TreeNow.{tree_is}
+use Rattle.core_invariant.proofs.Without.{count-without-le}
+use Rattle.core_invariant.proofs.LockReach.{can_lock}
 use Rattle.core_kept.proofs.RaiseNew.{waiting_old}
 use Rattle.core_kept.proofs.TreeNeeds.{moves_tree}
 use Rattle.core_kept.proofs.TryLocks.{slots_push}
@@ -68,20 +71,13 @@ unnumbered : (o : Option ℕ) → own_number o ≡ [] → o ≡ None
 unnumbered None is = refl
 unnumbered (Some n) is = cc
 
-count-without : (k x : ℕ) (xs : List ℕ) → count x (without k xs) ≤ count x xs
-count-without k x [] = omega arith
-count-without k x (y ∷ ys) = kept_by (not (eqb y k)) (count-without k x ys)
-  where
-    kept_by : (b : Bool) → count x (without k ys) ≤ count x ys → count x (cond b (y ∷ without k ys) (without k ys)) ≤ count x (y ∷ ys)
-    kept_by true rest = omega (arith, rest)
-    kept_by false rest = omega (arith, rest)
-
 -- a view that reads and works on nothing
 record Rests (u : View) : Type 0 where
   none : (k : ℕ) → ReadsNode u k → ⊥
   owned : IsNameless u → HasNoneWaiting u
 
-rests_taken : (b : Bool) (u : View) → Rests u → Rests (cond b (record u { retired = no_slots; batch = u.retired; grace = record { found = []; passed = [] } }) u)
+rests_taken : (b : Bool) (u : View) → Rests u
+    → Rests (cond b (record u { retired = no_slots; batch = u.retired; grace = record { found = []; passed = [] } }) u)
 rests_taken true u rests = record { none = rests.none; owned = λ nameless. (refl, (rests.owned nameless).0) }
 rests_taken false u rests = rests
 
@@ -89,7 +85,8 @@ rests_settled : (b : Bool) (u : View) → Rests u → WaitsRight (cond b (batch_
 rests_settled true u rests = record { apart = λ k some holds. rests.none k holds; owned = λ nameless. ((rests.owned nameless).0, refl) }
 rests_settled false u rests = record { apart = λ k some holds. rests.none k holds; owned = rests.owned }
 
-module _ (z : Layout) (words : List ℕ) (vs : List View) (right : InRule z words vs) (i : ℕ) (v : View) (at : IsItem vs i v) (n : ℕ) (w : Word) (found : word_at z n ≡ Some w) (value : ℕ) where
+module _ (z : Layout) (words : List ℕ) (vs : List View) (right : InRule z words vs) (i : ℕ) (v : View) (at : IsItem vs i v) (n : ℕ) (w : Word)
+    (found : word_at z n ≡ Some w) (value : ℕ) where
   abbrev m : Memory
   m = memory z words
 
@@ -118,7 +115,8 @@ module _ (z : Layout) (words : List ℕ) (vs : List View) (right : InRule z word
       let u : View = record (batch_taken v) { grace = looked_at (batch_taken v).grace pass x } in
       rests_settled (all_passed z.passes u.number u.grace.passed) u (record { none = taken.none; owned = taken.owned })
 
-  look_by : (pass x : ℕ) → is_even v.section_word ≡ true → (b : Bool) → has_no_lock v ≡ b → WaitsRight (cond b (looked z.passes v pass x) (looked_waiting v pass x))
+  look_by : (pass x : ℕ) → is_even v.section_word ≡ true → (b : Bool) → has_no_lock v ≡ b
+      → WaitsRight (cond b (looked z.passes v pass x) (looked_waiting v pass x))
   look_by pass x even true none = slots_looked pass x (idle_if (and_from (is_even v.section_word) (has_no_lock v) even none))
   look_by pass x even false some = same v own_right (looked_waiting v pass x) refl refl refl refl refl
 
@@ -137,21 +135,29 @@ module _ (z : Layout) (words : List ℕ) (vs : List View) (right : InRule z word
   leave_waits : WaitsRight (left v value)
   leave_waits =
       less v own_right (left v value) refl refl refl refl
-      (λ k holds. omega (arith, holds, count-append k (held_slots v.held.nodes) [], count-append k (held_slots v.held.nodes) (listed v.update.added), count-append k (tree_slots v.reading.tree) (work_nodes v)))
+      (λ k holds. omega (
+        arith,
+        holds,
+        count-append k (held_slots v.held.nodes) [],
+        count-append k (held_slots v.held.nodes) (listed v.update.added),
+        count-append k (tree_slots v.reading.tree) (work_nodes v),
+      ))
 
   fill_waits : (b : Bool) (u : Word) → WaitsRight (cond b (used_view v u) (with_filled (used_view v u) (filled_with (known_before v u) u value)))
   fill_waits true u = same v own_right (used_view v u) refl refl refl refl refl
   fill_waits false u = same v own_right (with_filled (used_view v u) (filled_with (known_before v u) u value)) refl refl refl refl refl
 
   -- a load of the stamp
-  reads_with : (h : SeenHistory) (r : Reading) → h.ended ≡ v.history.ended → ((k : ℕ) → 0 < count k v.batch.nodes → count k (tree_slots r.tree) ≡ 0) → WaitsRight (record v { history = h; reading = r })
+  reads_with : (h : SeenHistory) (r : Reading) → h.ended ≡ v.history.ended → ((k : ℕ) → 0 < count k v.batch.nodes → count k (tree_slots r.tree) ≡ 0)
+      → WaitsRight (record v { history = h; reading = r })
   reads_with h r ended none = record {
     apart = λ k some holds. own_right.apart k some (works k (none k some) holds);
     owned = λ nameless. own_right.owned (nameless.0, sym ended ∙ nameless.1);
   }
     where
       works : (k : ℕ) → count k (tree_slots r.tree) ≡ 0 → 0 < count k (tree_slots r.tree ++ work_nodes v) → ReadsNode v k
-      works k gone holds = omega (arith, gone, holds, count-append k (tree_slots r.tree) (work_nodes v), count-append k (tree_slots v.reading.tree) (work_nodes v))
+      works k gone holds =
+          omega (arith, gone, holds, count-append k (tree_slots r.tree) (work_nodes v), count-append k (tree_slots v.reading.tree) (work_nodes v))
 
   old_tree : (k : ℕ) → 0 < count k v.batch.nodes → count k (tree_slots v.reading.tree) ≡ 0
   old_tree k some =
@@ -168,15 +174,18 @@ module _ (z : Layout) (words : List ℕ) (vs : List View) (right : InRule z word
   stamp_waits : (known : List Update) (x : ℕ) (fixes : Bool) → WaitsRight (stamp_loaded known v x fixes (tree_nodes (tree_now z m vs)))
   stamp_waits known x fixes = announced_by (has_announced v)
     where
-      announced_by : (b : Bool) → WaitsRight (record v { history = stamp_history known v.history x fixes; reading = stamp_reading v.reading b x fixes (tree_nodes (tree_now z m vs)) })
+      announced_by : (b : Bool) → WaitsRight (record v
+          { history = stamp_history known v.history x fixes; reading = stamp_reading v.reading b x fixes (tree_nodes (tree_now z m vs)) })
       announced_by true = reads_with (stamp_history known v.history x fixes) (stamp_reading v.reading true x fixes (tree_nodes (tree_now z m vs))) refl new_tree
-      announced_by false = reads_with (stamp_history known v.history x fixes) (stamp_reading v.reading false x fixes (tree_nodes (tree_now z m vs))) refl old_tree
+      announced_by false =
+          reads_with (stamp_history known v.history x fixes) (stamp_reading v.reading false x fixes (tree_nodes (tree_now z m vs))) refl old_tree
 
   -- the kinds of an update
   prepare_at_waits : (f : Field) (k e : ℕ) → WaitsRight (prepared_at v f k e)
   prepare_at_waits (Head side) k e =
       same v own_right (prepared v side k e) refl refl refl refl
-      (held_with v own_right (held_slots (map (known_at k side (record { entry = e; stamp = None })) v.held.nodes)) (held-known k side (record { entry = e; stamp = None }) v.held.nodes))
+      (held_with v own_right (held_slots (map (known_at k side (record { entry = e; stamp = None })) v.held.nodes))
+      (held-known k side (record { entry = e; stamp = None }) v.held.nodes))
   prepare_at_waits Key k e = own_right
   prepare_at_waits Val k e = own_right
   prepare_at_waits Lock k e = own_right
@@ -216,16 +225,12 @@ module _ (z : Layout) (words : List ℕ) (vs : List View) (right : InRule z word
       }
 
   -- locks and marks
-  locked_waits : (k : ℕ) → (k ≡ 0) ⊎ ReadsNode v k → WaitsRight (locked_view v k)
-  locked_waits k reach = record {
+  locked_waits : (k : ℕ) → count k v.batch.nodes ≡ 0 → WaitsRight (locked_view v k)
+  locked_waits k unbatched = record {
     apart = λ j some holds. own_right.apart j some (was_read j some holds);
     owned = own_right.owned;
   }
     where
-      -- the root is no slot
-      no_root : 0 < count 0 v.batch.nodes → ⊥
-      no_root some = omega (arith, some, right.rule.slots.nodes.one 0, one_term (own nodes_of 0) vs i v at)
-
       held_more : (j : ℕ) → count j (held_slots (v.held.nodes ++ just_locked k ∷ [])) ≡ count j (held_slots v.held.nodes) + count j (k ∷ [])
       held_more j = ap (count j) (slots_push k v.held.nodes) ∙ count-append j (held_slots v.held.nodes) (k ∷ [])
 
@@ -234,12 +239,7 @@ module _ (z : Layout) (words : List ℕ) (vs : List View) (right : InRule z word
         where
           one_by : (b : Bool) → eqb k j ≡ b → 0 < cond b 1 0 + 0 → ReadsNode v j
           one_by false is one = absurd (omega (arith, one))
-          one_by true is one =
-              let named : k ≡ j = eqb-true k j is in
-              elim reach as (λ _. ReadsNode v j) [
-                | inl root ↦ absurd (no_root (subst (λ (y : ℕ). 0 < count y v.batch.nodes) (sym named ∙ root) some))
-                | inr reads ↦ subst (ReadsNode v) named reads
-              ]
+          one_by true is one = absurd (omega (arith, unbatched, subst (λ (y : ℕ). 0 < count y v.batch.nodes) (sym (eqb-true k j is)) some))
 
       was_read : (j : ℕ) → 0 < count j v.batch.nodes → ReadsNode (locked_view v k) j → ReadsNode v j
       was_read j some holds =
@@ -266,11 +266,13 @@ module _ (z : Layout) (words : List ℕ) (vs : List View) (right : InRule z word
       let one = and_parts (a && b && c && d) (names_pass v.number value) met in
       let two = and_parts (a && b && c) d one.0 in
       let three = and_parts (a && b) c two.0 in
-      tried_by (eqb x 0) (reach_is z v k (node_there z n k f is) three.1).1
+      let inside = not_true (is_even v.section_word) (and_parts a b three.0).1 in
+      let reach = at_item (ReachesRight z (plain_graph m) vs) vs i v at right.reach in
+      tried_by (eqb x 0) (can_lock z m vs right.meaning right.rule i v at (plain_graph m) reach inside k (node_there z n k f is) three.1).apart
     where
-      tried_by : (b : Bool) → (k ≡ 0) ⊎ ReadsNode v k → WaitsRight (cond b (locked_view v k) (met_lock v value x))
-      tried_by true reach = locked_waits k reach
-      tried_by false reach = same v own_right (met_lock v value x) refl refl refl refl refl
+      tried_by : (b : Bool) → count k v.batch.nodes ≡ 0 → WaitsRight (cond b (locked_view v k) (met_lock v value x))
+      tried_by true unbatched = locked_waits k unbatched
+      tried_by false unbatched = same v own_right (met_lock v value x) refl refl refl refl refl
   lock_waits Stamp x is met = absurd (never met)
   lock_waits (Section k) x is met = absurd (never met)
   lock_waits (Announced k) x is met = absurd (never met)
@@ -280,10 +282,12 @@ module _ (z : Layout) (words : List ℕ) (vs : List View) (right : InRule z word
   unlock_waits (Node f k) = less v own_right (unlocked_view v k) refl refl refl refl read_less
     where
       added_less : (j : ℕ) → count j (listed (update_until (other_nodes k v.held.nodes) v.update).added) ≤ count j (listed v.update.added)
-      added_less j = until_by (λ (u : Updating). count j (listed u.added) ≤ count j (listed v.update.added)) (other_nodes k v.held.nodes) v.update (omega arith) (omega arith)
+      added_less j =
+          until_by (λ (u : Updating). count j (listed u.added) ≤ count j (listed v.update.added)) (other_nodes k v.held.nodes)
+          v.update (omega arith) (omega arith)
 
       held_less : (j : ℕ) → count j (held_slots (other_nodes k v.held.nodes)) ≤ count j (held_slots v.held.nodes)
-      held_less j = omega (arith, ap (count j) (slots_other k v.held.nodes), count-without k j (held_slots v.held.nodes))
+      held_less j = omega (arith, ap (count j) (slots_other k v.held.nodes), count-without-le j k (held_slots v.held.nodes))
 
       read_less : (j : ℕ) → ReadsNode (unlocked_view v k) j → ReadsNode v j
       read_less j holds =
@@ -359,7 +363,8 @@ module _ (z : Layout) (words : List ℕ) (vs : List View) (right : InRule z word
       (moved (split_left v value) (same v own_right (split_left v value) refl refl refl refl refl)) (nothing_waits (split_right v value) refl refl)
 
   -- each view's slots wait as they should after an event whose needs are met
-  pub waits_after : (kind : Kind) (o : Option Update) → carries kind v o ≡ true → needs kind z m vs i v w value o ≡ true → All WaitsRight (views_after kind z m vs i v w value o)
+  pub waits_after : (kind : Kind) (o : Option Update) → carries kind v o ≡ true → needs kind z m vs i v w value o ≡ true
+      → All WaitsRight (views_after kind z m vs i v w value o)
   waits_after MakeSeat o named met = right.waits
   waits_after SplitSeat o named met = split_waits
   waits_after JoinSeat o named met = joined_by (slice_get vs value) refl

@@ -27,7 +27,8 @@ pub record KeepsSeen (t : Table) (e : Event) (u : Table) : Type 0 where
   -- after a load of the stamp it is the whole history
   pub loaded : e.kind ≡ LoadStamp → (w : View) → IsItem u.views e.seat w → IsWhole u w.history.seen
   -- with the value 1 the load opens a snapshot at the number found, which is the stamp
-  pub fixed : e.kind ≡ LoadStamp → e.value ≡ 1 → (w : View) → IsItem u.views e.seat w → (w.reading.opened ≡ Some (held_by u Stamp)) × (w.history.found ≡ held_by u Stamp)
+  pub fixed : e.kind ≡ LoadStamp → e.value ≡ 1 → (w : View) → IsItem u.views e.seat w
+      → (w.reading.opened ≡ Some (held_by u Stamp)) × (w.history.found ≡ held_by u Stamp)
   -- a seat that is split off has seen what the other has
   pub split : e.kind ≡ SplitSeat → (v w : View) → IsItem t.views e.seat v → IsItem u.views (length t.views) w → w.history.seen ≡ v.history.seen
   -- a seat into which another is joined is told what that one had seen

@@ -3,4 +3,6 @@ pub mod SectionMoves
 pub mod ViewLaws
 pub mod SeatLaws
 pub mod KeepsRule
+pub mod SearchLaws
 pub mod RaiseOwes
+pub mod TurnLaws

@@ -24,7 +24,8 @@ OwesNulled z m vs m' ws w =
 -- so it is after a raise that is allowed
 abbrev pub OwesLaw : Type 0
 OwesLaw =
-    (z : Layout) (words : List ℕ) (vs : List View) → InRule z words vs → (i n value : ℕ) (v : View) (o : Option Update) → IsItem vs i v → word_at z n ≡ Some Stamp
+    (z : Layout) (words : List ℕ) (vs : List View) → InRule z words vs → (i n value : ℕ) (v : View) (o : Option Update) → IsItem vs i v
+    → word_at z n ≡ Some Stamp
     → carries Raise v o ≡ true → needs Raise z (memory z words) vs i v Stamp value o ≡ true
     → OwesNulled z (memory z words) vs (memory z (words_after Raise words n value)) (views_after Raise z (memory z words) vs i v Stamp value o)
     (view_after Raise z (memory z words) vs v Stamp (memory z words Stamp) value o)

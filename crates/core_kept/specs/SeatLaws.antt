@@ -25,7 +25,9 @@ MakeLaw =
 
 -- made one after another from the first view, the seats of the passes stand behind the first view, which is empty then
 abbrev pub MadeLaw : Type 0
-MadeLaw = (z : Layout) (sizes : List PassSize) → z ≡ layout_of sizes → IsRight (first_table z) → InRule z (first_table z).words (empty_view z ∷ pass_views z 0 1 1 sizes)
+MadeLaw =
+    (z : Layout) (sizes : List PassSize) → z ≡ layout_of sizes → IsRight (first_table z)
+    → InRule z (first_table z).words (empty_view z ∷ pass_views z 0 1 1 sizes)
 
 -- a view that has every number knows as many updates as the stamp says
 abbrev pub WholeLaw : Type 0

@@ -15,8 +15,10 @@ section_of t n = held_by t (Section n)
 
 pub record MovesSections (t : Table) (e : Event) (u : Table) : Type 0 where
   -- an enter takes the own word from even to odd, and a leave from odd to even
-  pub enters : e.kind ≡ Enter → (v : View) (n : ℕ) → IsItem t.views e.seat v → v.number ≡ Some n → (is_even (section_of t n) ≡ true) × (is_even (section_of u n) ≡ false)
-  pub leaves : e.kind ≡ Leave → (v : View) (n : ℕ) → IsItem t.views e.seat v → v.number ≡ Some n → (is_even (section_of t n) ≡ false) × (is_even (section_of u n) ≡ true)
+  pub enters : e.kind ≡ Enter → (v : View) (n : ℕ) → IsItem t.views e.seat v → v.number ≡ Some n
+      → (is_even (section_of t n) ≡ true) × (is_even (section_of u n) ≡ false)
+  pub leaves : e.kind ≡ Leave → (v : View) (n : ℕ) → IsItem t.views e.seat v → v.number ≡ Some n
+      → (is_even (section_of t n) ≡ false) × (is_even (section_of u n) ≡ true)
   -- no other kind changes a section word, and no event another pass's
   pub kept : e.kind ≢ Enter → e.kind ≢ Leave → (n : ℕ) → section_of u n ≡ section_of t n
   pub others : (v : View) (n : ℕ) → IsItem t.views e.seat v → is_number n v.number ≡ false → section_of u n ≡ section_of t n

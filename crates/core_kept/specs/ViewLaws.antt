@@ -12,6 +12,7 @@ use Rattle.core_events.specs.Tables.{Table}
 use Rattle.core_events.specs.Steps.{needs, carries, allowed, after, words_after, views_after}
 use Rattle.core_invariant.specs.Numbers.{IsSpare}
 use Rattle.core_invariant.specs.OwnPlaces.{KnowsPlaces}
+use Rattle.core_invariant.specs.LinkRule.{LinksLast}
 use Rattle.core_invariant.specs.Rule.{InRule, IsRight}
 use Rattle.core_invariant.specs.SpentViews.{IsSpent}
 use Rattle.core_invariant.specs.WaitingSlots.{WaitsRight}
@@ -35,7 +36,8 @@ SpareLaw =
 -- each view knows the places of its own updates
 abbrev pub PlacesLaw : Type 0
 PlacesLaw =
-    (z : Layout) (words : List ℕ) (vs : List View) → InRule z words vs → (i : ℕ) (v : View) → IsItem vs i v → (w : Word) (value : ℕ) (kind : Kind) (o : Option Update)
+    (z : Layout) (words : List ℕ) (vs : List View) → InRule z words vs → (i : ℕ) (v : View) → IsItem vs i v
+    → (w : Word) (value : ℕ) (kind : Kind) (o : Option Update)
     → carries kind v o ≡ true → needs kind z (memory z words) vs i v w value o ≡ true
     → All KnowsPlaces (views_after kind z (memory z words) vs i v w value o)
 
@@ -60,3 +62,11 @@ SeenLaw = (t : Table) (e : Event) → IsRight t → allowed t e ≡ true → Kee
 -- an enter and a leave alone change a section word, and their own one
 abbrev pub SectionsLaw : Type 0
 SectionsLaw = (t : Table) (e : Event) → IsRight t → allowed t e ≡ true → MovesSections t e (after t e)
+
+-- a node that an update brings in is linked when nothing is pending any more
+abbrev pub LinkingLaw : Type 0
+LinkingLaw =
+    (z : Layout) (words : List ℕ) (vs : List View) → InRule z words vs → (i : ℕ) (v : View) → IsItem vs i v
+    → (w : Word) (value : ℕ) (kind : Kind) (o : Option Update)
+    → needs kind z (memory z words) vs i v w value o ≡ true
+    → All LinksLast (views_after kind z (memory z words) vs i v w value o)

@@ -4,13 +4,15 @@ ghost use Rattle.core_events.specs.declared.event.Kind.TheVariants.{SplitSeat, J
 ghost use Rattle.core_invariant.specs.KeptRule.{KeepsRuleAt};
 ghost use Rattle.core_kept.specs.KeepsRule.{KeepsLaw};
 ghost use Rattle.core_kept.specs.RaiseOwes.{OwesLaw};
+ghost use Rattle.core_kept.specs.SearchLaws.{KeepsSearchesAt, KeepsSearchesNow};
 ghost use Rattle.core_kept.specs.SeatLaws.{FirstLaw, MakeLaw, MadeLaw, WholeLaw};
-ghost use Rattle.core_kept.specs.ViewLaws.{SpentLaw, SpareLaw, PlacesLaw, WaitsLaw, UnusedLaw, SeenLaw, SectionsLaw};
+ghost use Rattle.core_kept.specs.ViewLaws.{SpentLaw, SpareLaw, PlacesLaw, WaitsLaw, UnusedLaw, LinkingLaw, SeenLaw, SectionsLaw};
 
 /// What every allowed event keeps of each view. Nothing is left of a view that was joined into another one. The section
 /// word and the announcement of a number that is still to be given are 0. Each view knows the places of its own
 /// updates. It works at no node of its own batch, and its slots wait only where it has a pass number or was given one.
-/// The words of its free slots that it never used are 0, but for the locks.
+/// The words of its free slots that it never used are 0, but for the locks. A node that its update brings in is linked
+/// when nothing is pending any more.
 /// No event makes what a seat has seen shorter. An enter takes the own section word from even to odd, a leave
 /// from odd to even, and no event changes another pass's; nor is an announcement changed by another event than one that
 /// announces, or by another pass.
@@ -20,6 +22,7 @@ pub fn views_keep_the_rule()
     ensures places { PlacesLaw }
     ensures waits { WaitsLaw }
     ensures unused { UnusedLaw }
+    ensures linking { LinkingLaw }
     ensures seen { SeenLaw }
     ensures sections { SectionsLaw }
 {}
@@ -90,6 +93,40 @@ pub fn plain_links_keep_the_rule()
     ensures set_link { KeepsRuleAt SetLink }
     ensures read_tag { KeepsRuleAt LoadTag }
     ensures set_tag { KeepsRuleAt SetTag }
+{}
+
+/// An allowed event of one of these kinds keeps what is said of the plain tree, of what each seat's search claims, and
+/// of what it reaches: loads, among them the step of a search by a plain link, and a load of the stamp, with which a
+/// search begins anew; tries of locks, unlocks and marks; stores to free slots, and of heads, numbers, announcements,
+/// tags and cuts; an enter, a leave, and a look at a section word; a seat split off or joined; and the store of a plain
+/// link, in each of its forms. A raise keeps it over the tree that is at the stamp then.
+pub fn searches_keep_the_rule()
+    ensures stamp { KeepsSearchesAt LoadStamp }
+    ensures head { KeepsSearchesAt LoadHead }
+    ensures number { KeepsSearchesAt LoadTs }
+    ensures child { KeepsSearchesAt LoadPtr }
+    ensures next { KeepsSearchesAt LoadNext }
+    ensures read_mark { KeepsSearchesAt LoadMark }
+    ensures read_pair { KeepsSearchesAt LoadKeyOrVal }
+    ensures look_ann { KeepsSearchesAt LookAnn }
+    ensures read_link { KeepsSearchesAt LoadLink }
+    ensures read_tag { KeepsSearchesAt LoadTag }
+    ensures fill { KeepsSearchesAt Fill }
+    ensures prepare { KeepsSearchesAt Prepare }
+    ensures finalise { KeepsSearchesAt Finalise }
+    ensures lock { KeepsSearchesAt TryLock }
+    ensures unlock { KeepsSearchesAt Unlock }
+    ensures mark { KeepsSearchesAt Mark }
+    ensures announce { KeepsSearchesAt Announce }
+    ensures cut { KeepsSearchesAt Cut }
+    ensures leave { KeepsSearchesAt Leave }
+    ensures set_tag { KeepsSearchesAt SetTag }
+    ensures set_link { KeepsSearchesAt SetLink }
+    ensures split { KeepsSearchesAt SplitSeat }
+    ensures raise { KeepsSearchesNow Raise }
+    ensures join { KeepsSearchesAt JoinSeat }
+    ensures enter { KeepsSearchesAt Enter }
+    ensures look { KeepsSearchesAt LookSec }
 {}
 
 /// Every allowed event keeps the rule, from every table that meets it: what the laws above show of the kinds, joined.

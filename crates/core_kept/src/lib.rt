@@ -4,9 +4,11 @@
 #![tactic(auto)]
 
 mod laws;
+mod turn_laws;
 
 pub use laws::{
     cuts_keep_the_rule, every_event_keeps_the_rule, how_seats_are_made, loads_keep_the_rule,
-    locks_keep_the_rule, plain_links_keep_the_rule, seats_keep_the_rule, updates_keep_the_rule,
-    views_keep_the_rule,
+    locks_keep_the_rule, plain_links_keep_the_rule, searches_keep_the_rule, seats_keep_the_rule,
+    updates_keep_the_rule, views_keep_the_rule,
 };
+pub use turn_laws::turns_keep_the_rule;

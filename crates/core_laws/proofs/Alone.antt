@@ -1,13 +1,12 @@
 -- What is met where a count rises is what another pass did.
-use Rattle.std.proofs.Common.{◌≡◌, ◌≢◌, ℕ, zero, suc, ◌+◌, ◌-◌, ◌<◌, ◌≤◌, ◌⊎◌, cond, List, [], ◌∷◌, length, Bool, true, false, not, eqb, ltb, ◌&&◌, arith, refl, ap, ◌∙◌, sym, subst, inl, inr, Option, Some, None}
+use Rattle.std.proofs.Common.{◌≡◌, ◌≢◌, ℕ, zero, suc, ◌+◌, ◌<◌, ◌≤◌, ◌⊎◌, cond, List, [], length, true, false, not, eqb, ltb, ◌&&◌, arith, refl, ap, ◌∙◌, sym, subst, inl, inr, Option, Some, None}
 use Rattle.std.specs.List.{slice_get}
-use Rattle.std.proofs.lemmas.Bool.{and_parts, cases_lt, eqb-true, eq-eqb}
+use Rattle.std.proofs.lemmas.Bool.{and_parts, cases_lt}
 use Rattle.std.proofs.lemmas.Bool.Decides.{nat_tests, eqb_tells}
 use Rattle.index_words.specs.declared.layout.Layout.{Layout}
 use Rattle.index_words.specs.declared.side.Side.{Side}
 use Rattle.index_words.specs.declared.view.View.{View}
 use Rattle.index_words.specs.declared.view.history.Counts.{Counts}
-use Rattle.index_words.specs.declared.view.history.EndedPlace.{EndedPlace}
 use Rattle.index_words.specs.declared.view.reading.Link.{Link}
 use Rattle.index_words.specs.declared.view.reading.Reading.{Reading}
 use Rattle.index_words.specs.declared.view.reading.LinkSource.TheVariants.{Bundle}
@@ -19,29 +18,30 @@ use Rattle.index_words.specs.declared.word.Word.{Word}
 use Rattle.index_words.specs.declared.word.Word.TheVariants.{Stamp, Section, Announced, Node, Entry}
 use Rattle.index_words.specs.Words.{Memory, word_at}
 use Rattle.index_words.proofs.Seats.{one_term, two_terms, at_item}
-use Rattle.key_map.specs.declared.update.Update.{Update}
-use Rattle.key_map.specs.Lists.{count, Every, IsItem}
-use Rattle.key_map.proofs.Counting.{count-append}
+use Rattle.key_map.specs.Lists.{count, IsItem}
+use Rattle.key_map.proofs.Counting.{count-append, count-has}
 use Rattle.core_grace.specs.Holds.{ReadsNode, held_slots, tree_slots, work_nodes, listed}
 use Rattle.core_grace.specs.Sections.{is_even}
 use Rattle.core_grace.specs.Slots.{own, own_free, nodes_of}
-use Rattle.core_links.specs.Bundle.{IsChain, select}
+use Rattle.core_links.specs.Bundle.{select}
 use Rattle.core_events.specs.declared.event.Event.{Event}
 use Rattle.core_events.specs.declared.event.Kind.{Kind}
 use Rattle.core_events.specs.declared.event.Kind.TheVariants.{TryLock, LoadMark}
 use Rattle.core_events.specs.Tables.{Table, held_by}
 use Rattle.core_events.specs.LoadMoves.{locks}
-use Rattle.core_events.specs.LockNeeds.{names_pass, may_lock, may_try_lock, may_load_mark}
+use Rattle.core_events.specs.LockNeeds.{is_mark, names_pass, may_lock, may_try_lock, may_load_mark}
+use Rattle.core_events.specs.Searches.{search_nodes}
 use Rattle.core_events.specs.Needs.{is_lock}
 use Rattle.core_events.specs.Steps.{needs, carries, allowed_at}
 use Rattle.core_events.specs.Versions.{slots_of}
 use Rattle.core_events.proofs.Tests.{never, not_true, node_there, entry_there}
 use Rattle.core_invariant.specs.BundleRule.{IsPendingAt, IsLive, pending_count}
-use Rattle.core_invariant.specs.Histories.{IsGiven, update_at, made_by, own_place, ended_place, place_count}
+use Rattle.core_invariant.specs.Histories.{update_at, made_by, own_place, ended_place, place_count}
 use Rattle.core_invariant.specs.Locks.{NamesHolder, lock_count}
 use Rattle.core_invariant.specs.Meanings.{Meaning}
 use Rattle.core_invariant.specs.Numbers.{number_count}
 use Rattle.core_invariant.specs.OwnPlaces.{HasNumber}
+use Rattle.core_invariant.specs.Reached.{plain_graph, HoldsPlain, ReachesRight}
 use Rattle.core_invariant.specs.Readers.{IsReachable, PlaceRight, LinkRight, SourceRight, EntryRight}
 use Rattle.core_invariant.specs.Rule.{Rule, IsRight}
 use Rattle.core_invariant.specs.SeatRule.{SeatRight}
@@ -49,81 +49,17 @@ use Rattle.core_invariant.specs.WaitingSlots.{IsNameless, WaitsRight}
 use Rattle.core_invariant.proofs.Frames.{Term, term_of, every_at, same_item, count-middle}
 use Rattle.core_invariant.proofs.HeldFacts.{count-locks}
 use Rattle.core_invariant.proofs.Idle.{nameless_idle, own_count, cond-le, number_low}
+use Rattle.core_invariant.proofs.LockReach.{searched}
 use Rattle.core_invariant.proofs.OneView.{item_from_get, seat_at}
 use Rattle.core_invariant.proofs.Owned.{slot_is, reachable_live, held_live}
 use Rattle.core_laws.specs.Alone.{AnotherPass, HasLocked, HasPending, HasMovedHead, HasTakenOut, IsStoredBy, MetByOthers, MeetsNothing, OthersLaw, NothingLaw, AloneLaw}
-use Rattle.core_laws.specs.Counts.{MeetsLock, FindsNoNumber, FindsOtherHead, FindsMark}
+use Rattle.core_laws.specs.Counts.{MeetsLock, FindsNoNumber, FindsOther, FindsOtherHead, FindsMark}
+use Rattle.core_laws.proofs.AloneFacts.{counted, number_there, own_placed, placed_mine, given_placed, some_number, update_there, own_made, chain_begins, chain_ends}
 use Rattle.core_laws.proofs.CountFacts.{number_some}
 use Rattle.core_laws.proofs.Counts.{counts_law}
 use Rattle.core_laws.proofs.Owners.{found_at}
 use Rattle.core_laws.proofs.Remembered.{every_item}
-
--- a pass number that a view has counts
-counted : (n : ℕ) (u : View) → HasNumber u n → 0 < number_count n u
-counted n u (inl own) = omega (arith, own_count n u.number own)
-counted n u (inr given) = omega (arith, given)
-
-number_there : (n passes : ℕ) → 0 < 0 + cond (ltb n passes) 1 0 → n < passes
-number_there n passes some = grind (arith, nat_tests)
-
--- who holds a place of a pass has the pass's number
-own_placed : (n p : ℕ) (o : Option ℕ) (mine : List ℕ) → 0 < own_place n p o mine → o ≡ Some n
-own_placed n p None mine some = absurd (omega (arith, some))
-own_placed n p (Some k) mine some = by_test (eqb k n) refl some
-  where
-    by_test : (b : Bool) → eqb k n ≡ b → 0 < cond b (count p mine) 0 → Some k ≡ Some n
-    by_test true is some = let same : k ≡ n = eqb-true k n is in ap Some same
-    by_test false is some = absurd (omega (arith, some))
-
--- and where it was none of its own, the place was given up to it
-placed_mine : (n p : ℕ) (o : Option ℕ) (mine : List ℕ) → count p mine ≡ 0 → own_place n p o mine ≡ 0
-placed_mine n p None mine none = refl
-placed_mine n p (Some k) mine none = by_test (eqb k n)
-  where
-    by_test : (b : Bool) → cond b (count p mine) 0 ≡ 0
-    by_test true = none
-    by_test false = refl
-
-given_placed : (n p : ℕ) (ended : List ℕ) (ps : List EndedPlace) → Every (IsGiven ended) ps → 0 < ended_place n p ps → 0 < count n ended
-given_placed n p ended [] all some = absurd (omega (arith, some))
-given_placed n p ended (q ∷ ps) all some = by_tests (eqb q.pass n) (eqb q.at p) refl some (given_placed n p ended ps all.1)
-  where
-    by_tests : (a b : Bool) → eqb q.pass n ≡ a → 0 < cond (a && b) 1 0 + ended_place n p ps → (0 < ended_place n p ps → 0 < count n ended) → 0 < count n ended
-    by_tests true b is some rest = let same : q.pass ≡ n = eqb-true q.pass n is in subst (λ k. 0 < count k ended) same all.0
-    by_tests false b is some rest = rest (omega (arith, some))
-
--- a view with a number of its own, or that was given one
-some_number : (o : Option ℕ) (ended : List ℕ) → ((o ≡ None) × (ended ≡ []) → ⊥) → (n : ℕ) × ((o ≡ Some n) ⊎ (0 < count n ended))
-some_number (Some n) ended named = (n, inl refl)
-some_number None (n ∷ ended) named = (n, inr (omega (arith, ap (λ b. cond b 1 0 + count n ended) (eq-eqb n n refl))))
-some_number None [] named = absurd (named (refl, refl))
-
--- the update at a place within the history
-update_there : (us : List Update) (p : ℕ) → 0 < p → p ≤ length us → (u : Update) × (update_at us p ≡ Some u)
-update_there us p low high =
-    let found = there us (p - 1) (omega (arith, low, high)) in
-    (found.0, ap (λ b. cond b None (slice_get us (p - 1))) (not_zero p low) ∙ found.1)
-  where
-    not_zero : (p : ℕ) → 0 < p → eqb p 0 ≡ false
-    not_zero p low = grind (arith, nat_tests)
-
-    there : (us : List Update) (p : ℕ) → p < length us → (u : Update) × (slice_get us p ≡ Some u)
-    there [] p high = absurd (omega (arith, high))
-    there (u ∷ us) zero high = (u, refl)
-    there (u ∷ us) (suc p) high = there us p (omega (arith, high))
-
-own_made : (u : Update) → made_by u.client (Some u) ≡ 1
-own_made u = omega (arith, ap (λ (b : Bool). 0 + cond b 1 0) (eq-eqb u.client u.client refl))
-
--- a chain from a head begins with the head
-chain_begins : (next : ℕ → ℕ) (head : ℕ) (es : List ℕ) → IsChain next head es → 0 < head → 0 < count head es
-chain_begins next head [] chain some = absurd (omega (arith, chain, some))
-chain_begins next head (e ∷ es) chain some = omega (arith, ap (λ b. cond b 1 0 + count head es) (eq-eqb e head (sym chain.0)))
-
--- and from 0 it has no entry
-chain_ends : (next : ℕ → ℕ) (head : ℕ) (es : List ℕ) → IsChain next head es → head ≡ 0 → es ≡ []
-chain_ends next head [] chain none = refl
-chain_ends next head (e ∷ es) chain none = absurd (omega (arith, chain.0, chain.1, none))
+use Rattle.core_laws.proofs.KnownLinks.{link_met, tag_met}
 
 module _ (t : Table) (right : IsRight t) (i : ℕ) (v : View) (at : IsItem t.views i v) where
   abbrev z : Layout
@@ -291,18 +227,17 @@ module _ (t : Table) (right : IsRight t) (i : ℕ) (v : View) (at : IsItem t.vie
           | inr unwritten ↦ pending_elsewhere own l.node head l.side named live here (omega (arith, unwritten)) free does (λ n u some. gives n u (inl some))
         ]
 
-  -- a marked node that the seat reads or has locked, and has not taken out itself
-  mark_elsewhere : (mine k : ℕ) → v.number ≡ Some mine → k ≤ z.nodes → ReadsNode v k → m (Node Mark k) ≡ 1 → count k v.retired.nodes ≡ 0
+  -- a marked node that is live, and neither taken out by the seat nor in its batch
+  mark_elsewhere : (mine k : ℕ) → v.number ≡ Some mine → IsLive z vs k → 0 < m (Node Mark k) → count k v.retired.nodes ≡ 0 → count k v.batch.nodes ≡ 0
       → (does : ℕ → View → Type 0) → ((n : ℕ) (u : View) → 0 < count k u.retired.nodes + count k u.batch.nodes → does n u) → AnotherPass t v does
-  mark_elsewhere mine k named high reads marked none does gives =
-      let live : IsLive z vs k = held_live z vs g rule.slots i k v at reads high in
-      let term : Term (own nodes_of k) vs = term_of (own nodes_of k) vs (omega (arith, rule.slots.nodes.one k, slot_is z.nodes k (no_root k marked) high, no_tree)) in
+  mark_elsewhere mine k named live marked none apart does gives =
+      let term : Term (own nodes_of k) vs = term_of (own nodes_of k) vs (omega (arith, rule.slots.nodes.one k, slot_is z.nodes k (no_root k marked) live.0, no_tree)) in
       let u : View = term.item in
       let waits : 0 < count k u.retired.nodes + count k u.batch.nodes = omega (arith, term.some, live.1, one_term (own_free nodes_of k) vs term.place u term.at) in
       let holder = some_number u.number u.history.ended (λ nameless. nobody u (at_item WaitsRight vs term.place u term.at right.waits) nameless waits) in
       another does mine term.place holder.0 u named term.at holder.1 (inl (not_own term.place u term.at waits)) (gives holder.0 u waits)
     where
-      no_root : (j : ℕ) → m (Node Mark j) ≡ 1 → 0 < j
+      no_root : (j : ℕ) → 0 < m (Node Mark j) → 0 < j
       no_root zero marked = absurd (omega (arith, marked, rule.marks.root))
       no_root (suc j) marked = omega arith
 
@@ -321,8 +256,29 @@ module _ (t : Table) (right : IsRight t) (i : ℕ) (v : View) (at : IsItem t.vie
       not_own : (j : ℕ) (u : View) → IsItem vs j u → 0 < count k u.retired.nodes + count k u.batch.nodes → j ≢ i
       not_own j u of waits same =
           let one : v ≡ u = same_item vs i j v u at of same in
-          let mine : 0 < count k v.retired.nodes + count k v.batch.nodes = subst (λ (y : View). 0 < count k y.retired.nodes + count k y.batch.nodes) (sym one) waits in
-          (at_item WaitsRight vs i v at right.waits).apart k (omega (arith, mine, none)) reads
+          omega (arith, subst (λ (y : View). 0 < count k y.retired.nodes + count k y.batch.nodes) (sym one) waits, none, apart)
+
+  -- a node that the seat reads or has locked is live, and not in its batch
+  read_apart : (k : ℕ) → ReadsNode v k → count k v.batch.nodes ≡ 0
+  read_apart k reads =
+      elim (cases_lt 0 (count k v.batch.nodes)) as (λ _. count k v.batch.nodes ≡ 0) [
+        | inl some ↦ absurd ((at_item WaitsRight vs i v at right.waits).apart k some reads)
+        | inr none ↦ omega (arith, none)
+      ]
+
+  read_elsewhere : (mine k : ℕ) → v.number ≡ Some mine → k ≤ z.nodes → ReadsNode v k → 0 < m (Node Mark k) → count k v.retired.nodes ≡ 0
+      → (does : ℕ → View → Type 0) → ((n : ℕ) (u : View) → 0 < count k u.retired.nodes + count k u.batch.nodes → does n u) → AnotherPass t v does
+  read_elsewhere mine k named high reads marked none does gives =
+      mark_elsewhere mine k named (held_live z vs g rule.slots i k v at reads high) marked none (read_apart k reads) does gives
+
+  -- nor is a node of its search
+  searched_elsewhere : (mine k : ℕ) → v.number ≡ Some mine → is_even v.section_word ≡ false → 0 < k → 0 < count k (search_nodes 0 v.reading) → 0 < m (Node Mark k)
+      → count k v.retired.nodes ≡ 0 → (does : ℕ → View → Type 0) → ((n : ℕ) (u : View) → 0 < count k u.retired.nodes + count k u.batch.nodes → does n u)
+      → AnotherPass t v does
+  searched_elsewhere mine k named inside some here marked none does gives =
+      let reach : ReachesRight z (plain_graph m) vs v = at_item (ReachesRight z (plain_graph m) vs) vs i v at right.reach in
+      let holds : HoldsPlain (plain_graph m) v k = searched z m vs g rule i v at (plain_graph m) reach inside k some (count-has k (search_nodes 0 v.reading) here) in
+      mark_elsewhere mine k named (reach.there k holds, reach.unheld k holds) marked none (reach.apart k holds) does gives
 
 -- what an allowed event meets
 module _ (t : Table) (e : Event) (right : IsRight t) (v : View) (at : IsItem t.views e.seat v) (word : Word) (found : word_at t.layout e.word ≡ Some word)
@@ -409,15 +365,26 @@ module _ (t : Table) (e : Event) (right : IsRight t) (v : View) (at : IsItem t.v
   mark_by : (u : Word) → word ≡ u → may_load_mark v u e.value ≡ true → FindsMark t e v → AnotherPass t v (HasTakenOut t e)
   mark_by (Node f k) named may p =
       let a = not (is_even v.section_word) in
-      let one = and_parts (Rattle.core_events.specs.LockNeeds.is_mark f && a) (eqb e.value 0) may in
-      let own = number_some v.number (inside_named (and_parts (Rattle.core_events.specs.LockNeeds.is_mark f) a one.0).1) in
+      let one = and_parts (is_mark f && a) (eqb e.value 0) may in
+      let own = number_some v.number (inside_named (and_parts (is_mark f) a one.0).1) in
+      let inside : is_even v.section_word ≡ false = not_true (is_even v.section_word) (and_parts (is_mark f) a one.0).1 in
+      let high : p.node ≤ t.layout.nodes = node_there t.layout e.word p.node Mark p.word in
+      let gives : (n : ℕ) (u : View) → 0 < count p.node u.retired.nodes + count p.node u.batch.nodes → HasTakenOut t e n u
+      = λ n u waits. record { node = p.node; word = p.word; waits = waits } in
       elim p.reach as (λ _. AnotherPass t v (HasTakenOut t e)) [
-        | inl root ↦ absurd (omega (arith, p.marked, ap (λ j. held_by t (Node Mark j)) root, right.rule.marks.root))
-        | inr reads ↦
-            mark_elsewhere t right e.seat v at own.0 p.node own.1 (node_there t.layout e.word p.node Mark p.word) (read_by p.node reads) p.marked p.kept.1 (HasTakenOut t e)
-            (λ n u waits. record { node = p.node; word = p.word; waits = waits })
+        | inl (inl root) ↦ root_by root p.marked
+        | inl (inr reads) ↦ read_elsewhere t right e.seat v at own.0 p.node own.1 high (read_by p.node reads) p.marked p.kept.1 (HasTakenOut t e) gives
+        | inr (inl root) ↦ root_by root p.marked
+        | inr (inr here) ↦ searched_elsewhere t right e.seat v at own.0 p.node own.1 inside (no_root p.node p.marked) here p.marked p.kept.1 (HasTakenOut t e) gives
       ]
     where
+      no_root : (j : ℕ) → 0 < held_by t (Node Mark j) → 0 < j
+      no_root zero marked = absurd (omega (arith, marked, right.rule.marks.root))
+      no_root (suc j) marked = omega arith
+
+      root_by : {j : ℕ} → j ≡ 0 → 0 < held_by t (Node Mark j) → AnotherPass t v (HasTakenOut t e)
+      root_by {j = j} root marked = absurd (omega (arith, root, no_root j marked))
+
       read_by : (j : ℕ) → (0 < count j (tree_slots v.reading.tree)) ⊎ (0 < count j (held_slots v.held.nodes)) → ReadsNode v j
       read_by j (inl tree) = omega (arith, tree, count-append j (tree_slots v.reading.tree) (work_nodes v))
       read_by j (inr locked) =
@@ -455,11 +422,6 @@ nobody_else t v does one other =
     let apart : other.pass ≡ other.own → ⊥ = other.apart in
     omega (arith, one, other.own_there, other.there, apart)
 
-same_counts : (a b : Counts) → a.busy ≡ b.busy → a.waits ≡ b.waits → a.moves ≡ b.moves → a ≡ b
-same_counts a b busy waits moves =
-    ap (λ n. record { busy = n; waits = a.waits; moves = a.moves }) busy ∙ ap (λ n. record { busy = b.busy; waits = n; moves = a.moves }) waits
-    ∙ ap (λ n. record { busy = b.busy; waits = b.waits; moves = n }) moves
-
 pub nothing : NothingLaw
 nothing t e v right one met before =
     let by = others t e v right met before in
@@ -467,8 +429,15 @@ nothing t e v right one met before =
       lock = λ p. nobody_else t v (HasLocked t e) one (by.lock p);
       number = λ p. nobody_else t v (HasPending t e) one (by.number p);
       head = λ p. nobody_else t v (HasMovedHead t e) one (by.head p);
+      link = λ p. link_met t right e.seat v (item_from_get t.views e.seat v before) one p.node p.side p.other p.unknown;
+      tag = λ p. tag_met t right e.seat v (item_from_get t.views e.seat v before) one p.node p.side p.other p.unknown;
       mark = λ p. nobody_else t v (HasTakenOut t e) one (by.mark p);
     }
+
+same_counts : (a b : Counts) → a.busy ≡ b.busy → a.waits ≡ b.waits → a.moves ≡ b.moves → a ≡ b
+same_counts a b busy waits moves =
+    ap (λ n. record { busy = n; waits = a.waits; moves = a.moves }) busy ∙ ap (λ n. record { busy = b.busy; waits = n; moves = a.moves }) waits
+    ∙ ap (λ n. record { busy = b.busy; waits = b.waits; moves = n }) moves
 
 pub alone : AloneLaw
 alone t e v w right one met before after =
@@ -476,6 +445,8 @@ alone t e v w right one met before after =
     let rise = counts_law t e v w right met before after in
     same_counts w.counts v.counts (rise.busy.stays none.lock) (rise.waits.stays none.number) (rise.moves.stays (no_move none))
   where
-    no_move : MeetsNothing t e v → FindsOtherHead t e v ⊎ FindsMark t e v → ⊥
-    no_move none (inl p) = none.head p
+    no_move : MeetsNothing t e v → FindsOther t e v ⊎ FindsMark t e v → ⊥
+    no_move none (inl (inl p)) = none.head p
+    no_move none (inl (inr (inl p))) = none.link p
+    no_move none (inl (inr (inr p))) = none.tag p
     no_move none (inr p) = none.mark p

@@ -20,6 +20,8 @@ pub mod CutNeeds
 pub mod PlainNeeds
 -- A seat whose view shows that it may leave at the wait of a removal, or look at another pass there, may do so.
 pub mod Waits
+-- A successor is unlinked after each other pass was passed since its copy was linked.
+pub mod Unlinks
 -- An allowed cut takes no entry that a section number selects, now or later.
 pub mod Unread
 -- A lock word that is found held by a seat that has not locked the node names another pass.
@@ -38,6 +40,8 @@ pub mod CountFacts
 pub mod NumberLoads
 -- The slots of all views and of the tree are those of the layout.
 pub mod SlotSums
+-- Numbers of passes, places of updates and chains, as far as it is asked who did something.
+pub mod AloneFacts
 -- What is met where a count rises is what another pass did.
 pub mod Alone
 -- A tree is determined by the list of its nodes.
@@ -50,3 +54,13 @@ pub mod RaiseStamps
 pub mod Falls
 -- Where plain links lead, and that a tag that is to be raised has room for it.
 pub mod PlainTrees
+-- A seat inside a section has a pass number, and where there is one pass alone no other view has one.
+pub mod OnePass
+-- What a search on plain links may rely on.
+pub mod Searching
+-- Where a search stands, its key lies beyond those of its turns; and what stays on a table of one pass.
+pub mod SearchTurns
+-- A search does not come back to a node at which it has turned.
+pub mod NoReturn
+-- On a table of one pass a plain link, and its tag, hold what a seat remembers of them, or what it knows under its own lock.
+pub mod KnownLinks

@@ -1,5 +1,5 @@
 -- Who writes what: each kind of event stores to a word of the seat's own, or to the stamp.
-use Rattle.std.proofs.Common.{◌≡◌, ◌≢◌, ℕ, ◌+◌, ◌<◌, ◌≤◌, ◌⊎◌, cond, List, length, Bool, true, false, not, eqb, ◌&&◌, arith, set, refl, ap, ◌∙◌, sym, subst, slice_index, inl, inr, Option, Some, None}
+use Rattle.std.proofs.Common.{◌≡◌, ◌≢◌, ℕ, ◌+◌, ◌<◌, ◌≤◌, ◌⊎◌, cond, List, Bool, true, false, not, eqb, ◌&&◌, arith, set, refl, ap, ◌∙◌, sym, subst, slice_index, inl, inr, Option, Some, None}
 use Rattle.std.specs.List.{slice_get, sum_by}
 use Rattle.std.proofs.lemmas.Bool.{and_parts, eqb-true, eq-eqb}
 use Rattle.index_words.specs.declared.layout.Layout.{Layout}
@@ -12,7 +12,7 @@ use Rattle.index_words.specs.declared.word.Part.TheVariants.{Child, Stamp as Num
 use Rattle.index_words.specs.declared.word.Word.{Word}
 use Rattle.index_words.specs.declared.word.Word.TheVariants.{Stamp, Section, Announced, Node, Entry}
 use Rattle.index_words.specs.Words.{Memory, memory, written, word_at, address, same_word}
-use Rattle.index_words.proofs.Seats.{Beside, one_term, two_terms}
+use Rattle.index_words.proofs.Seats.{Beside, at_item, one_term, two_terms}
 use Rattle.index_words.proofs.Store.{same_word-true, stored_at, word_there}
 use Rattle.key_map.specs.Lists.{count, has, IsItem}
 use Rattle.key_map.proofs.Counting.{has-count}
@@ -25,14 +25,15 @@ use Rattle.core_events.specs.declared.event.Kind.{Kind}
 use Rattle.core_events.specs.declared.event.Kind.TheVariants.{Enter, Leave, Fill, Prepare, Raise, Finalise, TryLock, Unlock, Mark as MarkNode, Announce, Cut, SetLink, SetTag}
 use Rattle.core_events.specs.Tables.{Table, held_by}
 use Rattle.core_invariant.specs.Meanings.{Meaning}
-use Rattle.core_invariant.specs.BundleRule.{IsPending, pending_count}
+use Rattle.core_invariant.specs.BundleRule.{IsLive, IsPending, pending_count}
 use Rattle.core_invariant.specs.Locks.{lock_count}
-use Rattle.core_invariant.specs.Readers.{IsLocked, IsReachable}
+use Rattle.core_invariant.specs.Reached.{plain_graph, ReachesRight}
+use Rattle.core_invariant.specs.Readers.{IsLocked}
 use Rattle.core_invariant.specs.Rule.{Rule, InRule, IsRight}
 use Rattle.core_events.specs.LoadMoves.{locks}
-use Rattle.core_events.specs.LoadNeeds.{is_part, is_reachable}
+use Rattle.core_events.specs.LoadNeeds.{is_part}
 use Rattle.core_events.specs.PlainNeeds.{is_done_at, owes, may_set_field, may_set_link, may_raise_tag, may_set_tag}
-use Rattle.core_events.specs.LockNeeds.{is_mark, names_pass, may_try_lock, may_unlock, may_mark}
+use Rattle.core_events.specs.LockNeeds.{is_mark, names_pass, may_lock, may_try_lock, may_unlock, may_mark}
 use Rattle.core_events.specs.Needs.{is_lock, is_outside, is_own_section, nothing_pending, may_enter, may_fill}
 use Rattle.core_events.specs.Waits.{may_leave}
 use Rattle.core_events.specs.Announcing.{is_own_announced, is_announcement, may_announce}
@@ -45,12 +46,13 @@ use Rattle.core_events.specs.Steps.{needs, carries, allowed_at, after_at, words_
 use Rattle.core_invariant.proofs.Frames.{every_at, count-middle}
 use Rattle.core_invariant.proofs.OneView.{item_from_get, seat_at}
 use Rattle.core_events.proofs.Tests.{never, not_true, node_there}
-use Rattle.core_invariant.proofs.Needed.{own_section, own_announced, reach_is, ready_is}
+use Rattle.core_invariant.proofs.Needed.{own_section, own_announced, ready_is}
 use Rattle.core_invariant.proofs.WaitNeeds.{can_leave, can_set}
 use Rattle.core_invariant.proofs.Idle.{number_apart}
-use Rattle.core_invariant.proofs.Owned.{once_node, once_entry, held_live, not_in_bundle, in_entries, free_not_live, reachable_live}
+use Rattle.core_invariant.proofs.Owned.{once_node, once_entry, held_live, not_in_bundle, in_entries, free_not_live}
 use Rattle.core_invariant.proofs.HeldFacts.{work_holds, locks-count}
 use Rattle.core_invariant.proofs.LiveHeads.{head_apart}
+use Rattle.core_invariant.proofs.LockReach.{can_lock}
 use Rattle.core_invariant.proofs.Locked.{locked_apart, locked_live}
 
 own_number_is : (n : ℕ) (o : Option ℕ) → o ≡ Some n → is_number n o ≡ false → ⊥
@@ -62,7 +64,7 @@ module _ (z : Layout) (m : Memory) (vs : List View) (g : Meaning) (rule : Rule z
   abbrev WritesField : Field → ℕ → Type 0
   WritesField Key k = HasFreeNode v k
   WritesField Val k = HasFreeNode v k
-  WritesField Lock k = IsLocked v k ⊎ (IsReachable z v k × (m (Node Lock k) ≡ 0))
+  WritesField Lock k = IsLocked v k ⊎ (IsLive z vs k × (m (Node Lock k) ≡ 0))
   WritesField Mark k = HasFreeNode v k ⊎ IsLocked v k
   WritesField (Head side) k = HasFreeNode v k ⊎ IsLocked v k
   WritesField (Link side) k = HasFreeNode v k ⊎ IsLocked v k
@@ -108,9 +110,9 @@ module _ (z : Layout) (m : Memory) (vs : List View) (g : Meaning) (rule : Rule z
     node_apart k (inr a) (inl b) = free_locked k j i u v of at b a
     node_apart k (inr a) (inr b) = omega (arith, b, locked_apart z m vs g rule i k v u at beside a)
 
-    lock_apart : (k : ℕ) → IsLocked v k ⊎ (IsReachable z v k × (m (Node Lock k) ≡ 0)) → HasFreeNode u k ⊎ IsLocked u k → ⊥
+    lock_apart : (k : ℕ) → IsLocked v k ⊎ (IsLive z vs k × (m (Node Lock k) ≡ 0)) → HasFreeNode u k ⊎ IsLocked u k → ⊥
     lock_apart k (inl a) steady = node_apart k (inr a) steady
-    lock_apart k (inr a) (inl b) = free_not_live z vs g rule.slots j k u of b (reachable_live z vs g rule.slots i k v at a.0)
+    lock_apart k (inr a) (inl b) = free_not_live z vs g rule.slots j k u of b a.0
     lock_apart k (inr a) (inr b) =
         omega (arith, rule.locks k, ap (λ x. 0 + cond (eqb x 0) 0 1) a.1, one_term (lock_count k) vs j u of, b)
 
@@ -283,11 +285,14 @@ module _ (z : Layout) (words : List ℕ) (vs : List View) (right : InRule z word
   lock_field : (f : Field) (k : ℕ) → k ≤ z.nodes → may_try_lock v (Node f k) value ≡ true → m (Node f k) ≡ 0 → W (Node f k)
   lock_field Lock k there met none =
       let b = not (is_even v.section_word) in
-      let c = is_reachable v k in
+      let c = may_lock v k in
       let d = not (locks k v.held.nodes) in
       let one = and_parts (is_lock Lock && b && c && d) (names_pass v.number value) met in
       let two = and_parts (is_lock Lock && b && c) d one.0 in
-      inr (reach_is z v k there (and_parts (is_lock Lock && b) c two.0).1, none)
+      let three = and_parts (is_lock Lock && b) c two.0 in
+      let inside : is_even v.section_word ≡ false = not_true (is_even v.section_word) (and_parts (is_lock Lock) b three.0).1 in
+      let reach : ReachesRight z (plain_graph m) vs v = at_item (ReachesRight z (plain_graph m) vs) vs i v at right.reach in
+      inr ((can_lock z m vs right.meaning right.rule i v at (plain_graph m) reach inside k there three.1).live, none)
   lock_field Key k there met none = absurd (never met)
   lock_field Val k there met none = absurd (never met)
   lock_field Mark k there met none = absurd (never met)

@@ -1,5 +1,5 @@
 -- A seat whose view shows that it may load or set a plain link, or its tag, may do so.
-use Rattle.std.proofs.Common.{◌≡◌, ℕ, ◌+◌, List, Bool, true, false, not, eqb, ◌&&◌, ◌||◌, refl, ap, sym, subst, inr, Option, Some, None}
+use Rattle.std.proofs.Common.{◌≡◌, ℕ, ◌+◌, ◌<◌, ◌≤◌, ◌⊎◌, ◌++◌, List, Bool, true, false, not, eqb, ◌&&◌, ◌||◌, refl, ap, sym, subst, inl, inr, arith, Option, Some, None}
 use Rattle.std.specs.Prelude.{IfSome}
 use Rattle.std.specs.List.{slice_get}
 use Rattle.std.proofs.lemmas.Bool.{eq-eqb}
@@ -11,14 +11,16 @@ use Rattle.index_words.specs.declared.view.update.HeldNode.{HeldNode}
 use Rattle.index_words.specs.declared.view.update.Unlinking.{Unlinking}
 use Rattle.index_words.specs.declared.word.Field.TheVariants.{Mark, Link, Tag}
 use Rattle.index_words.specs.declared.word.Word.TheVariants.{Node}
-use Rattle.index_words.specs.Words.{Memory, memory}
-use Rattle.key_map.specs.Lists.{IsItem}
+use Rattle.index_words.specs.Words.{Memory, is_there, memory}
+use Rattle.key_map.specs.Lists.{count, IsItem}
+use Rattle.key_map.proofs.Counting.{count-append}
 use Rattle.core_grace.specs.Batches.{all_passed}
 use Rattle.core_grace.specs.Sections.{is_even}
 use Rattle.core_events.specs.declared.event.Kind.TheVariants.{LoadLink, SetLink, LoadTag, SetTag}
 use Rattle.core_events.specs.LoadMoves.{locks}
 use Rattle.core_events.specs.Needs.{is_marked_node, nothing_pending}
 use Rattle.core_events.specs.PlainNeeds.{sets_to, keeps_order, may_unlink, may_unlink_at, unlinks_at, owes}
+use Rattle.core_events.specs.Searches.{place_nodes, searches_at}
 use Rattle.core_events.specs.Steps.{allowed}
 use Rattle.core_events.specs.Tables.{Table}
 use Rattle.core_events.specs.UpdateNeeds.{side_of}
@@ -28,10 +30,13 @@ use Rattle.core_invariant.specs.Rule.{InRule}
 use Rattle.core_invariant.proofs.HeldFacts.{locks-count, count-locks}
 use Rattle.core_invariant.proofs.Needed.{found_held}
 use Rattle.core_invariant.proofs.OneView.{item_from_get, seat_at}
-use Rattle.core_laws.specs.PlainNeeds.{MayReadLink, MayUnlink, MaySetLink, MaySetTag, ReadLinkLaw, ReadTagLaw, SetLinkLaw, SetTagLaw}
-use Rattle.core_laws.specs.ViewNeeds.{event_at}
-use Rattle.core_laws.proofs.ViewTests.{both, left_of, not_of, right_of, found-locks}
-use Rattle.core_laws.proofs.ViewNeeds.{locked_alive, allowed_by, reach_there, done_by}
+use Rattle.core_laws.specs.PlainNeeds.{MayReadLink, MayReadTag, MayUnlink, MaySetLink, MaySetTag, ReadLinkLaw, ReadTagLaw, SetLinkLaw, SetTagLaw}
+use Rattle.core_laws.specs.ViewNeeds.{event_at, IsInside}
+use Rattle.core_laws.proofs.ViewTests.{at_most, both, left_of, not_of, right_of, found-locks, stands_searched}
+use Rattle.core_laws.proofs.ViewNeeds.{locked_alive, inside_alive, allowed_by, reach_there, searched_there, done_by}
+
+count_front : (k : ℕ) (xs ys : List ℕ) → 0 < count k xs → 0 < count k (xs ++ ys)
+count_front k xs ys some = omega (arith, some, count-append k xs ys)
 
 module _ (z : Layout) (words : List ℕ) (vs : List View) (right : InRule z words vs) (i : ℕ) (v : View) (is : slice_get vs i ≡ Some v) where
   abbrev m : Memory
@@ -40,21 +45,37 @@ module _ (z : Layout) (words : List ℕ) (vs : List View) (right : InRule z word
   abbrev t : Table
   t = record { layout = z; words = words; views = vs }
 
-  read_link_may : (k : ℕ) (side : Side) → MayReadLink v k → allowed t (event_at z i LoadLink (Node (Link side) k) 0) ≡ true
-  read_link_may k side may =
-      let a = not (is_even v.section_word) in
-      let b = locks k v.held.nodes in
-      allowed_by z words vs right i v is LoadLink (Node (Link side) k) 0 (locked_alive z words vs right i v is k may.locked)
-      (reach_there z words vs right i v is (Link side) k (inr (inr may.locked))) refl
-      (both (true && (a && b)) (eqb 0 0) (both true (a && b) refl (both a b (not_of (is_even v.section_word) may.inside) (count-locks k v.held.nodes may.locked))) refl)
+  -- the node is one of the table, and the test of the need holds
+  link_there : (k : ℕ) (side : Side) → IsInside v → IsLocked v k ⊎ (searches_at v.reading v.reading.place k side ≡ true) → is_there z (Node (Link side) k) ≡ true
+  link_there k side inside (inl locked) = reach_there z words vs right i v is (Link side) k (inr (inr locked))
+  link_there k side inside (inr stands) =
+      elim (stands_searched v.reading v.reading.place k side stands) as (λ _. is_there z (Node (Link side) k) ≡ true) [
+        | inl root ↦ searched_there z words vs right i v is (Link side) k inside (inl root)
+        | inr here ↦ searched_there z words vs right i v is (Link side) k inside (inr (count_front k (place_nodes 0 v.reading.place) _ here))
+      ]
 
-  read_tag_may : (k : ℕ) (side : Side) → MayReadLink v k → allowed t (event_at z i LoadTag (Node (Tag side) k) 0) ≡ true
+  link_tested : (k : ℕ) (side : Side) → IsLocked v k ⊎ (searches_at v.reading v.reading.place k side ≡ true)
+      → (locks k v.held.nodes || searches_at v.reading v.reading.place k side) ≡ true
+  link_tested k side (inl locked) = left_of (locks k v.held.nodes) (searches_at v.reading v.reading.place k side) (count-locks k v.held.nodes locked)
+  link_tested k side (inr stands) = right_of (locks k v.held.nodes) (searches_at v.reading v.reading.place k side) stands
+
+  read_link_may : (k : ℕ) (side : Side) → MayReadLink v k side → allowed t (event_at z i LoadLink (Node (Link side) k) 0) ≡ true
+  read_link_may k side may =
+      let on : IsLocked v k ⊎ (searches_at v.reading v.reading.place k side ≡ true)
+      = elim may.on as (λ _. IsLocked v k ⊎ (searches_at v.reading v.reading.place k side ≡ true)) [ inl firm ↦ inl firm.locked | inr stands ↦ inr stands ] in
+      let a = not (is_even v.section_word) in
+      let b = locks k v.held.nodes || searches_at v.reading v.reading.place k side in
+      allowed_by z words vs right i v is LoadLink (Node (Link side) k) 0 (inside_alive z words vs right i v is may.inside)
+      (link_there k side may.inside on) refl
+      (both (a && b) (eqb 0 0) (both a b (not_of (is_even v.section_word) may.inside) (link_tested k side on)) refl)
+
+  read_tag_may : (k : ℕ) (side : Side) → MayReadTag v k → allowed t (event_at z i LoadTag (Node (Tag side) k) 0) ≡ true
   read_tag_may k side may =
       let a = not (is_even v.section_word) in
-      let b = locks k v.held.nodes in
-      allowed_by z words vs right i v is LoadTag (Node (Tag side) k) 0 (locked_alive z words vs right i v is k may.locked)
-      (reach_there z words vs right i v is (Tag side) k (inr (inr may.locked))) refl
-      (both (true && (a && b)) (eqb 0 0) (both true (a && b) refl (both a b (not_of (is_even v.section_word) may.inside) (count-locks k v.held.nodes may.locked))) refl)
+      let live = inside_alive z words vs right i v is may.inside in
+      allowed_by z words vs right i v is LoadTag (Node (Tag side) k) 0 live
+      (at_most k z.nodes (subst (λ (y : Layout). k ≤ y.nodes) ((seat_at z m vs right.meaning i v (item_from_get vs i v is) right.rule).layout live) may.there)) refl
+      (both (true && a) (eqb 0 0) (both true a refl (not_of (is_even v.section_word) may.inside)) refl)
 
   -- what the view shows of a successor
   unlink_by : (u : Unlinking) → v.joined ≡ false → MayUnlink v u → (is_marked_node m u.successor && all_passed z.passes v.number v.update.waiting.passed) ≡ true

@@ -17,7 +17,7 @@ use Rattle.core_events.specs.FillMoves.{filled_view, filled_with, with_filled, k
 use Rattle.core_events.specs.LoadMoves.{next_at}
 use Rattle.core_events.specs.Moves.{in_section}
 use Rattle.core_events.specs.Waits.{has_no_lock, looked_waiting}
-use Rattle.core_events.specs.Steps.{look_from, ptr_from, next_from, prepared_at, prepared_from, raised_from, finalised_from, unlocked_from, marked_from, pair_from, ann_from, cut_from, link_from, set_from, tag_from, raised_tag_from}
+use Rattle.core_events.specs.Steps.{look_from, ptr_from, next_from, prepared_at, prepared_from, raised_from, finalised_from, unlocked_from, marked_from, pair_from, ann_from, cut_from, set_from, raised_tag_from}
 
 -- what of a view a count is
 pub record Tally (v w : View) : Type 0 where
@@ -147,19 +147,6 @@ marked_tally v (Section k) = same_tally v
 marked_tally v (Announced k) = same_tally v
 marked_tally v (Entry p e) = same_tally v
 
-pub link_tally : (v : View) (w : Word) (x : ℕ) → Tally v (link_from v w x)
-link_tally v (Node Key k) x = same_tally v
-link_tally v (Node Val k) x = same_tally v
-link_tally v (Node Lock k) x = same_tally v
-link_tally v (Node Mark k) x = same_tally v
-link_tally v (Node (Head s) k) x = same_tally v
-link_tally v (Node (LinkField s) k) x = record { counts = refl; looks = refl }
-link_tally v (Node (Tag s) k) x = same_tally v
-link_tally v Stamp x = same_tally v
-link_tally v (Section k) x = same_tally v
-link_tally v (Announced k) x = same_tally v
-link_tally v (Entry p e) x = same_tally v
-
 pub set_tally : (v : View) (w : Word) (x : ℕ) → Tally v (set_from v w x)
 set_tally v (Node Key k) x = same_tally v
 set_tally v (Node Val k) x = same_tally v
@@ -172,19 +159,6 @@ set_tally v Stamp x = same_tally v
 set_tally v (Section k) x = same_tally v
 set_tally v (Announced k) x = same_tally v
 set_tally v (Entry p e) x = same_tally v
-
-pub tag_tally : (v : View) (w : Word) (x : ℕ) → Tally v (tag_from v w x)
-tag_tally v (Node Key k) x = same_tally v
-tag_tally v (Node Val k) x = same_tally v
-tag_tally v (Node Lock k) x = same_tally v
-tag_tally v (Node Mark k) x = same_tally v
-tag_tally v (Node (Head s) k) x = same_tally v
-tag_tally v (Node (LinkField s) k) x = same_tally v
-tag_tally v (Node (Tag s) k) x = record { counts = refl; looks = refl }
-tag_tally v Stamp x = same_tally v
-tag_tally v (Section k) x = same_tally v
-tag_tally v (Announced k) x = same_tally v
-tag_tally v (Entry p e) x = same_tally v
 
 pub raised_tag_tally : (v : View) (w : Word) (x : ℕ) → Tally v (raised_tag_from v w x)
 raised_tag_tally v (Node Key k) x = same_tally v

@@ -1,10 +1,11 @@
 -- A seat whose view meets the need of an event may make it, in every table that meets the rule.
-use Rattle.std.proofs.Common.{◌≡◌, ◌≢◌, ℕ, ◌+◌, ◌<◌, ◌≤◌, ◌⊎◌, cond, List, [], length, Bool, true, false, not, eqb, ◌&&◌, ◌||◌, arith, refl, ap, ◌∙◌, sym, subst, inl, inr, Option, Some, None, is_none}
+use Rattle.std.proofs.Common.{◌≡◌, ◌≢◌, ℕ, zero, suc, ◌+◌, ◌<◌, ◌≤◌, ◌⊎◌, cond, List, [], length, Bool, true, false, not, eqb, ◌&&◌, ◌||◌, arith, refl, ap, ◌∙◌, sym, subst, inl, inr, Option, Some, None, is_none}
 use Rattle.std.specs.Prelude.{IfSome, nat_lt, nat_le}
 use Rattle.std.specs.List.{slice_get, list_all}
 use Rattle.std.proofs.lemmas.Bool.{eq-eqb, ne_eqb}
 use Rattle.index_words.specs.declared.layout.Layout.{Layout}
 use Rattle.index_words.specs.declared.side.Side.{Side}
+use Rattle.index_words.specs.declared.side.Side.TheVariants.{Right}
 use Rattle.index_words.specs.declared.view.View.{View}
 use Rattle.index_words.specs.declared.view.reading.Place.{Place}
 use Rattle.index_words.specs.declared.view.reading.Place.TheVariants.{Entry as AtEntry}
@@ -13,13 +14,14 @@ use Rattle.index_words.specs.declared.view.update.LoadedHead.{LoadedHead}
 use Rattle.index_words.specs.declared.view.update.Updating.{Updating}
 use Rattle.index_words.specs.declared.word.Part.{Part}
 use Rattle.index_words.specs.declared.word.Field.{Field}
-use Rattle.index_words.specs.declared.word.Field.TheVariants.{Key, Val, Lock, Mark, Head}
+use Rattle.index_words.specs.declared.word.Field.TheVariants.{Key, Val, Lock, Mark, Head, Link}
 use Rattle.index_words.specs.declared.word.Part.TheVariants.{Child, Stamp as Number, Next}
 use Rattle.index_words.specs.declared.word.Word.{Word}
 use Rattle.index_words.specs.declared.word.Word.TheVariants.{Stamp, Section, Announced, Node, Entry}
 use Rattle.index_words.specs.Views.{spent_view}
 use Rattle.index_words.specs.Words.{Memory, memory, word_at, address, is_there}
 use Rattle.index_words.proofs.Seats.{one_term}
+use Rattle.index_words.proofs.Seats.{at_item}
 use Rattle.key_map.specs.Lists.{count, has, Every, IsItem}
 use Rattle.key_map.proofs.Counting.{count-has}
 use Rattle.core_grace.specs.Batches.{is_number, is_empty}
@@ -32,28 +34,30 @@ use Rattle.core_events.proofs.Tests.{has_announced-is}
 use Rattle.core_invariant.specs.BundleRule.{IsPending}
 use Rattle.core_invariant.specs.Locks.{IsNodeAt, IsTakenOut}
 use Rattle.core_invariant.specs.Readers.{IsLocked}
+use Rattle.core_invariant.specs.Reached.{plain_graph, ReachesRight}
 use Rattle.core_invariant.specs.Rule.{InRule}
 use Rattle.core_invariant.specs.SeatRule.{SeatRight}
 use Rattle.core_events.specs.Announcing.{has_announced}
 use Rattle.core_events.specs.LoadMoves.{locks, is_above}
 use Rattle.core_events.specs.LoadNeeds.{is_reachable, stands_at, may_go_on, is_part}
-use Rattle.core_events.specs.LockNeeds.{is_pair, names_pass}
+use Rattle.core_events.specs.LockNeeds.{is_pair, may_lock, names_pass}
+use Rattle.core_events.specs.Searches.{search_nodes}
 use Rattle.core_events.specs.PlainNeeds.{is_done_at}
-use Rattle.core_events.specs.Needs.{is_lock, is_outside, is_marked_node, is_marked_out, is_own_section, is_stamp, is_successor, nothing_pending, may_join_found}
+use Rattle.core_events.specs.Needs.{is_lock, is_outside, is_marked_node, is_marked_out, is_own_section, is_stamp, is_successor, nothing_pending, has_none_waiting, may_join_found}
 use Rattle.core_events.specs.Waits.{has_no_lock, has_to_look, is_waiting}
 use Rattle.core_laws.specs.Owners.{HasFreeNode, HasFreeEntry}
 use Rattle.core_events.specs.Steps.{needs, allowed, allowed_at, carries}
 use Rattle.core_invariant.specs.FilledRule.{FilledRight}
 use Rattle.core_events.specs.UpdateNeeds.{held_at, is_next_of, is_ready, is_slot_number, is_written, side_of}
 use Rattle.core_laws.proofs.Remembered.{every_item}
-use Rattle.core_laws.specs.ViewNeeds.{event_at, IsInside, IsKnownMarked, IsInReach, IsAtEntry, MayEnter, MayLeave, MayLook, MayFill, MayReadHead, MayReadNumber, MayReadChild, MayReadNext, HasFilled, MayPrepare, MayFinalise, MayLock, MayUnlock, MayReadMark, MayReadPair, MayMark, MaySplit, MayJoin, EnterLaw, LeaveLaw, LookLaw, FillLaw, LoadStampLaw, FixLaw, ReadHeadLaw, ReadNumberLaw, ReadChildLaw, ReadNextLaw, PrepareLaw, FinaliseLaw, LockLaw, UnlockLaw, ReadMarkLaw, MarkLaw, ReadKeyLaw, ReadValLaw, SplitLaw, JoinLaw}
+use Rattle.core_laws.specs.ViewNeeds.{event_at, IsInside, IsKnownMarked, IsInReach, IsSearched, IsAtEntry, MayEnter, MayLeave, MayLook, MayFill, MayReadHead, MayReadNumber, MayReadChild, MayReadNext, HasFilled, MayPrepare, MayFinalise, MayLock, MayUnlock, MayReadMark, MayReadPair, MayMark, MaySplit, MayJoin, EnterLaw, LeaveLaw, LookLaw, FillLaw, LoadStampLaw, FixLaw, ReadHeadLaw, ReadNumberLaw, ReadChildLaw, ReadNextLaw, PrepareLaw, FinaliseLaw, LockLaw, UnlockLaw, ReadMarkLaw, MarkLaw, ReadKeyLaw, ReadValLaw, SplitLaw, JoinLaw}
 use Rattle.core_invariant.proofs.OneView.{item_from_get, seat_at}
 use Rattle.core_invariant.proofs.Frames.{every_at, every_map}
 use Rattle.core_invariant.proofs.HeldFacts.{work_holds, locks-count, count-locks}
 use Rattle.core_invariant.proofs.LiveHeads.{chain_head}
 use Rattle.core_invariant.proofs.Idle.{number_low}
 use Rattle.core_invariant.proofs.Owned.{entry_there, free_entry_some, held_live, in_entries, slot_high}
-use Rattle.core_laws.proofs.ViewTests.{word_named, reaches, both, left_of, right_of, not_of, never_of, at_most, below, live_of, found-locks, none_is, number_is, other_number, own_section_is, empty_length, some_length, outside_is, all_tested, held_item, every_two}
+use Rattle.core_laws.proofs.ViewTests.{word_named, reaches, lock_tested, some_searched, both, left_of, right_of, not_of, never_of, at_most, below, live_of, found-locks, none_is, none_waiting, number_is, other_number, own_section_is, empty_length, some_length, outside_is, all_tested, held_item, every_two}
 
 module _ (z : Layout) (words : List ℕ) (vs : List View) (right : InRule z words vs) (i : ℕ) (v : View) (is : slice_get vs i ≡ Some v) where
   abbrev m : Memory
@@ -71,7 +75,7 @@ module _ (z : Layout) (words : List ℕ) (vs : List View) (right : InRule z word
   pub alive : (P : View → Type 0) → P v → (P spent_view → ⊥) → v.joined ≡ false
   alive P holds none = live_of z words vs i v P right at holds none
 
-  inside_alive : IsInside v → v.joined ≡ false
+  pub inside_alive : IsInside v → v.joined ≡ false
   inside_alive inside = alive IsInside inside (λ none. cc)
 
   pub named_alive : (n : ℕ) → v.number ≡ Some n → v.joined ≡ false
@@ -94,6 +98,22 @@ module _ (z : Layout) (words : List ℕ) (vs : List View) (right : InRule z word
 
   pub reach_there : (f : Field) (k : ℕ) → IsInReach v k → is_there z (Node f k) ≡ true
   reach_there f k reach = at_most k z.nodes (node_high k reach)
+
+  -- a node that was searched is one of the table
+  search_high : (k : ℕ) → IsInside v → 0 < count k (search_nodes 0 v.reading) → k ≤ z.nodes
+  search_high zero inside searched = omega arith
+  search_high (suc k) inside searched =
+      (at_item (ReachesRight z (plain_graph m) vs) vs i v at right.reach).there (suc k) (record {
+        inside = inside;
+        some = omega arith;
+        from = suc k;
+        searched = some_searched (suc k) (m (Node (Link Right) 0)) v.reading.place _ (omega arith) searched;
+        reached = ([], refl);
+      })
+
+  pub searched_there : (f : Field) (k : ℕ) → IsInside v → IsSearched v k → is_there z (Node f k) ≡ true
+  searched_there f k inside (inl root) = at_most k z.nodes (omega (arith, root))
+  searched_there f k inside (inr searched) = at_most k z.nodes (search_high k inside searched)
 
   pub section_there : (n : ℕ) → n < v.layout.passes → v.joined ≡ false → is_there z (Section n) ≡ true
   section_there n low live = below n z.passes (subst (λ (y : Layout). n < y.passes) (seat.layout live) low)
@@ -296,11 +316,11 @@ module _ (z : Layout) (words : List ℕ) (vs : List View) (right : InRule z word
   pub lock_may : (n k : ℕ) → MayLock v n k → allowed t (event_at z i TryLock (Node Lock k) (n + 1)) ≡ true
   lock_may n k may =
       let b = not (is_even v.section_word) in
-      let c = is_reachable v k in
+      let c = may_lock v k in
       let d = not (locks k v.held.nodes) in
-      allowed_by TryLock (Node Lock k) (n + 1) (inside_alive may.inside) (reach_there Lock k may.reach) refl
+      allowed_by TryLock (Node Lock k) (n + 1) (inside_alive may.inside) (searched_there Lock k may.inside may.searched) refl
       (both (is_lock Lock && b && c && d) (names_pass v.number (n + 1))
-      (both (is_lock Lock && b && c) d (both (is_lock Lock && b) c (both (is_lock Lock) b refl (not_of (is_even v.section_word) may.inside)) (reaches v k may.reach))
+      (both (is_lock Lock && b && c) d (both (is_lock Lock && b) c (both (is_lock Lock) b refl (not_of (is_even v.section_word) may.inside)) (lock_tested v k may.searched))
       (not_of (locks k v.held.nodes) (never_of (locks k v.held.nodes) (λ held. may.unlocked (locks-count k v.held.nodes held)))))
       (ap (λ o. names_pass o (n + 1)) may.own ∙ eq-eqb (n + 1) (n + 1) refl))
 
@@ -345,13 +365,13 @@ module _ (z : Layout) (words : List ℕ) (vs : List View) (right : InRule z word
   pub join_may : (other : ℕ) (u : View) → other ≢ i → MayJoin v u → slice_get vs other ≡ Some u → allowed t (event_at z i JoinSeat Stamp other) ≡ true
   join_may other u apart may found =
       let a = not (eqb other i) in
-      let n = is_none u.number in
+      let n = is_none u.number && has_none_waiting u in
       let o = is_outside v && is_outside u in
       allowed_by JoinSeat Stamp other may.live refl refl
       (both (is_stamp Stamp && a) (may_join_found v (slice_get vs other)) (both (is_stamp Stamp) a refl (not_of (eqb other i) (ne_eqb other i apart)))
       (ap (may_join_found v) found
       ∙ both (not u.joined) (n || o) (not_of u.joined may.other_live) (elim may.apart as (λ _. (n || o) ≡ true) [
-        | inl none ↦ left_of n o (none_is u.number none)
+        | inl bare ↦ left_of n o (both (is_none u.number) (has_none_waiting u) (none_is u.number bare.0) (none_waiting u bare.1))
         | inr out ↦ right_of n o (both (is_outside v) (is_outside u) (outside_is v out.0) (outside_is u out.1))
       ])))
 

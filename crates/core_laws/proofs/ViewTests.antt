@@ -1,8 +1,8 @@
 -- What a view shows, as the tests of needs find it.
-use Rattle.std.proofs.Common.{◌≡◌, ◌≢◌, ℕ, ◌+◌, ◌-◌, ◌/◌, ◌%◌, ◌<◌, ◌≤◌, cond, List, [], ◌∷◌, length, Bool, true, false, not, eqb, ◌&&◌, ◌||◌, arith, refl, ap, ◌∙◌, sym, subst, inl, inr, Option, Some, None, is_none, find}
+use Rattle.std.proofs.Common.{◌≡◌, ◌≢◌, ℕ, ◌+◌, ◌-◌, ◌/◌, ◌%◌, ◌<◌, ◌≤◌, ◌⊎◌, cond, List, [], ◌∷◌, ◌++◌, length, Bool, true, false, not, eqb, ◌&&◌, ◌||◌, arith, refl, ap, ◌∙◌, sym, subst, inl, inr, Option, Some, None, is_none, find}
 use Rattle.std.specs.Prelude.{nat_lt, nat_le}
 use Rattle.std.specs.List.{list_all}
-use Rattle.std.proofs.lemmas.Bool.{eqb-true, eq-eqb, ne_eqb}
+use Rattle.std.proofs.lemmas.Bool.{and_parts, eqb-true, eq-eqb, ne_eqb}
 use Rattle.std.proofs.lemmas.Bool.Decides.{nat_tests}
 use Rattle.index_words.specs.declared.layout.Layout.{Layout}
 use Rattle.index_words.specs.declared.view.View.{View}
@@ -11,20 +11,29 @@ use Rattle.index_words.specs.declared.view.update.HeldNode.{HeldNode}
 use Rattle.index_words.specs.declared.word.Word.{Word}
 use Rattle.index_words.specs.declared.word.Word.TheVariants.{Stamp, Section, Announced, Node, Entry}
 use Rattle.index_words.specs.Views.{spent_view}
-use Rattle.index_words.specs.Words.{word_at, address, is_there, word_count, nodes_begin, entries_begin, field_at, part_at}
+use Rattle.index_words.specs.Words.{word_at, address, is_there, same_side, word_count, nodes_begin, entries_begin, field_at, part_at}
 use Rattle.index_words.proofs.Seats.{at_item}
 use Rattle.index_words.proofs.Store.{address-lt, address-apart, word_there}
-use Rattle.key_map.specs.Lists.{count, Every, IsItem}
-use Rattle.core_grace.specs.Batches.{is_number}
+use Rattle.key_map.specs.Lists.{count, has, Every, IsItem}
+use Rattle.core_grace.specs.Batches.{is_empty, is_number}
 use Rattle.core_grace.specs.Holds.{held_slots, tree_slots}
 use Rattle.core_grace.specs.Sections.{is_even}
 use Rattle.core_invariant.specs.Rule.{InRule}
 use Rattle.core_invariant.specs.SpentViews.{IsSpent}
+use Rattle.core_invariant.specs.WaitingSlots.{HasNoneWaiting}
 use Rattle.core_events.specs.LoadMoves.{locks}
 use Rattle.core_events.specs.LoadNeeds.{is_reachable, reads_tree}
-use Rattle.core_events.specs.Needs.{is_outside, is_own_section}
+use Rattle.core_events.specs.Needs.{has_none_waiting, is_outside, is_own_section}
 use Rattle.core_events.specs.UpdateNeeds.{held_at}
-use Rattle.core_laws.specs.ViewNeeds.{IsOutside, IsInReach}
+use Rattle.core_laws.specs.ViewNeeds.{IsOutside, IsInReach, IsSearched}
+use Rattle.core_events.specs.LockNeeds.{may_lock}
+use Rattle.core_events.specs.Searches.{goes_on_at, place_nodes, search_nodes, searches_at}
+use Rattle.index_words.specs.declared.side.Side.{Side}
+use Rattle.index_words.specs.declared.side.Side.TheVariants.{Right}
+use Rattle.index_words.specs.declared.view.reading.Place.{Place}
+use Rattle.index_words.specs.declared.view.reading.Place.TheVariants.{Nowhere, Entry as AtEntry, Node as AtNode, Gap}
+use Rattle.index_words.specs.declared.view.reading.Reading.{Reading}
+use Rattle.key_map.proofs.Counting.{count-has}
 use Rattle.core_invariant.proofs.HeldFacts.{count-locks}
 use Rattle.core_events.proofs.Tests.{never}
 
@@ -132,6 +141,9 @@ some_length n some = grind (arith, nat_tests)
 pub outside_is : (v : View) → IsOutside v → is_outside v ≡ true
 outside_is v out = both (is_even v.section_word) (eqb (length v.held.nodes) 0) out.even (empty_length v.held.nodes out.unlocked)
 
+pub none_waiting : (v : View) → HasNoneWaiting v → has_none_waiting v ≡ true
+none_waiting v none = both (is_empty v.retired) (is_empty v.batch) (ap is_empty none.0) (ap is_empty none.1)
+
 pub all_tested : (on : ℕ → Bool) (xs : List ℕ) → ((x : ℕ) → 0 < count x xs → on x ≡ true) → list_all on xs ≡ true
 all_tested on [] each = refl
 all_tested on (x ∷ xs) each = both (on x) (list_all on xs) (each x (counted (eqb x x) (eq-eqb x x refl))) (all_tested on xs (λ y some. each y (omega (arith, some))))
@@ -157,3 +169,24 @@ held_item P k (h ∷ hs) all some = held_by P k h (count k (held_slots hs)) (eqb
 pub every_two : {X : Type 0} (P Q : X → Type 0) (xs : List X) → Every P xs → Every Q xs → Every (λ x. P x × Q x) xs
 every_two P Q [] p q = tt
 every_two P Q (x ∷ xs) p q = ((p.0, q.0), every_two P Q xs p.1 q.1)
+
+-- a node that was searched is one whose lock may be tried
+pub lock_tested : (v : View) (k : ℕ) → IsSearched v k → may_lock v k ≡ true
+lock_tested v k (inl root) = left_of (eqb k 0) (has k (search_nodes 0 v.reading)) (eq-eqb k 0 root)
+lock_tested v k (inr searched) = right_of (eqb k 0) (has k (search_nodes 0 v.reading)) (count-has k (search_nodes 0 v.reading) searched)
+
+-- the search begins at the root's child, and no other node of it depends on that
+pub some_searched : (k top : ℕ) (p : Place) (rest : List ℕ) → 0 < k → 0 < count k (place_nodes 0 p ++ rest) → 0 < count k (place_nodes top p ++ rest)
+some_searched k top Nowhere rest some is = grind (arith, nat_tests, some, is)
+some_searched k top (AtNode node key) rest some is = is
+some_searched k top (Gap node side) rest some is = is
+some_searched k top (AtEntry node side entry found) rest some is = is
+
+-- where a search goes on it stands at the root, or at the node
+pub stands_searched : (r : Reading) (p : Place) (k : ℕ) (side : Side) → searches_at r p k side ≡ true → (k ≡ 0) ⊎ (0 < count k (place_nodes 0 p))
+stands_searched r Nowhere k side is = inl (eqb-true k 0 (and_parts (eqb k 0) (same_side side Right) is).0)
+stands_searched r (AtNode node key) k side is =
+    let same : node ≡ k = eqb-true node k (and_parts (eqb node k) (goes_on_at r key) is).0 in
+    inr (grind (arith, nat_tests, same))
+stands_searched r (AtEntry node at entry found) k side is = absurd (never is)
+stands_searched r (Gap node at) k side is = absurd (never is)

@@ -1,22 +1,19 @@
 -- A seat whose view shows that it may leave at the wait of a removal, or look at another pass there, may do so; and
 -- what stays meanwhile.
-use Rattle.std.proofs.Common.{◌≡◌, ℕ, List, Bool, true, false, not, eqb, ◌&&◌, ◌||◌, cond, refl, ap, ◌∙◌, sym, subst, inr, Option, Some}
+use Rattle.std.proofs.Common.{◌≡◌, ℕ, List, Bool, true, false, not, ◌&&◌, cond, ap, ◌∙◌, sym, inr, Some}
 use Rattle.std.specs.List.{slice_get}
-use Rattle.std.proofs.lemmas.Bool.{eq-eqb}
 use Rattle.index_words.specs.declared.layout.Layout.{Layout}
 use Rattle.index_words.specs.declared.view.View.{View}
 use Rattle.index_words.specs.declared.view.update.Updating.{Updating}
 use Rattle.index_words.specs.declared.word.Field.TheVariants.{Lock, Mark, Head, Link, Tag}
 use Rattle.index_words.specs.declared.word.Word.TheVariants.{Section, Node}
 use Rattle.index_words.specs.Words.{memory}
-use Rattle.key_map.specs.Lists.{IsItem}
-use Rattle.core_grace.specs.Batches.{is_empty, is_number}
-use Rattle.core_grace.specs.Sections.{is_even, left_word}
+use Rattle.core_grace.specs.Batches.{is_empty}
+use Rattle.core_grace.specs.Sections.{left_word}
 use Rattle.core_events.specs.declared.event.Kind.TheVariants.{Leave, LookSec}
-use Rattle.core_events.specs.Needs.{is_own_section, nothing_pending}
 use Rattle.core_events.specs.Steps.{allowed}
 use Rattle.core_events.specs.Tables.{Table}
-use Rattle.core_events.specs.Waits.{has_no_lock, has_to_look, is_waiting, is_waiting_for}
+use Rattle.core_events.specs.Waits.{has_no_lock, is_waiting, is_waiting_for}
 use Rattle.core_events.proofs.Tests.{never}
 use Rattle.core_invariant.specs.Rule.{InRule}
 use Rattle.core_invariant.proofs.Needed.{length_empty}
@@ -24,8 +21,8 @@ use Rattle.core_invariant.proofs.OneView.{item_from_get, seat_at}
 use Rattle.core_laws.specs.ViewNeeds.{event_at}
 use Rattle.core_laws.specs.Waits.{MayLeaveWaiting, MayLookWaiting, LeaveWaitingLaw, LookWaitingLaw, NoLooksLaw, LockedStaysLaw}
 use Rattle.core_laws.proofs.Owners.{owners}
-use Rattle.core_laws.proofs.ViewNeeds.{leave_by, look_by, done_by, named_alive, section_there, alive}
-use Rattle.core_laws.proofs.ViewTests.{both, never_of, not_of, other_number, right_of}
+use Rattle.core_laws.proofs.ViewNeeds.{leave_by, look_by, done_by, alive}
+use Rattle.core_laws.proofs.ViewTests.{never_of, right_of}
 
 module _ (z : Layout) (words : List ℕ) (vs : List View) (right : InRule z words vs) (i : ℕ) (v : View) (is : slice_get vs i ≡ Some v) where
   abbrev t : Table

@@ -16,7 +16,7 @@ use Rattle.core_invariant.specs.Histories.{place_count}
 use Rattle.core_invariant.specs.Locks.{lock_count}
 use Rattle.core_invariant.specs.OwnPlaces.{HasNumber}
 use Rattle.core_invariant.specs.Rule.{IsRight}
-use Rattle.core_laws.specs.Counts.{MeetsLock, FindsNoNumber, FindsOtherHead, FindsMark}
+use Rattle.core_laws.specs.Counts.{MeetsLock, FindsNoNumber, FindsOtherHead, FindsOtherChild, FindsOtherTag, FindsMark}
 
 -- of another pass of the table than this view's this is so: of a view that has its number, or to which it was given up
 pub record AnotherPass (t : Table) (v : View) (does : ℕ → View → Type 0) : Type 0 where
@@ -77,6 +77,8 @@ pub record MeetsNothing (t : Table) (e : Event) (v : View) : Type 0 where
   pub lock : ¬ MeetsLock t e
   pub number : ¬ FindsNoNumber t e v
   pub head : ¬ FindsOtherHead t e v
+  pub link : ¬ FindsOtherChild t e v
+  pub tag : ¬ FindsOtherTag t e v
   pub mark : ¬ FindsMark t e v
 
 -- on a table of one pass nothing is met

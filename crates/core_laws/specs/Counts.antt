@@ -1,27 +1,28 @@
 -- Where the counts of a view rise: each at the events that this says, and at no other. So a call that answers for what
 -- another seat did can show that the count rose.
-use Rattle.std.specs.Prelude.{◌≡◌, ◌≢◌, ℕ, ◌<◌, ◌≤◌, ◌⊎◌, true, [], Option, Some, slice_index}
+use Rattle.std.specs.Prelude.{◌≡◌, ◌≢◌, ℕ, ◌<◌, ◌≤◌, ◌⊎◌, true, false, [], Option, Some, slice_index}
 use Rattle.std.specs.List.{slice_get}
 use Rattle.index_words.specs.declared.side.Side.{Side}
 use Rattle.index_words.specs.declared.view.View.{View}
 use Rattle.index_words.specs.declared.view.reading.Link.{Link}
 use Rattle.index_words.specs.declared.view.reading.Place.TheVariants.{Entry as AtEntry}
 use Rattle.index_words.specs.declared.view.reading.LinkSource.TheVariants.{Bundle}
-use Rattle.index_words.specs.declared.word.Field.TheVariants.{Mark, Head}
+use Rattle.index_words.specs.declared.word.Field.TheVariants.{Mark, Head, Link as LinkField, Tag}
 use Rattle.index_words.specs.declared.word.Part.TheVariants.{Stamp as Number}
 use Rattle.index_words.specs.declared.word.Word.TheVariants.{Node, Entry}
 use Rattle.index_words.specs.Words.{word_at}
 use Rattle.key_map.specs.Lists.{count, Every, IsItem}
 use Rattle.core_events.specs.declared.event.Event.{Event}
-use Rattle.core_events.specs.declared.event.Kind.TheVariants.{LoadStamp, LoadHead, LoadTs, TryLock, LoadMark}
+use Rattle.core_events.specs.declared.event.Kind.TheVariants.{LoadStamp, LoadHead, LoadTs, TryLock, LoadMark, LoadLink, LoadTag}
 use Rattle.core_events.specs.Tables.{Table, held_by}
 use Rattle.core_events.specs.LoadMoves.{risen}
 use Rattle.core_invariant.specs.Readers.{IsWatched}
 use Rattle.core_invariant.specs.Rule.{IsRight}
 use Rattle.core_events.specs.SpelledNow.{tree_now}
+use Rattle.core_events.specs.Searches.{is_plain, is_other_tag, knows_link, knows_tag}
 use Rattle.core_events.specs.Steps.{allowed, after}
 use Rattle.core_events.specs.Versions.{slots_of}
-use Rattle.core_laws.specs.ViewNeeds.{IsInReach}
+use Rattle.core_laws.specs.ViewNeeds.{IsInReach, IsSearched}
 
 -- a try of a lock that finds the word held
 pub record MeetsLock (t : Table) (e : Event) : Type 0 where
@@ -69,14 +70,55 @@ pub record FindsOtherHead (t : Table) (e : Event) (v : View) : Type 0 where
   pub other : RemembersOther v node side (held_by t (Node (Head side) node))
   pub apart : IsNotStored t v (held_by t (Node (Head side) node))
 
--- a load of a mark that finds 1, on a node in reach that this seat has not taken out
+-- the seat remembers the link, found on plain links, with another child than this
+pub record RemembersOtherChild (v : View) (node : ℕ) (side : Side) (child : ℕ) : Type 0 where
+  pub place : ℕ
+  pub link : Link
+  pub is : IsItem v.reading.links place link
+  pub node_is : link.node ≡ node
+  pub side_is : link.side ≡ side
+  pub plain : is_plain link.source ≡ true
+  pub apart : link.child ≢ child
+
+-- or with another tag
+pub record RemembersOtherTag (v : View) (node : ℕ) (side : Side) (tag : ℕ) : Type 0 where
+  pub place : ℕ
+  pub link : Link
+  pub is : IsItem v.reading.links place link
+  pub node_is : link.node ≡ node
+  pub side_is : link.side ≡ side
+  pub other : is_other_tag tag link.source ≡ true
+
+-- a load of a plain link that finds another child than the remembered one, which this seat did not store
+pub record FindsOtherChild (t : Table) (e : Event) (v : View) : Type 0 where
+  pub kind : e.kind ≡ LoadLink
+  pub node : ℕ
+  pub side : Side
+  pub word : word_at t.layout e.word ≡ Some (Node (LinkField side) node)
+  pub other : RemembersOtherChild v node side (held_by t (Node (LinkField side) node))
+  pub unknown : knows_link v.held.nodes node side (held_by t (Node (LinkField side) node)) ≡ false
+
+-- a load of a tag that finds another one than the remembered one
+pub record FindsOtherTag (t : Table) (e : Event) (v : View) : Type 0 where
+  pub kind : e.kind ≡ LoadTag
+  pub node : ℕ
+  pub side : Side
+  pub word : word_at t.layout e.word ≡ Some (Node (Tag side) node)
+  pub other : RemembersOtherTag v node side (held_by t (Node (Tag side) node))
+  pub unknown : knows_tag v.held.nodes node side (held_by t (Node (Tag side) node)) ≡ false
+
+-- a load of a mark that finds one, on a node in reach or searched that this seat has not taken out
 pub record FindsMark (t : Table) (e : Event) (v : View) : Type 0 where
   pub kind : e.kind ≡ LoadMark
   pub node : ℕ
   pub word : word_at t.layout e.word ≡ Some (Node Mark node)
-  pub marked : held_by t (Node Mark node) ≡ 1
-  pub reach : IsInReach v node
+  pub marked : 0 < held_by t (Node Mark node)
+  pub reach : IsInReach v node ⊎ IsSearched v node
   pub kept : (count node v.update.taken ≡ 0) × (count node v.retired.nodes ≡ 0)
+
+-- what a load finds is another word than the remembered one: a head, a plain link, or its tag
+abbrev pub FindsOther : Table → Event → View → Type 0
+FindsOther t e v = FindsOtherHead t e v ⊎ (FindsOtherChild t e v ⊎ FindsOtherTag t e v)
 
 -- a load of the stamp that fixes a place
 abbrev pub FixesPlace : Event → Type 0
@@ -91,7 +133,7 @@ pub record RisesWhere (P : Type 0) (old new : ℕ) : Type 0 where
 pub record CountsRise (t : Table) (e : Event) (v w : View) : Type 0 where
   pub busy : RisesWhere (MeetsLock t e) v.counts.busy w.counts.busy
   pub waits : RisesWhere (FindsNoNumber t e v) v.counts.waits w.counts.waits
-  pub moves : RisesWhere (FindsOtherHead t e v ⊎ FindsMark t e v) v.counts.moves w.counts.moves
+  pub moves : RisesWhere (FindsOther t e v ⊎ FindsMark t e v) v.counts.moves w.counts.moves
   pub looks : RisesWhere (FixesPlace e) v.history.looks w.history.looks
 
 abbrev pub CountsLaw : Type 0

@@ -5,6 +5,7 @@ pub mod ViewNeeds
 pub mod Cuts
 pub mod PlainNeeds
 pub mod PlainTrees
+pub mod Searching
 pub mod Waits
 pub mod Counts
 pub mod Alone

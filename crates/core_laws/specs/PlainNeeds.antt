@@ -1,7 +1,8 @@
 -- What a seat's view shows where it may load a plain link or its tag, and where it may set one.
-use Rattle.std.specs.Prelude.{◌≡◌, ℕ, ◌+◌, [], true, Some}
+use Rattle.std.specs.Prelude.{◌≡◌, ℕ, ◌+◌, ◌<◌, ◌≤◌, ◌⊎◌, [], true, Some}
 use Rattle.index_words.specs.declared.layout.Layout.{Layout}
 use Rattle.index_words.specs.declared.side.Side.{Side}
+use Rattle.index_words.specs.declared.side.Side.TheVariants.{Right}
 use Rattle.index_words.specs.declared.view.View.{View}
 use Rattle.index_words.specs.declared.view.update.HeldNode.{HeldNode}
 use Rattle.index_words.specs.declared.view.update.Unlinking.{Unlinking}
@@ -11,14 +12,33 @@ use Rattle.key_map.specs.Lists.{Every}
 use Rattle.core_grace.specs.Batches.{all_passed}
 use Rattle.core_events.specs.declared.event.Kind.TheVariants.{LoadLink, SetLink, LoadTag, SetTag}
 use Rattle.core_events.specs.PlainNeeds.{sets_to, keeps_order, unlinks_at, owes}
+use Rattle.core_events.specs.Searches.{searches_at}
 use Rattle.core_events.specs.UpdateNeeds.{held_at, side_of}
 use Rattle.core_invariant.specs.Readers.{IsLocked}
 use Rattle.core_laws.specs.ViewNeeds.{May, event_at, IsInside, IsKnownMarked}
 
--- load of a plain link, or of a tag: inside a section, of a node that it has locked
-pub record MayReadLink (v : View) (k : ℕ) : Type 0 where
-  pub inside : IsInside v
+-- under the lock of the node its mark was found 0
+pub record IsHeldUnmarked (v : View) (k : ℕ) : Type 0 where
+  pub held : HeldNode
+  pub locked : held_at k v.held.nodes ≡ Some held
+  pub unmarked : held.mark ≡ Some 0
+
+-- a link of a node that it has locked: the only one of the root, or one of a node that was found unmarked. Nothing is said of
+-- what the links of a marked node hold
+pub record HasFirmLink (v : View) (k : ℕ) (side : Side) : Type 0 where
   pub locked : IsLocked v k
+  pub root : k ≡ 0 → side ≡ Right
+  pub unmarked : 0 < k → IsHeldUnmarked v k
+
+-- load of a plain link: inside a section, of such a node, or where its search stands
+pub record MayReadLink (v : View) (k : ℕ) (side : Side) : Type 0 where
+  pub inside : IsInside v
+  pub on : HasFirmLink v k side ⊎ (searches_at v.reading v.reading.place k side ≡ true)
+
+-- load of a tag: inside a section
+pub record MayReadTag (v : View) (k : ℕ) : Type 0 where
+  pub inside : IsInside v
+  pub there : k ≤ v.layout.nodes
 
 -- a successor may be unlinked: the view has locked it and knows that it is marked, and each other pass was passed since
 -- its copy was linked
@@ -47,10 +67,10 @@ pub record MaySetTag (v : View) (k : ℕ) (side : Side) (tag : ℕ) : Type 0 whe
   pub owed : owes k side v.update.owed ≡ true
 
 abbrev pub ReadLinkLaw : Type 0
-ReadLinkLaw = (z : Layout) (v : View) (seat k : ℕ) (side : Side) → MayReadLink v k → May z v (event_at z seat LoadLink (Node (Link side) k) 0)
+ReadLinkLaw = (z : Layout) (v : View) (seat k : ℕ) (side : Side) → MayReadLink v k side → May z v (event_at z seat LoadLink (Node (Link side) k) 0)
 
 abbrev pub ReadTagLaw : Type 0
-ReadTagLaw = (z : Layout) (v : View) (seat k : ℕ) (side : Side) → MayReadLink v k → May z v (event_at z seat LoadTag (Node (Tag side) k) 0)
+ReadTagLaw = (z : Layout) (v : View) (seat k : ℕ) (side : Side) → MayReadTag v k → May z v (event_at z seat LoadTag (Node (Tag side) k) 0)
 
 abbrev pub SetLinkLaw : Type 0
 SetLinkLaw =

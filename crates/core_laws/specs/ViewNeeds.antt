@@ -24,9 +24,11 @@ use Rattle.core_events.specs.declared.event.Kind.TheVariants.{SplitSeat, JoinSea
 use Rattle.core_events.specs.Needs.{is_lock, is_successor}
 use Rattle.core_events.specs.LoadMoves.{is_above}
 use Rattle.core_events.specs.PlainNeeds.{is_done_at}
+use Rattle.core_events.specs.Searches.{search_nodes}
 use Rattle.core_laws.specs.Owners.{HasFreeNode, HasFreeEntry}
 use Rattle.core_invariant.specs.Readers.{IsLocked}
 use Rattle.core_invariant.specs.Rule.{InRule}
+use Rattle.core_invariant.specs.WaitingSlots.{HasNoneWaiting}
 use Rattle.core_events.specs.Steps.{allowed}
 use Rattle.core_events.specs.UpdateNeeds.{held_at, is_written, side_of}
 
@@ -59,6 +61,10 @@ pub record IsAtEntry (v : View) (e : ℕ) : Type 0 where
   pub place : v.reading.place ≡ AtEntry node side e found
   pub some : 0 < e
   pub there : e ≤ v.layout.entries
+
+-- the root, or a node at which a search on plain links stands, last turned, or found a link that it remembers
+abbrev pub IsSearched : View → ℕ → Type 0
+IsSearched v k = (k ≡ 0) ⊎ (0 < count k (search_nodes 0 v.reading))
 
 -- enter: outside a section
 pub record MayEnter (v : View) (n : ℕ) : Type 0 where
@@ -154,11 +160,11 @@ pub record MayFinalise (v : View) (e place : ℕ) : Type 0 where
   pub pending : 0 < count e v.update.pending
   pub raised : v.update.raised ≡ Some place
 
--- try lock: inside a section, of a node in reach that it has not locked
+-- try lock: inside a section, of a node that it has searched and not locked
 pub record MayLock (v : View) (n k : ℕ) : Type 0 where
   pub own : v.number ≡ Some n
   pub inside : IsInside v
-  pub reach : IsInReach v k
+  pub searched : IsSearched v k
   pub unlocked : ¬ IsLocked v k
 
 -- a locked node that the update took out is known to be marked, or is a successor that is still to be unlinked
@@ -194,11 +200,12 @@ pub record MaySplit (v : View) (nodes : ℕ) : Type 0 where
   pub live : v.joined ≡ false
   pub few : (nodes ≡ 0) ⊎ ((nodes ≡ 1) × (0 < length v.free.nodes))
 
--- join with a seat that has this view: neither was joined away, and that one has no number, or both are outside
+-- join with a seat that has this view: neither was joined away, and that one has neither a number nor a slot that waits, or
+-- both are outside
 pub record MayJoin (v other : View) : Type 0 where
   pub live : v.joined ≡ false
   pub other_live : other.joined ≡ false
-  pub apart : (other.number ≡ None) ⊎ (IsOutside v × IsOutside other)
+  pub apart : ((other.number ≡ None) × HasNoneWaiting other) ⊎ (IsOutside v × IsOutside other)
 
 abbrev pub EnterLaw : Type 0
 EnterLaw = (z : Layout) (v : View) (seat n : ℕ) → MayEnter v n → May z v (event_at z seat Enter (Section n) (v.section_word + 1))

@@ -1,17 +1,19 @@
 -- What a seat's view shows of the wait of a removal, and what a wait may rely on.
-use Rattle.std.specs.Prelude.{◌≡◌, ◌≢◌, ℕ, ◌<◌, [], List, true, Some}
+use Rattle.std.specs.Prelude.{◌≡◌, ◌≢◌, ℕ, ◌<◌, [], List, true, false, Some}
 use Rattle.std.specs.List.{slice_get}
 use Rattle.index_words.specs.declared.layout.Layout.{Layout}
 use Rattle.index_words.specs.declared.side.Side.{Side}
 use Rattle.index_words.specs.declared.view.View.{View}
+use Rattle.index_words.specs.declared.view.update.Unlinking.{Unlinking}
 use Rattle.index_words.specs.declared.word.Field.TheVariants.{Lock, Mark, Head, Link, Tag}
 use Rattle.index_words.specs.declared.word.Word.TheVariants.{Section, Node}
 use Rattle.index_words.specs.Views.{no_looks}
-use Rattle.index_words.specs.Words.{Memory}
-use Rattle.key_map.specs.Lists.{Every, IsItem}
+use Rattle.index_words.specs.Words.{Memory, word_at}
+use Rattle.key_map.specs.Lists.{count, Every, IsItem}
 use Rattle.core_grace.specs.Sections.{is_even, left_word}
 use Rattle.core_events.specs.declared.event.Event.{Event}
-use Rattle.core_events.specs.declared.event.Kind.TheVariants.{Leave, LookSec}
+use Rattle.core_events.specs.declared.event.Kind.TheVariants.{Leave, LookSec, SetLink}
+use Rattle.core_events.specs.PlainNeeds.{sets_others}
 use Rattle.core_events.specs.Steps.{allowed, after}
 use Rattle.core_events.specs.Tables.{Table, held_by}
 use Rattle.core_events.specs.Waits.{is_waiting}
@@ -58,3 +60,28 @@ abbrev pub LockedStaysLaw : Type 0
 LockedStaysLaw =
     (t : Table) (e : Event) → IsRight t → allowed t e ≡ true → (i k : ℕ) (v : View) → IsItem t.views i v → i ≢ e.seat → IsLocked v k
     → NodeStays (held_by t) (held_by (after t e)) k
+
+-- a store of a plain link unlinks a successor: the update took out a node with two children, and its successor, which was not
+-- the node's right child
+pub record UnlinksSuccessor (t : Table) (e : Event) (v : View) (u : Unlinking) : Type 0 where
+  pub kind : e.kind ≡ SetLink
+  pub word : word_at t.layout e.word ≡ Some (Node (Link u.side) u.parent)
+  pub unlinking : v.update.unlinking ≡ Some u
+
+-- the successor is marked, no other link is still to be set, so that its copy is linked, and each other pass was passed
+pub record HasWaited (t : Table) (v : View) (u : Unlinking) : Type 0 where
+  pub marked : held_by t (Node Mark u.successor) ≡ 1
+  pub linked : sets_others u.parent u.side v.update.unset ≡ false
+  pub passed : (pass : ℕ) → pass < t.layout.passes → v.number ≢ Some pass → 0 < count pass v.update.waiting.passed
+
+-- such a successor is unlinked only then
+abbrev pub UnlinkLaw : Type 0
+UnlinkLaw =
+    (t : Table) (e : Event) (v : View) (u : Unlinking) → IsRight t → allowed t e ≡ true → slice_get t.views e.seat ≡ Some v
+    → UnlinksSuccessor t e v u → HasWaited t v u
+
+-- each pass was passed since the copy was linked: as long as another link is to be set there are no looks of the wait
+abbrev pub LooksLastLaw : Type 0
+LooksLastLaw =
+    (t : Table) (i : ℕ) (v : View) (u : Unlinking) → IsRight t → IsItem t.views i v → v.update.unlinking ≡ Some u
+    → sets_others u.parent u.side v.update.unset ≡ true → v.update.waiting ≡ no_looks

@@ -8,5 +8,6 @@ mod view_laws;
 
 pub use view_laws::{
     cuts_take_nothing_read, needs_of_views, slots_add_up, what_a_wait_keeps, what_loads_find,
-    where_counts_rise, where_plain_links_lead, who_raises_counts, who_writes_what,
+    what_searches_find, where_counts_rise, where_plain_links_lead, who_raises_counts,
+    who_writes_what,
 };

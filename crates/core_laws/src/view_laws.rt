@@ -7,8 +7,9 @@ ghost use Rattle.core_laws.specs.Found.{ReadLaw, StampLaw, OneTreeLaw, BundleLen
 ghost use Rattle.core_laws.specs.Owners.{OwnersLaw};
 ghost use Rattle.core_laws.specs.PlainNeeds.{ReadLinkLaw, SetLinkLaw, ReadTagLaw, SetTagLaw};
 ghost use Rattle.core_laws.specs.PlainTrees.{PlainTreeLaw, PlainLinkLaw, PlainTagLaw, TagRoomLaw};
+ghost use Rattle.core_laws.specs.Searching.{LinkFoundLaw, OwnLeftLaw, BeyondLaw, NoReturnLaw, SearchKeysLaw, HeadNumberedLaw, HeldLinkLaw, NullLinkLaw, StillLaw};
 ghost use Rattle.core_laws.specs.SlotSums.{SlotSumLaw};
-ghost use Rattle.core_laws.specs.Waits.{LeaveWaitingLaw, LookWaitingLaw, NoLooksLaw, LockedStaysLaw};
+ghost use Rattle.core_laws.specs.Waits.{LeaveWaitingLaw, LookWaitingLaw, NoLooksLaw, LockedStaysLaw, UnlinkLaw, LooksLastLaw};
 ghost use Rattle.core_laws.specs.ViewNeeds.{EnterLaw, LeaveLaw, LookLaw, FillLaw, LoadStampLaw, FixLaw, AnnounceLaw, TakeBackLaw, LookAnnLaw, ReadHeadLaw, ReadNumberLaw, ReadChildLaw, ReadNextLaw, PrepareLaw, FinaliseLaw, LockLaw, UnlockLaw, ReadMarkLaw, MarkLaw, ReadKeyLaw, ReadValLaw, SplitLaw, JoinLaw};
 
 /// Who writes what. An event of one seat changes no word that another seat alone changes: its section word and its
@@ -54,12 +55,16 @@ pub fn needs_of_views()
     ensures join { JoinLaw }
 {}
 
-/// What the wait of a removal may rely on. Its looks begin with none: inside a section a view has none. While a view
-/// waits, as always, no event of another seat changes the lock, the mark, the heads, the plain links or the tags of a
-/// node that the view has locked.
+/// What the wait of a removal may rely on, and what it is for. Its looks begin with none: inside a section a view has
+/// none. While a view waits, as always, no event of another seat changes the lock, the mark, the heads, the plain links
+/// or the tags of a node that the view has locked. A successor that was not the removed node's right child is unlinked
+/// only when it is marked, its copy is linked, and every other pass was passed; and no look of the wait was made before
+/// the copy was linked.
 pub fn what_a_wait_keeps()
     ensures begins { NoLooksLaw }
     ensures stays { LockedStaysLaw }
+    ensures unlinks { UnlinkLaw }
+    ensures looks { LooksLastLaw }
 {}
 
 /// What a cut takes is read by nobody. The section number of a seat selects no entry behind the one at which an allowed
@@ -71,11 +76,11 @@ pub fn cuts_take_nothing_read()
 
 /// Where the counts of a view rise. `busy` rises where a try of a lock finds the word held, which another pass then
 /// holds; `waits` where a load of an entry's stamp finds 0 and the seat has not the entry pending; `moves` where a load
-/// of a head finds another entry than the one that the seat remembers, and the seat did not store it, or where a load
-/// of a mark finds 1 on a node in reach that is not among the seat's retired ones; `looks` where a load of the stamp
-/// fixes a place. At every other event the count stays. A seat with nothing pending, whose own updates are ones that
-/// its section number has, did not store the other head. What an update took out is among the seat's retired nodes, and
-/// no node of the tree at the stamp is.
+/// of a head finds another entry than the one that the seat remembers, or one of a plain link or a tag another word,
+/// and the seat did not store it, or where a load of a mark finds 1 on a node in reach, or one of the seat's search,
+/// that is not among its retired ones; `looks` where a load of the stamp fixes a place. At every other event the count
+/// stays. A seat with nothing pending, whose own updates are ones that its section number has, did not store the other
+/// head. What an update took out is among the seat's retired nodes, and no node of the tree at the stamp is.
 pub fn where_counts_rise()
     ensures counts { CountsLaw }
     ensures other_head { OtherHeadLaw }
@@ -101,7 +106,8 @@ pub fn what_loads_find()
 /// By whom the counts of a view rise: by another pass than the view's. A lock that is found held is one that a view of
 /// another pass has locked; an entry that is found without a number is pending in one; another head than the remembered
 /// one is pending in one, or its number is the place of an update of another pass; a node that is found marked waits in
-/// the slots of one. So on a table of one pass nothing of this is met, and no count rises.
+/// the slots of one. So on a table of one pass nothing of this is met, nor another plain link or tag than the seat
+/// remembers or has set itself; and no count rises.
 pub fn who_raises_counts()
     ensures others { OthersLaw }
     ensures nothing { NothingLaw }
@@ -123,4 +129,24 @@ pub fn where_plain_links_lead()
     ensures link { PlainLinkLaw }
     ensures tag { PlainTagLaw }
     ensures room { TagRoomLaw }
+{}
+
+/// What a search on plain links may rely on, while other seats set links and take nodes out. A link that it loads holds
+/// a node of the table. It comes to no node that its own seat has taken out, and the keys that it has loaded are those
+/// of the nodes. Where it stands at a node that is locked and unmarked, and the node of a turn is unmarked, the key
+/// lies beyond that of the turn; and it does not come back to a locked and unmarked node at which it has turned, nor to
+/// a locked one that leads there. A link that is loaded under the lock of an unmarked node is one of the tree at the
+/// stamp; and where it is a null link at which the search has ended, each key between those of the turns is in its gap
+/// there. The newest entry of such a node's bundle has its number. On a table of one pass nothing moves while a pass
+/// searches.
+pub fn what_searches_find()
+    ensures link { LinkFoundLaw }
+    ensures own { OwnLeftLaw }
+    ensures keys { SearchKeysLaw }
+    ensures beyond { BeyondLaw }
+    ensures no_return { NoReturnLaw }
+    ensures held { HeldLinkLaw }
+    ensures null { NullLinkLaw }
+    ensures head { HeadNumberedLaw }
+    ensures alone { StillLaw }
 {}

@@ -1,9 +1,9 @@
 -- Chains and selection.
 use Rattle.std.proofs.Common.{◌≡◌, ℕ, ◌<◌, ◌≤◌, inl, inr, List, [], ◌∷◌, ◌++◌, refl, ap, sym, ◌∙◌, subst, arith}
 use Rattle.std.specs.List.{AllByRecursion}
-use Rattle.std.proofs.lemmas.Bool.{lt-leb, le-leb, eq-eqb, ne_eqb}
-use Rattle.std.specs.Prelude.{◌==◌, true, false}
-use Rattle.core_links.specs.Bundle.{WrittenLaw, IsFirstAtMost, IsChain, select, AgreeAt, OneChainLaw, ChainFrameLaw, SelectLaw, FrontLaw, WalkLaw, CutLaw}
+use Rattle.std.proofs.lemmas.Bool.{lt-leb, le-leb}
+use Rattle.std.specs.Prelude.{◌==◌}
+use Rattle.core_links.specs.Bundle.{IsFirstAtMost, IsChain, select, AgreeAt, OneChainLaw, ChainFrameLaw, SelectLaw, FrontLaw, WalkLaw, CutLaw}
 use Rattle.core_links.proofs.Compare.{compared, less, more, same}
 
 pub chain-same : (next : ℕ → ℕ) (head : ℕ) (xs ys : List ℕ) → IsChain next head xs → IsChain next head ys → xs ≡ ys
@@ -65,12 +65,6 @@ cut_law number t e (x ∷ front) back h =
       | more b ↦ select-here number t x (front ++ e ∷ back) (omega arith) ∙ sym (select-here number t x (front ++ e ∷ []) (omega arith))
       | same b ↦ select-here number t x (front ++ e ∷ back) (omega arith) ∙ sym (select-here number t x (front ++ e ∷ []) (omega arith))
     ]
-
-pub written_law : WrittenLaw
-written_law written written' raised e none some same' =
-    (let pending : (written e == 0) ≡ true = eq-eqb (written e) 0 none in rw pending refl)
-    ∙ sym same'
-    ∙ sym (let done : (written' e == 0) ≡ false = ne_eqb (written' e) 0 (omega arith) in rw done refl)
 
 first-behind : (number : ℕ → ℕ) (t e : ℕ) (es : List ℕ) (x : ℕ) → t < number e → IsFirstAtMost number t es x → IsFirstAtMost number t (e ∷ es) x
 first-behind number t e es x b (inl h) = inl ((b, h.0), h.1)

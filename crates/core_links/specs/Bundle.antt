@@ -55,12 +55,6 @@ abbrev pub IsWalkedTo : (ℕ → ℕ) → ℕ → List ℕ → ℕ → Type 0
 IsWalkedTo number t es selected =
     (front : List ℕ) → AllByRecursion (λ e. t < number e) front → select number t (front ++ es) ≡ selected
 
--- the number that the raise gave stays the entry's number when it is written
-abbrev pub WrittenLaw : Type 0
-WrittenLaw =
-    (written written' raised : ℕ → ℕ) (e : ℕ) → written e ≡ 0 → 0 < raised e → written' e ≡ raised e
-    → number_of written raised e ≡ number_of written' raised e
-
 abbrev pub OneChainLaw : Type 0
 OneChainLaw = (next : ℕ → ℕ) (head : ℕ) (es : List ℕ) → IsChain next head es → IsOnlyChain next head es
 

@@ -1,5 +1,5 @@
 -- The table after an allowed event, as the code makes it.
-use Rattle.std.proofs.Common.{◌≡◌, ℕ, List, Bool, true, false, refl, ap, ◌∙◌, sym, subst, Option, Some, None, is_some, Result, Ok, Err, OnOk, OnErr, is_err}
+use Rattle.std.proofs.Common.{◌≡◌, ℕ, List, Bool, true, false, ap, ◌∙◌, sym, subst, Option, Some, None, is_some, Result, Ok, Err, OnOk, OnErr, is_err}
 use Rattle.std.specs.Prelude.{IfSome}
 use Rattle.std.specs.List.{slice_get}
 use Rattle.index_words.specs.declared.layout.Layout.{Layout}
@@ -25,14 +25,6 @@ use Rattle.machine_steps.specs.Changes.{IsMet, IsStepped}
 -- an event whose word has this name
 pub allowed_word : (t : Table) (e : Event) (w : Word) → word_at t.layout e.word ≡ Some w → allowed t e ≡ allowed_at t e (slice_get t.views e.seat) (Some w)
 allowed_word t e w found = ap (allowed_at t e (slice_get t.views e.seat)) found
-
-no_word : (t : Table) (e : Event) (o : Option View) → allowed_at t e o None ≡ false
-no_word t e None = refl
-no_word t e (Some v) = refl
-
--- an event at no word
-pub allowed_no_word : (t : Table) (e : Event) → word_at t.layout e.word ≡ None → allowed t e ≡ false
-allowed_no_word t e found = ap (allowed_at t e (slice_get t.views e.seat)) found ∙ no_word t e (slice_get t.views e.seat)
 
 stepped : (t : Table) (e : Event) (w : Word) (changed : List View) → word_at t.layout e.word ≡ Some w → allowed_at t e (slice_get t.views e.seat) (Some w) ≡ true
     → IsChange t.layout t.words t.views e w changed

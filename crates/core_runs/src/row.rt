@@ -14,6 +14,7 @@ pub(crate) enum Act {
     End,
     Enter,
     Leave,
+    Search(u64),
     Lock(u32),
     Unlock(u32),
     LoadHead(LinkName),
@@ -119,6 +120,7 @@ fn simple_act(name: &str, rest: &str) -> Option<Doing> {
 
 fn act_of(name: &str, words: &mut Split<'_, char>) -> Option<Act> {
     Some(match name {
+        "search" => Act::Search(next_u64(words)?),
         "lock" => Act::Lock(next_u32(words)?),
         "unlock" => Act::Unlock(next_u32(words)?),
         "finalise" => Act::Finalise(next_u32(words)?),

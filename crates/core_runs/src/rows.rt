@@ -6,7 +6,7 @@
 //     SEAT KIND WORD VALUE [UPDATE]       an event, which must be allowed
 //     SEAT begin                          enter, load of the stamp, announcement of what is seen then, load of the stamp
 //     SEAT end                            leave, and the announcement is taken back
-//     SEAT enter | leave | lock NODE | unlock NODE | head LINK | entry ENTRY CHILD NEXT
+//     SEAT enter | leave | search KEY | lock NODE | unlock NODE | head LINK | entry ENTRY CHILD NEXT
 //     SEAT fill NODE KEY VAL LEFT RIGHT | prepare LINK ENTRY CHILD | raise KEY Put VAL | raise KEY Remove
 //     SEAT finalise ENTRY | mark NODE | link LINK CHILD | tag LINK
 //     SEAT put LINK ENTRY CHILD KEY VAL | remove LINK ENTRY CHILD NODE KEY
@@ -98,6 +98,7 @@ fn acts(table: &mut Table, seat: u32, act: Act) -> bool {
         Act::End => table.ends(seat),
         Act::Enter => table.enters(seat),
         Act::Leave => table.leaves(seat),
+        Act::Search(key) => table.searches(seat, key),
         Act::Lock(node) => table.locks(seat, node),
         Act::Unlock(node) => table.unlocks(seat, node),
         Act::LoadHead(link) => table.loads_head(seat, link),

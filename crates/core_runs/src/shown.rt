@@ -4,7 +4,7 @@ use std::alloc::{AllocError, Global};
 use std::fmt::Debug;
 
 /// The names of all parts.
-const PARTS: [&str; 43] = [
+const PARTS: [&str; 45] = [
     "number",
     "joined",
     "to_give",
@@ -25,6 +25,8 @@ const PARTS: [&str; 43] = [
     "place",
     "above",
     "links",
+    "left_turn",
+    "right_turn",
     "least",
     "looked",
     "filled",
@@ -142,6 +144,8 @@ fn other_part(alloc: Global, view: &View, name: &str) -> Result<Option<String>, 
         "tree" => text_of(alloc, &view.reading.tree.as_slice()),
         "place" => text_of(alloc, &view.reading.place),
         "links" => text_of(alloc, &view.reading.links.as_slice()),
+        "left_turn" => text_of(alloc, &view.reading.left_turn),
+        "right_turn" => text_of(alloc, &view.reading.right_turn),
         "filled" => text_of(alloc, &view.reading.filled.as_slice()),
         "held_nodes" => text_of(alloc, &view.held.nodes.as_slice()),
         "held_nexts" => text_of(alloc, &view.held.nexts.as_slice()),

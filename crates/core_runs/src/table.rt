@@ -1,7 +1,10 @@
 // A table that is stepped by the names of its words, and by the steps of an update that belong together.
 use crate::words::LinkName;
 use core_rule::{Event, Kind, State};
-use index_words::{Change, Field, Layout, Part, PassSize, Side, TreeNode, Update, View, Word};
+use index_words::{
+    Change, Field, Layout, Link, LinkSource, Part, PassSize, Place, Side, TreeNode, Update, View,
+    Word,
+};
 use std::alloc::Global;
 
 /// A link, and the entry that is to lead it to another child.
@@ -43,6 +46,24 @@ const fn slot_of(word: u64) -> u32 {
     } else {
         u32::MAX
     }
+}
+
+/// Whether the link was found from this node by a search on plain links.
+fn is_link_from(link: &Link, node: u32) -> bool {
+    match link.source {
+        LinkSource::Bundle { .. } => false,
+        LinkSource::Plain { .. } => link.node == node,
+    }
+}
+
+/// Whether the seat's search stands at the node, or found a link there that it remembers.
+fn is_searched(view: &View, node: u32) -> bool {
+    let stands = match view.reading.place {
+        Place::Node { node: at, .. } => at == u64::from(node),
+        _ => false,
+    };
+    let links = view.reading.links.as_slice();
+    stands || links.iter().any(|link| is_link_from(link, node))
 }
 
 impl Table {
@@ -158,10 +179,80 @@ impl Table {
         self.leaves(seat) && self.does(seat, Kind::Announce, Word::Announced(seat), 0)
     }
 
-    /// Locks a node and loads its mark.
+    fn loads_link(&mut self, seat: u32, link: LinkName) -> bool {
+        let word = Word::Node(Field::Link(link.side), link.node);
+        self.does(seat, Kind::LoadLink, word, 0)
+    }
+
+    fn loads_tag(&mut self, seat: u32, link: LinkName) -> bool {
+        let word = Word::Node(Field::Tag(link.side), link.node);
+        self.does(seat, Kind::LoadTag, word, 0)
+    }
+
+    /// Where the seat's search goes on to this key: the root's link, or that of the node at which it stands. None where
+    /// it has ended, or the node's key could not be loaded.
+    fn goes_on(&mut self, seat: u32, key: u64) -> Option<LinkName> {
+        let node = match self.view(seat)?.reading.place {
+            Place::Nowhere => {
+                return Some(LinkName {
+                    node: 0,
+                    side: Side::Right,
+                });
+            }
+            Place::Node { node, .. } => slot_of(node),
+            Place::Entry { .. } | Place::Gap { .. } => return None,
+        };
+        let word = Word::Node(Field::Key, node);
+        if !self.does(seat, Kind::LoadKeyOrVal, word, 0) {
+            return None;
+        }
+        let side = if key < self.holds(word) {
+            Side::Left
+        } else {
+            Side::Right
+        };
+        Some(LinkName { node, side })
+    }
+
+    /// Searches by plain links for a key that is not there, and loads the tag of the null link at which the search ends.
+    pub(crate) fn searches(&mut self, seat: u32, key: u64) -> bool {
+        for _ in 0..=self.layout.nodes {
+            let Some(link) = self.goes_on(seat, key) else {
+                return false;
+            };
+            if !self.loads_link(seat, link) {
+                return false;
+            }
+            if self.holds(Word::Node(Field::Link(link.side), link.node)) == 0 {
+                return self.loads_tag(seat, link);
+            }
+        }
+        false
+    }
+
+    /// Searches for a node by its key, from where the seat stands on. The root, and a node that the search knows, need no
+    /// search.
+    fn finds(&mut self, seat: u32, node: u32) -> bool {
+        let key = self.holds(Word::Node(Field::Key, node));
+        for _ in 0..=self.layout.nodes {
+            if node == 0 || self.view(seat).is_some_and(|view| is_searched(view, node)) {
+                return true;
+            }
+            let Some(link) = self.goes_on(seat, key) else {
+                return false;
+            };
+            if !self.loads_link(seat, link) {
+                return false;
+            }
+        }
+        false
+    }
+
+    /// Finds a node, locks it and loads its mark.
     pub(crate) fn locks(&mut self, seat: u32, node: u32) -> bool {
         let own = u64::from(seat) + 1;
-        self.does(seat, Kind::TryLock, Word::Node(Field::Lock, node), own)
+        self.finds(seat, node)
+            && self.does(seat, Kind::TryLock, Word::Node(Field::Lock, node), own)
             && self.does(seat, Kind::LoadMark, Word::Node(Field::Mark, node), 0)
     }
 
@@ -267,7 +358,7 @@ impl Table {
     pub(crate) fn raises_tag(&mut self, seat: u32, link: LinkName) -> bool {
         let word = Word::Node(Field::Tag(link.side), link.node);
         let tag = self.holds(word).wrapping_add(1);
-        self.does(seat, Kind::LoadTag, word, 0) && self.does(seat, Kind::SetTag, word, tag)
+        self.loads_tag(seat, link) && self.does(seat, Kind::SetTag, word, tag)
     }
 
     /// A whole put of an absent key. The new node's slot is the child of the turn.
@@ -281,6 +372,7 @@ impl Table {
         };
         self.begins(seat)
             && self.fills(seat, node)
+            && self.searches(seat, key)
             && self.locks(seat, at.link.node)
             && self.prepares(seat, at)
             && self.raises(seat, key, Change::Put(val))

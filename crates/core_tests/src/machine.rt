@@ -3,7 +3,8 @@ use index_words::{Change, Layout, PassSize, Update};
 use std::alloc::{AllocError, Global};
 use std::test::Fail;
 
-/// With one such pass the root's words are 3 to 12: its lock is word 5 and its mark word 6.
+/// With one such pass the root's words are 3 to 12: its lock is word 5, its mark word 6, and the head, the plain link and
+/// the tag of its right side are words 8, 10 and 12.
 const SIZE: PassSize = PassSize {
     nodes: 1,
     entries: 4,
@@ -86,7 +87,8 @@ fn put_events(alloc: Global, left_out: Option<usize>) -> Result<Vec<Event>, Allo
         event(Kind::LoadStamp, 0, 0),
         event(Kind::Announce, 2, 1),
         event(Kind::LoadStamp, 0, 0),
-        event(Kind::LoadHead, 8, 0),
+        event(Kind::LoadLink, 10, 0),
+        event(Kind::LoadTag, 12, 0),
         event(Kind::Fill, 13, 5),
         event(Kind::Fill, 14, 7),
         event(Kind::Fill, 23, 1),
@@ -119,16 +121,26 @@ fn a_put_without_the_child_of_its_entry_is_refused_at_the_raise(
     for (word, value) in [(0, 1), (1, 2), (2, 0), (5, 0), (8, 1), (10, 1), (24, 1)] {
         assert_eq!(rt; answer_of(alloc, &put, word), Answer::Word(value));
     }
-    let without = put_events(alloc, Some(7))?;
-    assert_eq!(rt; answer_of(alloc, &without, 0), Answer::NotAllowed(11));
+    let without = put_events(alloc, Some(8))?;
+    assert_eq!(rt; answer_of(alloc, &without, 0), Answer::NotAllowed(12));
+    Ok(())
+}
+
+#[test]
+fn a_put_whose_search_has_found_no_tag_is_refused_at_the_raise(
+    rt: HostRuntime,
+) -> Result<(), Fail> {
+    let alloc = rt.alloc();
+    let without = put_events(alloc, Some(5))?;
+    assert_eq!(rt; answer_of(alloc, &without, 0), Answer::NotAllowed(12));
     Ok(())
 }
 
 #[test]
 fn a_put_without_its_plain_link_is_refused_at_the_unlock(rt: HostRuntime) -> Result<(), Fail> {
     let alloc = rt.alloc();
-    let without = put_events(alloc, Some(14))?;
-    assert_eq!(rt; answer_of(alloc, &without, 0), Answer::NotAllowed(14));
+    let without = put_events(alloc, Some(15))?;
+    assert_eq!(rt; answer_of(alloc, &without, 0), Answer::NotAllowed(15));
     Ok(())
 }
 

@@ -6,7 +6,6 @@ pub mod Parts
 -- The node behind another one.
 pub mod Next
 -- The gap in front of a successor.
-pub mod Successor
 -- Puts, and the removal of a node with at most one child.
 pub mod Steps
 -- The removal of a node with two children, whose successor is its right child.

@@ -5,7 +5,7 @@ use Rattle.std.proofs.lemmas.Bool.{eq-eqb, ne_eqb}
 use Rattle.std.proofs.lemmas.List.Sums.{sum_by-cons}
 use Rattle.core_trees.specs.NamedTree.{NamedTree, Null, Branch}
 use Rattle.core_trees.specs.TreeStep.{subtree_at, update, put_here, remove_here, without_first, tree_put, tree_remove}
-use Rattle.core_trees.specs.Slots.{tally, top_slots, first_slots, removed_slots, added_slots, put_takes, remove_takes, remove_brings, MovesSlots, NamesOnce, occurs, one_at, UpdateTallyLaw, PutNamesLaw, RemoveNamesLaw}
+use Rattle.core_trees.specs.Slots.{tally, top_slots, first_slots, removed_slots, added_slots, put_takes, remove_takes, remove_brings, MovesSlots, one_at, UpdateTallyLaw}
 use Rattle.core_links.proofs.Compare.{compared, less, more, same}
 use Rattle.core_trees.proofs.Updates.{update-left, update-right, update-here, subtree_at-left, subtree_at-right, subtree_at-here}
 
@@ -80,29 +80,3 @@ one_at-same x = rw (eq-eqb x x refl)
 
 pub one_at-other : (x s : ℕ) → ¬ (x ≡ s) → one_at x s ≡ 0
 one_at-other x s h = rw (ne_eqb x s h)
-
--- a tree with no more nodes but one of the new slot names each node once
-named-once : (root slot : ℕ) (tree new : NamedTree) → NamesOnce root tree → ¬ (slot ≡ root) → occurs slot tree ≡ 0
-    → ((x : ℕ) → occurs x new ≤ occurs x tree + one_at x slot) → NamesOnce root new
-named-once root slot tree new once apart free more' x =
-    elim (compared x slot) [
-      | less b ↦ omega (arith, once x, more' x, one_at-other x slot (λ e. omega arith))
-      | more b ↦ omega (arith, once x, more' x, one_at-other x slot (λ e. omega arith))
-      | same e ↦ subst (λ z. one_at z root + occurs z new ≤ 1) (sym e)
-          (omega (arith, free, more' slot, one_at-same slot, one_at-other slot root apart))
-    ]
-
-added-most : (h : ℕ → ℕ) (slot : ℕ) (tree : NamedTree) → sum_by h (added_slots slot tree) ≤ h slot
-added-most h slot Null = omega arith
-added-most h slot (Branch s k v Null r) = omega arith
-added-most h slot (Branch s k v (Branch _ _ _ _ _) Null) = omega arith
-added-most h slot (Branch s k v (Branch _ _ _ _ _) (Branch _ _ _ _ _)) = omega arith
-
-pub put_names : PutNamesLaw
-put_names root slot key val tree once apart free =
-    named-once root slot tree (tree_put slot key val tree) once apart free (λ x. omega (arith, (put_slots slot key val tree (one_at x)).0))
-
-pub remove_names : RemoveNamesLaw
-remove_names root slot key tree once apart free =
-    named-once root slot tree (tree_remove slot key tree) once apart free
-    (λ x. omega (arith, (remove_slots slot key tree (one_at x)).0, added-most (one_at x) slot (subtree_at key tree)))

@@ -1,12 +1,12 @@
 -- The tree step by links: what has to be read at a few links of a spelled tree before and after a change, so
 -- that the tree after the step is spelled. No search is told: where it ends follows from the links.
-use Rattle.std.specs.Prelude.{◌≡◌, ℕ, ◌<◌, ◌⊎◌, [], ◌∷◌}
+use Rattle.std.specs.Prelude.{◌≡◌, ℕ, ◌<◌, ◌⊎◌}
 use Rattle.index_words.specs.declared.side.Side.{Side}
 use Rattle.index_words.specs.declared.side.Side.TheVariants.{Left, Right}
-use Rattle.core_trees.specs.NamedTree.{NamedTree, Branch, IsLawful}
-use Rattle.core_trees.specs.TreeStep.{subtree_at, first_pair, tree_put, tree_remove}
+use Rattle.core_trees.specs.NamedTree.{NamedTree, IsLawful}
+use Rattle.core_trees.specs.TreeStep.{tree_put, tree_remove}
 use Rattle.core_trees.specs.Gaps.{IsGapLink}
-use Rattle.core_trees.specs.Slots.{occurs, first_slots, NamesOnce}
+use Rattle.core_trees.specs.Slots.{occurs, NamesOnce}
 use Rattle.core_trees.specs.SpelledTree.{Graph, IsSpelled}
 use Rattle.core_trees.specs.SpelledStep.{IsNodeOf}
 
@@ -92,9 +92,3 @@ JoinDeepLaw =
     → IsNodeOf g' slot (g.key next) (g.val next) (g.child Left node) (g.child Right node) → g'.child side parent ≡ slot
     → g'.child turn below ≡ g.child Right next
     → IsSpelled g' (g'.child top root) (tree_remove slot (g.key node) tree)
-
--- each key between a node's and that of the first node of its right tree is in the gap of that one's left link
-abbrev pub SuccessorGapLaw : Type 0
-SuccessorGapLaw =
-    (root key node val s k v x : ℕ) (top : Side) (left l r tree : NamedTree) → IsLawful tree → subtree_at key tree ≡ Branch node key val left (Branch s k v l r)
-    → key < x → x < (first_pair k v l).key → (next : ℕ) → first_slots (Branch s k v l r) ≡ next ∷ [] → IsGapLink x next Left root top tree

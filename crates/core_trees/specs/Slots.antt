@@ -2,7 +2,7 @@
 -- brings in.
 use Rattle.std.specs.Prelude.{◌≡◌, ℕ, ◌+◌, ◌≤◌, List, [], ◌∷◌, ◌==◌, if◌then◌else◌, sum_by}
 use Rattle.core_trees.specs.NamedTree.{NamedTree, Null, Branch}
-use Rattle.core_trees.specs.TreeStep.{subtree_at, update, tree_put, tree_remove}
+use Rattle.core_trees.specs.TreeStep.{subtree_at, update}
 
 -- the sum of `h` over the slots of the tree
 abbrev pub tally : (ℕ → ℕ) → NamedTree → ℕ
@@ -76,14 +76,3 @@ UpdateTallyLaw =
 -- no slot stands in the tree twice, and the root of the tree does not stand in it
 abbrev pub NamesOnce : ℕ → NamedTree → Type 0
 NamesOnce root tree = (x : ℕ) → one_at x root + occurs x tree ≤ 1
-
--- the tree step names each node once, where the new slot is neither the root nor in the tree
-abbrev pub PutNamesLaw : Type 0
-PutNamesLaw =
-    (root slot key val : ℕ) (tree : NamedTree) → NamesOnce root tree → ¬ (slot ≡ root) → occurs slot tree ≡ 0
-    → NamesOnce root (tree_put slot key val tree)
-
-abbrev pub RemoveNamesLaw : Type 0
-RemoveNamesLaw =
-    (root slot key : ℕ) (tree : NamedTree) → NamesOnce root tree → ¬ (slot ≡ root) → occurs slot tree ≡ 0
-    → NamesOnce root (tree_remove slot key tree)

@@ -29,7 +29,7 @@ counts-item (x ∷ hs) zero h at = subst (λ (y : HeldNode). 0 < count y.node (h
 counts-item (x ∷ hs) (suc i) h at = omega (arith, counts-item hs i h (record { within = omega (arith, at.within); is = λ d. at.is d }))
 
 -- the one item of a node is the one that is found
-held-item : (hs : List HeldNode) (i : ℕ) (h : HeldNode) → IsItem hs i h → count h.node (held_slots hs) ≤ 1 → held_at h.node hs ≡ Some h
+pub held-item : (hs : List HeldNode) (i : ℕ) (h : HeldNode) → IsItem hs i h → count h.node (held_slots hs) ≤ 1 → held_at h.node hs ≡ Some h
 held-item [] i h at once = absurd (omega (arith, at.within))
 held-item (x ∷ hs) zero h at once =
     let is : x ≡ h = at.is x in

@@ -1,7 +1,7 @@
 -- What a view shows of an update holds of the words, in every table that meets the rule.
-use Rattle.std.proofs.Common.{◌≡◌, ℕ, zero, suc, ◌+◌, ◌<◌, ◌≤◌, ◌⊎◌, inl, inr, cond, List, [], ◌∷◌, length, Bool, true, false, not, eqb, ◌&&◌, refl, ap, sym, ◌∙◌, subst, arith, Option, Some, None, is_none}
+use Rattle.std.proofs.Common.{◌≡◌, ℕ, zero, suc, ◌+◌, ◌<◌, ◌⊎◌, inl, inr, cond, List, [], ◌∷◌, length, Bool, true, false, not, eqb, ◌&&◌, refl, ap, sym, ◌∙◌, subst, arith, Option, Some, None, is_none}
 use Rattle.std.specs.Prelude.{IfSome}
-use Rattle.std.specs.List.{sum_by}
+use Rattle.std.specs.List.{list_any}
 use Rattle.std.proofs.lemmas.Bool.{and_from, eq-eqb, ne_eqb}
 use Rattle.std.proofs.lemmas.Bool.Decides.{nat_tests}
 use Rattle.index_words.specs.declared.layout.Layout.{Layout}
@@ -12,38 +12,38 @@ use Rattle.key_map.specs.declared.update.Change.TheVariants.{Put, Remove}
 use Rattle.index_words.specs.declared.view.View.{View}
 use Rattle.index_words.specs.declared.view.update.HeldNode.{HeldNode}
 use Rattle.index_words.specs.declared.view.update.Unlinking.{Unlinking}
-use Rattle.index_words.specs.declared.word.Field.TheVariants.{Key, Val, Lock, Mark, Head, Link, Tag}
+use Rattle.index_words.specs.declared.word.Field.TheVariants.{Key, Val, Mark, Head, Link, Tag}
 use Rattle.index_words.specs.declared.word.Part.TheVariants.{Child, Stamp as Number, Next}
 use Rattle.index_words.specs.declared.word.Word.{Word}
 use Rattle.index_words.specs.declared.word.Word.TheVariants.{Stamp, Node, Entry}
-use Rattle.index_words.specs.Words.{Memory, memory, word_at, address}
-use Rattle.index_words.proofs.Seats.{two_terms}
+use Rattle.index_words.specs.Words.{Memory, memory, same_side, word_at, address}
 use Rattle.key_map.specs.Lists.{count, IsItem}
 use Rattle.core_grace.specs.Batches.{is_number}
 use Rattle.core_grace.specs.Holds.{held_slots}
-use Rattle.core_trees.specs.NamedTree.{NamedTree}
 use Rattle.core_trees.specs.Gaps.{IsGapLink}
-use Rattle.core_trees.specs.Slots.{occurs}
 use Rattle.core_invariant.specs.FilledRule.{IsOwnSlotWord, FilledRight}
-use Rattle.core_invariant.specs.Locks.{lock_count, HeadRight, SideRight, IsNodeAt}
-use Rattle.core_laws.specs.Remembered.{Validates, IsUnlocked, IsAsRemembered}
+use Rattle.core_invariant.specs.Locks.{HeadRight, SideRight, IsNodeAt}
 use Rattle.core_invariant.specs.Rule.{InRule}
-use Rattle.core_events.specs.SpelledNow.{tree_now, child_now}
-use Rattle.core_events.specs.TreeMoves.{is_tree_step}
+use Rattle.core_events.specs.SpelledNow.{tree_now}
+use Rattle.core_events.specs.TreeMoves.{has_gap, is_tree_step}
 use Rattle.core_events.specs.Tables.{Table}
-use Rattle.core_events.specs.Versions.{tree_nodes}
-use Rattle.core_events.specs.UpdateNeeds.{side_of, may_raise_number}
+use Rattle.core_events.specs.UpdateNeeds.{held_at, side_of, may_raise_number}
 use Rattle.core_events.specs.Steps.{allowed_at}
 use Rattle.core_invariant.proofs.OneView.{item_from_get}
 use Rattle.core_events.specs.LoadMoves.{locks}
-use Rattle.core_invariant.proofs.HeldFacts.{count-locks}
 use Rattle.core_invariant.proofs.OneView.{seat_at}
-use Rattle.core_laws.proofs.Remembered.{every_item, remembered_right}
-use Rattle.core_trees.specs.LinkSteps.{IsLinkIn}
+use Rattle.core_invariant.proofs.Needed.{found_held}
+use Rattle.core_laws.proofs.CountTests.{item_any}
+use Rattle.core_laws.proofs.Remembered.{every_item}
+use Rattle.core_laws.proofs.ViewTests.{found-locks}
+use Rattle.core_laws.specs.Searching.{HeldLinkLaw, NullLinkLaw, IsOver, IsUnder}
+use Rattle.core_events.specs.Searches.{is_above_turn, is_under_turn, is_between, is_gap_found, is_gap_link}
+use Rattle.index_words.specs.declared.view.reading.LinkSource.{LinkSource}
+use Rattle.index_words.specs.declared.view.reading.LinkSource.TheVariants.{Plain}
 use Rattle.core_updates.specs.Ready.{LeadsNow, IsPrepared, IsFreshTo, IsNewLink, IsNewNode, FindsKey, FindsSuccessor, IsReadyToGrow, IsReadyToReplace, IsReadyToLift, IsReadyToJoin, IsNear, IsDeep, update_of, MayStep}
 use Rattle.core_updates.specs.SetLinks.{SetLink, set_to}
 use Rattle.core_laws.specs.ViewNeeds.{HasFilled}
-use Rattle.core_updates.specs.Held.{HoldsHead, HoldsLink, HoldsPrepared, HoldsFresh, HoldsNewLink, HoldsNew, HasLoaded, HoldsKey, HoldsSuccessor, HoldsGrow, HoldsReplace, HoldsLift, HoldsJoin, sets_joined, unlinks_joined, CanRaise, raise_of, MayRaise, GrowFromViewLaw, ReplaceFromViewLaw, LiftFromViewLaw, JoinFromViewLaw}
+use Rattle.core_updates.specs.Held.{HoldsHead, HoldsLink, RemembersGap, HoldsGap, HoldsPrepared, HoldsFresh, HoldsNewLink, HoldsNew, HasLoaded, HoldsKey, HoldsSuccessor, HoldsGrow, HoldsReplace, HoldsLift, HoldsJoin, sets_joined, unlinks_joined, CanRaise, raise_of, MayRaise, GrowFromViewLaw, ReplaceFromViewLaw, LiftFromViewLaw, JoinFromViewLaw}
 use Rattle.core_updates.proofs.MayRaise.{may_grow, may_replace, may_lift, may_join}
 
 some_is : {X : Type 0} (P : X → Type 0) (o : Option X) (x : X) → o ≡ Some x → IfSome o P → P x
@@ -58,8 +58,34 @@ counted_item (x ∷ hs) zero h at = subst (λ (y : HeldNode). 0 < count y.node (
 counted_item (x ∷ hs) (suc i) h at =
     omega (arith, counted_item hs i h (record { within = omega (arith, at.within); is = λ d. at.is d }))
 
+-- the test of a remembered null link
+source_tested : (key tag : ℕ) (source : LinkSource) (above below : Option ℕ) → source ≡ Plain (Some tag) above below → IsOver below key → IsUnder above key
+    → is_gap_found key tag source ≡ true
+source_tested key tag source above below is over under =
+    ap (is_gap_found key tag) is
+    ∙ and_from (eqb tag tag) (is_between below above key) (eq-eqb tag tag refl) (and_from (is_above_turn below key) (is_under_turn above key) (over_tested below over) (under_tested above under))
+  where
+    over_tested : (o : Option ℕ) → IsOver o key → is_above_turn o key ≡ true
+    over_tested None over = refl
+    over_tested (Some low) over = grind (arith, nat_tests, over)
+
+    under_tested : (o : Option ℕ) → IsUnder o key → is_under_turn o key ≡ true
+    under_tested None under = refl
+    under_tested (Some high) under = grind (arith, nat_tests, under)
+
+same_sides : (s t : Side) → s ≡ t → same_side s t ≡ true
+same_sides Left t p = subst (λ u. same_side Left u ≡ true) p refl
+same_sides Right t p = subst (λ u. same_side Right u ≡ true) p refl
+
+link_tested : {v : View} (node : ℕ) (side : Side) (key tag : ℕ) (h : RemembersGap v node side tag key) → is_gap_link node side key tag h.link ≡ true
+link_tested node side key tag h =
+    let l = h.link in
+    and_from (eqb l.node node && same_side l.side side && eqb l.child 0) (is_gap_found key tag l.source)
+    (and_from (eqb l.node node && same_side l.side side) (eqb l.child 0) (and_from (eqb l.node node) (same_side l.side side) (eq-eqb l.node node h.node_is) (same_sides l.side side h.side_is))
+    (eq-eqb l.child 0 h.child_is)) (source_tested key tag l.source h.above h.below h.source h.over h.under)
+
 -- with `t` a table that meets the rule, and `v` the view of a seat of it that has not raised
-module _ (z : Layout) (words : List ℕ) (vs : List View) (right : InRule z words vs) (i : ℕ) (v : View) (at : IsItem vs i v) (unraised : v.update.raised ≡ None) where
+module _ (held_link : HeldLinkLaw) (null_link : NullLinkLaw) (z : Layout) (words : List ℕ) (vs : List View) (right : InRule z words vs) (i : ℕ) (v : View) (at : IsItem vs i v) (unraised : v.update.raised ≡ None) where
   abbrev m : Memory
   m = memory z words
 
@@ -86,59 +112,44 @@ module _ (z : Layout) (words : List ℕ) (vs : List View) (right : InRule z word
       = (some_is (HeadRight (m (Node (Head side) h.held.node)) (λ e. m (Entry Number e))) (side_of side h.held).head h.loaded h.head loaded.head).0 in
       ap (λ k. m (Node (Head side) k)) (sym h.node_is) ∙ is ∙ h.entry_is
 
-  locked_here : (node : ℕ) (side : Side) (entry : ℕ) → HoldsHead v node side entry → 0 < lock_count node v
-  locked_here node side entry h = subst (λ k. 0 < lock_count k v) h.node_is (counted_item v.held.nodes h.place h.held h.at)
-
-  one_lock : (b : Bool) → 0 + cond b 0 1 ≤ 1
-  one_lock true = omega arith
-  one_lock false = omega arith
-
-  unlocked : (node : ℕ) → 0 < lock_count node v → IsUnlocked vs i node
-  unlocked node here j u of other =
-      let total : sum_by (lock_count node) vs ≡ cond (eqb (m (Node Lock node)) 0) 0 1 = right.rule.locks node in
-      omega (arith, total, one_lock (eqb (m (Node Lock node)) 0), here, two_terms (lock_count node) vs i v u at (record { place = j; at = of; other = other }))
-
-  valid : (node : ℕ) (side : Side) (child : ℕ) (h : HoldsLink v node side child) → Validates m vs i v h.link h.entry
-  valid node side child h =
-      let mark : m (Node Mark h.head.held.node) ≡ 0
-      = some_is (λ x. m (Node Mark h.head.held.node) ≡ x) h.head.held.mark 0 h.unmarked (node_right h.head.place h.head.held h.head.at).mark in
-      let head : m (Node (Head h.link.side) h.link.node) ≡ h.now
-      = ap (λ w. m (Node (Head w) h.link.node)) h.side_is ∙ ap (λ k. m (Node (Head side) k)) h.node_is ∙ head_is node side h.now h.head in
-      record {
-        unmarked = ap (λ k. m (Node Mark k)) (h.node_is ∙ sym h.head.node_is) ∙ mark;
-        unlocked = subst (IsUnlocked vs i) (sym h.node_is) (unlocked node (locked_here node side h.now h.head));
-        head = elim h.still as (λ _. (m (Node (Head h.link.side) h.link.node) ≡ h.entry) ⊎ ((0 < count (m (Node (Head h.link.side) h.link.node)) v.update.pending) × (m (Entry Next (m (Node (Head h.link.side) h.link.node))) ≡ h.entry))) [
-          | inl is ↦ inl (head ∙ is)
-          | inr front ↦ inr (
-            subst (λ e. 0 < count e v.update.pending) (sym head) front.0,
-            ap (λ e. m (Entry Next e)) head ∙ filled (Entry Next h.now) h.entry front.1 (inr (unraised, front.0)),
-          )
-        ];
-      }
-
-  as_remembered : (node : ℕ) (side : Side) (child : ℕ) (h : HoldsLink v node side child)
-      → IsAsRemembered h.link v.reading.tree (child_now m vs [] h.link.side h.link.node) (tree_now z m vs)
-  as_remembered node side child h = (remembered_right t right i v h.link h.entry at h.known (valid node side child h)).1
+  -- the word of a plain link, and of its tag, is as the view has it
+  plain_of : (side : Side) (held : HeldNode) → IsNodeAt m held
+      → IfSome (side_of side held).link (λ x. m (Node (Link side) held.node) ≡ x) × IfSome (side_of side held).tag (λ x. m (Node (Tag side) held.node) ≡ x)
+  plain_of Left held is = is.plain.0
+  plain_of Right held is = is.plain.1
 
   leads : (node : ℕ) (side : Side) (child : ℕ) → HoldsLink v node side child → LeadsNow z m vs node side child
   leads node side child h =
-      let is = as_remembered node side child h in
-      record {
-        link = elim is.linked as (λ _. IsLinkIn 0 Right (tree_now z m vs) node side) [
-          | inl root ↦ let here : node ≡ 0 = sym h.node_is ∙ root in inl (here, h.root here)
-          | inr there ↦ inr (subst (λ k. 0 < occurs k (tree_now z m vs)) h.node_is there)
-        ];
-        child_is = sym (ap (λ w. child_now m vs [] w h.link.node) h.side_is ∙ ap (λ k. child_now m vs [] side k) h.node_is) ∙ is.child ∙ h.child_is;
-      }
+      let found = held_link t i v node child side h.held right at unraised h.locked h.unmarked h.leads h.root in
+      record { link = found.0; child_is = found.1 }
 
-  -- a key in the gap of a remembered null link is in its gap at the stamp
-  gap_now : (node : ℕ) (side : Side) (h : HoldsLink v node side 0) (tree : NamedTree) → v.reading.tree ≡ tree_nodes tree → (x : ℕ) → IsGapLink x node side 0 Right tree
-      → IsGapLink x node side 0 Right (tree_now z m vs)
-  gap_now node side h tree read x gap =
-      let there : IsGapLink x h.link.node h.link.side 0 Right tree
-      = subst (λ k. IsGapLink x k h.link.side 0 Right tree) (sym h.node_is) (subst (λ w. IsGapLink x node w 0 Right tree) (sym h.side_is) gap) in
-      let now = (as_remembered node side 0 h).gap h.child_is tree read x there in
-      subst (λ k. IsGapLink x k side 0 Right (tree_now z m vs)) h.node_is (subst (λ w. IsGapLink x h.link.node w 0 Right (tree_now z m vs)) h.side_is now)
+  -- the node of a link that was looked at is locked
+  link_locked : (node : ℕ) (side : Side) (child : ℕ) → HoldsLink v node side child → locks node v.held.nodes ≡ true
+  link_locked node side child h = found-locks node v.held.nodes h.held h.locked
+
+  -- the key is in the gap of a null link at which a search has ended
+  gap_now : (node : ℕ) (side : Side) (key : ℕ) (h : HoldsGap v node side key) → IsGapLink key node side 0 Right (tree_now z m vs)
+  gap_now node side key h =
+      let l = h.found.link in
+      let there : IsGapLink key l.node l.side 0 Right (tree_now z m vs)
+      = null_link t i h.found.place v l (Some h.tag) h.found.above h.found.below h.null.held right at unraised h.found.is h.found.source h.found.child_is
+      (ap (λ k. held_at k v.held.nodes) h.found.node_is ∙ h.null.locked) h.null.unmarked (ap (λ s. (side_of s h.null.held).link) h.found.side_is ∙ h.null.leads)
+      key h.found.over h.found.under in
+      subst (λ k. IsGapLink key k side 0 Right (tree_now z m vs)) h.found.node_is
+      (subst (λ s. IsGapLink key l.node s 0 Right (tree_now z m vs)) h.found.side_is there)
+
+  -- it is null still, with the tag with which it was found
+  gap_tested : (node : ℕ) (side : Side) (key : ℕ) (h : HoldsGap v node side key) → has_gap m v key node side ≡ true
+  gap_tested node side key h =
+      let held = found_held (IsNodeAt m) node h.null.held v.held.nodes (seat_at z m vs right.meaning i v at right.rule).loaded.nodes h.null.locked in
+      let words = plain_of side h.null.held held.known in
+      let null : m (Node (Link side) node) ≡ 0
+      = ap (λ k. m (Node (Link side) k)) (sym held.same) ∙ some_is (λ x. m (Node (Link side) h.null.held.node) ≡ x) (side_of side h.null.held).link 0 h.null.leads words.0 in
+      let tag : m (Node (Tag side) node) ≡ h.tag
+      = ap (λ k. m (Node (Tag side) k)) (sym held.same) ∙ some_is (λ x. m (Node (Tag side) h.null.held.node) ≡ x) (side_of side h.null.held).tag h.tag h.held_tag words.1 in
+      and_from (eqb (m (Node (Link side) node)) 0) (list_any (is_gap_link node side key (m (Node (Tag side) node))) v.reading.links) (eq-eqb (m (Node (Link side) node)) 0 null)
+      (item_any (is_gap_link node side key (m (Node (Tag side) node))) v.reading.links h.found.place h.found.link h.found.is
+      (subst (λ x. is_gap_link node side key x h.found.link ≡ true) (sym tag) (link_tested node side key h.tag h.found)))
 
   prepared : (node : ℕ) (side : Side) (entry child : ℕ) → HoldsPrepared v node side entry child → IsPrepared m node side entry child
   prepared node side entry child h = record {
@@ -187,10 +198,6 @@ module _ (z : Layout) (words : List ℕ) (vs : List View) (right : InRule z word
   val_word : (node x : ℕ) → HasLoaded v node (λ (h : HeldNode). h.val) x → m (Node Val node) ≡ x
   val_word node x h = ap (λ k. m (Node Val k)) (sym h.node_is) ∙ some_is (λ y. m (Node Val h.held.node) ≡ y) h.held.val x h.is (node_right h.place h.held h.at).val
 
-  -- the node of a link that was looked at is locked
-  link_locked : (node : ℕ) (side : Side) (child : ℕ) → HoldsLink v node side child → locks node v.held.nodes ≡ true
-  link_locked node side child h = count-locks node v.held.nodes (locked_here node side h.now h.head)
-
   abbrev found : (key : ℕ) (h : HoldsKey v key) → FindsKey z m vs v key
   found key h = record {
     parent = h.parent;
@@ -200,7 +207,7 @@ module _ (z : Layout) (words : List ℕ) (vs : List View) (right : InRule z word
     at = leads h.parent h.side h.node h.at;
     held = link_locked h.parent h.side h.node h.at;
     key_is = key_word h.node key h.key_is;
-    locked = count-locks h.node v.held.nodes (locked_here h.node Left h.left_link.now h.left_link.head);
+    locked = link_locked h.node Left h.left h.left_link;
     left = h.left;
     left_is = (leads h.node Left h.left h.left_link).child_is;
     right = h.right;
@@ -218,8 +225,8 @@ module _ (z : Layout) (words : List ℕ) (vs : List View) (right : InRule z word
         at = leads h.parent h.side h.node h.at;
         held = link_locked h.parent h.side h.node h.at;
         above = subst (λ k. key < k) (sym key_is) h.above;
-        locked = count-locks h.node v.held.nodes (locked_here h.node Left h.left_link.now h.left_link.head);
-        gap = λ x low high. gap_now h.node Left h.left_link h.tree h.read x (h.gap x low (subst (λ k. x < k) key_is high));
+        locked = link_locked h.node Left 0 h.left_link;
+        gap = λ x low high. gap_now h.node Left x (h.gap x low (subst (λ k. x < k) key_is high));
         right = h.right;
         right_is = (leads h.node Right h.right h.right_link).child_is;
       }
@@ -228,9 +235,10 @@ module _ (z : Layout) (words : List ℕ) (vs : List View) (right : InRule z word
   to_grow key val h = record {
     node = h.node;
     side = h.side;
-    link = (leads h.node h.side 0 h.at).link;
-    held = link_locked h.node h.side 0 h.at;
-    gap = gap_now h.node h.side h.at h.tree h.read key h.gap;
+    link = (leads h.node h.side 0 h.at.null).link;
+    held = link_locked h.node h.side 0 h.at.null;
+    gap = gap_now h.node h.side key h.at;
+    searched = gap_tested h.node h.side key h.at;
     small = h.small;
     slot = h.slot;
     new = new_node h.slot key val 0 0 h.new;
@@ -328,27 +336,27 @@ may_raise_by z v u added out sets last client entry rest can own pending steps =
   moves = λ words vs seat right at. steps words vs seat right (item_from_get vs seat v at);
 }
 
-pub grow_from_view : GrowFromViewLaw
-grow_from_view z v client line key val can h =
+pub grow_from_view : HeldLinkLaw → NullLinkLaw → GrowFromViewLaw
+grow_from_view held_link null_link z v client line key val can h =
     may_raise_by z v (update_of client line key (Put val)) (Some h.slot) [] (set_to h.node h.side h.slot ∷ []) None client h.entry [] can refl h.pending
-    (λ words vs i right at. may_grow z (memory z words) vs right.meaning i v client line key val right.rule at (to_grow z words vs right i v at can.unraised key val h))
+    (λ words vs i right at. may_grow z (memory z words) vs right.meaning i v client line key val right.rule at (to_grow held_link null_link z words vs right i v at can.unraised key val h))
 
-pub replace_from_view : ReplaceFromViewLaw
-replace_from_view z v client line key val can h =
+pub replace_from_view : HeldLinkLaw → NullLinkLaw → ReplaceFromViewLaw
+replace_from_view held_link null_link z v client line key val can h =
     may_raise_by z v (update_of client line key (Put val)) (Some h.slot) (h.found.node ∷ []) (set_to h.found.parent h.found.side h.slot ∷ []) None client h.entry [] can refl h.pending
-    (λ words vs i right at. may_replace z (memory z words) vs right.meaning i v client line key val right.rule at (to_replace z words vs right i v at can.unraised key val h))
+    (λ words vs i right at. may_replace z (memory z words) vs right.meaning i v client line key val right.rule at (to_replace held_link null_link z words vs right i v at can.unraised key val h))
 
-pub lift_from_view : LiftFromViewLaw
-lift_from_view z v client line key can h =
+pub lift_from_view : HeldLinkLaw → NullLinkLaw → LiftFromViewLaw
+lift_from_view held_link null_link z v client line key can h =
     may_raise_by z v (update_of client line key Remove) None (h.found.node ∷ []) (set_to h.found.parent h.found.side h.child ∷ []) None client h.entry [] can refl h.pending
-    (λ words vs i right at. may_lift z (memory z words) vs right.meaning i v client line key right.rule at (to_lift z words vs right i v at can.unraised key h))
+    (λ words vs i right at. may_lift z (memory z words) vs right.meaning i v client line key right.rule at (to_lift held_link null_link z words vs right i v at can.unraised key h))
 
 -- one entry is pending, or two
 first_pending : (v : View) (key : ℕ) (h : HoldsJoin v key) → (rest : List ℕ) × (v.update.pending ≡ h.entry ∷ rest)
 first_pending v key h = elim h.by as (λ _. (rest : List ℕ) × (v.update.pending ≡ h.entry ∷ rest)) [ inl near ↦ ([], near.pending) | inr deep ↦ (deep.second ∷ [], deep.pending) ]
 
-pub join_from_view : JoinFromViewLaw
-join_from_view z v client line key can h =
+pub join_from_view : HeldLinkLaw → NullLinkLaw → JoinFromViewLaw
+join_from_view held_link null_link z v client line key can h =
     let first = first_pending v key h in
     may_raise_by z v (update_of client line key Remove) (Some h.slot) (h.found.node ∷ h.next.node ∷ []) (sets_joined v key h) (unlinks_joined v key h) client h.entry first.0 can refl first.1
-    (λ words vs i right at. may_join z (memory z words) vs right.meaning i v client line key right.rule at (to_join z words vs right i v at can.unraised key h))
+    (λ words vs i right at. may_join z (memory z words) vs right.meaning i v client line key right.rule at (to_join held_link null_link z words vs right i v at can.unraised key h))

@@ -3,11 +3,7 @@ pub mod RaiseTests
 pub mod LinksLeft
 pub mod MayRaise
 pub mod HeldReady
-pub mod SearchEnds
-pub mod LinksTo
-pub mod PlansOf
 pub mod PlansRaise
 pub mod PlanLocks
-pub mod ReadOnce
 pub mod HeldOnce
 pub mod PlanSteps

@@ -6,6 +6,7 @@ use Rattle.std.proofs.lemmas.Bool.Decides.{nat_tests}
 use Rattle.index_words.specs.declared.layout.Layout.{Layout}
 use Rattle.index_words.specs.declared.side.Side.{Side}
 use Rattle.index_words.specs.declared.side.Side.TheVariants.{Left, Right}
+use Rattle.key_map.specs.declared.update.Update.{Update}
 use Rattle.key_map.specs.declared.update.Change.{Change}
 use Rattle.key_map.specs.declared.update.Change.TheVariants.{Put, Remove}
 use Rattle.index_words.specs.declared.view.View.{View}
@@ -18,7 +19,7 @@ use Rattle.key_map.specs.Lists.{count, has, IsItem}
 use Rattle.key_map.proofs.Counting.{count-append, count-has}
 use Rattle.core_trees.specs.NamedTree.{NamedTree}
 use Rattle.core_trees.specs.Gaps.{IsGapLink}
-use Rattle.core_trees.specs.Search.{end_side}
+use Rattle.core_trees.specs.Search.{end_node, end_side}
 use Rattle.core_trees.specs.Slots.{occurs}
 use Rattle.core_trees.specs.SpelledTree.{Graph, IsSpelled, spells}
 use Rattle.core_trees.specs.SpelledStep.{IsNodeOf}
@@ -29,7 +30,7 @@ use Rattle.core_invariant.specs.Meanings.{Meaning}
 use Rattle.core_events.specs.UpdateMoves.{listed_entry}
 use Rattle.core_events.specs.SpelledNow.{tree_now, child_now, graph_now}
 use Rattle.core_events.specs.PlainWork.{unset_at, removed_links, removed_successor, plain_move}
-use Rattle.core_events.specs.TreeMoves.{tree_after, takes, brings, has_key, first_slot, new_entries, node_entries, new_slot, move_at, is_fresh, is_new, is_plain_at, is_plain_new, sets_locked, is_plain_step, is_step}
+use Rattle.core_events.specs.TreeMoves.{tree_after, takes, brings, has_key, first_slot, new_entries, node_entries, new_slot, move_at, is_fresh, is_new, is_plain_at, is_plain_new, sets_locked, is_plain_step, is_step, inserts, has_gap, finds_gap}
 use Rattle.core_invariant.specs.Rule.{Rule}
 use Rattle.core_invariant.proofs.Owned.{free_entry_some, free_node_alone}
 use Rattle.core_invariant.proofs.TreeNow.{child_is, node_lives, root_lives, tree_is}
@@ -204,20 +205,21 @@ module _ (z : Layout) (m : Memory) (vs : List View) (g : Meaning) (rule : Rule z
   step_of : (c : Change) (client line key slot : ℕ) (added : Option ℕ) (out : List ℕ) (sets : List SetLink) (last : Option Unlinking) → key < 2 ^ 64 → new_slot m vs v key g.tree ≡ slot → has_key c key g.tree ≡ true
       → first_slot (brings c slot key g.tree) ≡ added → takes c key g.tree ≡ out → list_all (λ k. locks k v.held.nodes) out ≡ true → is_new m v added ≡ true
       → IsSpelled (graph_now m vs (v.update.pending ++ new_entries m added)) (child_now m vs (v.update.pending ++ new_entries m added) Right 0) (tree_after c slot key g.tree)
-      → is_plain_new m added ≡ true → IsLeft m v c key slot g.tree sets last
+      → is_plain_new m added ≡ true → finds_gap m v (update_of client line key c) g.tree ≡ true → IsLeft m v c key slot g.tree sets last
       → MayStep z m vs v (update_of client line key c) added out sets last
-  step_of c client line key slot added out sets last small slots there adds takes_is locked new spelled plain left =
+  step_of c client line key slot added out sets last small slots there adds takes_is locked new spelled plain finds left =
       let u = update_of client line key c in
       let now_is = tree_is z m vs g rule in
       let here : is_step m vs v u slot (move_at z m u slot g.tree) g.tree ≡ true
       = and_all (ltb key 18446744073709551616) (has_key c key g.tree) (list_all (λ k. locks k v.held.nodes) (takes c key g.tree)) (is_new m v (first_slot (brings c slot key g.tree)))
-      (spelled_by (first_slot (brings c slot key g.tree))) (is_plain_step m v (move_at z m u slot g.tree)) (lt-ltb key 18446744073709551616 small) there
+      (spelled_by (first_slot (brings c slot key g.tree))) (is_plain_step m v u (move_at z m u slot g.tree) g.tree) (lt-ltb key 18446744073709551616 small) there
       (subst (λ ks. list_all (λ k. locks k v.held.nodes) ks ≡ true) (sym takes_is) locked)
       (subst (λ o. is_new m v o ≡ true) (sym adds) new)
       (subst (λ o. spelled_by o ≡ true) (sym adds)
       (spelled_tests (graph_now m vs (v.update.pending ++ new_entries m added)) (child_now m vs (v.update.pending ++ new_entries m added) Right 0) (tree_after c slot key g.tree) spelled))
+      (and_from (list_all (sets_locked v) (plain_move m c key slot g.tree).unset && is_plain_new m (first_slot (brings c slot key g.tree))) (finds_gap m v u g.tree)
       (and_from (list_all (sets_locked v) (plain_move m c key slot g.tree).unset) (is_plain_new m (first_slot (brings c slot key g.tree))) left.locked
-      (subst (λ o. is_plain_new m o ≡ true) (sym adds) plain)) in
+      (subst (λ o. is_plain_new m o ≡ true) (sym adds) plain)) finds) in
       let at_slot : is_step m vs v u (new_slot m vs v key g.tree) (move_at z m u (new_slot m vs v key g.tree) g.tree) g.tree ≡ true
       = subst (λ (x : ℕ). is_step m vs v u x (move_at z m u x g.tree) g.tree ≡ true) (sym slots) here in
       let adds_now : first_slot (brings c (new_slot m vs v key (tree_now z m vs)) key (tree_now z m vs)) ≡ added
@@ -250,6 +252,21 @@ module _ (z : Layout) (m : Memory) (vs : List View) (g : Meaning) (rule : Rule z
         | inr two ↦ inr (only_link z m vs g rule below x second turn w too there then.some then.head (sym two))
       ]
 
+  -- a put of an absent key is at a null link that a search of the seat has found
+  found_gap : (key val node : ℕ) (side : Side) → (end_node key 0 g.tree ≡ node) × (end_side key Right g.tree ≡ side) → has_gap m v key node side ≡ true
+      → (not (inserts (Put val) key g.tree) || has_gap m v key (end_node key 0 g.tree) (end_side key Right g.tree)) ≡ true
+  found_gap key val node side ends gap =
+      or_right (not (inserts (Put val) key g.tree)) (has_gap m v key (end_node key 0 g.tree) (end_side key Right g.tree))
+      (ap (λ k. has_gap m v key k (end_side key Right g.tree)) ends.0 ∙ ap (has_gap m v key node) ends.1 ∙ gap)
+    where
+      or_right : (a b : Bool) → b ≡ true → (a || b) ≡ true
+      or_right true b is = refl
+      or_right false b is = is
+
+  -- a put of a present key is at no null link
+  no_gap : (u : Update) → inserts u.change u.key g.tree ≡ false → finds_gap m v u g.tree ≡ true
+  no_gap u none = ap (λ b. not b || has_gap m v u.key (end_node u.key 0 g.tree) (end_side u.key Right g.tree)) none
+
   grow : (client line key val : ℕ) (h : IsReadyToGrow z m vs v key val) → MayStep z m vs v (update_of client line key (Put val)) (Some h.slot) [] (set_to h.node h.side h.slot ∷ []) None
   grow client line key val h =
       let gap : IsGapLink key h.node h.side 0 Right g.tree = subst (λ t. IsGapLink key h.node h.side 0 Right t) (tree_is z m vs g rule) h.gap in
@@ -266,7 +283,7 @@ module _ (z : Layout) (m : Memory) (vs : List View) (g : Meaning) (rule : Rule z
       refl refl (grow_takes key h.node 0 h.side Right g.tree rule.tree.lawful gap) refl (tests_new h.slot key val 0 0 h.new)
       (grow_by_link now (graph_now m vs all) 0 h.slot key val h.node Right h.side g.tree tree_at gap keeps (node_of h.slot key val 0 0 h.new)
       (prepared_child all h.node h.entry h.slot h.side h.prepared (pending_listed h.entry [] fresh h.pending)))
-      (tests_plain h.slot key val 0 0 h.new) (left_put m v val key h.slot h.node h.side g.tree ends h.held)
+      (tests_plain h.slot key val 0 0 h.new) (found_gap key val h.node h.side ends h.searched) (left_put m v val key h.slot h.node h.side g.tree ends h.held)
     where
       here_counted : (e : ℕ) (es : List ℕ) → 0 < count e (e ∷ es)
       here_counted e es = grind (arith, nat_tests)
@@ -313,6 +330,7 @@ module _ (z : Layout) (m : Memory) (vs : List View) (g : Meaning) (rule : Rule z
       (replace_by_link now (graph_now m vs all) 0 h.slot val f.parent f.node Right f.side g.tree tree_at leads keeps new
       (prepared_child all f.parent h.entry h.slot f.side h.prepared (pending_listed h.entry [] fresh h.pending)))
       (tests_plain h.slot key val f.left f.right h.new)
+      (no_gap (update_of client line (m (Node Key f.node)) (Put val)) (ap not (found_there now 0 f.parent f.node Right f.side g.tree tree_at leads)))
       (left_put m v val (m (Node Key f.node)) h.slot f.parent f.side g.tree (at_link now 0 f.parent f.node Right f.side g.tree tree_at leads).ends f.held))
 
   lift : (client line key : ℕ) (h : IsReadyToLift z m vs v key)
@@ -339,7 +357,7 @@ module _ (z : Layout) (m : Memory) (vs : List View) (g : Meaning) (rule : Rule z
       (end_found key h.entry h.child f [] h.prepared h.pending) (found_there now 0 f.parent f.node Right f.side g.tree tree_at leads) (ap first_slot moves.1)
       moves.0 (one_locked f.node f.locked) refl
       (lift_by_link now (graph_now m vs all) 0 h.child f.parent f.node h.child Right f.side g.tree tree_at leads one keeps
-      (prepared_child all f.parent h.entry h.child f.side h.prepared (pending_listed h.entry [] [] h.pending))) refl
+      (prepared_child all f.parent h.entry h.child f.side h.prepared (pending_listed h.entry [] [] h.pending))) refl refl
       (left_removal m v (m (Node Key f.node)) h.child f.parent f.side g.tree [] None hangs.ends (ap (removed_links m) hangs.sub ∙ far.0) (ap removed_successor hangs.sub ∙ far.1) f.held refl))
 
   module _ (client line key : ℕ) (h : IsReadyToJoin z m vs v key) where
@@ -450,7 +468,7 @@ module _ (z : Layout) (m : Memory) (vs : List View) (g : Meaning) (rule : Rule z
         (step_of Remove client line (m (Node Key f.node)) h.slot (Some h.slot) (f.node ∷ n.node ∷ []) sets last (subst (λ k. k < 2 ^ 64) (sym f.key_is) h.small)
         (end_found key h.entry h.slot f first.0 h.prepared first.1) (found_there now 0 f.parent f.node Right f.side g.tree tree_at leads) (ap first_slot moves.1)
         moves.0 (two_locked f.node n.node f.locked n.locked) (tests_new h.slot (m (Node Key n.node)) (m (Node Val n.node)) f.left h.new_right h.new) (spelled_join h.by)
-        (tests_plain h.slot (m (Node Key n.node)) (m (Node Val n.node)) f.left h.new_right h.new) (join_left h.by))
+        (tests_plain h.slot (m (Node Key n.node)) (m (Node Val n.node)) f.left h.new_right h.new) refl (join_left h.by))
 
 pub may_grow : MayGrowLaw
 may_grow z m vs g i v client line key val rule at h = grow z m vs g rule i v at client line key val h

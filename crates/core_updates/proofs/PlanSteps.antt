@@ -1,20 +1,21 @@
 -- The events of a plan are allowed from the view, and a try that fails has made a count rise.
-use Rattle.std.proofs.Common.{◌≡◌, ℕ, ◌<◌, inl, inr, List, [], ◌∷◌, Bool, true, false, cond, refl, ap, sym, subst, Some, None, ◌⊎◌, ◌∙◌, ◌≤◌, arith}
+use Rattle.std.proofs.Common.{◌≡◌, ℕ, zero, suc, ◌<◌, inl, inr, List, [], ◌∷◌, Bool, true, false, cond, refl, ap, sym, subst, Option, Some, None, ◌⊎◌, ◌∙◌, ◌≤◌, ◌&&◌, ◌||◌, arith}
 use Rattle.std.specs.Prelude.{◌==◌, IfSome}
 use Rattle.index_words.specs.declared.layout.Layout.{Layout}
+use Rattle.index_words.specs.declared.side.Side.{Side}
 use Rattle.index_words.specs.declared.side.Side.TheVariants.{Left, Right}
 use Rattle.index_words.specs.declared.view.View.{View}
 use Rattle.index_words.specs.declared.word.Field.TheVariants.{Key, Val, Mark, Head, Link, Tag}
 use Rattle.index_words.specs.declared.word.Part.TheVariants.{Child, Stamp as Number, Next}
 use Rattle.index_words.specs.declared.word.Word.TheVariants.{Node, Entry}
-use Rattle.key_map.specs.Lists.{count, Every}
+use Rattle.key_map.specs.Lists.{count, Every, IsItem}
 use Rattle.core_events.specs.declared.event.Kind.TheVariants.{Prepare}
 use Rattle.core_events.specs.Needs.{is_successor}
-use Rattle.core_events.specs.UpdateNeeds.{held_at, is_written}
-use Rattle.core_laws.specs.ViewNeeds.{May, IsInReach, event_at, HasFilled}
-use Rattle.core_laws.proofs.CountFacts.{other_head, taken_law}
-use Rattle.core_laws.proofs.Counts.{counts_law}
-use Rattle.core_laws.proofs.NumberLoads.{watches}
+use Rattle.core_events.specs.UpdateNeeds.{held_at, is_written, side_of}
+use Rattle.core_laws.specs.Counts.{CountsLaw}
+use Rattle.core_laws.specs.Searching.{OwnLeftLaw}
+use Rattle.core_laws.specs.ViewNeeds.{May, IsInReach, IsSearched, event_at, HasFilled}
+use Rattle.core_laws.proofs.PlainNeeds.{may_read_link_law, may_read_tag_law}
 use Rattle.core_invariant.proofs.OneView.{item_from_get}
 use Rattle.core_laws.proofs.ViewNeeds.{may_leave_law, may_fill_law, may_read_head_law, may_prepare_law, may_finalise_law, may_lock_law, may_unlock_law, may_read_mark_law, may_mark_law, may_read_key_law, may_read_val_law}
 use Rattle.core_laws.proofs.Waits.{may_leave_waiting_law}
@@ -24,19 +25,34 @@ use Rattle.core_updates.specs.declared.plan.JoinPlan.{JoinPlan}
 use Rattle.core_updates.specs.declared.plan.PlanSlots.{PlanSlots}
 use Rattle.core_updates.specs.declared.plan.Front.{Front}
 use Rattle.core_updates.specs.declared.plan.NewNode.{NewNode}
-use Rattle.core_updates.specs.Plans.{locks_of, fronts_of, new_node_of, node_fills, entry_fills, head_of, fresh_to, child_of}
-use Rattle.core_updates.specs.PlanEvents.{HasSlots, IsDue, MayFillAll, EventsLaw, MeetsLaw, FailuresLaw}
-use Rattle.core_invariant.specs.Rule.{InRule}
+use Rattle.core_updates.specs.Plans.{or_none, fronts_of, new_node_of, node_fills, entry_fills, head_of, fresh_to, child_of}
+use Rattle.core_updates.specs.PlanEvents.{HasSlots, IsDue, KnowsLink, KnowsTag, MayFillAll, EventsLaw, FailuresLaw}
+use Rattle.core_grace.specs.Batches.{is_number}
+use Rattle.core_events.specs.Searches.{held_side, knows_link, knows_tag}
+use Rattle.core_events.specs.Tables.{Table, held_by}
+use Rattle.core_invariant.specs.Readers.{IsLocked}
+use Rattle.core_invariant.specs.Rule.{InRule, IsRight}
 use Rattle.index_words.specs.declared.view.update.HeldNode.{HeldNode}
 use Rattle.index_words.specs.Words.{memory}
-use Rattle.std.specs.List.{slice_get}
+use Rattle.std.specs.List.{slice_get, list_any}
+use Rattle.std.proofs.lemmas.Bool.{and_parts, eqb-true}
 use Rattle.core_invariant.proofs.OneView.{seat_at}
 use Rattle.core_updates.proofs.HeldOnce.{held_once}
-use Rattle.core_updates.proofs.PlanLocks.{reach_law}
 
-every_to : {P Q : ℕ → Type 0} → ((k : ℕ) → P k → Q k) → (ks : List ℕ) → Every P ks → Every Q ks
-every_to f [] h = tt
-every_to f (k ∷ ks) h = (f k h.0, every_to f ks h.1)
+-- a test that holds of no item
+never_any : {X : Type 0} (on : X → Bool) (xs : List X) → ((i : ℕ) (x : X) → IsItem xs i x → on x ≡ true → ⊥) → list_any on xs ≡ false
+never_any on [] none' = refl
+never_any on (x ∷ xs) none' =
+    or-none (on x) (list_any on xs) (none' zero x (record { within = omega arith; is = λ d. refl }))
+    (never_any on xs (λ i y at holds. none' (suc i) y (record { within = omega (arith, at.within); is = λ d. at.is d }) holds))
+  where
+    or-none : (b c : Bool) → (b ≡ true → ⊥) → c ≡ false → (b || c) ≡ false
+    or-none true c never c_is = absurd (never refl)
+    or-none false c never c_is = c_is
+
+number-of : (x : ℕ) (o : Option ℕ) → is_number x o ≡ true → o ≡ Some x
+number-of x None is = cc
+number-of x (Some y) is = ap Some (eqb-true y x is)
 
 module _ (z : Layout) (v : View) (seat : ℕ) where
   fills-node : (n : NewNode) → 0 < count n.slot v.free.nodes → Every (MayFillAll z v seat) (node_fills n)
@@ -72,7 +88,8 @@ module _ (z : Layout) (v : View) (seat : ℕ) where
     ),
   )
 
-  new-fills : (plan : Plan) (slots : PlanSlots) → HasSlots v slots → IfSome (new_node_of plan slots) (λ (m : NewNode). Every (MayFillAll z v seat) (node_fills m))
+  new-fills : (plan : Plan) (slots : PlanSlots) → HasSlots v slots
+      → IfSome (new_node_of plan slots) (λ (m : NewNode). Every (MayFillAll z v seat) (node_fills m))
   new-fills (Grow p) slots has = fills-node (record { slot = slots.node; pair = p.pair; left = None; right = None }) has.node
   new-fills (Replace p) slots has = fills-node (record {
     slot = slots.node;
@@ -89,7 +106,8 @@ module _ (z : Layout) (v : View) (seat : ℕ) where
   }) has.node
 
   next-fills : (near : Bool) (p : JoinPlan) (slots : PlanSlots) (behind : ℕ) → HasSlots v slots
-      → Every (λ (f : Front). Every (MayFillAll z v seat) (entry_fills f.entry f.child behind)) (cond near [] (record { at = p.next.at; entry = slots.next; child = p.next.right } ∷ []))
+      → Every (λ (f : Front). Every (MayFillAll z v seat) (entry_fills f.entry f.child behind))
+      (or_none (cond near None (Some (record { at = p.next.at; entry = slots.next; child = p.next.right }))))
   next-fills true p slots behind has = tt
   next-fills false p slots behind has = (fills-entry slots.next p.next.right behind has.next, tt)
 
@@ -100,27 +118,28 @@ module _ (z : Layout) (v : View) (seat : ℕ) where
   front-fills (Lift p) slots has behind = (fills-entry slots.at p.child behind has.at, tt)
   front-fills (Join p) slots has behind = (fills-entry slots.at slots.node behind has.at, next-fills (p.next.at.node == p.node) p slots behind has)
 
-  -- a node in reach is one of the table
-  there : (words : List ℕ) (vs : List View) → InRule z words vs → slice_get vs seat ≡ Some v → v.joined ≡ false → (k : ℕ) → IsInReach v k → k ≤ v.layout.nodes
-  there words vs right is live k reach =
+  -- a locked node is one of the table
+  there : (words : List ℕ) (vs : List View) → InRule z words vs → slice_get vs seat ≡ Some v → v.joined ≡ false → (k : ℕ) → IsLocked v k → k ≤ v.layout.nodes
+  there words vs right is live k locked =
       let own = seat_at z (memory z words) vs right.meaning seat v (item_from_get vs seat v is) right.rule in
-      subst (λ (y : Layout). k ≤ y.nodes) (sym (own.layout live)) (elim reach as (λ _. k ≤ z.nodes) [
-        | inl root ↦ omega (arith, root)
-        | inr more ↦ elim more as (λ _. k ≤ z.nodes) [ inl tree ↦ own.version.there k tree | inr locked ↦ (own.locks k locked).0 ]
-      ])
+      subst (λ (y : Layout). k ≤ y.nodes) (sym (own.layout live)) (own.locks k locked).0
 
   -- whatever the table is, the look is the one that the need reads
-  prepares : (f : Front) (child : ℕ) → IsDue v f child → May z v (event_at z seat Prepare (Node (Head f.at.side) f.at.node) f.entry)
-  prepares f child d words vs right is =
-      let h = d.look.head in
+  prepares : (f : Front) (behind : ℕ) → IsDue v f behind → May z v (event_at z seat Prepare (Node (Head f.at.side) f.at.node) f.entry)
+  prepares f behind d words vs right is =
+      let h = d.found.holds.head in
       may_prepare_law z v seat f.at.node f.at.side f.entry (record {
-        unraised = d.look.known.unraised;
+        unraised = d.unraised;
         node = h.held;
         locked = subst (λ k. held_at k v.held.nodes ≡ Some h.held) h.node_is (held_once z words vs seat h.place v h.held right is h.at);
-        unmarked = d.look.unmarked;
+        unmarked = d.found.holds.unmarked;
         head = h.loaded;
         loaded = h.head;
-        old = elim d.numbered as (λ _. (h.loaded.entry ≡ 0) ⊎ (is_written h.loaded.stamp ≡ true)) [ inl none' ↦ inl (h.entry_is ∙ none') | inr written ↦ inr written ];
+        old = elim d.found.numbered as (λ _. (h.loaded.entry ≡ 0) ⊎ (is_written h.loaded.stamp ≡ true)) [
+          | inl none' ↦ inl
+              (h.entry_is ∙ none')
+          | inr written ↦ inr written
+        ];
         free = d.free;
         small = d.small;
         next = subst (HasFilled v (Entry Next f.entry)) (sym h.entry_is) d.filled.1.1.0;
@@ -128,22 +147,25 @@ module _ (z : Layout) (v : View) (seat : ℕ) where
       }) words vs right is
 
 -- what is known of the nodes that go out by the plan, where these are the ones that the update took out
-known : (v : View) {ks os : List ℕ} → os ≡ ks → Every (λ (h : HeldNode). 0 < count h.node os → (h.mark ≡ Some 1) ⊎ (is_successor h.node v.update.unlinking ≡ true)) v.held.nodes
+known : (v : View) {ks os : List ℕ} → os ≡ ks
+    → Every (λ (h : HeldNode). 0 < count h.node os → (h.mark ≡ Some 1) ⊎ (is_successor h.node v.update.unlinking ≡ true)) v.held.nodes
     → Every (λ (h : HeldNode). 0 < count h.node ks → (h.mark ≡ Some 1) ⊎ (is_successor h.node v.update.unlinking ≡ true)) v.held.nodes
-known v is marked = subst (λ ks. Every (λ (h : HeldNode). 0 < count h.node ks → (h.mark ≡ Some 1) ⊎ (is_successor h.node v.update.unlinking ≡ true)) v.held.nodes) is marked
+known v is marked = subst (λ ks. Every (λ (h : HeldNode). 0 < count h.node ks → (h.mark ≡ Some 1) ⊎
+    (is_successor h.node v.update.unlinking ≡ true)) v.held.nodes) is marked
 
 pub events_law : EventsLaw
 events_law z v seat n plan slots r = record {
-  lock = every_to (λ k reach unlocked. may_lock_law z v seat n k (record { own = r.own; inside = r.inside; reach = reach; unlocked = unlocked }))
-      (locks_of plan) (reach_law v plan r.tree r.read r.planned);
-  head = every_to (λ k reach side. may_read_head_law z v seat k side (record { inside = r.inside; reach = reach }))
-      (locks_of plan) (reach_law v plan r.tree r.read r.planned);
-  marked = every_to (λ k reach words vs right is. may_read_mark_law z v seat k (record { inside = r.inside; there = there z v seat words vs right is r.live k reach }) words vs right is)
-      (locks_of plan) (reach_law v plan r.tree r.read r.planned);
-  key = every_to (λ k reach words vs right is. may_read_key_law z v seat k (record { inside = r.inside; there = there z v seat words vs right is r.live k reach }) words vs right is)
-      (locks_of plan) (reach_law v plan r.tree r.read r.planned);
-  val = every_to (λ k reach words vs right is. may_read_val_law z v seat k (record { inside = r.inside; there = there z v seat words vs right is r.live k reach }) words vs right is)
-      (locks_of plan) (reach_law v plan r.tree r.read r.planned);
+  lock = λ k searched unlocked. may_lock_law z v seat n k (record { own = r.own; inside = r.inside; searched = searched; unlocked = unlocked });
+  head = λ k side locked. may_read_head_law z v seat k side (record { inside = r.inside; reach = inr (inr locked) });
+  link = λ k side firm. may_read_link_law z v seat k side (record { inside = r.inside; on = inl firm });
+  tag = λ k side locked words vs right is. may_read_tag_law z v seat k side
+      (record { inside = r.inside; there = there z v seat words vs right is r.live k locked }) words vs right is;
+  marked = λ k locked words vs right is. may_read_mark_law z v seat k
+      (record { inside = r.inside; there = there z v seat words vs right is r.live k locked }) words vs right is;
+  key = λ k locked words vs right is. may_read_key_law z v seat k
+      (record { inside = r.inside; there = there z v seat words vs right is r.live k locked }) words vs right is;
+  val = λ k locked words vs right is. may_read_val_law z v seat k
+      (record { inside = r.inside; there = there z v seat words vs right is r.live k locked }) words vs right is;
   node = new-fills z v seat plan slots;
   left = λ has child. fills-entry z v seat slots.left child 0 has.left;
   right = λ has child. fills-entry z v seat slots.right child 0 has.right;
@@ -162,43 +184,87 @@ events_law z v seat n plan slots r = record {
       may_leave_waiting_law z v seat n (record { own = r.own; inside = r.inside; waiting = waiting; done = done; marked = known v (sym taken) marked });
 }
 
-pub meets_law : MeetsLaw
-meets_law t e v n plan right met before r own =
+-- what was loaded under a lock is what is found of the node, since it is locked once
+module _ (t : Table) (seat : ℕ) (v : View) (right : IsRight t) (is : slice_get t.views seat ≡ Some v) where
+  abbrev same-link : ℕ → Side → ℕ → HeldNode → Bool
+  same-link k side x h = h.node == k && is_number x (held_side side h).link
+
+  abbrev same-tag : ℕ → Side → ℕ → HeldNode → Bool
+  same-tag k side x h = h.node == k && is_number x (held_side side h).tag
+
+  held-of : (k : ℕ) (i : ℕ) (h : HeldNode) → IsItem v.held.nodes i h → h.node ≡ k → held_at k v.held.nodes ≡ Some h
+  held-of k i h at node_is = subst (λ n. held_at n v.held.nodes ≡ Some h) node_is (held_once t.layout t.words t.views seat i v h right is at)
+
+  link-unknown : (k : ℕ) (side : Side) (x : ℕ) → ¬ (KnowsLink v k side) → knows_link v.held.nodes k side x ≡ false
+  link-unknown k side x none' =
+      never_any (same-link k side x) v.held.nodes
+      (λ i h at known.
+      let parts = and_parts (h.node == k) (is_number x (held_side side h).link) known in
+      none' (record {
+        held = h;
+        locked = held-of k i h at (eqb-true h.node k parts.0);
+        child = x;
+        known = link-side side h x (number-of x (held_side side h).link parts.1);
+      }))
+    where
+      link-side : (side : Side) (h : HeldNode) (x : ℕ) → (held_side side h).link ≡ Some x → (side_of side h).link ≡ Some x
+      link-side Left h x is = is
+      link-side Right h x is = is
+
+  tag-unknown : (k : ℕ) (side : Side) (x : ℕ) → ¬ (KnowsTag v k side) → knows_tag v.held.nodes k side x ≡ false
+  tag-unknown k side x none' =
+      never_any (same-tag k side x) v.held.nodes
+      (λ i h at known.
+      let parts = and_parts (h.node == k) (is_number x (held_side side h).tag) known in
+      none' (record {
+        held = h;
+        locked = held-of k i h at (eqb-true h.node k parts.0);
+        found = x;
+        known = tag-side side h x (number-of x (held_side side h).tag parts.1);
+      }))
+    where
+      tag-side : (side : Side) (h : HeldNode) (x : ℕ) → (held_side side h).tag ≡ Some x → (side_of side h).tag ≡ Some x
+      tag-side Left h x is = is
+      tag-side Right h x is = is
+
+pub failures_law : CountsLaw → OwnLeftLaw → FailuresLaw
+failures_law counts_law own_left t e v w n right met before behind r own =
+    let counts = counts_law t e v w right met before behind in
     let at = item_from_get t.views e.seat v before in
     record {
-      number = λ entry kind word none'. record {
-        kind = kind;
-        entry = entry;
-        word = word;
-        none = none';
-        other = ap (count entry) own.idle;
-        watches = watches t e v entry met before kind word own.number own.section;
-      };
-      head = λ k side kind word other. record {
-        kind = kind;
-        node = k;
-        side = side;
-        word = word;
-        other = other;
-        apart = other_head t e.seat own.number v k side right at own.section own.own own.idle other;
-      };
-      mark = every_to (λ k reach kind word marked free. record {
-        kind = kind;
-        node = k;
-        word = word;
-        marked = marked;
-        reach = reach;
-        kept = (taken_law t e.seat v k right at free, free);
-      }) (locks_of plan) (reach_law v plan r.tree r.read r.planned);
-    }
-
-pub failures_law : FailuresLaw
-failures_law t e v w n plan right met before behind r own =
-    let counts = counts_law t e v w right met before behind in
-    let meets = meets_law t e v n plan right met before r own in
-    record {
       busy = λ held. counts.busy.rises held;
-      waits = λ entry kind word none'. counts.waits.rises (meets.number entry kind word none');
-      head = λ k side kind word other. counts.moves.rises (inl (meets.head k side kind word other));
-      mark = every_to (λ k finds kind word marked free. counts.moves.rises (inr (finds kind word marked free))) (locks_of plan) meets.mark;
+      mark = λ k on kind word marked.
+          counts.moves.rises (inr (record {
+            kind = kind;
+            node = k;
+            word = word;
+            marked = marked;
+            reach = elim on as (λ _. IsInReach v k ⊎ IsSearched v k) [ inl searched ↦ inr searched | inr locked ↦ inl (inr (inr locked.0)) ];
+            kept = (
+              ap (count k) own.untaken,
+              elim on as (λ _. count k v.retired.nodes ≡ 0) [ inl searched ↦ left-out at k marked searched | inr locked ↦ locked.1 ],
+            );
+          }));
+      link = λ k side kind word other first.
+          counts.moves.rises (inl (inr (inl (record {
+            kind = kind;
+            node = k;
+            side = side;
+            word = word;
+            other = other;
+            unknown = link-unknown t e.seat v right before k side (held_by t (Node (Link side) k)) first;
+          }))));
+      tag = λ k side kind word other first.
+          counts.moves.rises (inl (inr (inr (record {
+            kind = kind;
+            node = k;
+            side = side;
+            word = word;
+            other = other;
+            unknown = tag-unknown t e.seat v right before k side (held_by t (Node (Tag side) k)) first;
+          }))));
     }
+  where
+    left-out : IsItem t.views e.seat v → (k : ℕ) → 0 < held_by t (Node Mark k) → IsSearched v k → count k v.retired.nodes ≡ 0
+    left-out at k marked (inl root) = absurd (omega (arith, marked, ap (λ j. held_by t (Node Mark j)) root, right.rule.marks.root))
+    left-out at k marked (inr searched) = own_left t e.seat v k right at (record { inside = r.inside; unraised = own.unraised }) searched

@@ -16,12 +16,13 @@ use Rattle.index_words.specs.declared.word.Word.TheVariants.{Node}
 use Rattle.key_map.specs.Lists.{Every}
 use Rattle.core_trees.specs.declared.link.Link.{Link}
 use Rattle.core_updates.specs.declared.plan.Plan.TheVariants.{Grow, Replace, Lift, Join}
+use Rattle.core_updates.specs.declared.plan.Front.{Front}
 use Rattle.core_updates.specs.declared.plan.JoinPlan.{JoinPlan}
 use Rattle.core_updates.specs.declared.plan.PlanSlots.{PlanSlots}
-use Rattle.core_updates.specs.declared.plan.Look.TheVariants.{Link as LinkLook}
+use Rattle.core_laws.specs.Searching.{HeldLinkLaw, NullLinkLaw}
 use Rattle.core_laws.specs.ViewNeeds.{HasFilled}
 use Rattle.core_updates.specs.Held.{HasLoaded, HoldsFresh, HoldsNew, HoldsNewLink, HoldsLink, HoldsKey, HoldsSuccessor, CanRaise, MayRaise}
-use Rattle.core_updates.specs.Plans.{head_of, child_of, fresh_to, other_side, entries_of, set_by}
+use Rattle.core_updates.specs.Plans.{LinkLook, or_none, head_of, child_of, fresh_to, other_side, entries_of, set_by}
 use Rattle.core_updates.specs.PlanReady.{HoldsLook, HoldsFreshEntry, HoldsNewNode, HoldsFront, IsReadyFor, PlanMayRaiseLaw}
 use Rattle.core_updates.specs.Ready.{update_of}
 use Rattle.core_updates.specs.SetLinks.{SetLink, set_to}
@@ -40,7 +41,8 @@ child-of entry child = by (child == 0) (told child)
 
 module _ (v : View) where
   -- the link of a new node to a child
-  new-link : (slot entry child : ℕ) (side : Side) → HasFilled v (Node (Head side) slot) (head_of (fresh_to entry child)) → IfSome (fresh_to entry child) (HoldsFreshEntry v)
+  new-link : (slot entry child : ℕ) (side : Side) → HasFilled v (Node (Head side) slot) (head_of (fresh_to entry child))
+      → IfSome (fresh_to entry child) (HoldsFreshEntry v)
       → HoldsNewLink v slot side (head_of (fresh_to entry child)) child
   new-link slot entry child side filled fresh = (filled, by_child (child == 0) (told child) fresh)
     where
@@ -56,7 +58,8 @@ module _ (v : View) where
   apart-heads : (left right low high : ℕ) → ¬ (left ≡ right) → head_of (fresh_to left low) ≡ head_of (fresh_to right high) → head_of (fresh_to left low) ≡ 0
   apart-heads left right low high apart = by_children (low == 0) (high == 0)
     where
-      by_children : (b c : Bool) → head_of (cond b None (Some (record { entry = left; child = low }))) ≡ head_of (cond c None (Some (record { entry = right; child = high })))
+      by_children : (b c : Bool) → head_of (cond b None (Some (record { entry = left; child = low }))) ≡ head_of
+          (cond c None (Some (record { entry = right; child = high })))
           → head_of (cond b None (Some (record { entry = left; child = low }))) ≡ 0
       by_children true c e = refl
       by_children false true e = e
@@ -96,14 +99,14 @@ module _ (v : View) where
     right_link = right_link;
   }
 
-  module _ (z : Layout) (client line : ℕ) (can : CanRaise v client) where
+  module _ (held_link : HeldLinkLaw) (null_link : NullLinkLaw) (z : Layout) (client line : ℕ) (can : CanRaise v client) where
     -- by the side on which there is no child
     lift-raises : (key node child entry : ℕ) (at : Link) (bare : Side) → key < 2 ^ 64 → 0 < node → HoldsLink v at.node at.side node
         → HoldsLink v node bare 0 → HoldsLink v node (other_side bare) child → HasLoaded v node (λ (h : HeldNode). h.key) key
         → HoldsFront v (record { at = at; entry = entry; child = child }) → v.update.pending ≡ entry ∷ []
         → MayRaise z v (update_of client line key Remove) None (node ∷ []) (set_to at.node at.side child ∷ []) None
     lift-raises key node child entry at Left small some link bare full key_is front pending =
-        lift_from_view z v client line key can (record {
+        lift_from_view held_link null_link z v client line key can (record {
           found = holds-key key node 0 child at some link key_is bare full;
           small = small;
           child = child;
@@ -113,7 +116,7 @@ module _ (v : View) where
           prepared = front;
         })
     lift-raises key node child entry at Right small some link bare full key_is front pending =
-        lift_from_view z v client line key can (record {
+        lift_from_view held_link null_link z v client line key can (record {
           found = holds-key key node child 0 at some link key_is full bare;
           small = small;
           child = child;
@@ -125,7 +128,7 @@ module _ (v : View) where
 
     module _ (p : JoinPlan) (slots : PlanSlots) (h : IsReadyFor v (Join p) slots) where
       abbrev found : HoldsKey v p.key
-      found = holds-key p.key p.node p.left p.right p.at h.planned.found.some h.looks.0 h.looks.1.1.1.0 h.looks.1.0 h.looks.1.1.0
+      found = holds-key p.key p.node p.left p.right p.at h.formed.node.some h.looks.0 h.looks.1.1.1.0 h.looks.1.0 h.looks.1.1.0
 
       abbrev next : HoldsLink v p.next.at.node p.next.at.side p.next.node → HoldsSuccessor v p.key
       next at =
@@ -134,32 +137,32 @@ module _ (v : View) where
             parent = p.next.at.node;
             side = p.next.at.side;
             node = p.next.node;
-            some = h.planned.next.found.some;
+            some = h.formed.next.some;
             at = at;
             key_of = p.next.pair.key;
             val_of = p.next.pair.val;
             key_is = more.1.1.0;
             val_is = more.1.1.1.0;
-            above = h.planned.next.above;
+            above = h.formed.above;
             left_link = more.0;
             right = p.next.right;
             right_link = more.1.0;
-            tree = h.tree;
-            read = h.read;
-            gap = h.planned.next.gap;
+            gap = more.1.1.1.1.0;
           }
 
       -- where the successor is the right child, its link was looked at with the removed node's
       near-link : p.next.at.node ≡ p.node → HoldsLink v p.next.at.node p.next.at.side p.next.node
       near-link near =
-          let right : p.right ≡ p.next.node = h.planned.found.right_is ∙ h.planned.next.child near in
           subst (λ k. HoldsLink v k p.next.at.side p.next.node) (sym near)
-          (subst (λ w. HoldsLink v p.node w p.next.node) (sym (h.planned.next.side near)) (subst (HoldsLink v p.node Right) right h.looks.1.1.0))
+          (subst (λ w. HoldsLink v p.node w p.next.node) (sym (h.formed.side near)) (subst (HoldsLink v p.node Right) (h.formed.child near) h.looks.1.1.0))
 
       -- by whether the successor is the right child
       -- the links to be set, by the same
       abbrev far-set : SetLink
       far-set = set_to p.next.at.node p.next.at.side p.next.right
+
+      abbrev far-front : Front
+      far-front = record { at = p.next.at; entry = slots.next; child = p.next.right }
 
       abbrev far-last : Unlinking
       far-last = record { successor = p.next.node; parent = p.next.at.node; side = p.next.at.side; replaced = p.node }
@@ -169,33 +172,39 @@ module _ (v : View) where
 
       join-raises : (near : Bool) → (p.next.at.node == p.node) ≡ near → (near ≡ true → p.next.at.node ≡ p.node) → (near ≡ false → ¬ (p.next.at.node ≡ p.node))
           → Every (HoldsLook v) (cond near [] (LinkLook p.next.at p.next.node ∷ []))
-          → HoldsNewNode v (record { slot = slots.node; pair = p.next.pair; left = fresh_to slots.left p.left; right = fresh_to slots.right (cond near p.next.right p.right) })
-          → Every (HoldsFront v) (record { at = p.at; entry = slots.at; child = slots.node } ∷ cond near [] (record { at = p.next.at; entry = slots.next; child = p.next.right } ∷ []))
-          → v.update.pending ≡ entries_of (record { at = p.at; entry = slots.at; child = slots.node } ∷ cond near [] (record { at = p.next.at; entry = slots.next; child = p.next.right } ∷ []))
-          → joins (map set_by (record { at = p.at; entry = slots.at; child = slots.node } ∷ cond near [] (record { at = p.next.at; entry = slots.next; child = p.next.right } ∷ [])))
+          → HoldsNewNode v (record {
+            slot = slots.node;
+            pair = p.next.pair;
+            left = fresh_to slots.left p.left;
+            right = fresh_to slots.right
+                (cond near p.next.right p.right);
+          })
+          → Every (HoldsFront v) (record { at = p.at; entry = slots.at; child = slots.node } ∷ or_none (cond near None (Some far-front)))
+          → v.update.pending ≡ entries_of (record { at = p.at; entry = slots.at; child = slots.node } ∷ or_none (cond near None (Some far-front)))
+          → joins (map set_by (record { at = p.at; entry = slots.at; child = slots.node } ∷ or_none (cond near None (Some far-front))))
           (cond near None (Some far-last))
       join-raises true same is apart at new fronts pending =
           subst (λ b. joins (set_to p.at.node p.at.side slots.node ∷ cond b [] (far-set ∷ [])) (cond b None (Some far-last))) same
-          (join_from_view z v client line p.key can (record {
+          (join_from_view held_link null_link z v client line p.key can (record {
             found = found;
             small = h.small;
-            left = h.planned.left;
-            right = h.planned.right;
+            left = h.formed.left;
+            right = h.formed.right;
             next = next (near-link (is refl));
             slot = slots.node;
             new_right = p.next.right;
             new = new-node slots p.next.pair p.left p.next.right h.apart new;
             entry = slots.at;
             prepared = fronts.0;
-            by = inl (record { parent_is = is refl; side_is = h.planned.next.side (is refl); pending = pending; child = refl });
+            by = inl (record { parent_is = is refl; side_is = h.formed.side (is refl); pending = pending; child = refl });
           }))
       join-raises false same is apart at new fronts pending =
           subst (λ b. joins (set_to p.at.node p.at.side slots.node ∷ cond b [] (far-set ∷ [])) (cond b None (Some far-last))) same
-          (join_from_view z v client line p.key can (record {
+          (join_from_view held_link null_link z v client line p.key can (record {
             found = found;
             small = h.small;
-            left = h.planned.left;
-            right = h.planned.right;
+            left = h.formed.left;
+            right = h.formed.right;
             next = next at.0;
             slot = slots.node;
             new_right = p.right;
@@ -211,15 +220,12 @@ is_same a b e = elim (eqb_tells a b) as (λ _. a ≡ b) [ inl is ↦ is.1 | inr 
 is_apart : (a b : ℕ) → (a == b) ≡ false → ¬ (a ≡ b)
 is_apart a b e = elim (eqb_tells a b) as (λ _. ¬ (a ≡ b)) [ inl is ↦ absurd (false≢true (sym e ∙ is.0)) | inr apart ↦ apart.1 ]
 
-pub plan_may_raise : PlanMayRaiseLaw
-plan_may_raise z v client line (Grow p) slots can h =
-    grow_from_view z v client line p.pair.key p.pair.val can (record {
+pub plan_may_raise : HeldLinkLaw → NullLinkLaw → PlanMayRaiseLaw
+plan_may_raise held_link null_link z v client line (Grow p) slots can h =
+    grow_from_view held_link null_link z v client line p.pair.key p.pair.val can (record {
       node = p.at.node;
       side = p.at.side;
       at = h.looks.0;
-      tree = h.tree;
-      read = h.read;
-      gap = h.planned.gap;
       small = h.small;
       slot = slots.node;
       new = new-node v slots p.pair 0 0 h.apart h.new;
@@ -227,9 +233,9 @@ plan_may_raise z v client line (Grow p) slots can h =
       pending = h.pending;
       prepared = h.fronts.0;
     })
-plan_may_raise z v client line (Replace p) slots can h =
-    replace_from_view z v client line p.pair.key p.pair.val can (record {
-      found = holds-key v p.pair.key p.node p.left p.right p.at h.planned.1.some h.looks.0 h.looks.1.1.1.0 h.looks.1.0 h.looks.1.1.0;
+plan_may_raise held_link null_link z v client line (Replace p) slots can h =
+    replace_from_view held_link null_link z v client line p.pair.key p.pair.val can (record {
+      found = holds-key v p.pair.key p.node p.left p.right p.at h.formed.some h.looks.0 h.looks.1.1.1.0 h.looks.1.0 h.looks.1.1.0;
       small = h.small;
       slot = slots.node;
       new = new-node v slots p.pair p.left p.right h.apart h.new;
@@ -237,7 +243,8 @@ plan_may_raise z v client line (Replace p) slots can h =
       pending = h.pending;
       prepared = h.fronts.0;
     })
-plan_may_raise z v client line (Lift p) slots can h =
-    lift-raises v z client line can p.key p.node p.child slots.at p.at p.bare h.small h.planned.1.some h.looks.0 h.looks.1.0 h.looks.1.1.0 h.looks.1.1.1.0 h.fronts.0 h.pending
-plan_may_raise z v client line (Join p) slots can h =
-    join-raises v z client line can p slots h (p.next.at.node == p.node) refl (is_same p.next.at.node p.node) (is_apart p.next.at.node p.node) h.looks.1.1.1.1.1.1.1.1 h.new h.fronts h.pending
+plan_may_raise held_link null_link z v client line (Lift p) slots can h =
+    lift-raises v held_link null_link z client line can p.key p.node p.child slots.at p.at p.bare h.small h.formed.some h.looks.0 h.looks.1.0 h.looks.1.1.0 h.looks.1.1.1.0 h.fronts.0 h.pending
+plan_may_raise held_link null_link z v client line (Join p) slots can h =
+    join-raises v held_link null_link z client line can p slots h (p.next.at.node == p.node) refl (is_same p.next.at.node p.node)
+    (is_apart p.next.at.node p.node) h.looks.1.1.1.1.1.1.1.1.1 h.new h.fronts h.pending

@@ -1,5 +1,6 @@
--- What a view shows of an update that is ready: remembered links that were found again under their locks, what the seat
--- has put into its own slots, and the entries that it has prepared. Nothing of the words and of the other views is told.
+-- What a view shows of an update that is ready: what it has found under its locks, the null links at which its search has
+-- ended, what the seat has put into its own slots, and the entries that it has prepared. Nothing of the words and of the other
+-- views is told.
 use Rattle.std.specs.Prelude.{◌≡◌, ℕ, ◌<◌, ◌^◌, ◌⊎◌, List, [], ◌∷◌, ◌==◌, cond, true, false, Option, Some, None}
 use Rattle.std.specs.List.{slice_get}
 use Rattle.index_words.specs.declared.layout.Layout.{Layout}
@@ -9,6 +10,7 @@ use Rattle.key_map.specs.declared.update.Update.{Update}
 use Rattle.key_map.specs.declared.update.Change.TheVariants.{Put, Remove}
 use Rattle.index_words.specs.declared.view.View.{View}
 use Rattle.index_words.specs.declared.view.reading.Link.{Link}
+use Rattle.index_words.specs.declared.view.reading.LinkSource.TheVariants.{Plain}
 use Rattle.index_words.specs.declared.view.update.HeldNode.{HeldNode}
 use Rattle.index_words.specs.declared.view.update.LoadedHead.{LoadedHead}
 use Rattle.index_words.specs.declared.view.update.Unlinking.{Unlinking}
@@ -17,16 +19,13 @@ use Rattle.index_words.specs.declared.word.Part.TheVariants.{Child, Stamp as Num
 use Rattle.index_words.specs.declared.word.Word.TheVariants.{Stamp, Node, Entry}
 use Rattle.index_words.specs.Words.{address, memory}
 use Rattle.key_map.specs.Lists.{count, IsItem}
-use Rattle.core_trees.specs.NamedTree.{NamedTree}
-use Rattle.core_trees.specs.Gaps.{IsGapLink}
 use Rattle.core_events.specs.declared.event.Event.{Event}
 use Rattle.core_events.specs.declared.event.Kind.TheVariants.{Raise}
-use Rattle.core_laws.specs.Remembered.{Remembers}
+use Rattle.core_laws.specs.Searching.{IsOver, IsUnder}
 use Rattle.core_laws.specs.ViewNeeds.{HasFilled}
 use Rattle.core_invariant.specs.Rule.{InRule}
 use Rattle.core_events.specs.Steps.{allowed}
-use Rattle.core_events.specs.UpdateNeeds.{side_of}
-use Rattle.core_events.specs.Versions.{tree_nodes}
+use Rattle.core_events.specs.UpdateNeeds.{held_at, side_of}
 use Rattle.core_updates.specs.Ready.{update_of, MayStep}
 use Rattle.core_updates.specs.SetLinks.{SetLink, set_to}
 
@@ -40,20 +39,35 @@ pub record HoldsHead (v : View) (node : ℕ) (side : Side) (entry : ℕ) : Type 
   pub head : (side_of side held).head ≡ Some loaded
   pub entry_is : loaded.entry ≡ entry
 
--- the seat remembers the link to this child, which it found through the link's bundle; under the lock of its node the mark
--- was found 0, and the head as it was, or an own entry was put in front of that one. The root has its right link alone
+-- Under the lock of the node its mark was found 0, and the plain link was found to lead to this child, 0 for none. The root has
+-- its right link alone.
 pub record HoldsLink (v : View) (node : ℕ) (side : Side) (child : ℕ) : Type 0 where
   pub root : node ≡ 0 → side ≡ Right
+  pub held : HeldNode
+  pub locked : held_at node v.held.nodes ≡ Some held
+  pub unmarked : held.mark ≡ Some 0
+  pub leads : (side_of side held).link ≡ Some child
+
+-- A search has found the link null, with this tag; the key is between those of the two turns that were the last ones then.
+pub record RemembersGap (v : View) (node : ℕ) (side : Side) (tag key : ℕ) : Type 0 where
+  pub place : ℕ
   pub link : Link
+  pub is : IsItem v.reading.links place link
   pub node_is : link.node ≡ node
   pub side_is : link.side ≡ side
-  pub child_is : link.child ≡ child
-  pub entry : ℕ
-  pub known : Remembers v link entry
-  pub now : ℕ
-  pub head : HoldsHead v node side now
-  pub unmarked : head.held.mark ≡ Some 0
-  pub still : (now ≡ entry) ⊎ ((0 < count now v.update.pending) × HasFilled v (Entry Next now) entry)
+  pub child_is : link.child ≡ 0
+  pub above : Option ℕ
+  pub below : Option ℕ
+  pub source : link.source ≡ Plain (Some tag) above below
+  pub over : IsOver below key
+  pub under : IsUnder above key
+
+-- Under the lock the link was found null, with that tag.
+pub record HoldsGap (v : View) (node : ℕ) (side : Side) (key : ℕ) : Type 0 where
+  pub null : HoldsLink v node side 0
+  pub tag : ℕ
+  pub held_tag : (side_of side null.held).tag ≡ Some tag
+  pub found : RemembersGap v node side tag key
 
 -- the seat has prepared the entry at the link, and it leads to the child
 pub record HoldsPrepared (v : View) (node : ℕ) (side : Side) (entry child : ℕ) : Type 0 where
@@ -111,8 +125,8 @@ pub record HoldsKey (v : View) (key : ℕ) : Type 0 where
   pub right : ℕ
   pub right_link : HoldsLink v node Right right
 
--- the successor, with its link, its null left link and its right child; in the tree that the seat reads each key between is
--- in the gap of its left link
+-- the successor, with its link, its null left link and its right child; each key between is between the turns with which the
+-- search has found that left link
 pub record HoldsSuccessor (v : View) (key : ℕ) : Type 0 where
   pub parent : ℕ
   pub side : Side
@@ -127,18 +141,13 @@ pub record HoldsSuccessor (v : View) (key : ℕ) : Type 0 where
   pub left_link : HoldsLink v node Left 0
   pub right : ℕ
   pub right_link : HoldsLink v node Right right
-  pub tree : NamedTree
-  pub read : v.reading.tree ≡ tree_nodes tree
-  pub gap : (x : ℕ) → key < x → x < key_of → IsGapLink x node Left 0 Right tree
+  pub gap : (x : ℕ) → key < x → x < key_of → HoldsGap v node Left x
 
 -- a put of an absent key
 pub record HoldsGrow (v : View) (key val : ℕ) : Type 0 where
   pub node : ℕ
   pub side : Side
-  pub at : HoldsLink v node side 0
-  pub tree : NamedTree
-  pub read : v.reading.tree ≡ tree_nodes tree
-  pub gap : IsGapLink key node side 0 Right tree
+  pub at : HoldsGap v node side key
   pub small : key < 2 ^ 64
   pub slot : ℕ
   pub new : HoldsNew v slot key val 0 0

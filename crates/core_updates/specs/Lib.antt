@@ -2,7 +2,5 @@ pub mod SetLinks
 pub mod Ready
 pub mod Held
 pub mod Plans
-pub mod PlanOf
-pub mod Search
 pub mod PlanReady
 pub mod PlanEvents

@@ -1,23 +1,21 @@
--- The events of a plan before and behind its raise: what it changes is locked, what it locks is in reach, each of its
--- events is allowed whatever others do, and where a look fails the count rises that the answer needs.
-use Rattle.std.specs.Prelude.{◌≡◌, ℕ, ◌+◌, ◌^◌, ◌<◌, ◌≤◌, ◌⊎◌, [], true, false, Some, IfSome, Option, MatchOption}
+-- The events of a plan before and behind its raise: what it changes is locked, each of its events is allowed whatever others do,
+-- and where a look fails the count rises that the answer needs.
+use Rattle.std.specs.Prelude.{◌≡◌, ℕ, ◌+◌, ◌^◌, ◌<◌, ◌⊎◌, [], true, false, Some, None, IfSome}
 use Rattle.std.specs.List.{slice_get}
 use Rattle.index_words.specs.declared.layout.Layout.{Layout}
 use Rattle.index_words.specs.declared.side.Side.{Side}
 use Rattle.index_words.specs.declared.view.View.{View}
 use Rattle.index_words.specs.declared.view.reading.Filled.{Filled}
 use Rattle.index_words.specs.declared.view.update.HeldNode.{HeldNode}
-use Rattle.index_words.specs.declared.word.Field.TheVariants.{Key, Val, Lock, Mark, Head}
+use Rattle.index_words.specs.declared.word.Field.TheVariants.{Key, Val, Lock, Mark, Head, Link as LinkField, Tag}
 use Rattle.index_words.specs.declared.word.Part.TheVariants.{Stamp as Number}
 use Rattle.index_words.specs.declared.word.Word.TheVariants.{Section, Node, Entry}
 use Rattle.index_words.specs.Words.{word_at}
-use Rattle.key_map.specs.Lists.{count, Every, IsItem}
-use Rattle.key_map.specs.declared.update.Change.{Change}
+use Rattle.key_map.specs.Lists.{count, Every}
 use Rattle.core_grace.specs.Sections.{left_word}
-use Rattle.core_trees.specs.NamedTree.{NamedTree}
 use Rattle.core_events.specs.declared.event.Event.{Event}
-use Rattle.core_events.specs.declared.event.Kind.TheVariants.{Leave, Fill, LoadHead, LoadTs, Prepare, Finalise, TryLock, Unlock, LoadMark, Mark as MarkNode, LoadKeyOrVal}
-use Rattle.core_laws.specs.Counts.{MeetsLock, FindsNoNumber, FindsOtherHead, FindsMark, RemembersOther}
+use Rattle.core_events.specs.declared.event.Kind.TheVariants.{Leave, Fill, LoadHead, LoadLink, LoadTag, Prepare, Finalise, TryLock, Unlock, LoadMark, Mark as MarkNode, LoadKeyOrVal}
+use Rattle.core_laws.specs.Counts.{MeetsLock, RemembersOtherChild, RemembersOtherTag}
 use Rattle.core_events.specs.LoadMoves.{risen}
 use Rattle.core_events.specs.Needs.{is_successor}
 use Rattle.core_events.specs.PlainNeeds.{is_done_at}
@@ -26,18 +24,16 @@ use Rattle.core_invariant.specs.Readers.{IsLocked}
 use Rattle.core_invariant.specs.Rule.{IsRight}
 use Rattle.core_events.specs.Steps.{allowed, after}
 use Rattle.core_events.specs.Tables.{Table, held_by}
-use Rattle.core_events.specs.UpdateNeeds.{is_written}
-use Rattle.core_events.specs.Versions.{tree_nodes}
-use Rattle.core_laws.specs.ViewNeeds.{May, IsInside, IsInReach, event_at}
+use Rattle.core_events.specs.UpdateNeeds.{held_at, is_written, side_of}
+use Rattle.core_laws.specs.PlainNeeds.{HasFirmLink}
+use Rattle.core_laws.specs.ViewNeeds.{May, IsInside, IsSearched, event_at}
 use Rattle.core_updates.specs.declared.plan.Plan.{Plan}
 use Rattle.core_updates.specs.declared.plan.PlanSlots.{PlanSlots}
-use Rattle.core_updates.specs.declared.plan.Look.{Look}
-use Rattle.core_updates.specs.declared.plan.Look.TheVariants.{Link as LinkLook, Key as KeyLook, Val as ValLook}
 use Rattle.core_updates.specs.declared.plan.Front.{Front}
 use Rattle.core_updates.specs.declared.plan.NewNode.{NewNode}
-use Rattle.core_updates.specs.Held.{HoldsLink}
-use Rattle.core_updates.specs.Plans.{locks_of, looks_of, fronts_of, out_of, new_node_of, node_fills, entry_fills}
-use Rattle.core_updates.specs.PlanOf.{IsPlanIn, IsPlanOf, HasNoPlan, IsPlanned}
+use Rattle.core_trees.specs.declared.link.Link.{Link}
+use Rattle.core_updates.specs.Held.{HoldsHead}
+use Rattle.core_updates.specs.Plans.{Look, LinkLook, KeyLook, ValLook, GapLook, BetweenLook, locks_of, looks_of, fronts_of, out_of, new_node_of, node_fills, entry_fills}
 use Rattle.core_updates.specs.PlanReady.{HoldsFill}
 
 -- the plan locks the node
@@ -48,6 +44,8 @@ abbrev pub looked_node : Look → ℕ
 looked_node (LinkLook at child) = at.node
 looked_node (KeyLook node key) = node
 looked_node (ValLook node val) = node
+looked_node (GapLook at key) = at.node
+looked_node (BetweenLook at low high) = at.node
 
 -- what the plan looks at, where it puts entries in front, and what it takes out, it has locked
 pub record LocksAll (plan : Plan) (slots : PlanSlots) : Type 0 where
@@ -58,20 +56,11 @@ pub record LocksAll (plan : Plan) (slots : PlanSlots) : Type 0 where
 abbrev pub LocksLaw : Type 0
 LocksLaw = (plan : Plan) (slots : PlanSlots) → LocksAll plan slots
 
--- the nodes that a plan locks are in reach of a seat that reads the plan's tree
-abbrev pub ReachLaw : Type 0
-ReachLaw =
-    (v : View) (plan : Plan) (tree : NamedTree) → v.reading.tree ≡ tree_nodes tree → IsPlanIn tree plan
-    → Every (IsInReach v) (locks_of plan)
-
--- the seat is a pass inside a section, and reads the tree of the plan
-pub record ReadsPlan (v : View) (n : ℕ) (plan : Plan) : Type 0 where
+-- the seat is a pass inside a section
+pub record IsWorking (v : View) (n : ℕ) : Type 0 where
   pub live : v.joined ≡ false
   pub own : v.number ≡ Some n
   pub inside : IsInside v
-  pub tree : NamedTree
-  pub read : v.reading.tree ≡ tree_nodes tree
-  pub planned : IsPlanIn tree plan
 
 -- the slots are free ones of the seat
 pub record HasSlots (v : View) (slots : PlanSlots) : Type 0 where
@@ -81,14 +70,24 @@ pub record HasSlots (v : View) (slots : PlanSlots) : Type 0 where
   pub right : 0 < count slots.right v.free.entries
   pub next : 0 < count slots.next v.free.entries
 
--- an entry may be put in front: its link was held by a look, with the head 0 or an entry whose number was loaded, and
--- the entry is a free one that is filled with that head behind it
-pub record IsDue (v : View) (f : Front) (child : ℕ) : Type 0 where
-  pub look : HoldsLink v f.at.node f.at.side child
-  pub numbered : (look.now ≡ 0) ⊎ (is_written look.head.loaded.stamp ≡ true)
+-- under the lock of the link's node its mark was found 0, and the newest entry of the link's bundle is this one
+pub record HoldsEntry (v : View) (at : Link) (entry : ℕ) : Type 0 where
+  pub head : HoldsHead v at.node at.side entry
+  pub unmarked : head.held.mark ≡ Some 0
+
+-- and the entry has a number, which was loaded under the lock, or is none
+pub record HoldsNumbered (v : View) (at : Link) (entry : ℕ) : Type 0 where
+  pub holds : HoldsEntry v at entry
+  pub numbered : (entry ≡ 0) ⊎ (is_written holds.head.loaded.stamp ≡ true)
+
+-- an entry may be put in front before the raise: the newest entry of the bundle was found, with its number, and the entry is a free one that
+-- is filled with that one behind it
+pub record IsDue (v : View) (f : Front) (behind : ℕ) : Type 0 where
+  pub unraised : v.update.raised ≡ None
+  pub found : HoldsNumbered v f.at behind
   pub free : 0 < count f.entry v.free.entries
   pub small : f.entry < 2 ^ 32
-  pub filled : Every (HoldsFill v) (entry_fills f.entry f.child look.now)
+  pub filled : Every (HoldsFill v) (entry_fills f.entry f.child behind)
 
 abbrev pub MayFillAll : Layout → View → ℕ → (Filled → Type 0)
 MayFillAll z v seat f = May z v (event_at z seat Fill f.word f.value)
@@ -101,68 +100,61 @@ KnowsMarked v plan =
 -- the events of the plan that the seat may make: its locks and looks, its fills, what is due, and behind the raise the
 -- numbers, the marks, and what gives back the locks and leaves the section, with two locks kept where it waits
 pub record AllowsPlan (z : Layout) (v : View) (seat n : ℕ) (plan : Plan) (slots : PlanSlots) : Type 0 where
-  pub lock : Every (λ k. ¬ IsLocked v k → May z v (event_at z seat TryLock (Node Lock k) (n + 1))) (locks_of plan)
-  pub head : Every (λ k. (side : Side) → May z v (event_at z seat LoadHead (Node (Head side) k) 0)) (locks_of plan)
-  pub marked : Every (λ k. May z v (event_at z seat LoadMark (Node Mark k) 0)) (locks_of plan)
-  pub key : Every (λ k. May z v (event_at z seat LoadKeyOrVal (Node Key k) 0)) (locks_of plan)
-  pub val : Every (λ k. May z v (event_at z seat LoadKeyOrVal (Node Val k) 0)) (locks_of plan)
+  pub lock : (k : ℕ) → IsSearched v k → ¬ IsLocked v k → May z v (event_at z seat TryLock (Node Lock k) (n + 1))
+  pub head : (k : ℕ) (side : Side) → IsLocked v k → May z v (event_at z seat LoadHead (Node (Head side) k) 0)
+  pub link : (k : ℕ) (side : Side) → HasFirmLink v k side → May z v (event_at z seat LoadLink (Node (LinkField side) k) 0)
+  pub tag : (k : ℕ) (side : Side) → IsLocked v k → May z v (event_at z seat LoadTag (Node (Tag side) k) 0)
+  pub marked : (k : ℕ) → IsLocked v k → May z v (event_at z seat LoadMark (Node Mark k) 0)
+  pub key : (k : ℕ) → IsLocked v k → May z v (event_at z seat LoadKeyOrVal (Node Key k) 0)
+  pub val : (k : ℕ) → IsLocked v k → May z v (event_at z seat LoadKeyOrVal (Node Val k) 0)
   pub node : HasSlots v slots → IfSome (new_node_of plan slots) (λ (m : NewNode). Every (MayFillAll z v seat) (node_fills m))
   pub left : HasSlots v slots → (child : ℕ) → Every (MayFillAll z v seat) (entry_fills slots.left child 0)
   pub right : HasSlots v slots → (child : ℕ) → Every (MayFillAll z v seat) (entry_fills slots.right child 0)
   pub front : HasSlots v slots → (behind : ℕ) → Every (λ (f : Front). Every (MayFillAll z v seat) (entry_fills f.entry f.child behind)) (fronts_of plan slots)
-  pub prepare : (f : Front) (child : ℕ) → IsDue v f child → May z v (event_at z seat Prepare (Node (Head f.at.side) f.at.node) f.entry)
+  pub prepare : (f : Front) (behind : ℕ) → IsDue v f behind → May z v (event_at z seat Prepare (Node (Head f.at.side) f.at.node) f.entry)
   pub finalise : (e place : ℕ) → 0 < count e v.update.pending → v.update.raised ≡ Some place → May z v (event_at z seat Finalise (Entry Number e) place)
   pub mark : (k : ℕ) → v.update.taken ≡ out_of plan → 0 < count k (out_of plan) → IsLocked v k → May z v (event_at z seat MarkNode (Node Mark k) 1)
-  pub unlock : (k : ℕ) → v.update.taken ≡ out_of plan → v.update.pending ≡ [] → KnowsMarked v plan → is_done_at k v.update ≡ true → IsLocked v k → May z v (event_at z seat Unlock (Node Lock k) 0)
+  pub unlock : (k : ℕ) → v.update.taken ≡ out_of plan → v.update.pending ≡ [] → KnowsMarked v plan → is_done_at k v.update ≡ true → IsLocked v k
+      → May z v (event_at z seat Unlock (Node Lock k) 0)
   pub leave : v.held.nodes ≡ [] → May z v (event_at z seat Leave (Section n) (left_word v.section_word))
-  pub wait : v.update.taken ≡ out_of plan → v.update.pending ≡ [] → KnowsMarked v plan → is_waiting v ≡ true → May z v (event_at z seat Leave (Section n) (left_word v.section_word))
+  pub wait : v.update.taken ≡ out_of plan → v.update.pending ≡ [] → KnowsMarked v plan → is_waiting v ≡ true
+      → May z v (event_at z seat Leave (Section n) (left_word v.section_word))
 
 abbrev pub EventsLaw : Type 0
-EventsLaw = (z : Layout) (v : View) (seat n : ℕ) (plan : Plan) (slots : PlanSlots) → ReadsPlan v n plan → AllowsPlan z v seat n plan slots
+EventsLaw = (z : Layout) (v : View) (seat n : ℕ) (plan : Plan) (slots : PlanSlots) → IsWorking v n → AllowsPlan z v seat n plan slots
 
--- the seat has nothing pending, and its own updates are ones that its section number has
-pub record ReadsOwn (v : View) : Type 0 where
-  pub number : ℕ
-  pub section : v.reading.section ≡ Some number
-  pub own : Every (λ at. at ≤ number) v.history.mine
+-- the seat has not raised, and has nothing pending
+pub record IsBefore (v : View) : Type 0 where
+  pub unraised : v.update.raised ≡ None
   pub idle : v.update.pending ≡ []
+  pub untaken : v.update.taken ≡ []
 
--- where a try fails it has met that for which a count rises: an entry without a number that it has not pending, a head
--- that is another one than the remembered one and that it has not stored, or a mark on a node of the plan that it has
--- not taken out
-pub record MeetsFailures (t : Table) (e : Event) (v : View) (plan : Plan) : Type 0 where
-  pub number : (entry : ℕ) → e.kind ≡ LoadTs → word_at t.layout e.word ≡ Some (Entry Number entry) → held_by t (Entry Number entry) ≡ 0
-      → FindsNoNumber t e v
-  pub head : (k : ℕ) (side : Side) → e.kind ≡ LoadHead → word_at t.layout e.word ≡ Some (Node (Head side) k)
-      → RemembersOther v k side (held_by t (Node (Head side) k)) → FindsOtherHead t e v
-  pub mark : Every (λ k. e.kind ≡ LoadMark → word_at t.layout e.word ≡ Some (Node Mark k) → held_by t (Node Mark k) ≡ 1
-      → count k v.retired.nodes ≡ 0 → FindsMark t e v) (locks_of plan)
+-- the seat has loaded the link, or its tag, under the lock
+pub record KnowsLink (v : View) (k : ℕ) (side : Side) : Type 0 where
+  pub held : HeldNode
+  pub locked : held_at k v.held.nodes ≡ Some held
+  pub child : ℕ
+  pub known : (side_of side held).link ≡ Some child
 
-abbrev pub MeetsLaw : Type 0
-MeetsLaw =
-    (t : Table) (e : Event) (v : View) (n : ℕ) (plan : Plan) → IsRight t → allowed t e ≡ true → slice_get t.views e.seat ≡ Some v
-    → ReadsPlan v n plan → ReadsOwn v → MeetsFailures t e v plan
+pub record KnowsTag (v : View) (k : ℕ) (side : Side) : Type 0 where
+  pub held : HeldNode
+  pub locked : held_at k v.held.nodes ≡ Some held
+  pub found : ℕ
+  pub known : (side_of side held).tag ≡ Some found
 
--- so a count has risen: `busy` where a lock is held, `waits` where an entry has no number, `moves` where a head
--- is another one than the remembered one, or a node of the plan is marked that this seat has not taken out
-pub record CountsFailures (t : Table) (e : Event) (v w : View) (plan : Plan) : Type 0 where
+-- A count has risen where a search or a try fails: `busy` where a lock is held; `moves` where a node that was searched, or is locked
+-- and none of the seat's retired ones, is marked, or where a plain link, or its tag, is another one than the remembered one, loaded
+-- for the first time under the lock.
+pub record CountsFailures (t : Table) (e : Event) (v w : View) : Type 0 where
   pub busy : MeetsLock t e → w.counts.busy ≡ risen v.counts.busy
-  pub waits : (entry : ℕ) → e.kind ≡ LoadTs → word_at t.layout e.word ≡ Some (Entry Number entry) → held_by t (Entry Number entry) ≡ 0
-      → w.counts.waits ≡ risen v.counts.waits
-  pub head : (k : ℕ) (side : Side) → e.kind ≡ LoadHead → word_at t.layout e.word ≡ Some (Node (Head side) k)
-      → RemembersOther v k side (held_by t (Node (Head side) k)) → w.counts.moves ≡ risen v.counts.moves
-  pub mark : Every (λ k. e.kind ≡ LoadMark → word_at t.layout e.word ≡ Some (Node Mark k) → held_by t (Node Mark k) ≡ 1
-      → count k v.retired.nodes ≡ 0 → w.counts.moves ≡ risen v.counts.moves) (locks_of plan)
+  pub mark : (k : ℕ) → IsSearched v k ⊎ (IsLocked v k × (count k v.retired.nodes ≡ 0)) → e.kind ≡ LoadMark → word_at t.layout e.word ≡ Some (Node Mark k)
+      → 0 < held_by t (Node Mark k) → w.counts.moves ≡ risen v.counts.moves
+  pub link : (k : ℕ) (side : Side) → e.kind ≡ LoadLink → word_at t.layout e.word ≡ Some (Node (LinkField side) k)
+      → RemembersOtherChild v k side (held_by t (Node (LinkField side) k)) → ¬ (KnowsLink v k side) → w.counts.moves ≡ risen v.counts.moves
+  pub tag : (k : ℕ) (side : Side) → e.kind ≡ LoadTag → word_at t.layout e.word ≡ Some (Node (Tag side) k)
+      → RemembersOtherTag v k side (held_by t (Node (Tag side) k)) → ¬ (KnowsTag v k side) → w.counts.moves ≡ risen v.counts.moves
 
 abbrev pub FailuresLaw : Type 0
 FailuresLaw =
-    (t : Table) (e : Event) (v w : View) (n : ℕ) (plan : Plan) → IsRight t → allowed t e ≡ true → slice_get t.views e.seat ≡ Some v
-    → slice_get (after t e).views e.seat ≡ Some w → ReadsPlan v n plan → ReadsOwn v → CountsFailures t e v w plan
-
--- what the search gives along the list of nodes that a seat has read is told of the seat's own tree: that tree names
--- each of its nodes once
-abbrev pub ViewPlanLaw : Type 0
-ViewPlanLaw =
-    (t : Table) (i n key : ℕ) (v : View) (change : Change) (result : Option Plan) → IsRight t → IsItem t.views i v
-    → v.reading.section ≡ Some n → IsPlanned v.reading.tree key change result
-    → (tree : NamedTree) × (v.reading.tree ≡ tree_nodes tree) × MatchOption result (HasNoPlan tree key change) (IsPlanOf tree key change)
+    (t : Table) (e : Event) (v w : View) (n : ℕ) → IsRight t → allowed t e ≡ true → slice_get t.views e.seat ≡ Some v
+    → slice_get (after t e).views e.seat ≡ Some w → IsWorking v n → IsBefore v → CountsFailures t e v w

@@ -1,25 +1,19 @@
--- When a view is ready for a plan: it reads a tree of which the plan is, has found under its locks what the plan asks for, has
--- filled the new node and the entries, and has put the plan's entries in front of bundles, and no others. One form for the four
--- cases of an update.
+-- When a view is ready for a plan: it has found under its locks what the plan asks for, has filled the new node and the entries,
+-- and has put the plan's entries in front of bundles, and no others. One form for the four cases of an update.
 use Rattle.std.specs.Prelude.{◌≡◌, ℕ, ◌<◌, ◌^◌, IfSome}
 use Rattle.index_words.specs.declared.layout.Layout.{Layout}
 use Rattle.index_words.specs.declared.view.View.{View}
 use Rattle.index_words.specs.declared.view.reading.Filled.{Filled}
 use Rattle.index_words.specs.declared.view.update.HeldNode.{HeldNode}
 use Rattle.key_map.specs.Lists.{count, Every}
-use Rattle.core_trees.specs.NamedTree.{NamedTree}
-use Rattle.core_events.specs.Versions.{tree_nodes}
 use Rattle.core_updates.specs.declared.plan.Plan.{Plan}
 use Rattle.core_updates.specs.declared.plan.PlanSlots.{PlanSlots}
-use Rattle.core_updates.specs.declared.plan.Look.{Look}
-use Rattle.core_updates.specs.declared.plan.Look.TheVariants.{Link as LinkLook, Key as KeyLook, Val as ValLook}
 use Rattle.core_updates.specs.declared.plan.Front.{Front}
 use Rattle.core_updates.specs.declared.plan.Fresh.{Fresh}
 use Rattle.core_updates.specs.declared.plan.NewNode.{NewNode}
 use Rattle.core_laws.specs.ViewNeeds.{HasFilled}
-use Rattle.core_updates.specs.Held.{HasLoaded, HoldsLink, HoldsPrepared, CanRaise, MayRaise}
-use Rattle.core_updates.specs.Plans.{key_of, change_of, looks_of, new_node_of, fronts_of, out_of, node_fills, entry_fills, slot_of, entries_of, sets_of, unlinks_of}
-use Rattle.core_updates.specs.PlanOf.{IsPlanIn}
+use Rattle.core_updates.specs.Held.{HasLoaded, HoldsGap, HoldsLink, HoldsPrepared, CanRaise, MayRaise}
+use Rattle.core_updates.specs.Plans.{Look, LinkLook, KeyLook, ValLook, GapLook, BetweenLook, IsFormed, key_of, change_of, looks_of, new_node_of, fronts_of, out_of, node_fills, entry_fills, slot_of, entries_of, sets_of, unlinks_of}
 use Rattle.core_updates.specs.Ready.{update_of}
 
 -- the seat has found under its locks what the look asks for
@@ -27,6 +21,8 @@ abbrev pub HoldsLook : View → Look → Type 0
 HoldsLook v (LinkLook at child) = HoldsLink v at.node at.side child
 HoldsLook v (KeyLook node key) = HasLoaded v node (λ (h : HeldNode). h.key) key
 HoldsLook v (ValLook node val) = HasLoaded v node (λ (h : HeldNode). h.val) val
+HoldsLook v (GapLook at key) = HoldsGap v at.node at.side key
+HoldsLook v (BetweenLook at low high) = (x : ℕ) → low < x → x < high → HoldsGap v at.node at.side x
 
 abbrev pub HoldsFill : View → Filled → Type 0
 HoldsFill v f = HasFilled v f.word f.value
@@ -48,9 +44,7 @@ HoldsFront v f = HoldsPrepared v f.at.node f.at.side f.entry f.child
 
 pub record IsReadyFor (v : View) (plan : Plan) (slots : PlanSlots) : Type 0 where
   pub small : key_of plan < 2 ^ 64
-  pub tree : NamedTree
-  pub read : v.reading.tree ≡ tree_nodes tree
-  pub planned : IsPlanIn tree plan
+  pub formed : IsFormed plan
   pub looks : Every (HoldsLook v) (looks_of plan)
   pub apart : ¬ (slots.left ≡ slots.right)
   pub new : IfSome (new_node_of plan slots) (HoldsNewNode v)
@@ -61,4 +55,5 @@ pub record IsReadyFor (v : View) (plan : Plan) (slots : PlanSlots) : Type 0 wher
 abbrev pub PlanMayRaiseLaw : Type 0
 PlanMayRaiseLaw =
     (z : Layout) (v : View) (client line : ℕ) (plan : Plan) (slots : PlanSlots) → CanRaise v client → IsReadyFor v plan slots
-    → MayRaise z v (update_of client line (key_of plan) (change_of plan)) (slot_of (new_node_of plan slots)) (out_of plan) (sets_of plan slots) (unlinks_of plan)
+    → MayRaise z v (update_of client line (key_of plan) (change_of plan)) (slot_of (new_node_of plan slots)) (out_of plan) (sets_of plan slots)
+    (unlinks_of plan)

@@ -1,6 +1,6 @@
 -- What a plan says, as lists in the order in which the update does it: which nodes are locked, what is looked at under the
 -- locks, which words are filled, which entries are put in front of bundles, and which nodes go out.
-use Rattle.std.specs.Prelude.{ℕ, List, [], ◌∷◌, ◌++◌, ◌==◌, map, Option, Some, None, if◌then◌else◌}
+use Rattle.std.specs.Prelude.{◌≡◌, ℕ, ◌<◌, List, [], ◌∷◌, ◌++◌, ◌==◌, map, Option, Some, None, if◌then◌else◌}
 use Rattle.index_words.specs.declared.side.Side.{Side}
 use Rattle.index_words.specs.declared.side.Side.TheVariants.{Left, Right}
 use Rattle.key_map.specs.declared.update.Change.{Change}
@@ -16,8 +16,6 @@ use Rattle.core_updates.specs.declared.plan.Plan.{Plan}
 use Rattle.core_updates.specs.declared.plan.Plan.TheVariants.{Grow, Replace, Lift, Join}
 use Rattle.core_updates.specs.declared.plan.JoinPlan.{JoinPlan}
 use Rattle.core_updates.specs.declared.plan.PlanSlots.{PlanSlots}
-use Rattle.core_updates.specs.declared.plan.Look.{Look}
-use Rattle.core_updates.specs.declared.plan.Look.TheVariants.{Link as LinkLook, Key as KeyLook, Val as ValLook}
 use Rattle.core_updates.specs.declared.plan.Front.{Front}
 use Rattle.core_updates.specs.declared.plan.Fresh.{Fresh}
 use Rattle.core_updates.specs.declared.plan.NewNode.{NewNode}
@@ -54,13 +52,22 @@ locks_of (Replace p) = p.at.node ∷ p.node ∷ []
 locks_of (Lift p) = p.at.node ∷ p.node ∷ []
 locks_of (Join p) = p.at.node ∷ p.node ∷ between p ++ p.next.node ∷ []
 
+-- What an update finds under its locks, and needs for its raise: that a link leads to a child, 0 for none; the key, or the value,
+-- of a node; and that a search has ended at a null link, with the key between its turns, or with each key between these two.
+pub data Look : Type 0 where
+  LinkLook : Link → ℕ → Look
+  KeyLook : ℕ → ℕ → Look
+  ValLook : ℕ → ℕ → Look
+  GapLook : Link → ℕ → Look
+  BetweenLook : Link → ℕ → ℕ → Look
+
 -- the look at the link to the successor, where that is not a link of the removed node
 abbrev pub next_look : JoinPlan → List Look
 next_look p = if p.next.at.node == p.node then [] else LinkLook p.next.at p.next.node ∷ []
 
--- what is looked at under the locks, and what must be found there
+-- the looks of a plan
 abbrev pub looks_of : Plan → List Look
-looks_of (Grow p) = LinkLook p.at 0 ∷ []
+looks_of (Grow p) = GapLook p.at p.pair.key ∷ []
 looks_of (Replace p) =
     LinkLook p.at p.node ∷ LinkLook (link_of p.node Left) p.left ∷ LinkLook (link_of p.node Right) p.right
     ∷ KeyLook p.node p.pair.key ∷ []
@@ -71,7 +78,29 @@ looks_of (Join p) =
     LinkLook p.at p.node ∷ LinkLook (link_of p.node Left) p.left ∷ LinkLook (link_of p.node Right) p.right
     ∷ KeyLook p.node p.key
     ∷ LinkLook (link_of p.next.node Left) 0 ∷ LinkLook (link_of p.next.node Right) p.next.right
-    ∷ KeyLook p.next.node p.next.pair.key ∷ ValLook p.next.node p.next.pair.val ∷ next_look p
+    ∷ KeyLook p.next.node p.next.pair.key ∷ ValLook p.next.node p.next.pair.val
+    ∷ BetweenLook (link_of p.next.node Left) p.key p.next.pair.key ∷ next_look p
+
+-- A plan makes sense: the node that it replaces or removes is one, and hangs at a link. A removal with two children has a
+-- successor with a greater key, which is the right child where it hangs at the removed node itself.
+pub record HasNode (at : Link) (node : ℕ) : Type 0 where
+  pub some : 0 < node
+  pub root : at.node ≡ 0 → at.side ≡ Right
+
+pub record HasNext (p : JoinPlan) : Type 0 where
+  pub node : HasNode p.at p.node
+  pub left : 0 < p.left
+  pub right : 0 < p.right
+  pub next : HasNode p.next.at p.next.node
+  pub above : p.key < p.next.pair.key
+  pub side : p.next.at.node ≡ p.node → p.next.at.side ≡ Right
+  pub child : p.next.at.node ≡ p.node → p.right ≡ p.next.node
+
+abbrev pub IsFormed : Plan → Type 0
+IsFormed (Grow p) = p.at.node ≡ 0 → p.at.side ≡ Right
+IsFormed (Replace p) = HasNode p.at p.node
+IsFormed (Lift p) = HasNode p.at p.node
+IsFormed (Join p) = HasNext p
 
 -- the entry of a new node's link to the child, 0 for none
 abbrev pub fresh_to : ℕ → ℕ → Option Fresh
@@ -91,17 +120,47 @@ new_node_of (Join p) s =
       right = fresh_to s.right (if p.next.at.node == p.node then p.next.right else p.right);
     })
 
--- the entry in front of the link to the successor, where that is not a link of the removed node
-abbrev pub next_fronts : JoinPlan → PlanSlots → List Front
-next_fronts p s =
-    if p.next.at.node == p.node then [] else record { at = p.next.at; entry = s.next; child = p.next.right } ∷ []
+-- the link at which the tree changes
+abbrev pub link_at : Plan → Link
+link_at (Grow p) = p.at
+link_at (Replace p) = p.at
+link_at (Lift p) = p.at
+link_at (Join p) = p.at
+
+-- the link to the successor, where that is not a link of the removed node
+abbrev pub next_link : JoinPlan → Option Link
+next_link p = if p.next.at.node == p.node then None else Some p.next.at
+
+abbrev pub next_link_of : Plan → Option Link
+next_link_of (Grow p) = None
+next_link_of (Replace p) = None
+next_link_of (Lift p) = None
+next_link_of (Join p) = next_link p
+
+-- the entry in front of the link at which the tree changes, and the one in front of the link to the successor
+abbrev pub front_of : Plan → PlanSlots → Front
+front_of (Grow p) s = record { at = p.at; entry = s.at; child = s.node }
+front_of (Replace p) s = record { at = p.at; entry = s.at; child = s.node }
+front_of (Lift p) s = record { at = p.at; entry = s.at; child = p.child }
+front_of (Join p) s = record { at = p.at; entry = s.at; child = s.node }
+
+abbrev pub next_front : JoinPlan → PlanSlots → Option Front
+next_front p s =
+    if p.next.at.node == p.node then None else Some (record { at = p.next.at; entry = s.next; child = p.next.right })
+
+abbrev pub next_front_of : Plan → PlanSlots → Option Front
+next_front_of (Grow p) s = None
+next_front_of (Replace p) s = None
+next_front_of (Lift p) s = None
+next_front_of (Join p) s = next_front p s
 
 -- the entries that are put in front of bundles
+abbrev pub or_none : Option Front → List Front
+or_none None = []
+or_none (Some f) = f ∷ []
+
 abbrev pub fronts_of : Plan → PlanSlots → List Front
-fronts_of (Grow p) s = record { at = p.at; entry = s.at; child = s.node } ∷ []
-fronts_of (Replace p) s = record { at = p.at; entry = s.at; child = s.node } ∷ []
-fronts_of (Lift p) s = record { at = p.at; entry = s.at; child = p.child } ∷ []
-fronts_of (Join p) s = record { at = p.at; entry = s.at; child = s.node } ∷ next_fronts p s
+fronts_of plan s = front_of plan s ∷ or_none (next_front_of plan s)
 
 -- the plain links that are set behind the raise: those in front of whose bundles entries are put, in the same order, to the
 -- same children
@@ -160,3 +219,16 @@ slot_of (Some n) = Some n.slot
 abbrev pub entries_of : List Front → List ℕ
 entries_of [] = []
 entries_of (f ∷ fs) = f.entry ∷ entries_of fs
+
+-- the entry of a new node's link, and those of both
+abbrev pub fresh_listed : Option Fresh → List ℕ
+fresh_listed None = []
+fresh_listed (Some fresh) = fresh.entry ∷ []
+
+abbrev pub fresh_entries : Option NewNode → List ℕ
+fresh_entries None = []
+fresh_entries (Some n) = fresh_listed n.left ++ fresh_listed n.right
+
+-- all entries that the update uses: those in front of bundles first
+abbrev pub entries_in : Plan → PlanSlots → List ℕ
+entries_in plan s = entries_of (fronts_of plan s) ++ fresh_entries (new_node_of plan s)

@@ -19,7 +19,7 @@ use Rattle.core_events.specs.LoadMoves.{locks}
 use Rattle.core_invariant.specs.Meanings.{Meaning}
 use Rattle.core_invariant.specs.Rule.{Rule}
 use Rattle.core_events.specs.SpelledNow.{tree_now, child_now}
-use Rattle.core_events.specs.TreeMoves.{new_entries, node_entries, is_tree_step, tree_move}
+use Rattle.core_events.specs.TreeMoves.{has_gap, new_entries, node_entries, is_tree_step, tree_move}
 use Rattle.core_trees.specs.LinkSteps.{IsLinkIn}
 use Rattle.core_updates.specs.SetLinks.{SetLink, LeavesPlain, set_to}
 
@@ -79,13 +79,15 @@ pub record FindsKey (z : Layout) (m : Memory) (vs : List View) (v : View) (key :
   pub right : ℕ
   pub right_is : child_now m vs [] Right node ≡ right
 
--- a put of an absent key: the one pending entry leads its gap's link, whose node is locked, to a new node without children
+-- a put of an absent key: the one pending entry leads its gap's link, whose node is locked, to a new node without children; a search
+-- of the seat has found the plain link null, with the tag that it has
 pub record IsReadyToGrow (z : Layout) (m : Memory) (vs : List View) (v : View) (key val : ℕ) : Type 0 where
   pub node : ℕ
   pub side : Side
   pub link : IsLinkIn 0 Right (tree_now z m vs) node side
   pub held : locks node v.held.nodes ≡ true
   pub gap : IsGapLink key node side 0 Right (tree_now z m vs)
+  pub searched : has_gap m v key node side ≡ true
   pub small : key < 2 ^ 64
   pub slot : ℕ
   pub new : IsNewNode m v slot key val 0 0

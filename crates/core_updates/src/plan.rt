@@ -69,18 +69,6 @@ pub enum Plan {
     Join(JoinPlan),
 }
 
-/// What an update looks at under its locks, and what it must find there.
-#[derive(Clone, Copy, Debug, PartialEq, Eq)]
-pub enum Look {
-    /// The link's node is unmarked, and the head of the link's bundle is the one through which the search came
-    /// to this child, 0 for none.
-    Link { at: Link, child: u32 },
-    /// The node has this key.
-    Key { node: u32, key: u64 },
-    /// The node has this value.
-    Val { node: u32, val: u64 },
-}
-
 /// The free slots of which an update takes what it needs.
 #[derive(Clone, Copy, Debug, PartialEq, Eq)]
 pub struct PlanSlots {
@@ -93,6 +81,16 @@ pub struct PlanSlots {
     /// The entry of the new node's right link.
     pub right: u32,
     /// The entry that is put in front of the bundle of the link to the successor.
+    pub next: u32,
+}
+
+/// The newest entries of the bundles in front of which an update puts its own, 0 for none, as they were found under the
+/// locks.
+#[derive(Clone, Copy, Debug, PartialEq, Eq)]
+pub struct Heads {
+    /// Of the link at which the tree changes.
+    pub at: u32,
+    /// Of the link to a successor that is not the right child of the removed node; 0 where there is no such successor.
     pub next: u32,
 }
 

@@ -1,9 +1,10 @@
-// What a plan says, item by item in the order in which the update does it.
-ghost use Rattle.std.specs.Prelude.{◌≡◌, ◌==◌};
-ghost use Rattle.std.specs.List.{slice_get};
-ghost use Rattle.core_updates.specs.Plans.{key_of, change_of, locks_of, looks_of, new_node_of, fronts_of, out_of, node_fills, entry_fills, fresh_to, head_of, child_of, other_side};
+// What a plan says, as lists in the order in which the update does it.
+ghost use Rattle.std.specs.Prelude.{◌≡◌, ◌==◌, ◌<◌, ◌≤◌, ◌++◌, length};
+ghost use Rattle.arrayvec.specs.ArrayVec.{array_vec_len};
+ghost use Rattle.core_updates.specs.Plans.{key_of, change_of, locks_of, link_at, next_link_of, new_node_of, front_of, next_front_of, entries_in, out_of, node_fills, entry_fills, fresh_to, fresh_listed, head_of, child_of};
 
-use crate::plan::{Fresh, Front, JoinPlan, LiftPlan, Look, NewNode, Plan, PlanSlots, ReplacePlan};
+use crate::plan::{Fresh, Front, JoinPlan, NewNode, Plan, PlanSlots};
+use arrayvec::ArrayVec;
 use core_trees::Link;
 use index_words::{Change, Field, Filled, Part, Side, Word};
 
@@ -32,32 +33,38 @@ impl Plan {
         }
     }
 
-    /// The node that is locked at this place, in their order. None behind the last one.
-    pub fn lock(&self, place: usize) -> Option<u32>
-        ensures { result ≡ slice_get (locks_of self.now) place }
+    /// The nodes that are locked, in their order.
+    pub fn locks(&self) -> ArrayVec<u32, 4>
+        ensures { result.items ≡ locks_of self.now }
     {
         match self {
-            Plan::Grow(plan) => [plan.at.node].get(place).copied(),
-            Plan::Replace(plan) => [plan.at.node, plan.node].get(place).copied(),
-            Plan::Lift(plan) => [plan.at.node, plan.node].get(place).copied(),
-            Plan::Join(plan) => plan.lock(place),
+            Plan::Grow(plan) => nodes(&[plan.at.node]),
+            Plan::Replace(plan) => nodes(&[plan.at.node, plan.node]),
+            Plan::Lift(plan) => nodes(&[plan.at.node, plan.node]),
+            Plan::Join(plan) => plan.locks(),
         }
     }
 
-    /// What is looked at under the locks at this place, in their order. None behind the last one.
-    pub fn look(&self, place: usize) -> Option<Look>
-        ensures { result ≡ slice_get (looks_of self.now) place }
+    /// The link at which the tree changes.
+    pub fn at(&self) -> Link
+        ensures { result ≡ link_at self.now }
     {
         match self {
-            Plan::Grow(plan) => [Look::Link {
-                at: plan.at,
-                child: 0,
-            }]
-            .get(place)
-            .copied(),
-            Plan::Replace(plan) => plan.look(place),
-            Plan::Lift(plan) => plan.look(place),
-            Plan::Join(plan) => plan.look(place),
+            Plan::Grow(plan) => plan.at,
+            Plan::Replace(plan) => plan.at,
+            Plan::Lift(plan) => plan.at,
+            Plan::Join(plan) => plan.at,
+        }
+    }
+
+    /// The link to the successor, where that is not the right child of the removed node.
+    pub fn next_at(&self) -> Option<Link>
+        ensures { result ≡ next_link_of self.now }
+    {
+        match self {
+            Plan::Grow(_) | Plan::Replace(_) | Plan::Lift(_) => None,
+            Plan::Join(plan) if plan.is_near() => None,
+            Plan::Join(plan) => Some(plan.next.at),
         }
     }
 
@@ -83,114 +90,73 @@ impl Plan {
         }
     }
 
-    /// The entry that is put in front of a bundle at this place, in their order. None behind the last one.
-    pub fn front(&self, slots: &PlanSlots, place: usize) -> Option<Front>
-        ensures { result ≡ slice_get (fronts_of self.now slots.now) place }
+    /// The entry that is put in front of the bundle of the link at which the tree changes.
+    pub fn front(&self, slots: &PlanSlots) -> Front
+        ensures { result ≡ front_of self.now slots.now }
+    {
+        let child = match self {
+            Plan::Lift(plan) => plan.child,
+            Plan::Grow(_) | Plan::Replace(_) | Plan::Join(_) => slots.node,
+        };
+        front_at(self.at(), slots.at, child)
+    }
+
+    /// The entry that is put in front of the bundle of the link to the successor, where that is not the right child of
+    /// the removed node.
+    pub fn next_front(&self, slots: &PlanSlots) -> Option<Front>
+        ensures { result ≡ next_front_of self.now slots.now }
     {
         match self {
-            Plan::Grow(plan) => [front_at(plan.at, slots.at, slots.node)]
-                .get(place)
-                .copied(),
-            Plan::Replace(plan) => [front_at(plan.at, slots.at, slots.node)]
-                .get(place)
-                .copied(),
-            Plan::Lift(plan) => [front_at(plan.at, slots.at, plan.child)]
-                .get(place)
-                .copied(),
-            Plan::Join(plan) => plan.front(slots, place),
+            Plan::Grow(_) | Plan::Replace(_) | Plan::Lift(_) => None,
+            Plan::Join(plan) => plan.next_front(slots),
         }
     }
 
-    /// The node that goes out at this place, in their order, and is marked behind the raise. None behind the last
-    /// one.
-    pub fn out(&self, place: usize) -> Option<u32>
-        ensures { result ≡ slice_get (out_of self.now) place }
+    /// All entries that the update uses: those in front of bundles first, then those of the new node.
+    pub fn entries(&self, slots: &PlanSlots) -> ArrayVec<u32, 4>
+        ensures { result.items ≡ entries_in self.now slots.now }
+    {
+        let mut entries = ArrayVec::new();
+        entries.push(self.front(slots).entry);
+        if let Some(front) = self.next_front(slots) {
+            entries.push(front.entry);
+        }
+        if let Some(node) = self.new_node(slots) {
+            push_fresh(&mut entries, node.left);
+            push_fresh(&mut entries, node.right);
+        }
+        entries
+    }
+
+    /// The nodes that go out with the raise, and are marked behind it, in their order.
+    pub fn out(&self) -> ArrayVec<u32, 2>
+        ensures { result.items ≡ out_of self.now }
     {
         match self {
-            Plan::Grow(_) => None,
-            Plan::Replace(plan) => [plan.node].get(place).copied(),
-            Plan::Lift(plan) => [plan.node].get(place).copied(),
-            Plan::Join(plan) => [plan.node, plan.next.node].get(place).copied(),
+            Plan::Grow(_) => ArrayVec::new(),
+            Plan::Replace(plan) => nodes(&[plan.node]),
+            Plan::Lift(plan) => nodes(&[plan.node]),
+            Plan::Join(plan) => nodes(&[plan.node, plan.next.node]),
         }
-    }
-}
-
-impl ReplacePlan {
-    fn look(&self, place: usize) -> Option<Look>
-        ensures { result ≡ slice_get (looks_of (Plan.Replace self.now)) place }
-    {
-        [
-            link_look(self.at, self.node),
-            side_look(self.node, Side::Left, self.left),
-            side_look(self.node, Side::Right, self.right),
-            key_look(self.node, self.pair.key),
-        ]
-        .get(place)
-        .copied()
-    }
-}
-
-impl LiftPlan {
-    fn look(&self, place: usize) -> Option<Look>
-        ensures { result ≡ slice_get (looks_of (Plan.Lift self.now)) place }
-    {
-        [
-            link_look(self.at, self.node),
-            side_look(self.node, self.bare, 0),
-            side_look(self.node, other_side(self.bare), self.child),
-            key_look(self.node, self.key),
-        ]
-        .get(place)
-        .copied()
     }
 }
 
 impl JoinPlan {
-    // Whether the successor is the right child of the removed node.
-    fn is_near(&self) -> bool
+    /// Whether the successor is the right child of the removed node.
+    pub fn is_near(&self) -> bool
         ensures { result ≡ (self.now.next.at.node == self.now.node) }
     {
         self.next.at.node == self.node
     }
 
-    fn lock(&self, place: usize) -> Option<u32>
-        ensures { result ≡ slice_get (locks_of (Plan.Join self.now)) place }
+    fn locks(&self) -> ArrayVec<u32, 4>
+        ensures { result.items ≡ locks_of (Plan.Join self.now) }
     {
         let next = self.next;
         if self.is_near() {
-            [self.at.node, self.node, next.node].get(place).copied()
+            nodes(&[self.at.node, self.node, next.node])
         } else {
-            [self.at.node, self.node, next.at.node, next.node]
-                .get(place)
-                .copied()
-        }
-    }
-
-    fn look(&self, place: usize) -> Option<Look>
-        ensures { result ≡ slice_get (looks_of (Plan.Join self.now)) place }
-    {
-        let next = self.next;
-        let at = link_look(self.at, self.node);
-        let left = side_look(self.node, Side::Left, self.left);
-        let right = side_look(self.node, Side::Right, self.right);
-        let key = key_look(self.node, self.key);
-        let next_left = side_look(next.node, Side::Left, 0);
-        let next_right = side_look(next.node, Side::Right, next.right);
-        let next_key = key_look(next.node, next.pair.key);
-        let next_val = val_look(next.node, next.pair.val);
-        if self.is_near() {
-            [
-                at, left, right, key, next_left, next_right, next_key, next_val,
-            ]
-            .get(place)
-            .copied()
-        } else {
-            let next_at = link_look(next.at, next.node);
-            [
-                at, left, right, key, next_left, next_right, next_key, next_val, next_at,
-            ]
-            .get(place)
-            .copied()
+            nodes(&[self.at.node, self.node, next.at.node, next.node])
         }
     }
 
@@ -210,23 +176,21 @@ impl JoinPlan {
         }
     }
 
-    fn front(&self, slots: &PlanSlots, place: usize) -> Option<Front>
-        ensures { result ≡ slice_get (fronts_of (Plan.Join self.now) slots.now) place }
+    fn next_front(&self, slots: &PlanSlots) -> Option<Front>
+        ensures { result ≡ next_front_of (Plan.Join self.now) slots.now }
     {
-        let first = front_at(self.at, slots.at, slots.node);
         if self.is_near() {
-            [first].get(place).copied()
+            None
         } else {
-            let second = front_at(self.next.at, slots.next, self.next.right);
-            [first, second].get(place).copied()
+            Some(front_at(self.next.at, slots.next, self.next.right))
         }
     }
 }
 
 impl NewNode {
-    /// The word of the node that is filled at this place, with its value. None behind the last one.
-    pub fn fill(&self, place: usize) -> Option<Filled>
-        ensures { result ≡ slice_get (node_fills self.now) place }
+    /// The words of the node that are filled, each with its value.
+    pub fn fills(&self) -> [Filled; 9]
+        ensures { result ≡ node_fills self.now }
     {
         let slot = self.slot;
         [
@@ -243,46 +207,63 @@ impl NewNode {
             filled(Word::Node(Field::Tag(Side::Left), slot), 0),
             filled(Word::Node(Field::Tag(Side::Right), slot), 0),
         ]
-        .get(place)
-        .copied()
     }
 }
 
 impl Fresh {
-    /// The word of the entry that is filled at this place, with its value. None behind the last one.
-    pub fn fill(&self, place: usize) -> Option<Filled>
-        ensures { result ≡ slice_get (entry_fills self.now.entry self.now.child 0) place }
+    /// The words of the entry that are filled, each with its value.
+    pub fn fills(&self) -> [Filled; 3]
+        ensures { result ≡ entry_fills self.now.entry self.now.child 0 }
     {
-        entry_fill(self.entry, self.child, 0, place)
+        fills_of_entry(self.entry, self.child, 0)
     }
 }
 
 impl Front {
-    /// The word of the entry that is filled at this place, with its value, where the head of the bundle was found
-    /// to be `behind`. None behind the last one.
-    pub fn fill(&self, behind: u64, place: usize) -> Option<Filled>
-        ensures { result ≡ slice_get (entry_fills self.now.entry self.now.child behind) place }
+    /// The words of the entry that are filled, each with its value, where the newest entry of the bundle was found to
+    /// be `behind`.
+    pub fn fills(&self, behind: u32) -> [Filled; 3]
+        ensures { result ≡ entry_fills self.now.entry self.now.child behind }
     {
-        entry_fill(self.entry, self.child, behind, place)
+        fills_of_entry(self.entry, self.child, behind)
     }
 }
 
-fn entry_fill(entry: u32, child: u32, behind: u64, place: usize) -> Option<Filled>
-    ensures { result ≡ slice_get (entry_fills entry child behind) place }
+fn fills_of_entry(entry: u32, child: u32, behind: u32) -> [Filled; 3]
+    ensures { result ≡ entry_fills entry child behind }
 {
     [
         filled(Word::Entry(Part::Child, entry), u64::from(child)),
         filled(Word::Entry(Part::Stamp, entry), 0),
-        filled(Word::Entry(Part::Next, entry), behind),
+        filled(Word::Entry(Part::Next, entry), u64::from(behind)),
     ]
-    .get(place)
-    .copied()
 }
 
 fn filled(word: Word, value: u64) -> Filled
     ensures { result ≡ record { word = word; value = value } }
 {
     Filled { word, value }
+}
+
+/// A list of these nodes.
+fn nodes<const N: usize>(nodes: &[u32]) -> ArrayVec<u32, N>
+    requires { length nodes.now ≤ N }
+    ensures { result.items ≡ nodes.now }
+{
+    let mut list = ArrayVec::new();
+    for node in nodes {
+        list.push(*node);
+    }
+    list
+}
+
+fn push_fresh(entries: &mut ArrayVec<u32, 4>, fresh: Option<Fresh>)
+    requires { array_vec_len entries.old < 4 }
+    ensures { entries.new.items ≡ entries.old.items ++ fresh_listed fresh }
+{
+    if let Some(fresh) = fresh {
+        entries.push(fresh.entry);
+    }
 }
 
 fn head(fresh: Option<Fresh>) -> u64
@@ -317,40 +298,4 @@ fn front_at(at: Link, entry: u32, child: u32) -> Front
     ensures { result ≡ record { at = at; entry = entry; child = child } }
 {
     Front { at, entry, child }
-}
-
-fn other_side(side: Side) -> Side
-    ensures { result ≡ other_side side }
-{
-    match side {
-        Side::Left => Side::Right,
-        Side::Right => Side::Left,
-    }
-}
-
-fn link_look(at: Link, child: u32) -> Look
-    ensures { result ≡ Look.Link at child }
-{
-    Look::Link { at, child }
-}
-
-fn side_look(node: u32, side: Side, child: u32) -> Look
-    ensures { result ≡ Look.Link (record { node = node; side = side }) child }
-{
-    Look::Link {
-        at: Link { node, side },
-        child,
-    }
-}
-
-fn key_look(node: u32, key: u64) -> Look
-    ensures { result ≡ Look.Key node key }
-{
-    Look::Key { node, key }
-}
-
-fn val_look(node: u32, val: u64) -> Look
-    ensures { result ≡ Look.Val node val }
-{
-    Look::Val { node, val }
 }

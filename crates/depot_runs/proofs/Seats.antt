@@ -1,9 +1,7 @@
 -- The seats that the threads leave are all seats of the depot again.
-use Rattle.std.proofs.Common.{◌≡◌, ℕ, zero, suc, ◌<◌, List, [], ◌∷◌, length, get_or, map, refl, ap, ◌∙◌, sym, arith}
+use Rattle.std.proofs.Common.{◌≡◌, ℕ, zero, suc, ◌<◌, List, [], ◌∷◌, length, get_or, map, refl, ap, ◌∙◌, arith}
 use Rattle.std.specs.Prelude.{All}
-use Rattle.key_map.specs.Lists.{Every}
-use Rattle.slot_depot.specs.declared.book.Terms.{Terms}
-use Rattle.slot_depot.specs.Depots.{Opened, Seated, IsSeatOf, IsSeatWith, IsSameSeat, AreAllSeats}
+use Rattle.slot_depot.specs.Depots.{Opened, Seated, IsSameSeat, AreAllSeats}
 use Rattle.slot_depot.proofs.Kept.{all_kept}
 use Rattle.depot_runs.specs.declared.run.Worked.{Worked}
 use Rattle.depot_runs.specs.Runs.{AreLeft, seat_of}
@@ -22,13 +20,3 @@ all_back depot seats left all worked = all_kept depot seats (map seat_of left) a
 
     same : (i : ℕ) (s : Seated) → i < length seats → IsSameSeat (get_or seats i s) (get_or (map seat_of left) i s)
     same i s lt = goes (get_or seats i s) s left i (λ d. worked.each i s d lt) (omega (arith, worked.one_each, lt))
-
--- each of all seats is a seat of the depot
-pub each_of : (depot : Opened) (seats : List Seated) → AreAllSeats depot seats → Every (λ (s : Seated). s.book.terms.home ≡ []) seats
-    → (i : ℕ) (s : Seated) → i < length seats → IsSeatOf depot (get_or seats i s) × ((get_or seats i s).book.terms.home ≡ [])
-each_of depot seats all homes = goes seats all.of homes
-  where
-    goes : (ss : List Seated) → Every (IsSeatWith depot.id all.terms) ss → Every (λ (s : Seated). s.book.terms.home ≡ []) ss → (i : ℕ) (s : Seated) → i < length ss → IsSeatOf depot (get_or ss i s) × ((get_or ss i s).book.terms.home ≡ [])
-    goes [] of home i s low = absurd (omega (arith, low))
-    goes (x ∷ ss) of home zero s low = (record { id = of.0.id_is; room = ap (λ (t : Terms). t.room) of.0.terms_are ∙ all.room }, home.0)
-    goes (x ∷ ss) of home (suc i) s low = goes ss of.1 home.1 i s (omega (arith, low))

@@ -5,7 +5,7 @@ ghost use Rattle.core_updates.specs.PlanEvents.{HasSlots};
 ghost use Rattle.plan_laws.specs.PlainLinks.{SetsAtOnce};
 ghost use Rattle.plan_laws.specs.Fills.{AreApart};
 ghost use Rattle.plan_laws.specs.Raises.{HasFinalised};
-ghost use Rattle.plan_laws.specs.Tries.{IsSearched};
+ghost use Rattle.update_search.specs.Aims.{IsAim, IsPut};
 ghost use Rattle.table_steps.specs.Passes.{AtRest, IsPassOf};
 ghost use Rattle.tree_update.specs.Trying.{OffersSlots};
 
@@ -19,10 +19,10 @@ use std::sync::Wait;
 use std::thread::{Threads, map_vec, yield_now};
 use table_steps::{PassKey, SharedTable, TablePass};
 use tree_update::put;
-use update_search::{Found, begin_search, find_plan};
+use update_search::{Aim, begin_search, find_aim};
 use update_try::{
     finalise_all, leave_section, make_ready, mark_all, plan_slots, prune_all, raise_plan,
-    raise_tags, set_links, unlock_all, validate,
+    raise_tag, set_plain, unlock_all, validate,
 };
 
 const SIZE: PassSize = PassSize {
@@ -72,37 +72,36 @@ fn end_update(pass: &mut TablePass<'_>, number: u64, plan: &Plan, slots: &PlanSl
     finalise_all(pass, plan, slots);
     prune_all(pass, plan, slots, number);
     mark_all(pass, plan);
-    set_links(pass, plan, slots);
-    raise_tags(pass, plan, slots);
-    unlock_all(pass, plan);
+    set_plain(pass, plan, slots);
+    raise_tag(pass, plan, slots);
+    unlock_all(pass, plan.locks().as_slice());
     leave_section(pass);
 }
 
-/// Carries a plan out, and stays at its stage before the raise. Whether the locks were free and the looks found all as
+/// Carries an aim out, and stays at its stage before the raise. Whether the locks were free and the looks found all as
 /// it was.
 fn carry_slowly(
     pass: &mut TablePass<'_>,
     meeting: &Meeting,
     number: u64,
-    plan: &Plan,
+    aim: &Aim,
     slots: &PlanSlots,
-    heads: &[u32; 9],
 ) -> bool
-    requires searched { IsSearched pass.old.view pass.old.number plan.now heads.now }
-    requires near { SetsAtOnce plan.now }
+    requires aim { IsAim pass.old.view aim.now }
+    requires put { IsPut aim.now }
     requires free { HasSlots pass.old.view slots.now }
     requires apart { AreApart slots.now }
     requires node { 0 < slots.now.node }
     requires left { 0 < pass.old.view.history.left }
     requires reads { pass.old.view.reading.section ≡ Some number }
 {
-    if let Err(_failed) = validate(pass, plan, heads) {
+    let Ok(plan) = validate(pass, aim) else {
         return false;
-    }
-    make_ready(pass, plan, slots, heads);
+    };
+    make_ready(pass, &plan, slots);
     meeting.stay();
-    raise_plan(pass, 2, plan, slots, heads);
-    end_update(pass, number, plan, slots);
+    raise_plan(pass, 2, &plan, slots);
+    end_update(pass, number, &plan, slots);
     true
 }
 
@@ -115,12 +114,9 @@ fn put_slowly(pass: &mut TablePass<'_>, meeting: &Meeting, slots: &PlanSlots) ->
     let at = begin_search(pass);
     pass.facts();
     pass.number_fact();
-    match find_plan(pass, at, KEY, Change::Put(51)) {
-        Found::Plan(planned) => {
-            carry_slowly(pass, meeting, at, &planned.plan, slots, &planned.entries)
-        }
-        Found::Absent => false,
-        Found::Pending => false,
+    match find_aim(pass, KEY, Change::Put(51)) {
+        Ok(Some(aim)) => carry_slowly(pass, meeting, at, &aim, slots),
+        Ok(None) | Err(_) => false,
     }
 }
 

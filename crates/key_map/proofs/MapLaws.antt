@@ -25,11 +25,6 @@ pub RisesFrom-map_remove : (key low : ℕ) (m : List Pair) → RisesFrom low m �
 RisesFrom-map_remove key low [] r = tt
 RisesFrom-map_remove key low (p ∷ ps) r = grind (arith, nat_tests, RisesFrom-map_remove key (p.key + 1) ps, RisesFrom-lower)
 
--- no key lies below `low`, so the place of a key up to `low` is the front
-place-front : (key low : ℕ) (m : List Pair) → key ≤ low → RisesFrom low m → place key m ≡ 0
-place-front key low [] le r = refl
-place-front key low (p ∷ ps) le r = grind (arith, nat_tests)
-
 absent-front : (key low : ℕ) (m : List Pair) → key < low → RisesFrom low m → map_has key m ≡ false
 absent-front key low [] le r = refl
 absent-front key low (p ∷ ps) le r = grind (arith, nat_tests, absent-front key (p.key + 1) ps)

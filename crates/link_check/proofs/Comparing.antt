@@ -1,35 +1,19 @@
--- A pass looks at plain links beside the tree that it reads.
-use Rattle.std.proofs.Common.{◌≡◌, ℕ, zero, suc, ◌+◌, ◌<◌, ◌⊎◌, inl, inr, List, [], ◌∷◌, ◌++◌, cond, Bool, true, false, eqb, refl, ap, ◌∙◌, sym, subst, arith, Some}
+-- A node, and a link, of the tree that a pass reads.
+use Rattle.std.proofs.Common.{◌≡◌, ℕ, zero, suc, ◌+◌, ◌<◌, ◌⊎◌, inl, inr, List, [], ◌∷◌, ◌++◌, cond, Bool, true, false, eqb, refl, ap, ◌∙◌, sym, subst, arith}
 use Rattle.std.proofs.lemmas.Bool.Decides.{nat_tests}
 use Rattle.std.proofs.lemmas.List.{map-append}
 use Rattle.index_words.specs.declared.side.Side.{Side}
 use Rattle.index_words.specs.declared.side.Side.TheVariants.{Left, Right}
 use Rattle.index_words.specs.declared.view.View.{View}
 use Rattle.index_words.specs.declared.view.reading.TreeNode.{TreeNode}
-use Rattle.index_words.specs.declared.view.update.HeldNode.{HeldNode}
-use Rattle.index_words.specs.declared.view.update.Updating.{Updating}
-use Rattle.index_words.specs.Views.{no_update}
-use Rattle.index_words.specs.Words.{memory}
-use Rattle.key_map.specs.Lists.{count, Every, IsItem}
+use Rattle.key_map.specs.Lists.{count, IsItem}
 use Rattle.key_map.proofs.Counting.{count-append}
-use Rattle.core_grace.specs.Holds.{held_slots, tree_slots}
-use Rattle.core_grace.specs.Sections.{is_even}
+use Rattle.core_grace.specs.Holds.{tree_slots}
 use Rattle.core_trees.specs.declared.link.Link.{Link}
 use Rattle.core_trees.specs.NamedTree.{NamedTree, Null, Branch}
-use Rattle.core_events.specs.LockMoves.{just_locked, locked_view, met_lock, unlocked_view}
-use Rattle.core_events.specs.PlainMoves.{link_known_at, link_loaded}
 use Rattle.core_events.specs.Versions.{top_slot, tree_nodes}
-use Rattle.core_invariant.specs.Readers.{IsLocked}
-use Rattle.core_invariant.proofs.OneView.{seat_at}
 use Rattle.core_laws.specs.Found.{LeadsTo, child_on}
-use Rattle.core_laws.specs.PlainNeeds.{MayReadLink}
-use Rattle.core_laws.specs.ViewNeeds.{MayUnlock}
-use Rattle.plan_laws.proofs.PlainLinks.{link-node, slots-stay}
-use Rattle.plan_laws.proofs.Releases.{all-done, first-gone, known-marked, no-node, none-taken}
-use Rattle.table_rule.specs.Homes.{IsLiveView}
-use Rattle.table_rule.proofs.Lists.{item_at}
-use Rattle.bundle_reads.specs.Links.{InsideAt}
-use Rattle.link_check.specs.TreeLinks.{IsLinkOfTree}
+use Rattle.link_check.specs.TreeLinks.{IsInTree, IsLinkOfTree, ReadsOn}
 
 own_node : (k : ℕ) (ks : List ℕ) → 0 < count k (k ∷ ks)
 own_node k ks = counted k (count k ks)
@@ -37,70 +21,12 @@ own_node k ks = counted k (count k ks)
     counted : (k n : ℕ) → 0 < cond (eqb k k) 1 0 + n
     counted k n = grind (arith, nat_tests)
 
--- links of one tree are links of the tree that is read later, where that is the same
-pub links_same : (v w : View) (ls : List Link) → w.reading.tree ≡ v.reading.tree → Every (IsLinkOfTree v) ls → Every (IsLinkOfTree w) ls
-links_same v w ls same all =
-    subst (λ (ns : List TreeNode). Every (λ (l : Link). ((l.node ≡ 0) × (l.side ≡ Right)) ⊎ (0 < count l.node (tree_slots ns))) ls) (sym same) all
+pub node_on : (v w : View) (k : ℕ) → ReadsOn v w → IsInTree v k → IsInTree w k
+node_on v w k on is = subst (λ (ns : List TreeNode). 0 < count k (tree_slots ns)) (sym on.tree) is
 
-pub link_same : (v w : View) (l : Link) → w.reading.tree ≡ v.reading.tree → IsLinkOfTree v l → IsLinkOfTree w l
-link_same v w l same is = (links_same v w (l ∷ []) same (is, tt)).0
-
--- the lock of another pass leaves what is read as it is
-pub met_inside : (v w : View) (own found at : ℕ) → w ≡ met_lock v own found → InsideAt v at → InsideAt w at
-met_inside v w own found at is reads =
-    subst (λ (u : View). InsideAt u at) (sym is) (record { section = reads.section; inside = record { odd = reads.inside.odd; unlocked = reads.inside.unlocked } })
-
-pub none_locked : (v : View) (k at : ℕ) → InsideAt v at → ¬ IsLocked v k
-none_locked v k at reads locked = absurd (omega (arith, subst (λ (hs : List HeldNode). 0 < count k (held_slots hs)) reads.inside.unlocked locked))
-
--- a link is loaded under the lock of its node, and the lock is given back
-module _ (v : View) (k at : ℕ) (side : Side) (reads : InsideAt v at) (live : IsLiveView v) (w : View) (won : w ≡ locked_view v k) where
-  idle : v.update ≡ no_update
-  idle =
-      let s = live.stands in
-      (seat_at v.layout (memory v.layout s.words) s.views s.rule.meaning s.seat v (item_at s.views s.seat v s.at) s.rule.rule).section.done reads.inside.unlocked
-
-  one_locked : held_slots w.held.nodes ≡ k ∷ []
-  one_locked = ap (λ (y : View). held_slots y.held.nodes) won ∙ ap (λ (hs : List HeldNode). held_slots (hs ++ just_locked k ∷ [])) reads.inside.unlocked
-
-  pub may_read : MayReadLink w k
-  may_read = record {
-    inside = ap (λ (y : View). is_even y.section_word) won ∙ reads.inside.odd;
-    locked = subst (λ ks. 0 < count k ks) (sym one_locked) (own_node k []);
-  }
-
-  module _ (word : ℕ) (x : View) (loaded : x ≡ link_loaded w k side word) where
-    still_locked : held_slots x.held.nodes ≡ k ∷ []
-    still_locked =
-        ap (λ (y : View). held_slots y.held.nodes) loaded ∙ slots-stay (link_known_at k side word) (link-node k word side) w.held.nodes ∙ one_locked
-
-    still_idle : x.update ≡ no_update
-    still_idle = ap (λ (y : View). y.update) loaded ∙ ap (λ (y : View). y.update) won ∙ idle
-
-    pub may_give_back : MayUnlock x k
-    may_give_back = record {
-      locked = subst (λ ks. 0 < count k ks) (sym still_locked) (own_node k []);
-      done = ap (λ (u : Updating). u.pending) still_idle;
-      marked =
-          known-marked x.update x.held.nodes
-          (subst (λ (u : Updating). Every (λ (h : HeldNode). 0 < count h.node u.taken → h.mark ≡ Some 1) x.held.nodes) (sym still_idle) (none-taken x.held.nodes));
-      set =
-          all-done k x.update
-          (ap (λ (u : Updating). u.unset) still_idle, ap (λ (u : Updating). u.owed) still_idle, ap (λ (u : Updating). u.unlinking) still_idle);
-    }
-
-    module _ (y : View) (free : y ≡ unlocked_view x k) where
-      pub inside_again : InsideAt y at
-      inside_again = record {
-        section = ap (λ (u : View). u.reading.section) free ∙ ap (λ (u : View). u.reading.section) loaded ∙ ap (λ (u : View). u.reading.section) won ∙ reads.section;
-        inside = record {
-          odd = ap (λ (u : View). is_even u.section_word) free ∙ ap (λ (u : View). is_even u.section_word) loaded ∙ ap (λ (u : View). is_even u.section_word) won ∙ reads.inside.odd;
-          unlocked = no-node y.held.nodes (ap (λ (u : View). held_slots u.held.nodes) free ∙ first-gone k [] x.held.nodes still_locked refl);
-        };
-      }
-
-      pub tree_again : y.reading.tree ≡ v.reading.tree
-      tree_again = ap (λ (u : View). u.reading.tree) free ∙ ap (λ (u : View). u.reading.tree) loaded ∙ ap (λ (u : View). u.reading.tree) won
+pub link_on : (v w : View) (l : Link) → ReadsOn v w → IsLinkOfTree v l → IsLinkOfTree w l
+link_on v w l on is =
+    subst (λ (ns : List TreeNode). ((l.node ≡ 0) × (l.side ≡ Right)) ⊎ (0 < count l.node (tree_slots ns))) (sym on.tree) is
 
 -- the child of a link of the tree is a node of the tree
 top_there : (t : NamedTree) → 0 < top_slot t → 0 < count (top_slot t) (tree_slots (tree_nodes t))

@@ -1,2 +1,4 @@
--- A pass looks at plain links beside the tree that it reads.
+-- A node, and a link, of the tree that a pass reads.
 pub mod Comparing
+-- A pass that has locked no node locks one, looks at its links, and gives the lock back.
+pub mod Visits

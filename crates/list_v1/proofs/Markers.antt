@@ -9,16 +9,15 @@ use Rattle.std.proofs.lemmas.List.Elements.{All-get_or}
 use Rattle.key_names.specs.Names.{Rises, name_at, begins_with, IsFine}
 use Rattle.key_map.specs.declared.pair.Pair.{Pair}
 use Rattle.key_map.specs.Map.{IsMap}
-use Rattle.bucket_terms.specs.declared.list_query.ListQuery.{ListQuery}
 use Rattle.bucket_terms.specs.declared.v1_query.V1Query.{V1Query}
 use Rattle.bucket_terms.specs.declared.token_point.TokenPoint.{TokenPoint}
 use Rattle.bucket_terms.specs.declared.token_point.TokenPoint.TheVariants.{Key as AtKey, Group as AtGroup}
 use Rattle.bucket_terms.specs.declared.page.PageEntry.{PageEntry}
 use Rattle.bucket_terms.specs.declared.page.Page.{Page}
-use Rattle.bucket_terms.specs.Listing.{is_under, group_len, entry_by, entry_of, entries_of, entry_point, page_point, page_of, point_text}
+use Rattle.bucket_terms.specs.Listing.{group_len, entry_by, entry_of, entries_of, entry_point, page_point, point_text}
 use Rattle.bucket_terms.specs.PageParts.{cut_at}
 use Rattle.bucket_terms.proofs.PagePoints.{last_point-is}
-use Rattle.page_rules.specs.PageLaw.{all_entries, AreAllEntries, AreChained as AreChainedByPoints}
+use Rattle.page_rules.specs.PageLaw.{AreChained as AreChainedByPoints}
 use Rattle.page_rules.proofs.Groups.{rolled_up, begins_same, group_same}
 use Rattle.page_rules.proofs.Law.{last_of_take, page_left, begins_all}
 use Rattle.page_rules.proofs.Places.{IsEntryAt, entry_at}

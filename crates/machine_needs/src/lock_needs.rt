@@ -2,13 +2,14 @@
 ghost use Rattle.std.specs.Prelude.{◌≡◌, IfSome, is_some};
 ghost use Rattle.index_words.specs.Words.{memory};
 ghost use Rattle.core_events.specs.declared.event.Kind.TheVariants.{TryLock, Unlock, LoadMark, Mark, LoadKeyOrVal};
-ghost use Rattle.core_events.specs.LockNeeds.{names_pass as pass_named, may_try_lock as try_lock_needs, may_unlock as unlock_needs, may_load_mark as load_mark_needs, may_mark as mark_needs, may_load_pair as load_pair_needs};
+ghost use Rattle.core_events.specs.LockNeeds.{names_pass as pass_named, may_lock as lock_needs, may_try_lock as try_lock_needs, may_unlock as unlock_needs, may_load_mark as load_mark_needs, may_mark as mark_needs, may_load_pair as load_pair_needs};
 ghost use Rattle.machine_needs.specs.StepParts.{IsStep};
 
 use crate::plain_needs::is_done_at;
 use crate::seat_needs::is_pending_free;
 use crate::step::{Load, Step, Store};
-use core_events::reads::{is_in, is_locked, is_reachable};
+use core_events::reads::{is_in, is_locked};
+use core_events::searches::is_searched;
 use index_words::{Field, Layout, View, Word};
 
 fn names_pass(number: Option<u32>, word: u64) -> bool
@@ -20,6 +21,13 @@ fn names_pass(number: Option<u32>, word: u64) -> bool
     }
 }
 
+/// Whether the node is the root, or one that the seat's search knows.
+fn may_lock(view: &View, node: u32) -> bool
+    ensures { result ≡ lock_needs view.now node }
+{
+    node == 0 || is_searched(&view.reading, node)
+}
+
 pub(crate) fn try_lock(view: &View, word: Word, value: u64) -> Option<Step>
     ensures met { is_some result ≡ try_lock_needs view.now word value }
     ensures step { IfSome result (IsStep TryLock word value) }
@@ -28,7 +36,7 @@ pub(crate) fn try_lock(view: &View, word: Word, value: u64) -> Option<Step>
         return None;
     };
     if !(view.section_word % 2 == 0)
-        && is_reachable(view, node)
+        && may_lock(view, node)
         && !is_locked(view.held.nodes.as_slice(), node)
         && names_pass(view.number, value)
     {

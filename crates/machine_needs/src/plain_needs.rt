@@ -1,34 +1,28 @@
 // The needs of loads and stores of plain links and their tags: the step, where they are met.
 ghost use Rattle.std.specs.Prelude.{◌≡◌, ◌==◌, ◌&&◌, ◌+◌, not, IfSome, is_some};
 ghost use Rattle.std.specs.List.{list_any};
-ghost use Rattle.index_words.specs.Words.{memory, same_side as same_sides};
+ghost use Rattle.index_words.specs.Words.{memory};
+ghost use Rattle.index_words.specs.declared.word.Field.TheVariants.{Link as LinkField};
 ghost use Rattle.index_words.specs.declared.view.update.OwedTag.{OwedTag as Owed};
 ghost use Rattle.index_words.specs.declared.view.update.UnsetLink.{UnsetLink as Unset};
 ghost use Rattle.core_events.specs.declared.event.Kind.TheVariants.{LoadLink, SetLink, LoadTag, SetTag};
-ghost use Rattle.core_events.specs.PlainNeeds.{may_look_under as look_under_needs, may_load_link as load_link_needs, may_load_tag as load_tag_needs, is_link_of as link_of, sets_to as sets_link_to, unlinks_at as unlinks, sets_others as sets_other_links, keeps_order as order_kept, may_unlink as unlink_needs, may_unlink_at as unlink_needs_at, may_set_link as set_link_needs, is_owed_at as owed_at, owes as owes_tag, may_set_tag as set_tag_needs, is_done_at as done_at};
+ghost use Rattle.core_events.specs.PlainNeeds.{may_load_link_at as load_link_needs_at, may_load_link as load_link_needs, may_load_tag as load_tag_needs, is_link_of as link_of, sets_to as sets_link_to, unlinks_at as unlinks, sets_others as sets_other_links, keeps_order as order_kept, may_unlink as unlink_needs, may_unlink_at as unlink_needs_at, may_set_link as set_link_needs, is_owed_at as owed_at, owes as owes_tag, may_set_tag as set_tag_needs, is_done_at as done_at};
 ghost use Rattle.machine_needs.specs.StepParts.{IsStep};
 
 use crate::seat_needs::{is_marked, is_pending_free};
 use crate::step::{Load, Step, Store};
 use crate::wait_needs::is_successor;
 use core_events::reads::{held, is_locked};
+use core_events::searches::{same_side, searches_at};
 use core_grace::has_all_others;
 use index_words::{Field, Layout, OwedTag, Side, Unlinking, UnsetLink, Updating, View, Word};
 
-fn same_side(one: Side, other: Side) -> bool
-    ensures { result ≡ same_sides one other }
+/// Whether the seat may load this link: its search stands there, or it has locked the node.
+fn may_look(view: &View, node: u32, side: Side) -> bool
+    ensures { result ≡ load_link_needs_at view.now (LinkField side) node }
 {
-    match (one, other) {
-        (Side::Left, Side::Left) => true,
-        (Side::Right, Side::Right) => true,
-        _ => false,
-    }
-}
-
-fn may_look_under(view: &View, node: u32) -> bool
-    ensures { result ≡ look_under_needs view.now node }
-{
-    !(view.section_word % 2 == 0) && is_locked(view.held.nodes.as_slice(), node)
+    !(view.section_word % 2 == 0)
+        && (is_locked(view.held.nodes.as_slice(), node) || searches_at(&view.reading, node, side))
 }
 
 pub(crate) fn load_link(view: &View, word: Word, value: u64) -> Option<Step>
@@ -38,7 +32,7 @@ pub(crate) fn load_link(view: &View, word: Word, value: u64) -> Option<Step>
     let Word::Node(Field::Link(side), node) = word else {
         return None;
     };
-    if may_look_under(view, node) && value == 0 {
+    if may_look(view, node, side) && value == 0 {
         return Some(Step::Load(Load::Link { node, side }));
     }
     None
@@ -51,7 +45,7 @@ pub(crate) fn load_tag(view: &View, word: Word, value: u64) -> Option<Step>
     let Word::Node(Field::Tag(side), node) = word else {
         return None;
     };
-    if may_look_under(view, node) && value == 0 {
+    if !(view.section_word % 2 == 0) && value == 0 {
         return Some(Step::Load(Load::Tag { node, side }));
     }
     None

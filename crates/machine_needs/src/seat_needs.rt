@@ -5,7 +5,7 @@ ghost use Rattle.index_words.specs.Words.{memory};
 ghost use Rattle.index_words.specs.declared.word.Word.TheVariants.{Section};
 ghost use Rattle.core_grace.specs.Sections.{is_even};
 ghost use Rattle.core_events.specs.declared.event.Kind.TheVariants.{SplitSeat, JoinSeat, Enter, Leave, LookSec, Fill};
-ghost use Rattle.core_events.specs.Needs.{is_outside as outside_of, is_marked_node, is_marked_out as marked_out, nothing_pending, is_own_section as own_section, is_lock, may_enter as enter_needs, may_fill as fill_needs, may_split as split_needs, may_join as join_needs, may_join_view, may_join_found};
+ghost use Rattle.core_events.specs.Needs.{is_outside as outside_of, is_marked_node, is_marked_out as marked_out, nothing_pending, is_own_section as own_section, is_lock, may_enter as enter_needs, may_fill as fill_needs, may_split as split_needs, may_join as join_needs, may_join_view, may_join_found, has_none_waiting as none_waiting};
 ghost use Rattle.core_events.specs.Waits.{has_no_lock, is_waiting as waits, may_leave as leave_needs, may_look as look_needs};
 ghost use Rattle.machine_needs.specs.StepParts.{IsStep};
 
@@ -155,10 +155,18 @@ pub(crate) fn split(view: &View, word: Word, value: u64) -> Option<Step>
     None
 }
 
+fn has_none_waiting(view: &View) -> bool
+    ensures { result ≡ none_waiting view.now }
+{
+    view.retired.is_empty() && view.batch.is_empty()
+}
+
 fn may_join_with(view: &View, other: &View) -> bool
     ensures { result ≡ may_join_view view.now other.now }
 {
-    !other.joined && (other.number.is_none() || (is_outside(view) && is_outside(other)))
+    !other.joined
+        && ((other.number.is_none() && has_none_waiting(other))
+            || (is_outside(view) && is_outside(other)))
 }
 
 fn is_joined_by(views: &[View], view: &View, other: u64) -> bool

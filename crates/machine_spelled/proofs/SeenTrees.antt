@@ -39,13 +39,6 @@ null_by : (b : Bool) (t : NamedTree) → b ≡ false → cond b t Null ≡ Null
 null_by true t is = absurd cc
 null_by false t is = refl
 
-pub no_tree_at : (depth last c : ℕ) (g : Graph) → cond (nat_lt 0 c && nat_le c last) (Some c) None ≡ None → tree_from depth last g c ≡ Null
-no_tree_at zero last c g is = refl
-no_tree_at (suc depth) last c g is = null_by (nat_lt 0 c && nat_le c last) _ (none_is c (nat_lt 0 c && nat_le c last) is)
-
-pub no_depth : (depth last c : ℕ) (g : Graph) → depth ≡ 0 → tree_from depth last g c ≡ Null
-no_depth depth last c g is = ap (λ d. tree_from d last g c) is
-
 abbrev node_of : ℕ → ℕ → ℕ → ℕ → ℕ → TreeNode
 node_of slot key val left right = record { slot = slot; key = key; val = val; left = left; right = right }
 

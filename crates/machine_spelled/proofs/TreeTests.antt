@@ -23,7 +23,7 @@ use Rattle.core_trees.specs.SpelledTree.{spells}
 use Rattle.core_events.specs.SpelledNow.{child_now, graph_now, tree_now}
 use Rattle.core_events.specs.declared.tree_move.PlainMove.{PlainMove}
 use Rattle.core_events.specs.PlainWork.{plain_move}
-use Rattle.core_events.specs.TreeMoves.{takes, brings, has_key, is_key, first_slot, new_entries, is_new, tree_after, is_fresh, new_slot, move_at, tree_move, spells_after, is_plain_new, sets_locked, is_plain_step, is_step, is_tree_step}
+use Rattle.core_events.specs.TreeMoves.{takes, brings, has_key, is_key, first_slot, new_entries, is_new, tree_after, is_fresh, new_slot, move_at, tree_move, spells_after, is_plain_new, sets_locked, finds_gap, is_plain_step, is_step, is_tree_step}
 use Rattle.machine_spelled.specs.declared.link_plans.LinkPlan.{LinkPlan}
 use Rattle.machine_spelled.specs.LinkPlans.{planned_links, planned_move}
 
@@ -34,7 +34,7 @@ pub step_is : (z : Layout) (m : Memory) (vs : List View) (v : View) (u : Update)
     → listed_entry left ++ listed_entry right ≡ new_entries m added → planned_move u.change links ≡ plain_move m u.change u.key slot t → there ≡ has_key u.change u.key t
     → locked ≡ list_all (λ k. locks k held) (listed out ++ listed next) → ready ≡ is_new m v added
     → spelled ≡ spells (graph_now m vs (pending ++ (listed_entry left ++ listed_entry right))) (child_now m vs (pending ++ (listed_entry left ++ listed_entry right)) Right 0) (tree_after u.change slot u.key t)
-    → plain ≡ (list_all (sets_locked v) (planned_links links) && is_plain_new m added)
+    → plain ≡ (list_all (sets_locked v) (planned_links links) && is_plain_new m added && finds_gap m v u t)
     → fits ≡ is_key u.key → result ≡ (fits && there && locked && ready && spelled && plain)
     → result ≡ is_tree_step z m vs v u
 step_is z m vs v u pending held t slot left right added out next links fits there locked ready spelled plain result pend helds tree slots addeds takens heads plains theres lockeds readies spelleds steps fitted all =
@@ -45,7 +45,7 @@ step_is z m vs v u pending held t slot left right added out next links fits ther
     ∙ ap (λ b. is_key u.key && has_key u.change u.key t && list_all (λ k. locks k v.held.nodes) (takes u.change u.key t) && is_new m v (first_slot (brings u.change slot u.key t)) && b && plain)
     (spelleds ∙ ap (λ xs. spelled_with xs (listed_entry left ++ listed_entry right)) pend ∙ ap (spelled_with v.update.pending) (heads ∙ ap (new_entries m) addeds))
     ∙ ap (λ b. is_key u.key && has_key u.change u.key t && list_all (λ k. locks k v.held.nodes) (takes u.change u.key t) && is_new m v (first_slot (brings u.change slot u.key t)) && spelled_with v.update.pending (new_entries m (first_slot (brings u.change slot u.key t))) && b)
-    (steps ∙ ap (λ (p : PlainMove). list_all (sets_locked v) p.unset && is_plain_new m added) plains ∙ ap (λ o. list_all (sets_locked v) (plain_move m u.change u.key slot t).unset && is_plain_new m o) addeds)
+    (steps ∙ ap (λ (p : PlainMove). list_all (sets_locked v) p.unset && is_plain_new m added && finds_gap m v u t) plains ∙ ap (λ o. list_all (sets_locked v) (plain_move m u.change u.key slot t).unset && is_plain_new m o && finds_gap m v u t) addeds)
     ∙ ap (λ (x : ℕ). is_step m vs v u x (move_at z m u x t) t) (slots ∙ ap (λ xs. child_now m vs xs (end_side u.key Right t) (end_node u.key 0 t)) (append-nil pending ∙ pend))
     ∙ ap (λ (x : NamedTree). is_step m vs v u (new_slot m vs v u.key x) (move_at z m u (new_slot m vs v u.key x) x) x) tree
   where
@@ -64,7 +64,7 @@ ready_is z m vs v u pending t slot added pend tree slots addeds met =
     let l = list_all (λ k. locks k v.held.nodes) (takes u.change u.key now) in
     let n = is_new m v (first_slot (brings u.change s u.key now)) in
     let p = spells_after m vs v u s (tree_move z m vs v u) now in
-    let q = is_plain_step m v (tree_move z m vs v u) in
+    let q = is_plain_step m v u (tree_move z m vs v u) now in
     ap (is_new m v)
     (addeds ∙ ap (λ (x : ℕ). first_slot (brings u.change x u.key t)) (slots ∙ ap (λ xs. child_now m vs xs (end_side u.key Right t) (end_node u.key 0 t)) (append-nil pending ∙ pend))
     ∙ ap (λ (x : NamedTree). first_slot (brings u.change (new_slot m vs v u.key x) u.key x)) tree)

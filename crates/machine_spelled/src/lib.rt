@@ -4,6 +4,7 @@
 #![tactic(auto)]
 
 pub mod bundles_now;
+mod gaps;
 mod link_plans;
 pub mod spelled_now;
 mod spelling;

@@ -17,6 +17,7 @@ ghost use Rattle.core_events.specs.TreeMoves.{takes, brings, has_key, first_slot
 ghost use Rattle.machine_spelled.specs.LinkPlans.{planned_move};
 ghost use Rattle.machine_spelled.specs.Sights.{memory_of, more_of, graph_seen, seen};
 
+use crate::gaps::finds_gap;
 use crate::link_plans::{LinkPlan, is_plain_step, link_plan};
 use crate::spelled_now::{Sight, child_of, field_of, is_listed, old_child, part_of};
 use crate::spelling::{spells_put, spells_removal};
@@ -281,8 +282,8 @@ fn is_key(key: u64) -> bool
 }
 
 /// Whether the pending entries of the view and those of a new node, with the next number, spell the tree after the
-/// update, the seat has locked each node that is taken out and that of each plain link that is to be set, and a new node
-/// has its children in its plain links.
+/// update, the seat has locked each node that is taken out and that of each plain link that is to be set, a new node has
+/// its children in its plain links, and a key that is not in the tree is put at a null link that the seat's search found.
 #[tactic(auto, using(crate::proofs::TreeTests::step_is))]
 pub fn is_tree_step(
     layout: &Layout,
@@ -316,6 +317,7 @@ pub fn is_tree_step(
     let locked = are_locked(view.held.nodes.as_slice(), plan.taken);
     let ready = is_new(&before, view, plan.added);
     let spelled = spells_after(&after, tree, plan.slot, update);
-    let plain = is_plain_step(&before, view, plan.links, plan.added);
+    let plain = is_plain_step(&before, view, plan.links, plan.added)
+        && finds_gap(&before, view, tree, update);
     is_key(update.key) && there && locked && ready && spelled && plain
 }

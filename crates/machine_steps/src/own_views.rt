@@ -81,7 +81,7 @@ pub(crate) fn after_load(
         }
         Load::Link { node, side } => {
             let found = held(layout, words, Word::Node(Field::Link(side), node));
-            load_link(alloc, view, node, side, found);
+            load_link(alloc, view, node, side, found)?;
         }
         Load::Tag { node, side } => {
             let found = held(layout, words, Word::Node(Field::Tag(side), node));

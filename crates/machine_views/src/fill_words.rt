@@ -3,9 +3,9 @@ ghost use Rattle.std.specs.Prelude.{◌≡◌, ◌++◌, OnOk, OnErr, IfOk};
 ghost use Rattle.index_words.specs.Words.{same_field, same_part, same_word};
 ghost use Rattle.core_events.specs.FillMoves.{filled_other, filled_with, node_words, entry_words, zeros_in, zeros_of, known_before, used_slots, filled_view};
 
-use crate::loads::same_side;
 use crate::updates::drop_number;
 use core_events::reads::is_in;
+use core_events::searches::same_side;
 use index_words::{Field, Filled, Items, NoMemory, Part, Side, Slots, View, Word};
 use std::alloc::Global;
 

@@ -9,5 +9,6 @@ pub mod loads;
 pub mod locks;
 pub mod moves;
 pub mod plain_links;
+mod searches;
 pub mod stamp_loads;
 pub mod updates;

@@ -1,11 +1,11 @@
 // The view of a seat after each kind of load.
 ghost use Rattle.std.specs.Prelude.{◌≡◌, ◌==◌, ◌&&◌, OnOk, OnErr, map};
-ghost use Rattle.index_words.specs.Words.{same_side as same_sides};
 ghost use Rattle.key_map.specs.Lists.{has};
 ghost use Rattle.core_events.specs.UpdateMoves.{known_at};
 ghost use Rattle.core_events.specs.LoadMoves.{risen as risen_count, is_watching as watches_bundle, meets_pending as meets_other, has_other_source, has_moved as link_has_moved, remembered_if, bundle_link, stored_by as is_stored_by, found_again, side_found, found_at, head_loaded, stamp_known, side_known, node_known, place_known, ts_loaded, is_selected as selects, ptr_loaded, kept_if, next_loaded};
 
 use core_events::reads::{is_above, is_locked, is_pending};
+use core_events::searches::same_side;
 use index_words::{
     Held, HeldNext, HeldNode, HeldSide, Items, Link, LinkSource, LoadedHead, NoMemory, Place, Side,
     View,
@@ -17,16 +17,6 @@ pub(crate) fn risen(count: u64) -> u64
     ensures { result ≡ risen_count count }
 {
     if count == u64::MAX { count } else { count + 1 }
-}
-
-pub(crate) fn same_side(one: Side, other: Side) -> bool
-    ensures { result ≡ same_sides one other }
-{
-    match (one, other) {
-        (Side::Left, Side::Left) => true,
-        (Side::Right, Side::Right) => true,
-        _ => false,
-    }
 }
 
 fn has_other_entry(source: LinkSource, head: u64) -> bool

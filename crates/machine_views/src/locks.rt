@@ -1,11 +1,13 @@
 // The view of a seat after each kind of event that locks, unlocks or marks.
 ghost use Rattle.std.specs.Prelude.{◌≡◌, OnOk, OnErr, None as Nothing, map};
-ghost use Rattle.core_events.specs.LockMoves.{just_locked as new_lock, place_locked, locked_view, met_lock, tried, other_nodes, other_nexts, update_until, unlocked_view, mark_known, with_mark, finds_mark as mark_found, mark_loaded, pair_known, pair_loaded};
+ghost use Rattle.core_events.specs.LockMoves.{just_locked as new_lock, place_locked, locked_view, met_lock, tried, other_nodes, other_nexts, update_until, unlocked_view, mark_known, with_mark, may_count as mark_counts, finds_mark as mark_found, mark_loaded, pair_known, pair_loaded};
+ghost use Rattle.core_events.specs.Searches.{key_found};
 ghost use Rattle.index_words.specs.declared.word.Field.TheVariants.{Key, Val};
 
 use crate::loads::risen;
 use crate::moves::go_nowhere;
 use core_events::reads::{is_in, is_reachable};
+use core_events::searches::is_searched;
 use index_words::{Held, HeldNext, HeldNode, HeldSide, Items, NoMemory, Place, Updating, View};
 use std::alloc::Global;
 
@@ -167,11 +169,18 @@ fn hold_mark(alloc: Global, view: &mut View, node: u32, mark: u64)
     view.held.nodes = Items::from_vec(nodes);
 }
 
+/// Whether a mark that is found on the node counts.
+fn may_count(view: &View, node: u32) -> bool
+    ensures { result ≡ mark_counts view.now node }
+{
+    is_reachable(view, node) || is_searched(&view.reading, node)
+}
+
 fn finds_mark(view: &View, node: u32, mark: u64) -> bool
     ensures { result ≡ mark_found view.now node mark }
 {
-    mark == 1
-        && is_reachable(view, node)
+    mark != 0
+        && may_count(view, node)
         && !is_in(view.update.taken.as_slice(), node)
         && !is_in(view.retired.nodes.as_slice(), node)
 }
@@ -211,6 +220,23 @@ fn know_key(nodes: &mut [HeldNode], node: u32, key: u64)
     }
 }
 
+/// Where a seat stands that has found this number as the node's key.
+fn place_with_key(place: Place, node: u32, key: u64) -> Place
+    ensures { result ≡ key_found node key place }
+{
+    match place {
+        Place::Node { node: at, key: was } => Place::Node {
+            node: at,
+            key: if at == u64::from(node) {
+                Some(key)
+            } else {
+                was
+            },
+        },
+        _ => place,
+    }
+}
+
 /// The view after a load that found this number as the node's key.
 pub fn load_key(alloc: Global, view: &mut View, node: u32, key: u64)
     ensures { view.new ≡ pair_loaded view.old Key node key }
@@ -218,6 +244,7 @@ pub fn load_key(alloc: Global, view: &mut View, node: u32, key: u64)
     let mut nodes = std::mem::replace(&mut view.held.nodes, Items::new(alloc)).into_vec();
     know_key(nodes.as_mut_slice(), node, key);
     view.held.nodes = Items::from_vec(nodes);
+    view.reading.place = place_with_key(view.reading.place, node, key);
 }
 
 fn node_with_val(held: HeldNode, node: u32, val: u64) -> HeldNode

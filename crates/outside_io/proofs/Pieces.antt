@@ -1,8 +1,8 @@
 -- Pieces that are given or taken one after another.
-use Rattle.std.proofs.Common.{◌≡◌, ℕ, ◌+◌, ◌-◌, ◌<◌, ◌≤◌, List, [], ◌++◌, Option, Some, None, length, take, drop, arith, append_assoc, append-nil, refl, sym, subst, length-append, length-take-le, length-drop, ◌∙◌, ap}
+use Rattle.std.proofs.Common.{◌≡◌, ℕ, ◌+◌, ◌-◌, ◌<◌, ◌≤◌, List, [], ◌++◌, Option, Some, None, length, take, drop, arith, append_assoc, refl, subst, length-append, length-take-le, length-drop, ◌∙◌, ap}
 use Rattle.std.proofs.Math.Seq.{take-add}
 use Rattle.std.proofs.lemmas.List.{take_all}
-use Rattle.outside_io.specs.Streams.{IsRead, EndsExactly, IsReadToEnd, IsTaken}
+use Rattle.outside_io.specs.Streams.{IsRead, IsTaken}
 
 -- two pieces that were taken one after the other
 pub taken_both : (before between now : Option (List ℕ)) (xs ys : List ℕ) → IsTaken before between xs → IsTaken between now ys → IsTaken before now (xs ++ ys)
@@ -35,13 +35,3 @@ length-piece bytes buf n within = rw (length-append, length-take-le) refl
 pub read_none : (o : Option (List ℕ)) → IsRead o o []
 read_none (Some left) = refl
 read_none None = refl
-
--- a read that gave none, with room, was at the end
-pub read_to_end : (before between now : Option (List ℕ)) (bytes : List ℕ) (room : ℕ) → IsRead before between bytes → EndsExactly between room 0 → 0 < room → IsRead between now [] → IsReadToEnd before now bytes
-read_to_end (Some before) (Some between) (Some now) bytes room first end some last =
-    let over : between ≡ [] = (end some).0 refl in
-    let left : now ≡ [] = sym last ∙ over in
-    (sym (first ∙ rw over (append-nil bytes)), ap Some left)
-read_to_end (Some before) (Some between) None bytes room first end some last = absurd last
-read_to_end (Some before) None now bytes room first end some last = absurd first
-read_to_end None between now bytes room first end some last = subst (λ o. IsRead o now []) first last

@@ -1,5 +1,5 @@
 -- A token is told by its text.
-use Rattle.std.proofs.Common.{◌≡◌, ◌≢◌, ℕ, ◌+◌, ◌/◌, ◌%◌, ◌<◌, ◌≤◌, List, [], ◌∷◌, ◌++◌, length, Option, Some, None, IfSome, get_or, refl, sym, ap, ap₂, subst, ◌∙◌, arith, lit<, append_assoc}
+use Rattle.std.proofs.Common.{◌≡◌, ◌≢◌, ℕ, ◌+◌, ◌/◌, ◌%◌, ◌<◌, ◌≤◌, List, [], ◌∷◌, ◌++◌, length, Option, Some, None, IfSome, get_or, refl, sym, ap, ap₂, subst, ◌∙◌, arith, lit<}
 use Rattle.base64.specs.Engines.{url_safe_no_pad}
 use Rattle.base64.specs.GeneralPurpose.{encode_of, decode_of, IsBytes}
 use Rattle.base64.proofs.EngineFacts.{decode_of-encode_of}
@@ -8,7 +8,7 @@ use Rattle.bucket_terms.specs.declared.token_point.TokenPoint.{TokenPoint}
 use Rattle.bucket_terms.specs.declared.token_point.TokenPoint.TheVariants.{Key, Group}
 use Rattle.bucket_terms.specs.declared.token.Token.{Token}
 use Rattle.bucket_terms.specs.declared.token.Bound.{Bound}
-use Rattle.bucket_terms.specs.Listing.{point_text, point_letter, four_digits, sized, bytes_by, token_bytes, IsShortText, IsShortBound, IsTokenOf}
+use Rattle.bucket_terms.specs.Listing.{point_text, point_letter, sized, bytes_by, token_bytes, IsShortText, IsShortBound, IsTokenOf}
 use Rattle.page_token.specs.OneToken.{HasOneToken, HasText}
 use Rattle.page_token.proofs.TextBytes.{AreBytes, appended, by_index, text_bytes}
 use Rattle.page_token.proofs.Sized.{tail_same, sized_once}

@@ -83,9 +83,6 @@ pub without_single : (a : ℕ) (xs : List ℕ) → without_all (a ∷ []) xs ≡
 without_single a [] = refl
 without_single a (x ∷ xs) = ap (λ b. cond (not b) (x ∷ without_all (a ∷ []) xs) (without_all (a ∷ []) xs)) (same_test a x) ∙ ap (λ ys. cond (not (eqb x a)) (x ∷ ys) ys) (without_single a xs)
 
-pub without_given : (a : ℕ) (xs : List ℕ) → (a ≡ 0 → ⊥) → without_all (listed_entry a) xs ≡ without a xs
-without_given a xs some = ap (λ b. without_all (cond b [] (a ∷ [])) xs) (ne_eqb a 0 some) ∙ without_single a xs
-
 pub without_zero : (a : ℕ) (xs : List ℕ) → a ≡ 0 → without_all (listed_entry a) xs ≡ xs
 without_zero a xs none = ap (λ b. without_all (cond b [] (a ∷ [])) xs) (eq-eqb a 0 none) ∙ without_empty xs
 

@@ -169,24 +169,29 @@ grows-below : (gone : ℕ → Type 0) → KeepsBelow gone Grows
 grows-below gone m turn b key side t u h is = absurd (subst (IsBelow m turn side b key) h.was is)
 
 -- in each form
-pub below_law : BelowLaw
-below_law there u n s from until turn turn_key node key side plain plain' store gone below = forms store
+pub below_store : (there bypassed : ℕ → Type 0) (n s from until turn turn_key node key : ℕ) (side : Side) (plain plain' : NamedTree) → IsStore there bypassed n s from until plain plain' → occurs n plain' ≡ 0
+    → IsBelow turn turn_key side node key plain → IsBelow turn turn_key side node key plain' ⊎ ((occurs turn plain' ≡ 0) ⊎ (occurs node plain' ≡ 0))
+below_store there bypassed n s from until turn turn_key node key side plain plain' store gone below = forms store
   where
-    forms : IsStore (IsTest there) (IsBypassed u) n s from until plain plain' → IsBelow turn turn_key side node key plain' ⊎ ((occurs turn plain' ≡ 0) ⊎ (occurs node plain' ≡ 0))
+    forms : IsStore there bypassed n s from until plain plain' → IsBelow turn turn_key side node key plain' ⊎ ((occurs turn plain' ≡ 0) ⊎ (occurs node plain' ≡ 0))
     forms (Insert re) =
-        below-on (IsTest there) (λ m. occurs m plain' ≡ 0) Grows (grows-keys (λ m. occurs m plain' ≡ 0)) (grows-below (λ m. occurs m plain' ≡ 0)) turn turn_key node key side plain plain' re below
+        below-on there (λ m. occurs m plain' ≡ 0) Grows (grows-keys (λ m. occurs m plain' ≡ 0)) (grows-below (λ m. occurs m plain' ≡ 0)) turn turn_key node key side plain plain' re below
     forms (LiftRight re) =
-        below-on (IsTest there) (λ m. occurs m plain' ≡ 0) (LiftsRight n) (lifts_right-keys (λ m. occurs m plain' ≡ 0) n gone)
+        below-on there (λ m. occurs m plain' ≡ 0) (LiftsRight n) (lifts_right-keys (λ m. occurs m plain' ≡ 0) n gone)
         (lifts_right-below (λ m. occurs m plain' ≡ 0) n gone) turn turn_key node key side plain plain' re below
     forms (LiftLeft re) =
-        below-on (IsTest there) (λ m. occurs m plain' ≡ 0) (LiftsLeft n) (lifts_left-keys (λ m. occurs m plain' ≡ 0) n gone)
+        below-on there (λ m. occurs m plain' ≡ 0) (LiftsLeft n) (lifts_left-keys (λ m. occurs m plain' ≡ 0) n gone)
         (lifts_left-below (λ m. occurs m plain' ≡ 0) n gone) turn turn_key node key side plain plain' re below
     forms (Replace firm re) =
-        below-on (IsTest there) (λ m. occurs m plain' ≡ 0) (Replaces n) (replaces-keys (λ m. occurs m plain' ≡ 0) n gone)
+        below-on there (λ m. occurs m plain' ≡ 0) (Replaces n) (replaces-keys (λ m. occurs m plain' ≡ 0) n gone)
         (replaces-below (λ m. occurs m plain' ≡ 0) n gone) turn turn_key node key side plain plain' re below
     forms (Copy firm re) =
-        below-on (IsTest there) (λ m. occurs m plain' ≡ 0) (Copies (IsBypassed u) n s from until) (copies-keys (λ m. occurs m plain' ≡ 0) n gone s from until (IsBypassed u))
-        (copies-below (λ m. occurs m plain' ≡ 0) n gone s from until (IsBypassed u)) turn turn_key node key side plain plain' re below
+        below-on there (λ m. occurs m plain' ≡ 0) (Copies bypassed n s from until) (copies-keys (λ m. occurs m plain' ≡ 0) n gone s from until bypassed)
+        (copies-below (λ m. occurs m plain' ≡ 0) n gone s from until bypassed) turn turn_key node key side plain plain' re below
     forms (Join firm out re) =
-        below-on (IsTest there) (λ m. occurs m plain' ≡ 0) (Joins n s) (joins-keys (λ m. occurs m plain' ≡ 0) n gone s out)
+        below-on there (λ m. occurs m plain' ≡ 0) (Joins n s) (joins-keys (λ m. occurs m plain' ≡ 0) n gone s out)
         (joins-below (λ m. occurs m plain' ≡ 0) n gone s out) turn turn_key node key side plain plain' re below
+
+pub below_law : BelowLaw
+below_law there u n s from until turn turn_key node key side plain plain' store gone below =
+    below_store (IsTest there) (IsBypassed u) n s from until turn turn_key node key side plain plain' store gone below

@@ -3,6 +3,8 @@ pub mod Forms
 pub mod Changes
 pub mod Extending
 pub mod Matching
+pub mod Nodes
+pub mod OneLink
 pub mod NullLinks
 pub mod Ways
 pub mod Walks
@@ -12,6 +14,7 @@ pub mod Raises
 pub mod Inserts
 pub mod Turns
 pub mod Belows
+pub mod TurnPaths
 pub mod Reaching
 pub mod Resting
 pub mod Settling

@@ -1,5 +1,5 @@
 -- What a seat has found at a null link holds of the tree at the stamp.
-use Rattle.std.proofs.Common.{◌≡◌, ℕ, ◌^◌, ◌<◌, ◌⊎◌, inl, inr, [], refl, ap, sym, ◌∙◌, subst, arith, Option, Some}
+use Rattle.std.proofs.Common.{◌≡◌, ℕ, Bool, ◌^◌, ◌<◌, ◌⊎◌, inl, inr, [], refl, ap, sym, ◌∙◌, subst, arith, Option, Some}
 use Rattle.std.proofs.lemmas.Bool.Decides.{eqb_tells}
 use Rattle.index_words.specs.declared.side.Side.{Side}
 use Rattle.index_words.specs.declared.side.Side.TheVariants.{Left, Right}
@@ -15,7 +15,7 @@ use Rattle.plain_trees.specs.Points.{point_of, Meets, EndsAtNull, IsOn, IsAbove,
 use Rattle.plain_trees.specs.Successors.{LeadsTo}
 use Rattle.plain_trees.specs.Matching.{Undone, IsOut, IsBypassed, IsOrderly}
 use Rattle.plain_trees.specs.Claims.{IsWaiting, IsExcepted}
-use Rattle.plain_trees.specs.NullLinks.{turn_of, NullLinkLaw}
+use Rattle.plain_trees.specs.NullLinks.{turn_of, EndedAt, NullLinkLaw}
 use Rattle.plain_trees.proofs.Points.{null-leads, leads-sub}
 use Rattle.plain_trees.proofs.Matching.{ends-now}
 
@@ -77,10 +77,11 @@ on-turn : (side : Side) (low high : Option ℕ) (key x : ℕ) → turn_of side l
 on-turn Left low high key x e inside = subst (λ t. IsUnder t x) e inside.1
 on-turn Right low high key x e inside = subst (λ t. IsAbove t x) e inside.0
 
-pub null_link : NullLinkLaw
-null_link g u waits plain now node key side low high orderly waiting spelled matches lawful h inside =
-    ends-gap key node side now lawful
-    (ends-now u orderly (point_of key) node side h.there h.settled 0 0 Right Right plain now matches (elim (eqb_tells node 0) [ inl e ↦ at-root e.1 | inr e ↦ within e.1 ]) (inr (refl, refl)))
+-- there the search for each key between the turns ends in the plain tree
+pub ends-plain : (g : Graph) (u : Undone) (waits : ℕ → ℕ → Bool) (plain : NamedTree) (node key : ℕ) (side : Side) (low high : Option ℕ)
+    → IsOrderly u → ((removed successor : ℕ) → IsWaiting waits removed successor → IsOut u successor) → IsSpelled g (g.child Right 0) plain
+    → EndedAt g u waits plain node side low high → IsInTurns low high (point_of key) → EndsAtNull (point_of key) node side 0 Right plain
+ends-plain g u waits plain node key side low high orderly waiting spelled h inside = elim (eqb_tells node 0) [ inl e ↦ at-root e.1 | inr e ↦ within e.1 ]
   where
     at-root : node ≡ 0 → EndsAtNull (point_of key) node side 0 Right plain
     at-root e =
@@ -100,3 +101,9 @@ null_link g u waits plain now node key side low high orderly waiting spelled mat
 
     within : ¬ (node ≡ 0) → EndsAtNull (point_of key) node side 0 Right plain
     within ne = elim h.reached [ inl e ↦ absurd (ne e) | inr o ↦ met ne o (h.claims (point_of key) inside [] node refl o) ]
+
+pub null_link : NullLinkLaw
+null_link g u waits plain now node key side low high orderly waiting spelled matches lawful h inside =
+    ends-gap key node side now lawful
+    (ends-now u orderly (point_of key) node side h.there h.settled 0 0 Right Right plain now matches
+    (ends-plain g u waits plain node key side low high orderly waiting spelled h inside) (inr (refl, refl)))

@@ -11,7 +11,7 @@ use Rattle.core_trees.proofs.Slots.{one_at-same, one_at-other}
 use Rattle.core_trees.proofs.SpelledTree.{spelled-frame}
 use Rattle.plain_trees.specs.Points.{IsOn}
 use Rattle.plain_trees.specs.Successors.{LeadsTo}
-use Rattle.plain_trees.specs.Matching.{Undone, IsUnset, IsOut, IsBypassed, IsOrderly, HasWayAhead, Same, Replaced, Copied, LiftedRight, LiftedLeft, Matches}
+use Rattle.plain_trees.specs.Matching.{Undone, IsUnset, IsOut, IsBypassed, IsHeir, IsOrderly, HasWayAhead, Same, Replaced, Copied, LiftedRight, LiftedLeft, Matches}
 use Rattle.plain_trees.specs.Stores.{Relinks, Grows, Replaces, LiftsRight, LiftsLeft, Copies, Joins, Insert, LiftRight, LiftLeft, Replace, Copy, Join}
 use Rattle.plain_trees.specs.Settling.{IsNew, PassesOver, Sets, MaySet, IsSet, SetLaw}
 use Rattle.plain_trees.proofs.Points.{leads-keep}
@@ -20,6 +20,25 @@ use Rattle.plain_trees.proofs.Changes.{leads-on, grows-leads, replaces-leads, li
 null-occurs : (x : ℕ) (t : NamedTree) → IsNull t → occurs x t ≡ 0
 null-occurs x Null n = refl
 null-occurs x (Branch _ _ _ _ _) n = absurd n
+
+-- no node of a spelled tree is 0
+pub spelled-some : (g : Graph) (m c : ℕ) (t : NamedTree) → IsSpelled g c t → 0 < occurs m t → 0 < m
+spelled-some g m c Null spelled i = absurd (omega (arith, i))
+spelled-some g m c (Branch s k v l r) spelled i = elim (eqb_tells m s) as (λ _. 0 < m) [
+  | inl e ↦ omega (arith, e.1, spelled.1)
+  | inr ne ↦ elim (eqb_tells (occurs m l) 0) as (λ _. 0 < m) [
+    | inl z ↦ spelled-some g m (g.child Right s) r spelled.5 (omega (arith, i, z.1, one_at-other m s ne.1))
+    | inr z ↦ spelled-some g m (g.child Left s) l spelled.4 (omega (arith, z.1))
+  ]
+]
+
+-- two children at which one tree hangs are one
+same-child : (g g' : Graph) (a b : ℕ) (t : NamedTree) → IsSpelled g a t → IsSpelled g' b t → a ≡ b
+same-child g g' a b Null one two = one ∙ sym two
+same-child g g' a b (Branch s k v l r) one two = one.0 ∙ sym two.0
+
+one_at-most : (x s : ℕ) → one_at x s ≤ 1
+one_at-most x s = elim (eqb_tells x s) as (λ _. one_at x s ≤ 1) [ inl e ↦ omega (arith, subst (λ z. one_at z s ≡ 1) (sym e.1) (one_at-same s)) | inr ne ↦ omega (arith, one_at-other x s ne.1) ]
 
 null-is : (t : NamedTree) → IsNull t → t ≡ Null
 null-is Null n = refl
@@ -161,7 +180,7 @@ module _ (g g' h : Graph) (u u' : Undone) (W N : NamedTree) (q : ℕ) (w : Side)
     right : Relinks (λ m. ¬ IsOut u m) (LiftsRight was) old new → Form old new
     left : Relinks (λ m. ¬ IsOut u m) (LiftsLeft was) old new → Form old new
     swapped : ¬ IsBypassed u was → Relinks (λ m. ¬ IsOut u m) (Replaces was) old new → Form old new
-    copied : (s from until : ℕ) → ¬ IsBypassed u was → Relinks (λ m. ¬ IsOut u m) (Copies (IsBypassed u) was s from until) old new → Form old new
+    copied : (s from until : ℕ) → IsHeir u was s × (from ≡ g.key was) × (g'.child Right child ≡ g.child Right was) → ¬ IsBypassed u was → Relinks (λ m. ¬ IsOut u m) (Copies (IsBypassed u) was s from until) old new → Form old new
     joined : (s : ℕ) → ¬ IsBypassed u was → occurs s new < occurs s old → Relinks (λ m. ¬ IsOut u m) (Joins was s) old new → Form old new
 
   form-left : (s k v : ℕ) (l l' r : NamedTree) → (IsNull l → ¬ IsOut u s) → Form l l' → Form (Branch s k v l r) (Branch s k v l' r)
@@ -169,7 +188,7 @@ module _ (g g' h : Graph) (u u' : Undone) (W N : NamedTree) (q : ℕ) (w : Side)
   form-left s k v l l' r there (right re) = right (inr (l', r, refl, inl (re, there, refl)))
   form-left s k v l l' r there (left re) = left (inr (l', r, refl, inl (re, there, refl)))
   form-left s k v l l' r there (swapped firm re) = swapped firm (inr (l', r, refl, inl (re, there, refl)))
-  form-left s k v l l' r there (copied n from until firm re) = copied n from until firm (inr (l', r, refl, inl (re, there, refl)))
+  form-left s k v l l' r there (copied n from until heir firm re) = copied n from until heir firm (inr (l', r, refl, inl (re, there, refl)))
   form-left s k v l l' r there (joined n firm less re) = joined n firm (omega (arith, less)) (inr (l', r, refl, inl (re, there, refl)))
 
   form-right : (s k v : ℕ) (l r r' : NamedTree) → Form r r' → Form (Branch s k v l r) (Branch s k v l r')
@@ -177,8 +196,78 @@ module _ (g g' h : Graph) (u u' : Undone) (W N : NamedTree) (q : ℕ) (w : Side)
   form-right s k v l r r' (right re) = right (inr (l, r', refl, inr (refl, re)))
   form-right s k v l r r' (left re) = left (inr (l, r', refl, inr (refl, re)))
   form-right s k v l r r' (swapped firm re) = swapped firm (inr (l, r', refl, inr (refl, re)))
-  form-right s k v l r r' (copied n from until firm re) = copied n from until firm (inr (l, r', refl, inr (refl, re)))
+  form-right s k v l r r' (copied n from until heir firm re) = copied n from until heir firm (inr (l, r', refl, inr (refl, re)))
   form-right s k v l r r' (joined n firm less re) = joined n firm (omega (arith, less)) (inr (l, r', refl, inr (refl, re)))
+
+  -- the child is a new copy, whose right link counts as one to be set from the node
+  abbrev IsPassed : ℕ → Type 0
+  IsPassed x = IsNew child W × ((i : ℕ) × IsUnset u child Right x i)
+
+  -- How often each node stands in the tree before the store and after it: the child alone may come, what goes is gone, and what
+  -- was not taken out stays. Another node than that which the link held goes only where a copy passes over it.
+  record Counts (old new : NamedTree) : Type 0 where
+    brings : (x : ℕ) → occurs x new ≤ occurs x old + one_at x child
+    keeps : (x : ℕ) → 0 < occurs x W → occurs x new ≤ occurs x old
+    goes : 0 < was → occurs was new < occurs was old
+    stays : (x : ℕ) → ¬ IsOut u x → occurs x old ≤ occurs x new
+    leaves : (x : ℕ) → ¬ (x ≡ was) → occurs x new < occurs x old → IsPassed x
+
+  counts-left : (s k v : ℕ) (l l' r : NamedTree) → Counts l l' → Counts (Branch s k v l r) (Branch s k v l' r)
+  counts-left s k v l l' r c = record {
+    brings = λ x. omega (arith, c.brings x);
+    keeps = λ x i. omega (arith, c.keeps x i);
+    goes = λ some. omega (arith, c.goes some);
+    stays = λ x t. omega (arith, c.stays x t);
+    leaves = λ x ne less. c.leaves x ne (omega (arith, less));
+  }
+
+  counts-right : (s k v : ℕ) (l r r' : NamedTree) → Counts r r' → Counts (Branch s k v l r) (Branch s k v l r')
+  counts-right s k v l r r' c = record {
+    brings = λ x. omega (arith, c.brings x);
+    keeps = λ x i. omega (arith, c.keeps x i);
+    goes = λ some. omega (arith, c.goes some);
+    stays = λ x t. omega (arith, c.stays x t);
+    leaves = λ x ne less. c.leaves x ne (omega (arith, less));
+  }
+
+  -- a new node in the place of one that was taken out
+  counts-swapped : (c k v m k' v' : ℕ) (l r : NamedTree) → c ≡ was → m ≡ child → IsOut u c → 0 < occurs c W → occurs m W ≡ 0 → Counts (Branch c k v l r) (Branch m k' v' l r)
+  counts-swapped c k v m k' v' l r slot is out there new =
+      let other : (x : ℕ) → 0 < occurs x W → one_at x m ≡ 0 = λ x i. one_at-other x m (λ e. absurd (omega (arith, i, new, ap (λ z. occurs z W) e))) in
+      record {
+        brings = λ x. omega (arith, ap (one_at x) is);
+        keeps = λ x i. omega (arith, other x i);
+        goes = λ some. omega (arith, subst (λ z. one_at z c ≡ 1) slot (one_at-same c), other was (subst (λ z. 0 < occurs z W) slot there));
+        stays = λ x t. omega (arith, one_at-other x c (λ e. t (subst (IsOut u) (sym e) out)));
+        leaves = λ x ne less. absurd (omega (arith, less, one_at-other x c (λ e. ne (e ∙ slot))));
+      }
+
+  -- and in the place of one whose successor goes too
+  counts-joined : (c k v m k' v' n : ℕ) (l r rest : NamedTree) → r ≡ Branch n k' v' Null rest → c ≡ was → m ≡ child → IsOut u c → IsOut u n → IsPassed n → 0 < occurs c W → occurs m W ≡ 0
+      → (k'' v'' : ℕ) → Counts (Branch c k v l r) (Branch m k'' v'' l rest)
+  counts-joined c k v m k' v' n l r rest splits slot is out gone passed there new k'' v'' =
+      let other : (x : ℕ) → 0 < occurs x W → one_at x m ≡ 0 = λ x i. one_at-other x m (λ e. absurd (omega (arith, i, new, ap (λ z. occurs z W) e))) in
+      let old : (x : ℕ) → occurs x r ≡ one_at x n + (0 + occurs x rest) = λ x. ap (occurs x) splits in
+      record {
+        brings = λ x. omega (arith, ap (one_at x) is, old x);
+        keeps = λ x i. omega (arith, other x i, old x);
+        goes = λ some. omega (arith, old was, subst (λ z. one_at z c ≡ 1) slot (one_at-same c), other was (subst (λ z. 0 < occurs z W) slot there));
+        stays = λ x t. omega (arith, old x, one_at-other x c (λ e. t (subst (IsOut u) (sym e) out)), one_at-other x n (λ e. t (subst (IsOut u) (sym e) gone)));
+        leaves = λ x ne less. elim (eqb_tells x n) as (λ _. IsPassed x) [
+          | inl e ↦ subst IsPassed (sym e.1) passed
+          | inr other' ↦ absurd (omega (arith, less, old x, one_at-other x c (λ e. ne (e ∙ slot)), one_at-other x n other'.1))
+        ];
+      }
+
+  -- one child in the place of the node
+  counts-lifted : (c k v : ℕ) (l r t : NamedTree) → c ≡ was → IsOut u c → ((x : ℕ) → occurs x l + occurs x r ≡ occurs x t) → Counts (Branch c k v l r) t
+  counts-lifted c k v l r t slot out is = record {
+    brings = λ x. omega (arith, is x);
+    keeps = λ x i. omega (arith, is x);
+    goes = λ some. omega (arith, is was, subst (λ z. one_at z c ≡ 1) slot (one_at-same c));
+    stays = λ x t. omega (arith, is x, one_at-other x c (λ e. t (subst (IsOut u) (sym e) out)));
+    leaves = λ x ne less. absurd (omega (arith, less, is x, one_at-other x c (λ e. ne (e ∙ slot))));
+  }
 
   -- the way to a successor stays, if the successor is not the node that goes out
   form-leads : (r r' : NamedTree) (x s : ℕ) → IsOut u s → ¬ (s ≡ was) → Form r r' → LeadsTo (IsBypassed u) x s r → LeadsTo (IsBypassed u) x s r'
@@ -190,7 +279,7 @@ module _ (g g' h : Graph) (u u' : Undone) (W N : NamedTree) (q : ℕ) (w : Side)
       leads-on (λ m. ¬ IsOut u m) (IsBypassed u) x s (LiftsLeft was) (λ f. f out) (λ m f b. f (orderly.passes m b)) (lifts_left-leads (IsBypassed u) x s was ne) r r' re
   form-leads r r' x s out ne (swapped firm re) =
       leads-on (λ m. ¬ IsOut u m) (IsBypassed u) x s (Replaces was) (λ f. f out) (λ m f b. f (orderly.passes m b)) (replaces-leads (IsBypassed u) x s was ne firm) r r' re
-  form-leads r r' x s out ne (copied n from until firm re) =
+  form-leads r r' x s out ne (copied n from until heir firm re) =
       leads-on (λ m. ¬ IsOut u m) (IsBypassed u) x s (Copies (IsBypassed u) was n from until) (λ f. f out) (λ m f b. f (orderly.passes m b))
       (copies-leads (IsBypassed u) (IsBypassed u) x s was n from until ne firm) r r' re
   form-leads r r' x s out ne (joined n firm less re) =
@@ -214,6 +303,7 @@ module _ (g g' h : Graph) (u u' : Undone) (W N : NamedTree) (q : ℕ) (w : Side)
     spelled : IsSpelled g' (g'.child e a) tree
     matches : Matches u' p d tree now
     form : Form plain tree
+    counts : Counts plain tree
 
   -- a node that is in the tree at the stamp here, and not in the plain tree, is not in the plain tree at all
   is-new : (m : ℕ) (a p : ℕ) (e d : Side) (plain now : NamedTree) → Known a e p d plain now → ¬ IsOut u m → occurs m plain < occurs m now → occurs m W ≡ 0
@@ -276,7 +366,7 @@ module _ (g g' h : Graph) (u u' : Undone) (W N : NamedTree) (q : ℕ) (w : Side)
   data RightKid (m key : ℕ) (r now : NamedTree) : Type 0 where
     keeps-right : IsSpelled g' (g'.child Right m) r → Matches u' m Right r now → RightKid m key r now
     passes-right : (v : ℕ) (rest : NamedTree) → r ≡ Branch may.near key v Null rest → IsOut u may.near → g.key was < key → occurs may.near rest ≡ 0
-        → IsSpelled g' (g'.child Right m) rest → Matches u' m Right rest now → RightKid m key r now
+        → ((i : ℕ) × IsUnset u m Right may.near i) → IsSpelled g' (g'.child Right m) rest → Matches u' m Right rest now → RightKid m key r now
 
   -- what is known there
   record Fresh (m key : ℕ) (r now : NamedTree) (x : ℕ) : Type 0 where
@@ -330,6 +420,7 @@ module _ (g g' h : Graph) (u u' : Undone) (W N : NamedTree) (q : ℕ) (w : Side)
       passes-right v r
       (ap (λ z. Branch c k v z r) (bare-left m key c i x k v l r now f t) ∙ (ap (λ z. Branch z k v Null r) p.only ∙ ap (λ z. Branch may.near z v Null r) is))
       (subst (IsOut u) p.only out) (subst (λ z. g.key was < z) f.key-is p.rises) (subst (λ y. occurs y r ≡ 0) p.only gone)
+      (i, subst (λ y. IsUnset u m Right y i) p.only t)
       (new-kid m f.other f.in-now f.new Right (g.child Right c) r now calm (omega (arith, f.off)) f.spelled.5 f.now-spelled matches)
       (quiet m Right r now calm f.now-off (clear-at m f.asked now f.alone) matches)
 
@@ -415,8 +506,10 @@ module _ (g g' h : Graph) (u u' : Undone) (W N : NamedTree) (q : ℕ) (w : Side)
       was = ap (λ z. Branch z k v l r) (sym known.spelled.0 ∙ sets.before);
       is = ap (λ z. Branch m z v' l r) e;
     }));
+    counts = counts-swapped c k v m k' v' l r (sym known.spelled.0 ∙ sets.before) (sym known.asked.0 ∙ sets.asked) out
+        (known.plain_within c (omega (arith, one_at-same c))) (new-at c k v m k' v' l r l' r' known out ml mr);
   }
-  swapped-at c k v m k' v' l r l' r' known op on out e ml mr (passes-right next rest is gone rises off spelled kept) =
+  swapped-at c k v m k' v' l r l' r' known op on out e ml mr (passes-right next rest is gone rises off passed spelled kept) =
       absurd (omega (arith, subst (λ z. g.key z < k') (sym sets.before ∙ known.spelled.0) rises, known.spelled.2, e))
 
   copied-at : (c k v m k' v' : ℕ) (l r l' r' : NamedTree) → Known q w q w (Branch c k v l r) (Branch m k' v' l' r') → occurs q (Branch c k v l r) ≡ 0
@@ -426,7 +519,11 @@ module _ (g g' h : Graph) (u u' : Undone) (W N : NamedTree) (q : ℕ) (w : Side)
     tree = Branch m k' v' l r;
     spelled = new-node c k v m k' v' l r l' r' r known out op on ml mr spelled;
     matches = Same (refl, refl, left-kept c k v m k' v' l r l' r' known out on ml mr, kept);
-    form = copied ahead.0 k k' (firm m known.asked.0 known.asked.1 (new-at c k v m k' v' l r l' r' known out ml mr)) (inl (record {
+    form = copied ahead.0 k k' (
+      subst (λ z. IsHeir u z ahead.0) (sym known.spelled.0 ∙ sets.before) ahead.1,
+      sym known.spelled.2 ∙ ap g.key (sym known.spelled.0 ∙ sets.before),
+      ap (g'.child Right) (sym sets.asked ∙ known.asked.0) ∙ (same-child g' g (g'.child Right m) (g.child Right c) r spelled known.spelled.5 ∙ ap (g.child Right) (sym known.spelled.0 ∙ sets.before)),
+    ) (firm m known.asked.0 known.asked.1 (new-at c k v m k' v' l r l' r' known out ml mr)) (inl (record {
       slot = m;
       old_val = v;
       val = v';
@@ -437,8 +534,10 @@ module _ (g g' h : Graph) (u u' : Undone) (W N : NamedTree) (q : ℕ) (w : Side)
       is = refl;
       ahead = ahead.2;
     }));
+    counts = counts-swapped c k v m k' v' l r (sym known.spelled.0 ∙ sets.before) (sym known.asked.0 ∙ sets.asked) out
+        (known.plain_within c (omega (arith, one_at-same c))) (new-at c k v m k' v' l r l' r' known out ml mr);
   }
-  copied-at c k v m k' v' l r l' r' known op on out rises ahead ml mr (passes-right next rest is gone above off spelled kept) =
+  copied-at c k v m k' v' l r l' r' known op on out rises ahead ml mr (passes-right next rest is gone above off passed spelled kept) =
       let there : ¬ IsOut u m = may.stays m (known.within m (omega (arith, one_at-same m))) in
       record {
         tree = Branch m k' v' l rest;
@@ -458,6 +557,10 @@ module _ (g g' h : Graph) (u u' : Undone) (W N : NamedTree) (q : ℕ) (w : Side)
               was = ap (λ z. Branch z k v l r) (sym known.spelled.0 ∙ sets.before) ∙ ap (λ z. Branch was k v l z) is;
               is = refl;
             }));
+        counts = counts-joined c k v m k' next may.near l r rest is (sym known.spelled.0 ∙ sets.before) (sym known.asked.0 ∙ sets.asked) out gone
+            (subst (λ y. IsNew y W × ((i : ℕ) × IsUnset u y Right may.near i)) (sym known.asked.0 ∙ sets.asked)
+            ((known.asked.1, new-at c k v m k' v' l r l' r' known out ml mr), passed))
+            (known.plain_within c (omega (arith, one_at-same c))) (new-at c k v m k' v' l r l' r' known out ml mr) k' v';
       }
 
   at-link : (plain now : NamedTree) → Known q w q w plain now → occurs q plain ≡ 0 → occurs q now ≡ 0 → Matches u q w plain now → Done q w q w plain now
@@ -482,6 +585,13 @@ module _ (g g' h : Graph) (u u' : Undone) (W N : NamedTree) (q : ℕ) (w : Side)
         );
         matches = Same (refl, refl, inl tt, inl tt);
         form = grown (record { slot = m; key = k'; val = v'; was = refl; is = refl });
+        counts = record {
+          brings = λ x. omega (arith, ap (one_at x) (sym asked.0 ∙ sets.asked));
+          keeps = λ x i. omega (arith, one_at-other x m (λ e. absurd (omega (arith, i, fresh, ap (λ z. occurs z W) e))));
+          goes = λ some. absurd (omega (arith, some, sym sets.before ∙ known.spelled));
+          stays = λ x t. omega arith;
+          leaves = λ x ne less. absurd (omega (arith, less));
+        };
       }
   at-link (Branch c k v l r) Null known op on (Same matches) = absurd matches
   at-link (Branch c k v l r) Null known op on (Replaced o matches) = absurd matches
@@ -506,6 +616,7 @@ module _ (g g' h : Graph) (u u' : Undone) (W N : NamedTree) (q : ℕ) (w : Side)
         matches = quiet q w r now (λ b i t. (subst (λ z. 0 < z) (sym (may.only b i t)) some, subst (λ z. occurs z r ≡ 0) (sym (may.only b i t)) gone)) on
             (λ new. absurd (lifted-in (g.child Right c) r (child' ∙ sets.asked) known.spelled.5 (λ x i. known.plain_within x (omega (arith, i))) new)) matches.4;
         form = right (inl (record { key = k; val = v; was = ap (λ z. Branch z k v l r) slot ∙ ap (λ z. Branch was k v z r) (null-is l matches.1) }));
+        counts = counts-lifted c k v l r r slot o (λ x. omega (arith, null-occurs x l matches.1));
       }
   at-link (Branch c k v l r) now known op on (LiftedLeft o matches) =
       let slot : c ≡ was = sym known.spelled.0 ∙ sets.before in
@@ -520,6 +631,7 @@ module _ (g g' h : Graph) (u u' : Undone) (W N : NamedTree) (q : ℕ) (w : Side)
         matches = quiet q w l now (λ b i t. (subst (λ z. 0 < z) (sym (may.only b i t)) some, subst (λ z. occurs z l ≡ 0) (sym (may.only b i t)) gone)) on
             (λ new. absurd (lifted-in (g.child Left c) l (child' ∙ sets.asked) known.spelled.4 (λ x i. known.plain_within x (omega (arith, i))) new)) matches.3;
         form = left (inl (record { key = k; val = v; was = ap (λ z. Branch z k v l r) slot ∙ ap (λ z. Branch was k v l z) (null-is r matches.0) }));
+        counts = counts-lifted c k v l r l slot o (λ x. omega (arith, null-occurs x r matches.0));
       }
 
   -- both subtrees below a node that stays where it is, in one of which the link is
@@ -531,6 +643,7 @@ module _ (g g' h : Graph) (u u' : Undone) (W N : NamedTree) (q : ℕ) (w : Side)
     left_matches : Matches u' m Left left_tree l'
     right_matches : Matches u' m Right right_tree r'
     form : (k v : ℕ) → Form (Branch slot k v l r) (Branch slot k v left_tree right_tree)
+    counts : (k v : ℕ) → Counts (Branch slot k v l r) (Branch slot k v left_tree right_tree)
     leads : (x s : ℕ) → IsOut u s → ¬ (s ≡ was) → LeadsTo (IsBypassed u) x s r → LeadsTo (IsBypassed u) x s right_tree
 
   sides : (x y : Side) → x ≡ w → y ≡ w → IsOn x 1 0 → IsOn y 1 0
@@ -619,6 +732,7 @@ module _ (g g' h : Graph) (u u' : Undone) (W N : NamedTree) (q : ℕ) (w : Side)
         left_matches = done.matches;
         right_matches = away m Right r r' off.0 off.1 (right-of m l' r' one (child-in m Left l' kl.asked aim)) mr;
         form = λ k v. form-left slot k v l done.tree r (there-left slot m l l' kl inw aim) done.form;
+        counts = λ k v. counts-left slot k v l done.tree r done.counts;
         leads = λ x s out ne way. way;
       }
   kids slot m l r l' r' kl kr ml mr one inw go-left go-right (inr aim) =
@@ -633,6 +747,7 @@ module _ (g g' h : Graph) (u u' : Undone) (W N : NamedTree) (q : ℕ) (w : Side)
         left_matches = away m Left l l' off.0 off.1 (left-of m l' r' one (child-in m Right r' kr.asked aim)) ml;
         right_matches = done.matches;
         form = λ k v. form-right slot k v l r done.tree done.form;
+        counts = λ k v. counts-right slot k v l r done.tree done.counts;
         leads = λ x s out ne way. form-leads r done.tree x s out ne done.form way;
       }
 
@@ -744,6 +859,7 @@ module _ (g g' h : Graph) (u u' : Undone) (W N : NamedTree) (q : ℕ) (w : Side)
         );
         matches = Same (matches.0, matches.1, kid.left_matches, kid.right_matches);
         form = kid.form k v;
+        counts = kid.counts k v;
       }
   settle a p e d (Branch c k v l r) (Branch m k' v' l' r') inw known (Replaced o matches) (inr i) =
       let other : IsNew child W → ¬ (p ≡ child) = not-here a p e d (Branch c k v l r) (Branch m k' v' l' r') known i in
@@ -766,6 +882,7 @@ module _ (g g' h : Graph) (u u' : Undone) (W N : NamedTree) (q : ℕ) (w : Side)
         );
         matches = Replaced (may.outs c o) (matches.0, keeps p d c m (λ z. pq z.0) other matches.1, kid.left_matches, kid.right_matches);
         form = kid.form k v;
+        counts = kid.counts k v;
       }
   settle a p e d (Branch c k v l r) (Branch m k' v' l' r') inw known (Copied o matches) (inr i) =
       let other : IsNew child W → ¬ (p ≡ child) = not-here a p e d (Branch c k v l r) (Branch m k' v' l' r') known i in
@@ -799,6 +916,7 @@ module _ (g g' h : Graph) (u u' : Undone) (W N : NamedTree) (q : ℕ) (w : Side)
           kid.right_matches,
         );
         form = kid.form k v;
+        counts = kid.counts k v;
       }
   settle a p e d (Branch c k v l r) now inw known (LiftedRight o matches) (inr i) =
       let other : IsNew child W → ¬ (p ≡ child) = not-here a p e d (Branch c k v l r) now known i in
@@ -829,6 +947,7 @@ module _ (g g' h : Graph) (u u' : Undone) (W N : NamedTree) (q : ℕ) (w : Side)
         );
         matches = LiftedRight (may.outs c o) (may.passes c matches.0, matches.1, matches.2, (matches.3.0, keeps p d c matches.3.0 (λ z. pq z.0) other matches.3.1), done.matches);
         form = form-right c k v l r done.tree done.form;
+        counts = counts-right c k v l r done.tree done.counts;
       }
   settle a p e d (Branch c k v l r) now inw known (LiftedLeft o matches) (inr i) =
       let other : IsNew child W → ¬ (p ≡ child) = not-here a p e d (Branch c k v l r) now known i in
@@ -859,19 +978,127 @@ module _ (g g' h : Graph) (u u' : Undone) (W N : NamedTree) (q : ℕ) (w : Side)
         );
         matches = LiftedLeft (may.outs c o) (matches.0, matches.1, (matches.2.0, keeps p d c matches.2.0 (λ z. pq z.0) other matches.2.1), done.matches);
         form = form-left c k v l done.tree r (λ n. absurd (omega (arith, i, null-occurs q l n, below.counts q (inw (known.within q i)) may.there))) done.form;
+        counts = counts-left c k v l done.tree r done.counts;
       }
 
-  result : NamesOnce 0 W → (done : Done 0 Right 0 Right W N) → IsSet g' u u' W N done.tree was
+  result : NamesOnce 0 W → (done : Done 0 Right 0 Right W N) → IsSet g g' u u' W N done.tree was child
   result once done = by-form done.form
     where
-      by-form : Form W done.tree → IsSet g' u u' W N done.tree was
-      by-form (grown re) = record { spelled = done.spelled; matches = done.matches; successor = 0; from = 0; until = 0; store = Insert re }
-      by-form (right re) = record { spelled = done.spelled; matches = done.matches; successor = 0; from = 0; until = 0; store = LiftRight re }
-      by-form (left re) = record { spelled = done.spelled; matches = done.matches; successor = 0; from = 0; until = 0; store = LiftLeft re }
-      by-form (swapped firm' re) = record { spelled = done.spelled; matches = done.matches; successor = 0; from = 0; until = 0; store = Replace firm' re }
-      by-form (copied s from until firm' re) = record { spelled = done.spelled; matches = done.matches; successor = s; from = from; until = until; store = Copy firm' re }
-      by-form (joined s firm' less re) =
-          record { spelled = done.spelled; matches = done.matches; successor = s; from = 0; until = 0; store = Join firm' (omega (arith, less, once s)) re }
+      some : (x : ℕ) → 0 < occurs x done.tree → 0 < x
+      some x = spelled-some g' x (g'.child Right 0) done.tree done.spelled
+
+      nodes : (x : ℕ) → 0 < occurs x done.tree → (0 < occurs x W) ⊎ (x ≡ child)
+      nodes x i = elim (eqb_tells x child) as (λ _. (0 < occurs x W) ⊎ (x ≡ child)) [ inl e ↦ inr e.1 | inr ne ↦ inl (omega (arith, i, done.counts.brings x, one_at-other x child ne.1)) ]
+
+      often : (x : ℕ) → 0 < x → occurs x done.tree ≤ 1
+      often x pos = elim (eqb_tells (occurs x W) 0) as (λ _. occurs x done.tree ≤ 1) [
+        | inl z ↦ omega (arith, z.1, done.counts.brings x, one_at-most x child)
+        | inr z ↦ omega (arith, done.counts.keeps x (omega (arith, z.1)), once x)
+      ]
+
+      once' : NamesOnce 0 done.tree
+      once' x = elim (eqb_tells (occurs x done.tree) 0) as (λ _. one_at x 0 + occurs x done.tree ≤ 1) [
+        | inl z ↦ omega (arith, z.1, one_at-most x 0)
+        | inr z ↦ omega (arith, one_at-other x 0 (λ e. absurd (omega (arith, e, some x (omega (arith, z.1))))), often x (some x (omega (arith, z.1))))
+      ]
+
+      gone : occurs was done.tree ≡ 0
+      gone = elim (eqb_tells (occurs was done.tree) 0) as (λ _. occurs was done.tree ≡ 0) [
+        | inl z ↦ z.1
+        | inr z ↦ absurd (omega (arith, z.1, done.counts.goes (some was (omega (arith, z.1))), once was))
+      ]
+
+      keeps : (x : ℕ) → ¬ IsOut u x → 0 < occurs x W → 0 < occurs x done.tree
+      keeps x there i = omega (arith, i, done.counts.stays x there)
+
+      leaves : (x : ℕ) → 0 < occurs x W → occurs x done.tree ≡ 0 → (x ≡ was) ⊎ IsPassed x
+      leaves x i none = elim (eqb_tells x was) as (λ _. (x ≡ was) ⊎ IsPassed x) [ inl e ↦ inl e.1 | inr ne ↦ inr (done.counts.leaves x ne.1 (omega (arith, i, none))) ]
+
+      by-form : Form W done.tree → IsSet g g' u u' W N done.tree was child
+      by-form (grown re) = record {
+        spelled = done.spelled;
+        matches = done.matches;
+        once = once';
+        nodes = nodes;
+        gone = gone;
+        keeps = keeps;
+        leaves = leaves;
+        successor = 0;
+        from = 0;
+        until = 0;
+        store = Insert re;
+        copied = absurd;
+      }
+      by-form (right re) = record {
+        spelled = done.spelled;
+        matches = done.matches;
+        once = once';
+        nodes = nodes;
+        gone = gone;
+        keeps = keeps;
+        leaves = leaves;
+        successor = 0;
+        from = 0;
+        until = 0;
+        store = LiftRight re;
+        copied = absurd;
+      }
+      by-form (left re) = record {
+        spelled = done.spelled;
+        matches = done.matches;
+        once = once';
+        nodes = nodes;
+        gone = gone;
+        keeps = keeps;
+        leaves = leaves;
+        successor = 0;
+        from = 0;
+        until = 0;
+        store = LiftLeft re;
+        copied = absurd;
+      }
+      by-form (swapped firm' re) = record {
+        spelled = done.spelled;
+        matches = done.matches;
+        once = once';
+        nodes = nodes;
+        gone = gone;
+        keeps = keeps;
+        leaves = leaves;
+        successor = 0;
+        from = 0;
+        until = 0;
+        store = Replace firm' re;
+        copied = absurd;
+      }
+      by-form (copied s from until heir firm' re) = record {
+        spelled = done.spelled;
+        matches = done.matches;
+        once = once';
+        nodes = nodes;
+        gone = gone;
+        keeps = keeps;
+        leaves = leaves;
+        successor = s;
+        from = from;
+        until = until;
+        store = Copy firm' re;
+        copied = λ _. heir;
+      }
+      by-form (joined s firm' less re) = record {
+        spelled = done.spelled;
+        matches = done.matches;
+        once = once';
+        nodes = nodes;
+        gone = gone;
+        keeps = keeps;
+        leaves = leaves;
+        successor = s;
+        from = 0;
+        until = 0;
+        store = Join firm' (omega (arith, less, once s)) re;
+        copied = absurd;
+      }
 
 pub set_law : SetLaw
 set_law g g' h u u' plain now q was child w orderly spelled once asked now_once matches link sets may moves =

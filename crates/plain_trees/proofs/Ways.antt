@@ -104,7 +104,7 @@ module _ (g g' : Graph) (bypassed bypassed' : ℕ → Type 0) (waits waits' : �
     (spelled : IsSpelled g (g.child Right 0) plain)
     (some : (m : ℕ) → 0 < occurs m plain' → 0 < m)
     (keys : (m : ℕ) → g'.key m ≡ g.key m)
-    (links : (m : ℕ) → occurs m plain' ≡ 0 → (side : Side) → g'.child side m ≡ g.child side m)
+    (links : (m : ℕ) → 0 < m → occurs m plain' ≡ 0 → (side : Side) → g'.child side m ≡ g.child side m)
     (met : (c : ℕ) → Meets x c plain → 0 < occurs c plain' → Meets x c plain' ⊎ IsExcepted g' bypassed' waits' plain' x c)
     (excepted : (c : ℕ) → IsExcepted g bypassed waits plain x c → 0 < occurs c plain' → IsExcepted g' bypassed' waits' plain' x c) where
   Old : ℕ → Type 0
@@ -126,11 +126,11 @@ module _ (g g' : Graph) (bypassed bypassed' : ℕ → Type 0) (waits waits' : �
       → Meets x c plain' ⊎ IsExcepted g' bypassed' waits' plain' x c
   inner [] a c old way o = ends c (subst (λ z. Meets x z plain ⊎ IsExcepted g bypassed waits plain x z) way old) o
   inner (m ∷ ms) a c old (e, pos, apart, inl left) o =
-      let way : IsWay g' plain' x ms (g.child Left m) c = subst (λ z. IsWay g' plain' x ms z c) (links m apart Left) left.1 in
+      let way : IsWay g' plain' x ms (g.child Left m) c = subst (λ z. IsWay g' plain' x ms z c) (links m pos apart Left) left.1 in
       inner ms (g.child Left m) c (on-left g bypassed waits plain x spelled m (subst (λ z. Meets x z plain ⊎ IsExcepted g bypassed waits plain x z) e old) (omega (arith, left.0, keys m))
       (way-some g' plain' x (g.child Left m) c ms way (some c o))) way o
   inner (m ∷ ms) a c old (e, pos, apart, inr right) o =
-      let way : IsWay g' plain' x ms (g.child Right m) c = subst (λ z. IsWay g' plain' x ms z c) (links m apart Right) right.1 in
+      let way : IsWay g' plain' x ms (g.child Right m) c = subst (λ z. IsWay g' plain' x ms z c) (links m pos apart Right) right.1 in
       inner ms (g.child Right m) c (on-right g bypassed waits plain x spelled m (subst (λ z. Meets x z plain ⊎ IsExcepted g bypassed waits plain x z) e old) (omega (arith, right.0, keys m))
       (way-some g' plain' x (g.child Right m) c ms way (some c o))) way o
 
@@ -144,14 +144,14 @@ module _ (g g' : Graph) (bypassed bypassed' : ℕ → Type 0) (waits waits' : �
         | inr ne ↦ ends c (claims [] c way (omega (arith, ne.1))) o
       ]
   outer (m ∷ ms) a c claims fresh (e, pos, apart, inl left) o =
-      let way : IsWay g' plain' x ms (g.child Left m) c = subst (λ z. IsWay g' plain' x ms z c) (links m apart Left) left.1 in
+      let way : IsWay g' plain' x ms (g.child Left m) c = subst (λ z. IsWay g' plain' x ms z c) (links m pos apart Left) left.1 in
       let on : x < point_of (g.key m) = omega (arith, left.0, keys m) in
       elim (eqb_tells (occurs m plain) 0) as (λ _. Meets x c plain' ⊎ IsExcepted g' bypassed' waits' plain' x c) [
         | inl n ↦ outer ms (g.child Left m) c (λ ks d w. claims (m ∷ ks) d (e, pos, n.1, inl (on, w))) (λ d i n' ks w. fresh d i n' (m ∷ ks) (e, pos, n.1, inl (on, w))) way o
         | inr ne ↦ inner ms (g.child Left m) c (on-left g bypassed waits plain x spelled m (claims [] m e (omega (arith, ne.1))) on (way-some g' plain' x (g.child Left m) c ms way (some c o))) way o
       ]
   outer (m ∷ ms) a c claims fresh (e, pos, apart, inr right) o =
-      let way : IsWay g' plain' x ms (g.child Right m) c = subst (λ z. IsWay g' plain' x ms z c) (links m apart Right) right.1 in
+      let way : IsWay g' plain' x ms (g.child Right m) c = subst (λ z. IsWay g' plain' x ms z c) (links m pos apart Right) right.1 in
       let on : point_of (g.key m) < x = omega (arith, right.0, keys m) in
       elim (eqb_tells (occurs m plain) 0) as (λ _. Meets x c plain' ⊎ IsExcepted g' bypassed' waits' plain' x c) [
         | inl n ↦ outer ms (g.child Right m) c (λ ks d w. claims (m ∷ ks) d (e, pos, n.1, inr (on, w))) (λ d i n' ks w. fresh d i n' (m ∷ ks) (e, pos, n.1, inr (on, w))) way o

@@ -1,7 +1,7 @@
 -- What a store of a plain link does: the link that an update has still to set is set to the child that the tree at the stamp
 -- has there. The plain tree after it is spelled, matches the tree at the stamp without that link, and came by a store of one
 -- of the forms.
-use Rattle.std.specs.Prelude.{◌≡◌, ℕ, ◌<◌}
+use Rattle.std.specs.Prelude.{◌≡◌, ℕ, ◌<◌, ◌⊎◌}
 use Rattle.index_words.specs.declared.side.Side.{Side}
 use Rattle.index_words.specs.declared.side.Side.TheVariants.{Left, Right}
 use Rattle.core_trees.specs.NamedTree.{NamedTree}
@@ -9,7 +9,7 @@ use Rattle.core_trees.specs.Slots.{occurs, NamesOnce}
 use Rattle.core_trees.specs.SpelledTree.{Graph, IsSpelled}
 use Rattle.core_trees.specs.LinkSteps.{IsLink, IsLinkIn}
 use Rattle.plain_trees.specs.Matching.{Undone, IsUnset, IsOut, IsBypassed, IsHeir, IsOrderly, Matches}
-use Rattle.plain_trees.specs.Stores.{IsStore}
+use Rattle.plain_trees.specs.Stores.{IsStore, Copy}
 
 -- The plain links before and after the store at the link of `node` on `side`, and the links of the tree at the stamp.
 pub record Sets (g g' now_links : Graph) (node : ℕ) (side : Side) (was child : ℕ) : Type 0 where
@@ -59,14 +59,27 @@ pub record MaySet (g now_links : Graph) (u u' : Undone) (plain now : NamedTree) 
   pub passed : IsBypassed u was → occurs child plain ≡ 0 → child ≡ 0
   pub copied : (removed successor parent : ℕ) (top : Side) (child' : ℕ) → IsHeir u removed successor → IsUnset u parent top removed child' → ¬ (successor ≡ was)
 
--- the plain tree after the store
-pub record IsSet (g' : Graph) (u u' : Undone) (plain now plain' : NamedTree) (was : ℕ) : Type 0 where
+-- a copy of a successor that stays was linked
+abbrev pub IsCopy : {there bypassed : ℕ → Type 0} {n s from until : ℕ} {old new : NamedTree} → IsStore there bypassed n s from until old new → Type 0
+IsCopy (Copy firm re) = Unit {0}
+IsCopy _ = ⊥
+
+-- The plain tree after the store: the child alone may have come, what the link held is gone, and what was not taken out stays.
+-- What else goes is a successor over which a copy passes. A copy of a successor that stays has the same right child as the removed node.
+pub record IsSet (g g' : Graph) (u u' : Undone) (plain now plain' : NamedTree) (was child : ℕ) : Type 0 where
   pub spelled : IsSpelled g' (g'.child Right 0) plain'
   pub matches : Matches u' 0 Right plain' now
+  pub once : NamesOnce 0 plain'
+  pub nodes : (m : ℕ) → 0 < occurs m plain' → (0 < occurs m plain) ⊎ (m ≡ child)
+  pub gone : occurs was plain' ≡ 0
+  pub keeps : (m : ℕ) → ¬ IsOut u m → 0 < occurs m plain → 0 < occurs m plain'
+  pub leaves : (m : ℕ) → 0 < occurs m plain → occurs m plain' ≡ 0
+      → (m ≡ was) ⊎ (IsNew child plain × ((behind : ℕ) × IsUnset u child Right m behind))
   pub successor : ℕ
   pub from : ℕ
   pub until : ℕ
   pub store : IsStore (λ m. ¬ IsOut u m) (IsBypassed u) was successor from until plain plain'
+  pub copied : IsCopy store → IsHeir u was successor × (from ≡ g.key was) × (g'.child Right child ≡ g.child Right was)
 
 abbrev pub SetLaw : Type 0
 SetLaw =
@@ -74,4 +87,4 @@ SetLaw =
     → IsOrderly u → IsSpelled g (g.child Right 0) plain → NamesOnce 0 plain
     → IsSpelled now_links (now_links.child Right 0) now → NamesOnce 0 now → Matches u 0 Right plain now
     → IsLinkIn 0 Right now node side → Sets g g' now_links node side was child → MaySet g now_links u u' plain now node side was child → ¬ (was ≡ child)
-    → (plain' : NamedTree) × IsSet g' u u' plain now plain' was
+    → (plain' : NamedTree) × IsSet g g' u u' plain now plain' was child

@@ -99,7 +99,7 @@ pub record Stores (g g' : Graph) (there : ℕ → Bool) (u u' : Undone) (waits w
   pub spelled : IsSpelled g (g.child Right 0) plain
   pub some : (m : ℕ) → 0 < occurs m plain' → 0 < m
   pub keys : (m : ℕ) → g'.key m ≡ g.key m
-  pub links : (m : ℕ) → occurs m plain' ≡ 0 → (side : Side) → g'.child side m ≡ g.child side m
+  pub links : (m : ℕ) → 0 < m → occurs m plain' ≡ 0 → (side : Side) → g'.child side m ≡ g.child side m
   pub store : IsStore (IsTest there) (IsBypassed u) n s from until plain plain'
   pub gone : occurs n plain' ≡ 0
   pub removed : from ≡ g.key n

@@ -26,10 +26,9 @@ use Rattle.core_laws.proofs.Found.{stamp_law}
 use Rattle.core_updates.specs.declared.plan.Plan.{Plan}
 use Rattle.core_updates.specs.declared.plan.Plan.TheVariants.{Grow, Replace, Lift, Join}
 use Rattle.core_updates.specs.declared.plan.PlanSlots.{PlanSlots}
-use Rattle.core_updates.specs.PlanReady.{HoldsNewNode}
-use Rattle.core_updates.specs.Plans.{key_of, change_of, out_of, new_node_of, entries_of, fresh_to, slot_of}
-use Rattle.core_updates.proofs.PlansRaise.{plan_may_raise}
-use Rattle.plan_laws.specs.Raises.{fresh_entry, fresh_entries, update_by}
+use Rattle.core_updates.specs.PlanReady.{HoldsNewNode, PlanMayRaiseLaw}
+use Rattle.core_updates.specs.Plans.{key_of, change_of, out_of, new_node_of, entries_of, fresh_entries, fresh_listed, fresh_to, or_none, slot_of}
+use Rattle.plan_laws.specs.Raises.{update_by}
 use Rattle.plan_laws.specs.Answers.{was_there, MovesNodes, owned_nodes, AnswerLaw, PreparedOwnsLaw, FourEntriesLaw}
 use Rattle.plan_laws.proofs.Raises.{entries-are}
 
@@ -97,28 +96,28 @@ module _ (t : Table) (right : IsRight t) (i : ℕ) (v : View) (at : IsItem t.vie
 pub prepared_owns : PreparedOwnsLaw
 prepared_owns t i k e side v right at some = (refl, omega (arith, length-without e v.free.entries, free-entry t right i v at e, some))
 
-fresh-most : (e child : ℕ) → length (fresh_entry (fresh_to e child)) ≤ 1
+fresh-most : (e child : ℕ) → length (fresh_listed (fresh_to e child)) ≤ 1
 fresh-most e child = by (child == 0)
   where
-    by : (b : Bool) → length (fresh_entry (cond b None (Some (record { entry = e; child = child })))) ≤ 1
+    by : (b : Bool) → length (fresh_listed (cond b None (Some (record { entry = e; child = child })))) ≤ 1
     by true = omega arith
     by false = omega arith
 
 pub four_entries : FourEntriesLaw
 four_entries (Grow p) slots = omega arith
-four_entries (Replace p) slots = omega (arith, length-append (fresh_entry (fresh_to slots.left p.left)) (fresh_entry (fresh_to slots.right p.right)), fresh-most slots.left p.left, fresh-most slots.right p.right)
+four_entries (Replace p) slots = omega (arith, length-append (fresh_listed (fresh_to slots.left p.left)) (fresh_listed (fresh_to slots.right p.right)), fresh-most slots.left p.left, fresh-most slots.right p.right)
 four_entries (Lift p) slots = omega arith
 four_entries (Join p) slots =
     let high : ℕ = cond (p.next.at.node == p.node) p.next.right p.right in
     omega (
       arith,
-      length-append (fresh_entry (fresh_to slots.left p.left)) (fresh_entry (fresh_to slots.right high)),
+      length-append (fresh_listed (fresh_to slots.left p.left)) (fresh_listed (fresh_to slots.right high)),
       fresh-most slots.left p.left,
       fresh-most slots.right high,
       fronts-most (p.next.at.node == p.node),
     )
   where
-    fronts-most : (near : Bool) → length (entries_of (record { at = p.at; entry = slots.at; child = slots.node } ∷ cond near [] (record { at = p.next.at; entry = slots.next; child = p.next.right } ∷ []))) ≤ 2
+    fronts-most : (near : Bool) → length (entries_of (record { at = p.at; entry = slots.at; child = slots.node } ∷ or_none (cond near None (Some (record { at = p.next.at; entry = slots.next; child = p.next.right }))))) ≤ 2
     fronts-most true = omega arith
     fronts-most false = omega arith
 
@@ -165,8 +164,8 @@ new-free (Replace p) slots v h = inr h.free
 new-free (Lift p) slots v h = inl refl
 new-free (Join p) slots v h = inr h.free
 
-pub answer : AnswerLaw
-answer t seat n line v plan slots right at r apart can =
+pub answer : PlanMayRaiseLaw → AnswerLaw
+answer plan_may_raise t seat n line v plan slots right at r apart can =
     let u = update_by n line plan in
     let here : IsItem t.views seat v = item_from_get t.views seat v at in
     let moves = (plan_may_raise t.layout v n line plan slots can r.ready).moves t.words t.views seat right at in

@@ -1,10 +1,8 @@
 -- The words that a plan fills are different ones, of free slots of the seat.
-use Rattle.std.proofs.Common.{◌≡◌, ℕ, zero, suc, ◌<◌, ◌⊎◌, inl, inr, List, [], ◌∷◌, ◌++◌, Bool, true, false, cond, refl, ap, sym, ◌∙◌, subst, arith, Some, None}
-use Rattle.std.specs.Prelude.{◌==◌, ◌&&◌, slice_index}
-use Rattle.std.specs.List.{slice_get}
+use Rattle.std.proofs.Common.{◌≡◌, ℕ, ◌<◌, ◌⊎◌, inl, inr, List, [], ◌∷◌, ◌++◌, Bool, true, false, cond, refl, ap, sym, ◌∙◌, subst, Some, None}
+use Rattle.std.specs.Prelude.{◌==◌, ◌&&◌}
 use Rattle.std.proofs.lemmas.Bool.{ne_eqb}
 use Rattle.index_words.specs.declared.side.Side.TheVariants.{Left, Right}
-use Rattle.index_words.specs.declared.layout.Layout.{Layout}
 use Rattle.index_words.specs.declared.view.View.{View}
 use Rattle.index_words.specs.declared.view.reading.Filled.{Filled}
 use Rattle.index_words.specs.declared.word.Field.{Field}
@@ -15,33 +13,25 @@ use Rattle.index_words.specs.declared.word.Word.TheVariants.{Node, Entry}
 use Rattle.index_words.specs.Words.{same_word, same_part}
 use Rattle.key_map.specs.Lists.{count, Every}
 use Rattle.core_events.specs.Needs.{is_lock}
-use Rattle.core_laws.proofs.ViewNeeds.{may_fill_law}
+use Rattle.core_laws.specs.ViewNeeds.{MayFill}
 use Rattle.core_updates.specs.declared.plan.Plan.{Plan}
 use Rattle.core_updates.specs.declared.plan.Plan.TheVariants.{Grow, Replace, Lift, Join}
 use Rattle.core_updates.specs.declared.plan.JoinPlan.{JoinPlan}
 use Rattle.core_updates.specs.declared.plan.PlanSlots.{PlanSlots}
+use Rattle.core_updates.specs.declared.plan.Heads.{Heads}
 use Rattle.core_updates.specs.declared.plan.NewNode.{NewNode}
-use Rattle.core_updates.specs.PlanEvents.{HasSlots, MayFillAll}
+use Rattle.core_updates.specs.PlanEvents.{HasSlots}
 use Rattle.core_updates.specs.Plans.{node_fills, entry_fills, fresh_to, head_of, child_of}
-use Rattle.plan_laws.specs.Fills.{AreApart, fresh_fills, front_fills, fills_of}
-use Rattle.plan_laws.proofs.Items.{got-every, every-both, every-to}
+use Rattle.plan_laws.specs.Fills.{AreApart, fresh_fills, next_fills, fills_of}
+use Rattle.plan_laws.proofs.Items.{every-both, every-to}
 
 abbrev pub WordApart : Filled → Filled → Type 0
 WordApart f g = same_word f.word g.word ≡ false
 
 -- no word of the list is filled twice
-abbrev AllApart : List Filled → Type 0
+abbrev pub AllApart : List Filled → Type 0
 AllApart [] = Unit {0}
 AllApart (f ∷ fs) = Every (WordApart f) fs × AllApart fs
-
-apart-at : (fs : List Filled) (first second : ℕ) (f g : Filled) → AllApart fs → first < second → slice_get fs first ≡ Some f → slice_get fs second ≡ Some g → WordApart f g
-apart-at [] first second f g all below is other = cc
-apart-at (x ∷ fs) zero zero f g all below is other = absurd (omega (arith, below))
-apart-at (x ∷ fs) zero (suc second) f g all below is other =
-    let same : x ≡ f = cc in
-    subst (λ l. WordApart l g) same (got-every (WordApart x) fs second g all.0 other)
-apart-at (x ∷ fs) (suc first) zero f g all below is other = absurd (omega (arith, below))
-apart-at (x ∷ fs) (suc first) (suc second) f g all below is other = apart-at fs first second f g all.1 (omega (arith, below)) is other
 
 apart-append : (fs gs : List Filled) → AllApart fs → AllApart gs → Every (λ f. Every (WordApart f) gs) fs → AllApart (fs ++ gs)
 apart-append [] gs a b across = b
@@ -203,79 +193,77 @@ groups-apart slots fs a g =
     (every-both (λ f. Every (WordApart f) (g.at ++ g.next)) g.left g.right over-left over-right)))
 
 -- the second front of a removal with two children
-next-group : (near : Bool) (p : JoinPlan) (slots : PlanSlots) (entries : List ℕ)
-    → Group slots.next (front_fills 1 (cond near [] (record { at = p.next.at; entry = slots.next; child = p.next.right } ∷ [])) entries)
-next-group true p slots entries = no-group slots.next
-next-group false p slots entries = entry-group slots.next p.next.right (slice_index entries 8)
+next-group : (near : Bool) (p : JoinPlan) (slots : PlanSlots) (behind : ℕ)
+    → Group slots.next (next_fills behind (cond near None (Some (record { at = p.next.at; entry = slots.next; child = p.next.right }))))
+next-group true p slots behind = no-group slots.next
+next-group false p slots behind = entry-group slots.next p.next.right behind
 
-groups-of : (plan : Plan) (slots : PlanSlots) (entries : List ℕ) → Groups slots (fills_of plan slots entries)
-groups-of (Grow p) slots entries = record {
+groups-of : (plan : Plan) (slots : PlanSlots) (heads : Heads) → Groups slots (fills_of plan slots heads)
+groups-of (Grow p) slots heads = record {
   node = node_fills (record { slot = slots.node; pair = p.pair; left = None; right = None });
   left = [];
   right = [];
-  at = entry_fills slots.at slots.node (slice_index entries 0);
+  at = entry_fills slots.at slots.node heads.at;
   next = [];
   node_of = node-group (record { slot = slots.node; pair = p.pair; left = None; right = None });
   left_of = no-group slots.left;
   right_of = no-group slots.right;
-  at_of = entry-group slots.at slots.node (slice_index entries 0);
+  at_of = entry-group slots.at slots.node heads.at;
   next_of = no-group slots.next;
   is = refl;
 }
-groups-of (Replace p) slots entries = record {
+groups-of (Replace p) slots heads = record {
   node = node_fills (record { slot = slots.node; pair = p.pair; left = fresh_to slots.left p.left; right = fresh_to slots.right p.right });
   left = fresh_fills (fresh_to slots.left p.left);
   right = fresh_fills (fresh_to slots.right p.right);
-  at = entry_fills slots.at slots.node (slice_index entries 0);
+  at = entry_fills slots.at slots.node heads.at;
   next = [];
   node_of = node-group (record { slot = slots.node; pair = p.pair; left = fresh_to slots.left p.left; right = fresh_to slots.right p.right });
   left_of = fresh-group slots.left p.left;
   right_of = fresh-group slots.right p.right;
-  at_of = entry-group slots.at slots.node (slice_index entries 0);
+  at_of = entry-group slots.at slots.node heads.at;
   next_of = no-group slots.next;
   is = refl;
 }
-groups-of (Lift p) slots entries = record {
+groups-of (Lift p) slots heads = record {
   node = [];
   left = [];
   right = [];
-  at = entry_fills slots.at p.child (slice_index entries 0);
+  at = entry_fills slots.at p.child heads.at;
   next = [];
   node_of = no-node slots.node;
   left_of = no-group slots.left;
   right_of = no-group slots.right;
-  at_of = entry-group slots.at p.child (slice_index entries 0);
+  at_of = entry-group slots.at p.child heads.at;
   next_of = no-group slots.next;
   is = refl;
 }
-groups-of (Join p) slots entries =
+groups-of (Join p) slots heads =
     let high : ℕ = cond (p.next.at.node == p.node) p.next.right p.right in
     record {
       node = node_fills (record { slot = slots.node; pair = p.next.pair; left = fresh_to slots.left p.left; right = fresh_to slots.right high });
       left = fresh_fills (fresh_to slots.left p.left);
       right = fresh_fills (fresh_to slots.right high);
-      at = entry_fills slots.at slots.node (slice_index entries 0);
-      next = front_fills 1 (cond (p.next.at.node == p.node) [] (record { at = p.next.at; entry = slots.next; child = p.next.right } ∷ [])) entries;
+      at = entry_fills slots.at slots.node heads.at;
+      next = next_fills heads.next (cond (p.next.at.node == p.node) None (Some (record { at = p.next.at; entry = slots.next; child = p.next.right })));
       node_of = node-group (record { slot = slots.node; pair = p.next.pair; left = fresh_to slots.left p.left; right = fresh_to slots.right high });
       left_of = fresh-group slots.left p.left;
       right_of = fresh-group slots.right high;
-      at_of = entry-group slots.at slots.node (slice_index entries 0);
-      next_of = next-group (p.next.at.node == p.node) p slots entries;
+      at_of = entry-group slots.at slots.node heads.at;
+      next_of = next-group (p.next.at.node == p.node) p slots heads.next;
       is = refl;
     }
 
--- a word that is filled later is another one
-pub fills-apart : (plan : Plan) (slots : PlanSlots) (entries : List ℕ) (first second : ℕ) (f g : Filled) → AreApart slots → first < second
-    → slice_get (fills_of plan slots entries) first ≡ Some f → slice_get (fills_of plan slots entries) second ≡ Some g → WordApart f g
-fills-apart plan slots entries first second f g apart below is other =
-    apart-at (fills_of plan slots entries) first second f g (groups-apart slots (fills_of plan slots entries) apart (groups-of plan slots entries)) below is other
+-- no word is filled twice
+pub fills-apart : (plan : Plan) (slots : PlanSlots) (heads : Heads) → AreApart slots → AllApart (fills_of plan slots heads)
+fills-apart plan slots heads apart = groups-apart slots (fills_of plan slots heads) apart (groups-of plan slots heads)
 
 -- each of these words may be filled
-pub fills-may : (z : Layout) (v : View) (seat : ℕ) (plan : Plan) (slots : PlanSlots) (entries : List ℕ) → HasSlots v slots → Every (MayFillAll z v seat) (fills_of plan slots entries)
-fills-may z v seat plan slots entries free =
-    groups-every (MayFillAll z v seat) slots (fills_of plan slots entries) (groups-of plan slots entries)
-    (λ f of. subst (λ w. MayFillAll z v seat (record { word = w; value = f.value })) (sym of.is) (may_fill_law z v seat (Node of.field slots.node) f.value (of.open', free.node)))
-    (λ e which f of. subst (λ w. MayFillAll z v seat (record { word = w; value = f.value })) (sym of.is) (may_fill_law z v seat (Entry of.part e) f.value (is-free e which)))
+pub fills-may : (v : View) (plan : Plan) (slots : PlanSlots) (heads : Heads) → HasSlots v slots → Every (λ (f : Filled). MayFill v f.word) (fills_of plan slots heads)
+fills-may v plan slots heads free =
+    groups-every (λ (f : Filled). MayFill v f.word) slots (fills_of plan slots heads) (groups-of plan slots heads)
+    (λ f of. subst (MayFill v) (sym of.is) (of.open', free.node))
+    (λ e which f of. subst (MayFill v) (sym of.is) (is-free e which))
   where
     is-free : (e : ℕ) → (e ≡ slots.left) ⊎ ((e ≡ slots.right) ⊎ ((e ≡ slots.at) ⊎ (e ≡ slots.next))) → 0 < count e v.free.entries
     is-free e which =

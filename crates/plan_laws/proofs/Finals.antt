@@ -12,27 +12,18 @@ use Rattle.core_laws.proofs.ViewNeeds.{may_finalise_law, may_mark_law}
 use Rattle.core_updates.specs.declared.plan.Plan.{Plan}
 use Rattle.core_updates.specs.declared.plan.Plan.TheVariants.{Grow, Replace, Lift, Join}
 use Rattle.core_updates.specs.declared.plan.PlanSlots.{PlanSlots}
-use Rattle.core_updates.specs.Plans.{fresh_to, locks_of, out_of, fronts_of, new_node_of, entries_of}
+use Rattle.core_updates.specs.Plans.{entries_in, entries_of, fresh_entries, fresh_listed, fresh_to, fronts_of, new_node_of, or_none, out_of}
 use Rattle.core_updates.specs.PlanEvents.{IsLockOf}
 use Rattle.core_updates.proofs.PlanLocks.{locks_law}
 use Rattle.plan_laws.specs.Fills.{AreApart}
-use Rattle.plan_laws.specs.Raises.{fresh_entry, fresh_entries, raised_entries, FinaliseStepLaw, FinaliseEndLaw, MarkStartLaw, MarkStepLaw, MarkEndLaw}
-use Rattle.plan_laws.proofs.Items.{drop-got, got-every, got-counts, map-keeps, take-got, take-past}
+use Rattle.plan_laws.specs.Raises.{FinaliseStepLaw, FinaliseEndLaw, MarkStartLaw, MarkStepLaw, MarkEndLaw}
+use Rattle.plan_laws.proofs.Items.{drop-got, got-every, got-counts, got-none, map-keeps, take-got, take-past}
 use Rattle.plan_laws.proofs.HeldMaps.{mark-node}
-use Rattle.plan_laws.proofs.Tries.{no_slots}
-use Rattle.plan_laws.proofs.Fills.{got-none}
 use Rattle.plan_laws.proofs.Releases.{none-taken, every-by}
 
 -- four different numbers
 abbrev one : ℕ → ℕ → ℕ
 one k x = cond (eqb x k) 1 0
-
-one-le : (k x : ℕ) → one k x ≤ 1
-one-le k x = by (eqb x k)
-  where
-    by : (b : Bool) → cond b 1 0 ≤ 1
-    by true = omega arith
-    by false = omega arith
 
 two-le : (k x y : ℕ) → ¬ (x ≡ y) → one k x + one k y ≤ 1
 two-le k x y apart = by (eqb x k) (eqb y k) (λ e. same x e) (λ e. same y e)
@@ -65,21 +56,23 @@ fronts-le k (Replace p) s = omega arith
 fronts-le k (Lift p) s = omega arith
 fronts-le k (Join p) s = by (p.next.at.node == p.node)
   where
-    by : (near : Bool) → count k (s.at ∷ entries_of (cond near [] (record { at = p.next.at; entry = s.next; child = p.next.right } ∷ []))) ≤ one k s.at + one k s.next
+    by : (near : Bool) → count k (s.at ∷ entries_of (or_none
+        (cond near None (Some (record { at = p.next.at; entry = s.next; child = p.next.right }))))) ≤ one k s.at + one k s.next
     by true = omega arith
     by false = omega arith
 
-fresh-le : (k e child : ℕ) → count k (fresh_entry (fresh_to e child)) ≤ one k e
+fresh-le : (k e child : ℕ) → count k (fresh_listed (fresh_to e child)) ≤ one k e
 fresh-le k e child = by (child == 0)
   where
-    by : (b : Bool) → count k (fresh_entry (cond b None (Some (record { entry = e; child = child })))) ≤ one k e
+    by : (b : Bool) → count k (fresh_listed (cond b None (Some (record { entry = e; child = child })))) ≤ one k e
     by true = omega arith
     by false = omega arith
 
-both-le : (k : ℕ) (s : PlanSlots) (low high : ℕ) → count k (fresh_entry (fresh_to s.left low) ++ fresh_entry (fresh_to s.right high)) ≤ one k s.left + one k s.right
+both-le : (k : ℕ) (s : PlanSlots) (low high : ℕ)
+    → count k (fresh_listed (fresh_to s.left low) ++ fresh_listed (fresh_to s.right high)) ≤ one k s.left + one k s.right
 both-le k s low high = omega (
   arith,
-  count-append k (fresh_entry (fresh_to s.left low)) (fresh_entry (fresh_to s.right high)),
+  count-append k (fresh_listed (fresh_to s.left low)) (fresh_listed (fresh_to s.right high)),
   fresh-le k s.left low,
   fresh-le k s.right high,
 )
@@ -91,7 +84,7 @@ new-le k (Lift p) s = omega arith
 new-le k (Join p) s = both-le k s p.left (cond (p.next.at.node == p.node) p.next.right p.right)
 
 -- no entry gets its number twice
-pub raised-once : (plan : Plan) (s : PlanSlots) → AreApart s → (k : ℕ) → count k (raised_entries plan s) ≤ 1
+pub raised-once : (plan : Plan) (s : PlanSlots) → AreApart s → (k : ℕ) → count k (entries_in plan s) ≤ 1
 raised-once plan s a k =
     omega (arith, count-append k (entries_of (fronts_of plan s)) (fresh_entries (new_node_of plan s)), fronts-le k plan s, new-le k plan s, four-le k s a)
 
@@ -132,12 +125,16 @@ counted-first e xs = counted (count e xs)
 
 pub finalise_step : FinaliseStepLaw
 finalise_step z v seat n plan slots place done entry h apart is =
-    let xs = raised_entries plan slots in
+    let xs = entries_in plan slots in
     let here : v.update.pending ≡ entry ∷ drop (done + 1) xs = h.pending ∙ drop-got xs done entry is in
     let once : count entry (entry ∷ drop (done + 1) xs) ≤ 1
     = subst (λ ys. count entry ys ≤ 1) (drop-got xs done entry is) (omega (arith, count-drop entry xs done, raised-once plan slots apart entry)) in
     record {
-      may = may_finalise_law z v seat entry place (record { pending = subst (λ ys. 0 < count entry ys) (sym here) (counted-first entry (drop (done + 1) xs)); raised = h.raised });
+      may = may_finalise_law z v seat entry place (record {
+        pending = subst (λ ys. 0 < count entry ys) (sym here)
+            (counted-first entry (drop (done + 1) xs));
+        raised = h.raised;
+      });
       after = record {
         live = h.live;
         own = h.own;
@@ -149,6 +146,7 @@ finalise_step z v seat n plan slots place done entry h apart is =
         pending = ap (without entry) here ∙ without-first entry (drop (done + 1) xs) once;
         reads = h.reads;
         links = h.links;
+        unsearched = h.unsearched;
         unmarked = λ place front at. record {
           place = (h.unmarked place front at).place;
           held = (h.unmarked place front at).held;
@@ -169,10 +167,11 @@ finalise_end v n plan slots place done h none' = record {
   locked = h.locked;
   raised = ap is_some h.raised;
   taken = h.taken;
-  idle = h.pending ∙ drop_all done (raised_entries plan slots) (got-none (raised_entries plan slots) done none');
+  idle = h.pending ∙ drop_all done (entries_in plan slots) (got-none (entries_in plan slots) done none');
   reads = h.reads;
   unmarked = h.unmarked;
   links = h.links;
+  unsearched = h.unsearched;
 }
 
 pub mark_start : MarkStartLaw
@@ -186,6 +185,7 @@ mark_start v n plan slots h = record {
   idle = h.idle;
   marked = none-taken v.held.nodes;
   links = h.links;
+  unsearched = h.unsearched;
 }
 
 -- one node more is marked
@@ -206,7 +206,7 @@ marks-more k out more is (h ∷ hs) all = (by (eqb h.node k) refl, marks-more k 
 
 pub mark_step : MarkStepLaw
 mark_step z v seat n plan slots done node h is =
-    let own : IsLockOf plan node = got-every (IsLockOf plan) (out_of plan) done node (locks_law plan no_slots).out is in
+    let own : IsLockOf plan node = got-every (IsLockOf plan) (out_of plan) done node (locks_law plan slots).out is in
     record {
       may = may_mark_law z v seat node (record {
         locked = subst (λ ks. 0 < count node ks) (sym h.locked) own;
@@ -222,6 +222,7 @@ mark_step z v seat n plan slots done node h is =
         idle = h.idle;
         marked = marks-more node (take done (out_of plan)) (take (done + 1) (out_of plan)) (take-got (out_of plan) done node is) v.held.nodes h.marked;
         links = h.links;
+        unsearched = h.unsearched;
       };
       keeps = record { layout = refl; joined = refl; number = refl; history = refl; counts = refl; free = refl; retired = refl; batch = refl };
     }
@@ -234,7 +235,9 @@ mark_end v n plan slots done h none' = record {
   once = h.once;
   locked = h.locked;
   idle = h.idle;
-  marked = every-by (λ (x : HeldNode). 0 < count x.node (take done (out_of plan)) → x.mark ≡ Some 1) (λ (x : HeldNode). 0 < count x.node v.update.taken → x.mark ≡ Some 1) v.held.nodes
+  marked = every-by (λ (x : HeldNode). 0 < count x.node (take done (out_of plan)) → x.mark ≡ Some 1)
+      (λ (x : HeldNode). 0 < count x.node v.update.taken → x.mark ≡ Some 1) v.held.nodes
       (λ x marked some. marked (subst (λ ks. 0 < count x.node ks) (h.taken ∙ sym (take-past (out_of plan) done none')) some)) h.marked;
   links = h.links;
+  unsearched = h.unsearched;
 }

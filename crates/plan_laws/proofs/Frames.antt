@@ -8,9 +8,9 @@ use Rattle.core_grace.specs.Sections.{is_even}
 use Rattle.core_events.specs.FillMoves.{filled_with, known_before, used_slots}
 use Rattle.core_events.specs.LoadMoves.{raised_if, head_loaded, ts_loaded, meets_pending, has_moved, stored_by}
 use Rattle.core_events.specs.LockMoves.{locked_view, met_lock, mark_loaded, pair_loaded, names_other, finds_mark}
+use Rattle.core_events.specs.PlainMoves.{link_loaded, link_moved, tag_loaded, tag_moved}
 use Rattle.plan_laws.specs.Frames.{KeepsTry, CountsGrow, StepsKeepLaw, KeepsPassLaw, KeepsTryLaw, KeepsOwnedLaw}
-use Rattle.plan_laws.proofs.Tries.{locked-keeps, met-keeps}
-use Rattle.plan_laws.proofs.Looks.{mark-keeps-pass, head-keeps-pass, number-keeps-pass, key-keeps-pass, val-keeps-pass}
+use Rattle.plan_laws.proofs.Tries.{locked-keeps, met-keeps, mark-keeps-pass, link-keeps-pass, tag-keeps-pass, head-keeps-pass, number-keeps-pass, key-keeps-pass, val-keeps-pass}
 use Rattle.plan_laws.proofs.Fills.{fill-inside, filled-keeps-pass, filled-is}
 
 risen-le : (b : Bool) (n : ℕ) → n ≤ raised_if b n
@@ -52,8 +52,10 @@ busy-grow v w b is = record {
 pub steps_keep : StepsKeepLaw
 steps_keep v = record {
   locked = λ node. record { pass = locked-keeps v node; free = refl; grown = same-counts v (locked_view v node) refl };
-  met = λ own found. record { pass = met-keeps v 0 own found; free = refl; grown = busy-grow v (met_lock v own found) (names_other own found) refl };
+  met = λ own found. record { pass = met-keeps v own found; free = refl; grown = busy-grow v (met_lock v own found) (names_other own found) refl };
   mark = λ node x. record { pass = mark-keeps-pass v node x; free = refl; grown = moves-grow v (mark_loaded v node x) (finds_mark v node x) refl };
+  link = λ node x side. record { pass = link-keeps-pass v node x side; free = refl; grown = moves-grow v (link_loaded v node side x) (link_moved v node side x) refl };
+  tag = λ node x side. record { pass = tag-keeps-pass v node x side; free = refl; grown = moves-grow v (tag_loaded v node side x) (tag_moved v node side x) refl };
   head = λ node entry number side. record {
     pass = head-keeps-pass v node entry number side;
     free = refl;

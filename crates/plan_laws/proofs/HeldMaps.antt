@@ -3,6 +3,7 @@ use Rattle.std.proofs.Common.{◌≡◌, ℕ, ◌<◌, Bool, true, false, cond, 
 use Rattle.std.proofs.lemmas.Bool.Decides.{nat_tests}
 use Rattle.index_words.specs.declared.side.Side.{Side}
 use Rattle.index_words.specs.declared.side.Side.TheVariants.{Left, Right}
+use Rattle.index_words.specs.declared.view.View.{View}
 use Rattle.index_words.specs.declared.view.update.HeldNode.{HeldNode}
 use Rattle.index_words.specs.declared.view.update.HeldSide.{HeldSide}
 use Rattle.index_words.specs.declared.view.update.LoadedHead.{LoadedHead}
@@ -10,64 +11,38 @@ use Rattle.index_words.specs.declared.word.Field.TheVariants.{Key, Val}
 use Rattle.core_trees.specs.declared.link.Link.{Link}
 use Rattle.core_events.specs.LoadMoves.{found_at, found_again, head_found, side_known, stamp_known, node_known}
 use Rattle.core_events.specs.LockMoves.{mark_known, pair_known}
+use Rattle.core_events.specs.PlainMoves.{link_known, link_known_at, tag_known, tag_known_at}
 use Rattle.core_events.specs.UpdateMoves.{head_known, known_at}
 use Rattle.core_events.specs.UpdateNeeds.{is_written, side_of}
-use Rattle.core_updates.specs.declared.plan.Look.{Look}
-use Rattle.core_updates.specs.declared.plan.Look.TheVariants.{Link as LinkLook, Key as KeyLook, Val as ValLook}
-use Rattle.plan_laws.specs.Places.{Differs}
-use Rattle.plan_laws.proofs.Kept.{KnowsHead, KeepsLook}
+use Rattle.core_updates.specs.Held.{HasLoaded}
+use Rattle.core_updates.specs.PlanEvents.{KnowsLink, KnowsTag}
+use Rattle.plan_laws.specs.Looks.{IsUnmarked}
+use Rattle.plan_laws.proofs.HeldParts.{SameParts, same_node, own_node, one-part, one-is, one-at, one-keeps}
+use Rattle.plan_laws.proofs.Kept.{KeepsAt, KeepsHeld, KnowsHead}
 
-same_node : (a b : ℕ) → eqb a b ≡ true → a ≡ b
-same_node a b e = grind (arith, nat_tests)
+-- a mark that is loaded, or set
+module _ (k x : ℕ) where
+  abbrev marked : HeldNode → HeldNode
+  marked h = record h { mark = Some x }
 
-own_node : (a : ℕ) → eqb a a ≡ true
-own_node a = grind (arith, nat_tests)
+  pub mark-node : (h : HeldNode) → (mark_known k x h).node ≡ h.node
+  mark-node h = one-part k marked (λ (y : HeldNode). y.node) h refl
 
--- a head that is as it was
-pub as-it-was : (l : LoadedHead) (s t : HeldSide) → t.head ≡ s.head → s.head ≡ Some l → KnowsHead l t
-as-it-was l s t same is = record { now = l; is = same ∙ is; entry = refl; written = λ w. w }
+  mark-side : (side : Side) (h : HeldNode) → side_of side (marked h) ≡ side_of side h
+  mark-side Left h = refl
+  mark-side Right h = refl
 
--- a mark that is loaded as 0
-module _ (k : ℕ) where
-  pub mark-node : (x : ℕ) (h : HeldNode) → (mark_known k x h).node ≡ h.node
-  mark-node x h = by (eqb h.node k)
-    where
-      by : (b : Bool) → (cond b (record h { mark = Some x }) h).node ≡ h.node
-      by true = refl
-      by false = refl
+  pub mark-keeps : (v : View) → (IsUnmarked v k → x ≡ 0) → KeepsHeld (mark_known k x) v
+  mark-keeps v first =
+      one-keeps k marked v
+      (λ place h at here is. ap Some (first (record { place = place; held = h; at = at; node_is = here; is = is })))
+      (λ place y h at here is. is)
+      (λ place y h at here is. is)
+      (λ y side h found is. ap (λ (s : HeldSide). s.link) (mark-side side h) ∙ is)
+      (λ y side h found is. ap (λ (s : HeldSide). s.tag) (mark-side side h) ∙ is)
 
-  mark-none : (h : HeldNode) → h.mark ≡ Some 0 → (mark_known k 0 h).mark ≡ Some 0
-  mark-none h is = by (eqb h.node k)
-    where
-      by : (b : Bool) → (cond b (record h { mark = Some 0 }) h).mark ≡ Some 0
-      by true = refl
-      by false = is
-
-  mark-side : (x : ℕ) (side : Side) (h : HeldNode) → (side_of side (mark_known k x h)).head ≡ (side_of side h).head
-  mark-side x side h = by (eqb h.node k) side
-    where
-      by : (b : Bool) (s : Side) → (side_of s (cond b (record h { mark = Some x }) h)).head ≡ (side_of s h).head
-      by true Left = refl
-      by true Right = refl
-      by false s = refl
-
-  mark-part : (part : HeldNode → Option ℕ) (x : ℕ) (h : HeldNode) → part (record h { mark = Some x }) ≡ part h → part (mark_known k x h) ≡ part h
-  mark-part part x h same = by (eqb h.node k)
-    where
-      by : (b : Bool) → part (cond b (record h { mark = Some x }) h) ≡ part h
-      by true = same
-      by false = refl
-
-  pub mark-keeps : (look : Look) → KeepsLook (mark_known k 0) look
-  mark-keeps (LinkLook at child) = record {
-    mark = λ h here is. mark-none h is;
-    head = λ h l here is. as-it-was l (side_of at.side h) (side_of at.side (mark_known k 0 h)) (mark-side 0 at.side h) is;
-  }
-  mark-keeps (KeyLook node key) = λ h here is. mark-part (λ (x : HeldNode). x.key) 0 h refl ∙ is
-  mark-keeps (ValLook node val) = λ h here is. mark-part (λ (x : HeldNode). x.val) 0 h refl ∙ is
-
-  pub mark-is : (x : ℕ) (h : HeldNode) → h.node ≡ k → (mark_known k x h).mark ≡ Some x
-  mark-is x h here = subst (λ b. (cond b (record h { mark = Some x }) h).mark ≡ Some x) (sym (ap (λ n. eqb n k) here ∙ own_node k)) refl
+  pub mark-is : (h : HeldNode) → h.node ≡ k → (mark_known k x h).mark ≡ Some x
+  mark-is h here = ap (λ (y : HeldNode). y.mark) (one-is k marked h here)
 
 -- the number of an entry that is loaded, where it is not 0
 module _ (e x : ℕ) where
@@ -86,13 +61,28 @@ module _ (e x : ℕ) where
       by true now = record { now = record { entry = l.entry; stamp = Some x }; is = now; entry = refl; written = λ w. written-some some }
       by false now = record { now = l; is = now; entry = refl; written = λ w. w }
 
-  pub number-keeps : 0 < x → (look : Look) → KeepsLook (node_known e x) look
-  number-keeps some (LinkLook at child) = record {
+  pub number-at : 0 < x → (at : Link) → KeepsAt (node_known e x) at
+  number-at some at = record {
     mark = λ h here is. is;
     head = λ h l here is. subst (λ s. KnowsHead l s) (sym (number-side at.side h)) (known-side some l (side_of at.side h) is);
   }
-  number-keeps some (KeyLook node key) = λ h here is. is
-  number-keeps some (ValLook node val) = λ h here is. is
+
+  pub number-keeps : (v : View) → KeepsHeld (node_known e x) v
+  number-keeps v = record {
+    mark = λ place h at is. is;
+    key = λ place y h at is. is;
+    val = λ place y h at is. is;
+    link = λ j y side h found is. known-link side h y is;
+    tag = λ j y side h found is. known-tag side h y is;
+  }
+    where
+      known-link : (side : Side) (h : HeldNode) (y : ℕ) → (side_of side h).link ≡ Some y → (side_of side (node_known e x h)).link ≡ Some y
+      known-link Left h y is = is
+      known-link Right h y is = is
+
+      known-tag : (side : Side) (h : HeldNode) (y : ℕ) → (side_of side h).tag ≡ Some y → (side_of side (node_known e x h)).tag ≡ Some y
+      known-tag Left h y is = is
+      known-tag Right h y is = is
 
   -- the head with that entry has the number
   pub numbered-side : (side : Side) (h : HeldNode) (l : LoadedHead) → 0 < x → l.entry ≡ e → (side_of side h).head ≡ Some l
@@ -105,82 +95,42 @@ module _ (e x : ℕ) where
   pub is-written : 0 < x → is_written (Some x) ≡ true
   is-written some = written-some some
 
--- a change of one head: of the node `k` on `side`
-module _ (k : ℕ) (side : Side) (change : Side → HeldNode → HeldNode)
-    (node_same : (s : Side) (h : HeldNode) → (change s h).node ≡ h.node)
-    (mark_same : (s : Side) (h : HeldNode) → (change s h).mark ≡ h.mark)
-    (key_same : (s : Side) (h : HeldNode) → (change s h).key ≡ h.key)
-    (val_same : (s : Side) (h : HeldNode) → (change s h).val ≡ h.val)
-    (left_same : (h : HeldNode) → side_of Left (change Right h) ≡ side_of Left h)
-    (right_same : (h : HeldNode) → side_of Right (change Left h) ≡ side_of Right h) where
-  abbrev at_one : HeldNode → HeldNode
-  at_one h = cond (eqb h.node k) (change side h) h
-
-  one-part : {X : Type 0} (part : HeldNode → X) (h : HeldNode) → part (change side h) ≡ part h → part (at_one h) ≡ part h
-  one-part part h same = by (eqb h.node k)
-    where
-      by : (b : Bool) → part (cond b (change side h) h) ≡ part h
-      by true = same
-      by false = refl
-
-  pub one-node : (h : HeldNode) → (at_one h).node ≡ h.node
-  one-node h = one-part (λ (x : HeldNode). x.node) h (node_same side h)
-
-  pub one-mark : (h : HeldNode) → (at_one h).mark ≡ h.mark
-  one-mark h = one-part (λ (x : HeldNode). x.mark) h (mark_same side h)
-
-  other-side : (s t : Side) (h : HeldNode) → ¬ (s ≡ t) → side_of s (change t h) ≡ side_of s h
-  other-side Left Left h apart = absurd (apart refl)
-  other-side Left Right h apart = left_same h
-  other-side Right Left h apart = right_same h
-  other-side Right Right h apart = absurd (apart refl)
-
-  -- another link's head is as it was
-  one-other : (at : Link) (h : HeldNode) → h.node ≡ at.node → ¬ ((at.node ≡ k) × (at.side ≡ side)) → side_of at.side (at_one h) ≡ side_of at.side h
-  one-other at h here apart = by (eqb h.node k) (λ e. same_node h.node k e)
-    where
-      by : (b : Bool) → (b ≡ true → h.node ≡ k) → side_of at.side (cond b (change side h) h) ≡ side_of at.side h
-      by true tells = other-side at.side side h (λ s. apart (sym here ∙ tells refl, s))
-      by false tells = refl
-
-  pub one-keeps : (look : Look) (child : ℕ) → Differs look (LinkLook (record { node = k; side = side }) child) → KeepsLook at_one look
-  one-keeps (LinkLook at c) child apart = record {
-    mark = λ h here is. one-mark h ∙ is;
-    head = λ h l here is. as-it-was l (side_of at.side h) (side_of at.side (at_one h)) (ap (λ (s : HeldSide). s.head) (one-other at h here apart)) is;
-  }
-  one-keeps (KeyLook node key) child apart = λ h here is. one-part (λ (x : HeldNode). x.key) h (key_same side h) ∙ is
-  one-keeps (ValLook node val) child apart = λ h here is. one-part (λ (x : HeldNode). x.val) h (val_same side h) ∙ is
-
-  -- and the changed one is the change's
-  pub one-is : (h : HeldNode) → h.node ≡ k → at_one h ≡ change side h
-  one-is h here = ap (λ b. cond b (change side h) h) (ap (λ n. eqb n k) here ∙ own_node k)
-
 -- a head that is loaded
 module _ (k e : ℕ) (side : Side) where
-  found-node' : (s : Side) (h : HeldNode) → (head_found s e h).node ≡ h.node
-  found-node' Left h = refl
-  found-node' Right h = refl
+  found-side : (s : Side) (h : HeldNode)
+      → ((side_of s (head_found side e h)).link ≡ (side_of s h).link) × ((side_of s (head_found side e h)).tag ≡ (side_of s h).tag)
+  found-side s h = by side s
+    where
+      by : (side s : Side) → ((side_of s (head_found side e h)).link ≡ (side_of s h).link) × ((side_of s (head_found side e h)).tag ≡ (side_of s h).tag)
+      by Left Left = (refl, refl)
+      by Left Right = (refl, refl)
+      by Right Left = (refl, refl)
+      by Right Right = (refl, refl)
 
-  found-mark' : (s : Side) (h : HeldNode) → (head_found s e h).mark ≡ h.mark
-  found-mark' Left h = refl
-  found-mark' Right h = refl
-
-  found-key' : (s : Side) (h : HeldNode) → (head_found s e h).key ≡ h.key
-  found-key' Left h = refl
-  found-key' Right h = refl
-
-  found-val' : (s : Side) (h : HeldNode) → (head_found s e h).val ≡ h.val
-  found-val' Left h = refl
-  found-val' Right h = refl
+  found-parts : (h : HeldNode) → SameParts (head_found side e h) h
+  found-parts h = by side
+    where
+      by : (s : Side) → SameParts (head_found s e h) h
+      by Left = record { node = refl; mark = refl; key = refl; val = refl }
+      by Right = record { node = refl; mark = refl; key = refl; val = refl }
 
   pub found-node : (h : HeldNode) → (found_at k side e h).node ≡ h.node
-  found-node h = one-node k side (λ s. head_found s e) found-node' found-mark' found-key' found-val' (λ h. refl) (λ h. refl) h
+  found-node h = one-part k (head_found side e) (λ (x : HeldNode). x.node) h (found-parts h).node
 
   pub found-mark : (h : HeldNode) → (found_at k side e h).mark ≡ h.mark
-  found-mark h = one-mark k side (λ s. head_found s e) found-node' found-mark' found-key' found-val' (λ h. refl) (λ h. refl) h
+  found-mark h = one-part k (head_found side e) (λ (x : HeldNode). x.mark) h (found-parts h).mark
 
-  pub found-keeps : (look : Look) (child : ℕ) → Differs look (LinkLook (record { node = k; side = side }) child) → KeepsLook (found_at k side e) look
-  found-keeps look child apart = one-keeps k side (λ s. head_found s e) found-node' found-mark' found-key' found-val' (λ h. refl) (λ h. refl) look child apart
+  pub found-other : (at : Link) → ¬ (at.node ≡ k) → KeepsAt (found_at k side e) at
+  found-other at apart = one-at k (head_found side e) at apart
+
+  pub found-keeps : (v : View) → KeepsHeld (found_at k side e) v
+  found-keeps v =
+      one-keeps k (head_found side e) v
+      (λ place h at here is. (found-parts h).mark ∙ is)
+      (λ place y h at here is. (found-parts h).key ∙ is)
+      (λ place y h at here is. (found-parts h).val ∙ is)
+      (λ y s h found is. (found-side s h).0 ∙ is)
+      (λ y s h found is. (found-side s h).1 ∙ is)
 
   side-found : (s : Side) (h : HeldNode) → (side_of s (head_found s e h)).head ≡ found_again e (side_of s h).head
   side-found Left h = refl
@@ -197,108 +147,197 @@ module _ (k e : ℕ) (side : Side) where
 
   pub found-is : (h : HeldNode) → h.node ≡ k → (l : LoadedHead) × ((side_of side (found_at k side e h)).head ≡ Some l) × (l.entry ≡ e)
   found-is h here =
-      let at = one-is k side (λ s. head_found s e) found-node' found-mark' found-key' found-val' (λ h. refl) (λ h. refl) h here in
       let found = found-entry (side_of side h).head in
-      (found.0, ap (λ (x : HeldNode). (side_of side x).head) at ∙ side-found side h ∙ found.1, found.2)
+      (found.0, ap (λ (x : HeldNode). (side_of side x).head) (one-is k (head_found side e) h here) ∙ side-found side h ∙ found.1, found.2)
 
 -- a head that is stored
 module _ (k : ℕ) (side : Side) (l : LoadedHead) where
-  known-node' : (s : Side) (h : HeldNode) → (head_known s l h).node ≡ h.node
-  known-node' Left h = refl
-  known-node' Right h = refl
+  known-side' : (s : Side) (h : HeldNode)
+      → ((side_of s (head_known side l h)).link ≡ (side_of s h).link) × ((side_of s (head_known side l h)).tag ≡ (side_of s h).tag)
+  known-side' s h = by side s
+    where
+      by : (side s : Side) → ((side_of s (head_known side l h)).link ≡ (side_of s h).link) × ((side_of s (head_known side l h)).tag ≡ (side_of s h).tag)
+      by Left Left = (refl, refl)
+      by Left Right = (refl, refl)
+      by Right Left = (refl, refl)
+      by Right Right = (refl, refl)
 
-  known-mark' : (s : Side) (h : HeldNode) → (head_known s l h).mark ≡ h.mark
-  known-mark' Left h = refl
-  known-mark' Right h = refl
-
-  known-key' : (s : Side) (h : HeldNode) → (head_known s l h).key ≡ h.key
-  known-key' Left h = refl
-  known-key' Right h = refl
-
-  known-val' : (s : Side) (h : HeldNode) → (head_known s l h).val ≡ h.val
-  known-val' Left h = refl
-  known-val' Right h = refl
+  known-parts : (h : HeldNode) → SameParts (head_known side l h) h
+  known-parts h = by side
+    where
+      by : (s : Side) → SameParts (head_known s l h) h
+      by Left = record { node = refl; mark = refl; key = refl; val = refl }
+      by Right = record { node = refl; mark = refl; key = refl; val = refl }
 
   pub known-node : (h : HeldNode) → (known_at k side l h).node ≡ h.node
-  known-node h = one-node k side (λ s. head_known s l) known-node' known-mark' known-key' known-val' (λ h. refl) (λ h. refl) h
+  known-node h = one-part k (head_known side l) (λ (x : HeldNode). x.node) h (known-parts h).node
 
-  pub known-mark : (h : HeldNode) → (known_at k side l h).mark ≡ h.mark
-  known-mark h = one-mark k side (λ s. head_known s l) known-node' known-mark' known-key' known-val' (λ h. refl) (λ h. refl) h
+  pub known-other : (at : Link) → ¬ (at.node ≡ k) → KeepsAt (known_at k side l) at
+  known-other at apart = one-at k (head_known side l) at apart
 
-  pub known-keeps : (look : Look) (child : ℕ) → Differs look (LinkLook (record { node = k; side = side }) child) → KeepsLook (known_at k side l) look
-  known-keeps look child apart = one-keeps k side (λ s. head_known s l) known-node' known-mark' known-key' known-val' (λ h. refl) (λ h. refl) look child apart
+  pub known-keeps : (v : View) → KeepsHeld (known_at k side l) v
+  known-keeps v =
+      one-keeps k (head_known side l) v
+      (λ place h at here is. (known-parts h).mark ∙ is)
+      (λ place y h at here is. (known-parts h).key ∙ is)
+      (λ place y h at here is. (known-parts h).val ∙ is)
+      (λ y s h found is. (known-side' s h).0 ∙ is)
+      (λ y s h found is. (known-side' s h).1 ∙ is)
 
   side-stored : (s : Side) (h : HeldNode) → (side_of s (head_known s l h)).head ≡ Some l
   side-stored Left h = refl
   side-stored Right h = refl
 
   pub known-is : (h : HeldNode) → h.node ≡ k → (side_of side (known_at k side l h)).head ≡ Some l
-  known-is h here =
-      ap (λ (x : HeldNode). (side_of side x).head) (one-is k side (λ s. head_known s l) known-node' known-mark' known-key' known-val' (λ h. refl) (λ h. refl) h here)
-      ∙ side-stored side h
+  known-is h here = ap (λ (x : HeldNode). (side_of side x).head) (one-is k (head_known side l) h here) ∙ side-stored side h
+
+-- a plain link, or its tag, that is loaded or stored
+module _ (k x : ℕ) (side : Side) where
+  link-parts : (h : HeldNode) → SameParts (link_known side x h) h
+  link-parts h = by side
+    where
+      by : (s : Side) → SameParts (link_known s x h) h
+      by Left = record { node = refl; mark = refl; key = refl; val = refl }
+      by Right = record { node = refl; mark = refl; key = refl; val = refl }
+
+  tag-parts : (h : HeldNode) → SameParts (tag_known side x h) h
+  tag-parts h = by side
+    where
+      by : (s : Side) → SameParts (tag_known s x h) h
+      by Left = record { node = refl; mark = refl; key = refl; val = refl }
+      by Right = record { node = refl; mark = refl; key = refl; val = refl }
+
+  pub link-node : (h : HeldNode) → (link_known_at k side x h).node ≡ h.node
+  link-node h = one-part k (link_known side x) (λ (y : HeldNode). y.node) h (link-parts h).node
+
+  pub tag-node : (h : HeldNode) → (tag_known_at k side x h).node ≡ h.node
+  tag-node h = one-part k (tag_known side x) (λ (y : HeldNode). y.node) h (tag-parts h).node
+
+  pub link-mark : (h : HeldNode) → (link_known_at k side x h).mark ≡ h.mark
+  link-mark h = one-part k (link_known side x) (λ (y : HeldNode). y.mark) h (link-parts h).mark
+
+  pub link-keeps : (v : View) → ((n : KnowsLink v k side) → n.child ≡ x) → KeepsHeld (link_known_at k side x) v
+  link-keeps v first =
+      one-keeps k (link_known side x) v
+      (λ place h at here is. (link-parts h).mark ∙ is)
+      (λ place y h at here is. (link-parts h).key ∙ is)
+      (λ place y h at here is. (link-parts h).val ∙ is)
+      (λ y s h found is. by side s y h is (λ same. first (record {
+        held = h;
+        locked = found;
+        child = y;
+        known = ap (λ (d : Side). (side_of d h).link)
+            (sym same) ∙ is;
+      })))
+      (λ y s h found is. same-tag side s h ∙ is)
+    where
+      by : (side s : Side) (y : ℕ) (h : HeldNode) → (side_of s h).link ≡ Some y → (s ≡ side → y ≡ x) → (side_of s (link_known side x h)).link ≡ Some y
+      by Left Left y h is same = ap Some (sym (same refl))
+      by Left Right y h is same = is
+      by Right Left y h is same = is
+      by Right Right y h is same = ap Some (sym (same refl))
+
+      same-tag : (side s : Side) (h : HeldNode) → (side_of s (link_known side x h)).tag ≡ (side_of s h).tag
+      same-tag Left Left h = refl
+      same-tag Left Right h = refl
+      same-tag Right Left h = refl
+      same-tag Right Right h = refl
+
+  pub tag-keeps : (v : View) → ((n : KnowsTag v k side) → n.found ≡ x) → KeepsHeld (tag_known_at k side x) v
+  tag-keeps v first =
+      one-keeps k (tag_known side x) v
+      (λ place h at here is. (tag-parts h).mark ∙ is)
+      (λ place y h at here is. (tag-parts h).key ∙ is)
+      (λ place y h at here is. (tag-parts h).val ∙ is)
+      (λ y s h found is. same-link side s h ∙ is)
+      (λ y s h found is. by side s y h is (λ same. first (record {
+        held = h;
+        locked = found;
+        found = y;
+        known = ap (λ (d : Side). (side_of d h).tag)
+            (sym same) ∙ is;
+      })))
+    where
+      by : (side s : Side) (y : ℕ) (h : HeldNode) → (side_of s h).tag ≡ Some y → (s ≡ side → y ≡ x) → (side_of s (tag_known side x h)).tag ≡ Some y
+      by Left Left y h is same = ap Some (sym (same refl))
+      by Left Right y h is same = is
+      by Right Left y h is same = is
+      by Right Right y h is same = ap Some (sym (same refl))
+
+      same-link : (side s : Side) (h : HeldNode) → (side_of s (tag_known side x h)).link ≡ (side_of s h).link
+      same-link Left Left h = refl
+      same-link Left Right h = refl
+      same-link Right Left h = refl
+      same-link Right Right h = refl
+
+  pub tag-link : (s : Side) (h : HeldNode) → (side_of s (tag_known_at k side x h)).link ≡ (side_of s h).link
+  tag-link s h = one-part k (tag_known side x) (λ (y : HeldNode). (side_of s y).link) h (by side s)
+    where
+      by : (side s : Side) → (side_of s (tag_known side x h)).link ≡ (side_of s h).link
+      by Left Left = refl
+      by Left Right = refl
+      by Right Left = refl
+      by Right Right = refl
+
+  pub tag-mark : (h : HeldNode) → (tag_known_at k side x h).mark ≡ h.mark
+  tag-mark h = one-part k (tag_known side x) (λ (y : HeldNode). y.mark) h (tag-parts h).mark
+
+  pub link-is : (h : HeldNode) → h.node ≡ k → (side_of side (link_known_at k side x h)).link ≡ Some x
+  link-is h here = ap (λ (y : HeldNode). (side_of side y).link) (one-is k (link_known side x) h here) ∙ by side
+    where
+      by : (s : Side) → (side_of s (link_known s x h)).link ≡ Some x
+      by Left = refl
+      by Right = refl
+
+  pub tag-is : (h : HeldNode) → h.node ≡ k → (side_of side (tag_known_at k side x h)).tag ≡ Some x
+  tag-is h here = ap (λ (y : HeldNode). (side_of side y).tag) (one-is k (tag_known side x) h here) ∙ by side
+    where
+      by : (s : Side) → (side_of s (tag_known s x h)).tag ≡ Some x
+      by Left = refl
+      by Right = refl
 
 -- a key or a value that is loaded
 module _ (k x : ℕ) where
-  key-part : {X : Type 0} (part : HeldNode → X) (h : HeldNode) → part (record h { key = Some x }) ≡ part h → part (pair_known Key k x h) ≡ part h
-  key-part part h same = by (eqb h.node k)
-    where
-      by : (b : Bool) → part (cond b (record h { key = Some x }) h) ≡ part h
-      by true = same
-      by false = refl
+  abbrev keyed : HeldNode → HeldNode
+  keyed h = record h { key = Some x }
 
-  val-part : {X : Type 0} (part : HeldNode → X) (h : HeldNode) → part (record h { val = Some x }) ≡ part h → part (pair_known Val k x h) ≡ part h
-  val-part part h same = by (eqb h.node k)
-    where
-      by : (b : Bool) → part (cond b (record h { val = Some x }) h) ≡ part h
-      by true = same
-      by false = refl
+  abbrev valued : HeldNode → HeldNode
+  valued h = record h { val = Some x }
 
   pub key-node : (h : HeldNode) → (pair_known Key k x h).node ≡ h.node
-  key-node h = key-part (λ (y : HeldNode). y.node) h refl
+  key-node h = one-part k keyed (λ (y : HeldNode). y.node) h refl
 
   pub val-node : (h : HeldNode) → (pair_known Val k x h).node ≡ h.node
-  val-node h = val-part (λ (y : HeldNode). y.node) h refl
+  val-node h = one-part k valued (λ (y : HeldNode). y.node) h refl
 
-  key-side : (side : Side) (h : HeldNode) → side_of side (pair_known Key k x h) ≡ side_of side h
-  key-side Left h = key-part (λ (y : HeldNode). y.left) h refl
-  key-side Right h = key-part (λ (y : HeldNode). y.right) h refl
+  key-side : (side : Side) (h : HeldNode) → side_of side (keyed h) ≡ side_of side h
+  key-side Left h = refl
+  key-side Right h = refl
 
-  val-side : (side : Side) (h : HeldNode) → side_of side (pair_known Val k x h) ≡ side_of side h
-  val-side Left h = val-part (λ (y : HeldNode). y.left) h refl
-  val-side Right h = val-part (λ (y : HeldNode). y.right) h refl
+  val-side : (side : Side) (h : HeldNode) → side_of side (valued h) ≡ side_of side h
+  val-side Left h = refl
+  val-side Right h = refl
 
-  other-key : (h : HeldNode) (node key : ℕ) → ¬ (node ≡ k) → h.node ≡ node → h.key ≡ Some key → (pair_known Key k x h).key ≡ Some key
-  other-key h node key apart here is = by (eqb h.node k) (λ e. same_node h.node k e)
-    where
-      by : (b : Bool) → (b ≡ true → h.node ≡ k) → (cond b (record h { key = Some x }) h).key ≡ Some key
-      by true tells = absurd (apart (sym here ∙ tells refl))
-      by false tells = is
+  pub key-keeps : (v : View) → ((y : ℕ) → HasLoaded v k (λ (h : HeldNode). h.key) y → y ≡ x) → KeepsHeld (pair_known Key k x) v
+  key-keeps v first =
+      one-keeps k keyed v
+      (λ place h at here is. is)
+      (λ place y h at here is. ap Some (sym (first y (record { place = place; held = h; at = at; node_is = here; is = is }))))
+      (λ place y h at here is. is)
+      (λ y side h found is. ap (λ (s : HeldSide). s.link) (key-side side h) ∙ is)
+      (λ y side h found is. ap (λ (s : HeldSide). s.tag) (key-side side h) ∙ is)
 
-  other-val : (h : HeldNode) (node val : ℕ) → ¬ (node ≡ k) → h.node ≡ node → h.val ≡ Some val → (pair_known Val k x h).val ≡ Some val
-  other-val h node val apart here is = by (eqb h.node k) (λ e. same_node h.node k e)
-    where
-      by : (b : Bool) → (b ≡ true → h.node ≡ k) → (cond b (record h { val = Some x }) h).val ≡ Some val
-      by true tells = absurd (apart (sym here ∙ tells refl))
-      by false tells = is
-
-  pub key-keeps : (look : Look) (key : ℕ) → Differs look (KeyLook k key) → KeepsLook (pair_known Key k x) look
-  key-keeps (LinkLook at child) key apart = record {
-    mark = λ h here is. key-part (λ (y : HeldNode). y.mark) h refl ∙ is;
-    head = λ h l here is. as-it-was l (side_of at.side h) (side_of at.side (pair_known Key k x h)) (ap (λ (s : HeldSide). s.head) (key-side at.side h)) is;
-  }
-  key-keeps (KeyLook node y) key apart = λ h here is. other-key h node y apart here is
-  key-keeps (ValLook node y) key apart = λ h here is. key-part (λ (z : HeldNode). z.val) h refl ∙ is
-
-  pub val-keeps : (look : Look) (val : ℕ) → Differs look (ValLook k val) → KeepsLook (pair_known Val k x) look
-  val-keeps (LinkLook at child) val apart = record {
-    mark = λ h here is. val-part (λ (y : HeldNode). y.mark) h refl ∙ is;
-    head = λ h l here is. as-it-was l (side_of at.side h) (side_of at.side (pair_known Val k x h)) (ap (λ (s : HeldSide). s.head) (val-side at.side h)) is;
-  }
-  val-keeps (KeyLook node y) val apart = λ h here is. val-part (λ (z : HeldNode). z.key) h refl ∙ is
-  val-keeps (ValLook node y) val apart = λ h here is. other-val h node y apart here is
+  pub val-keeps : (v : View) → ((y : ℕ) → HasLoaded v k (λ (h : HeldNode). h.val) y → y ≡ x) → KeepsHeld (pair_known Val k x) v
+  val-keeps v first =
+      one-keeps k valued v
+      (λ place h at here is. is)
+      (λ place y h at here is. is)
+      (λ place y h at here is. ap Some (sym (first y (record { place = place; held = h; at = at; node_is = here; is = is }))))
+      (λ y side h found is. ap (λ (s : HeldSide). s.link) (val-side side h) ∙ is)
+      (λ y side h found is. ap (λ (s : HeldSide). s.tag) (val-side side h) ∙ is)
 
   pub key-is : (h : HeldNode) → h.node ≡ k → (pair_known Key k x h).key ≡ Some x
-  key-is h here = subst (λ b. (cond b (record h { key = Some x }) h).key ≡ Some x) (sym (ap (λ n. eqb n k) here ∙ own_node k)) refl
+  key-is h here = ap (λ (y : HeldNode). y.key) (one-is k keyed h here)
 
   pub val-is : (h : HeldNode) → h.node ≡ k → (pair_known Val k x h).val ≡ Some x
-  val-is h here = subst (λ b. (cond b (record h { val = Some x }) h).val ≡ Some x) (sym (ap (λ n. eqb n k) here ∙ own_node k)) refl
+  val-is h here = ap (λ (y : HeldNode). y.val) (one-is k valued h here)

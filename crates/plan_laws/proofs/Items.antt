@@ -1,8 +1,9 @@
 -- Items of lists: where they stand when a list is mapped, filtered or goes on.
-use Rattle.std.proofs.Common.{◌≡◌, ℕ, zero, suc, ◌+◌, ◌<◌, ◌≤◌, List, [], ◌∷◌, ◌++◌, length, take, drop, map, Bool, true, false, cond, eqb, refl, ap, ◌∙◌, subst, arith, Some, None}
-use Rattle.std.specs.Prelude.{filter}
+use Rattle.std.proofs.Common.{◌≡◌, ℕ, zero, suc, ◌+◌, ◌<◌, ◌≤◌, List, [], ◌∷◌, ◌++◌, length, take, drop, map, Bool, true, false, cond, eqb, refl, ap, sym, ◌∙◌, subst, inl, inr, arith, Some, None}
+use Rattle.std.specs.Prelude.{filter, ◌==◌}
+use Rattle.std.proofs.lemmas.Bool.{false≢true}
 use Rattle.std.specs.List.{slice_get}
-use Rattle.std.proofs.lemmas.Bool.Decides.{nat_tests}
+use Rattle.std.proofs.lemmas.Bool.Decides.{eqb_tells, nat_tests}
 use Rattle.std.proofs.lemmas.List.{take_more, drop_more}
 use Rattle.std.proofs.lemmas.Option.{slice_get_within, get_or_from_slice_get}
 use Rattle.key_map.specs.Lists.{count, Every, IsItem}
@@ -112,3 +113,15 @@ not-yet (y ∷ xs) (suc i) x once is =
     let first : ℕ = cond (eqb y x) 1 0 in
     let none : first ≡ 0 = omega (arith, once, some) in
     omega (arith, none, not-yet xs i x (omega (arith, once, none)) is)
+
+pub got-none : {X : Type 0} (xs : List X) (i : ℕ) → slice_get xs i ≡ None → length xs ≤ i
+got-none [] i is = omega arith
+got-none (x ∷ xs) zero is = cc
+got-none (x ∷ xs) (suc i) is = omega (arith, got-none xs i is)
+
+-- what the test of two numbers tells
+pub told : (a b : ℕ) → ((a == b) ≡ true → a ≡ b) × ((a == b) ≡ false → ¬ (a ≡ b))
+told a b = (
+  λ e. elim (eqb_tells a b) as (λ _. a ≡ b) [ inl is ↦ is.1 | inr apart ↦ absurd (false≢true (sym apart.0 ∙ e)) ],
+  λ e. elim (eqb_tells a b) as (λ _. ¬ (a ≡ b)) [ inl is ↦ absurd (false≢true (sym e ∙ is.0)) | inr apart ↦ apart.1 ],
+)

@@ -1,49 +1,24 @@
--- What a view shows of its plan stays, where the locked nodes are mapped by a function that keeps it, and no remembered link goes.
-use Rattle.std.proofs.Common.{◌≡◌, ℕ, ◌<◌, ◌≤◌, ◌⊎◌, inl, inr, List, [], ◌∷◌, map, Bool, true, false, ap, sym, ◌∙◌, subst, Option, Some}
-use Rattle.std.specs.List.{slice_get}
-use Rattle.std.specs.Prelude.{slice_index}
+-- What a try has found under its locks, and what its search has found, stays in each step that keeps the locked nodes, or changes
+-- other parts of them.
+use Rattle.std.proofs.Common.{◌≡◌, ℕ, suc, ◌⊎◌, inl, inr, List, [], ◌∷◌, ◌++◌, map, Bool, true, false, cond, eqb, refl, ap, sym, ◌∙◌, subst, Option, Some}
+use Rattle.std.proofs.lemmas.Bool.{eqb-true}
+use Rattle.index_words.specs.declared.side.Side.{Side}
 use Rattle.index_words.specs.declared.view.View.{View}
 use Rattle.index_words.specs.declared.view.reading.Link.{Link as ViewLink}
 use Rattle.index_words.specs.declared.view.update.HeldNode.{HeldNode}
 use Rattle.index_words.specs.declared.view.update.HeldSide.{HeldSide}
 use Rattle.index_words.specs.declared.view.update.LoadedHead.{LoadedHead}
-use Rattle.index_words.specs.declared.view.slots.Slots.{Slots}
-use Rattle.key_map.specs.Lists.{count, Every, IsItem}
+use Rattle.key_map.specs.Lists.{IsItem}
 use Rattle.core_grace.specs.Holds.{held_slots}
 use Rattle.core_trees.specs.declared.link.Link.{Link}
 use Rattle.core_events.specs.LoadMoves.{remembered_if}
-use Rattle.core_events.specs.UpdateNeeds.{is_written, side_of}
-use Rattle.core_updates.specs.declared.plan.Plan.{Plan}
-use Rattle.core_updates.specs.declared.plan.Look.{Look}
-use Rattle.core_updates.specs.declared.plan.Look.TheVariants.{Link as LinkLook, Key as KeyLook, Val as ValLook}
-use Rattle.core_updates.specs.Held.{HasLoaded}
-use Rattle.core_updates.specs.Plans.{locks_of, looks_of}
-use Rattle.plan_laws.specs.Frames.{KeepsPass}
-use Rattle.plan_laws.specs.Tries.{IsMaking, RemembersLink, RemembersLook, RemembersLooks, IsTrying, HasLockedAll}
-use Rattle.plan_laws.specs.Looks.{HoldsEntry, HoldsNumbered, FindsLook, HasLooked}
-use Rattle.plan_laws.proofs.Items.{item-map, item-longer, map-keeps}
-
--- the pass still makes the update
-pub making-kept : (v w : View) (n : ℕ) (plan : Plan) → KeepsPass v w → IsMaking v n plan → IsMaking w n plan
-making-kept v w n plan keeps m = record {
-  reads = record {
-    live = keeps.joined ∙ m.reads.live;
-    own = keeps.number ∙ m.reads.own;
-    inside = cc;
-    tree = m.reads.tree;
-    read = keeps.tree ∙ m.reads.read;
-    planned = m.reads.planned;
-  };
-  number = m.number;
-  section = keeps.section ∙ m.section;
-  least = keeps.least ∙ m.least;
-  own = subst (λ h. Every (λ at. at ≤ m.number) h.mine) (sym keeps.history) m.own;
-  unraised = keeps.raised ∙ m.unraised;
-  untaken = keeps.taken ∙ m.untaken;
-  once = m.once;
-  root = m.root;
-  kept = subst (λ (s : Slots). Every (λ k. count k s.nodes ≡ 0) (locks_of plan)) (sym keeps.retired) m.kept;
-}
+use Rattle.core_events.specs.UpdateNeeds.{held_at, is_written, side_of}
+use Rattle.core_updates.specs.Held.{HasLoaded, HoldsLink, HoldsGap, RemembersGap}
+use Rattle.core_updates.specs.PlanEvents.{HoldsEntry, HoldsNumbered}
+use Rattle.core_updates.specs.PlanReady.{HoldsLook}
+use Rattle.core_updates.specs.Plans.{Look, LinkLook, KeyLook, ValLook, GapLook, BetweenLook}
+use Rattle.plan_laws.specs.Looks.{IsUnmarked, KeepsLooks, RemembersLink, RemembersNull}
+use Rattle.plan_laws.proofs.Items.{first-item, item-below, item-map, item-longer, map-keeps}
 
 -- no remembered link goes
 abbrev pub KeepsLinks : View → View → Type 0
@@ -56,45 +31,174 @@ pub more-links : (b : Bool) (ls : List ViewLink) (new : ViewLink) (place : ℕ) 
 more-links true ls new place l at = item-longer ls (new ∷ []) place l at
 more-links false ls new place l at = at
 
-pub link-kept : (v w : View) (at : Link) (child entry : ℕ) → w.update.raised ≡ v.update.raised → KeepsLinks v w → RemembersLink v at child entry → RemembersLink w at child entry
-link-kept v w at child entry raised links r = record {
-  link = r.link;
-  node_is = r.node_is;
-  side_is = r.side_is;
-  child_is = r.child_is;
-  known = record {
-    unraised = raised ∙ r.known.unraised;
-    place = r.known.place;
-    link = links r.known.place r.link r.known.link;
-    source = r.known.source;
+-- what a search has found stays
+pub record KeepsFound (v w : View) : Type 0 where
+  pub link : (at : Link) (child : ℕ) → RemembersLink v at child → RemembersLink w at child
+  pub gap : (k tag key : ℕ) (side : Side) → RemembersGap v k side tag key → RemembersGap w k side tag key
+  pub null : (at : Link) (tag : ℕ) (above below : Option ℕ) → RemembersNull v at tag above below → RemembersNull w at tag above below
+
+pub links-kept : (v w : View) → KeepsLinks v w → KeepsFound v w
+links-kept v w links = record {
+  link = λ at child r. record {
+    place = r.place;
+    link = r.link;
+    is = links r.place r.link r.is;
+    node_is = r.node_is;
+    side_is = r.side_is;
+    plain = r.plain;
+    child_is = r.child_is;
+  };
+  gap = λ k tag key side r. record {
+    place = r.place;
+    link = r.link;
+    is = links r.place r.link r.is;
+    node_is = r.node_is;
+    side_is = r.side_is;
+    child_is = r.child_is;
+    above = r.above;
+    below = r.below;
+    source = r.source;
+    over = r.over;
+    under = r.under;
+  };
+  null = λ at tag above below r. record {
+    place = r.place;
+    link = r.link;
+    is = links r.place r.link r.is;
+    node_is = r.node_is;
+    side_is = r.side_is;
+    child_is = r.child_is;
+    source = r.source;
   };
 }
 
-remembered-look : (v w : View) (look : Look) (entry : ℕ) → w.update.raised ≡ v.update.raised → KeepsLinks v w → RemembersLook v look entry → RemembersLook w look entry
-remembered-look v w (LinkLook at child) entry raised links r = link-kept v w at child entry raised links r
-remembered-look v w (KeyLook node key) entry raised links r = tt
-remembered-look v w (ValLook node val) entry raised links r = tt
+-- where a node is found among the locked ones
+pub record FoundAt (hs : List HeldNode) (k : ℕ) (h : HeldNode) : Type 0 where
+  pub place : ℕ
+  pub is : IsItem hs place h
+  pub node_is : h.node ≡ k
 
-pub remembered-kept : (v w : View) (plan : Plan) (entries : List ℕ) → w.update.raised ≡ v.update.raised → KeepsLinks v w → RemembersLooks v plan entries → RemembersLooks w plan entries
-remembered-kept v w plan entries raised links r place look is =
-    remembered-look v w look (slice_index entries place) raised links (r place look is)
+pub found-at : (k : ℕ) (h : HeldNode) (hs : List HeldNode) → held_at k hs ≡ Some h → FoundAt hs k h
+found-at k h [] is = cc
+found-at k h (x ∷ hs) is = by (eqb x.node k) refl is (found-at k h hs)
+  where
+    by : (b : Bool) → eqb x.node k ≡ b → cond b (Some x) (held_at k hs) ≡ Some h → (held_at k hs ≡ Some h → FoundAt hs k h) → FoundAt (x ∷ hs) k h
+    by true e found more =
+        let one : x ≡ h = cc in
+        record { place = 0; is = subst (IsItem (x ∷ hs) 0) one (first-item x hs); node_is = ap (λ (y : HeldNode). y.node) (sym one) ∙ eqb-true x.node k e }
+    by false e found more =
+        let below = more found in
+        record { place = suc below.place; is = item-below x h hs below.place below.is; node_is = below.node_is }
 
--- the locked nodes are mapped, and keep their numbers
-pub record MapsHeld (f : HeldNode → HeldNode) (v w : View) : Type 0 where
-  pub maps : w.held.nodes ≡ map f v.held.nodes
+-- the locked nodes are mapped, and keep their numbers; or one more is locked
+pub held-maps : (f : HeldNode → HeldNode) → ((h : HeldNode) → (f h).node ≡ h.node) → (k : ℕ) (h : HeldNode) (hs : List HeldNode) → held_at k hs ≡ Some h
+    → held_at k (map f hs) ≡ Some (f h)
+held-maps f same k h [] is = cc
+held-maps f same k h (x ∷ hs) is = ap (λ n. cond (eqb n k) (Some (f x)) (held_at k (map f hs))) (same x) ∙ by (eqb x.node k) is (held-maps f same k h hs)
+  where
+    by : (b : Bool) → cond b (Some x) (held_at k hs) ≡ Some h → (held_at k hs ≡ Some h → held_at k (map f hs) ≡ Some (f h))
+        → cond b (Some (f x)) (held_at k (map f hs)) ≡ Some (f h)
+    by true found more = let one : x ≡ h = cc in ap (λ (y : HeldNode). Some (f y)) one
+    by false found more = more found
+
+pub held-longer : (k : ℕ) (h : HeldNode) (hs more : List HeldNode) → held_at k hs ≡ Some h → held_at k (hs ++ more) ≡ Some h
+held-longer k h [] more is = cc
+held-longer k h (x ∷ hs) more is = by (eqb x.node k) is (held-longer k h hs more)
+  where
+    by : (b : Bool) → cond b (Some x) (held_at k hs) ≡ Some h → (held_at k hs ≡ Some h → held_at k (hs ++ more) ≡ Some h)
+        → cond b (Some x) (held_at k (hs ++ more)) ≡ Some h
+    by true found below = found
+    by false found below = below found
+
+-- each locked node is locked still, and this is what is known of it then
+pub record MovesHeld (f : HeldNode → HeldNode) (v w : View) : Type 0 where
+  pub held : (k : ℕ) (h : HeldNode) → held_at k v.held.nodes ≡ Some h → held_at k w.held.nodes ≡ Some (f h)
+  pub item : (place : ℕ) (h : HeldNode) → IsItem v.held.nodes place h → IsItem w.held.nodes place (f h)
   pub node : (h : HeldNode) → (f h).node ≡ h.node
 
-pub slots-kept : (f : HeldNode → HeldNode) (v w : View) → MapsHeld f v w → held_slots w.held.nodes ≡ held_slots v.held.nodes
-slots-kept f v w m = ap held_slots m.maps ∙ map-keeps (λ (h : HeldNode). h.node) f m.node v.held.nodes
-
-pub trying-kept : (f : HeldNode → HeldNode) (v w : View) (n : ℕ) (plan : Plan) (entries nodes : List ℕ) → KeepsPass v w → w.update ≡ v.update → KeepsLinks v w
-    → MapsHeld f v w → IsTrying v n plan entries nodes → IsTrying w n plan entries nodes
-trying-kept f v w n plan entries nodes keeps update links held t = record {
-  making = making-kept v w n plan keeps t.making;
-  idle = update ∙ t.idle;
-  remembered = remembered-kept v w plan entries keeps.raised links t.remembered;
-  locked = slots-kept f v w held ∙ t.locked;
+pub mapped : (f : HeldNode → HeldNode) (v w : View) → w.held.nodes ≡ map f v.held.nodes → ((h : HeldNode) → (f h).node ≡ h.node) → MovesHeld f v w
+mapped f v w maps node = record {
+  held = λ k h is. subst (λ hs. held_at k hs ≡ Some (f h)) (sym maps) (held-maps f node k h v.held.nodes is);
+  item = λ place h at. subst (λ hs. IsItem hs place (f h)) (sym maps) (item-map f v.held.nodes place h at);
+  node = node;
 }
+
+pub same-held : (v w : View) → w.held.nodes ≡ v.held.nodes → MovesHeld (λ (h : HeldNode). h) v w
+same-held v w same = record {
+  held = λ k h is. subst (λ hs. held_at k hs ≡ Some h) (sym same) is;
+  item = λ place h at. subst (λ hs. IsItem hs place h) (sym same) at;
+  node = λ h. refl;
+}
+
+pub slots-kept : (f : HeldNode → HeldNode) (v w : View) → w.held.nodes ≡ map f v.held.nodes → ((h : HeldNode) → (f h).node ≡ h.node)
+    → held_slots w.held.nodes ≡ held_slots v.held.nodes
+slots-kept f v w maps node = ap held_slots maps ∙ map-keeps (λ (h : HeldNode). h.node) f node v.held.nodes
+
+-- what is known of locked nodes stays
+pub record KeepsHeld (f : HeldNode → HeldNode) (v : View) : Type 0 where
+  pub mark : (place : ℕ) (h : HeldNode) → IsItem v.held.nodes place h → h.mark ≡ Some 0 → (f h).mark ≡ Some 0
+  pub key : (place x : ℕ) (h : HeldNode) → IsItem v.held.nodes place h → h.key ≡ Some x → (f h).key ≡ Some x
+  pub val : (place x : ℕ) (h : HeldNode) → IsItem v.held.nodes place h → h.val ≡ Some x → (f h).val ≡ Some x
+  pub link : (k x : ℕ) (side : Side) (h : HeldNode) → held_at k v.held.nodes ≡ Some h → (side_of side h).link ≡ Some x → (side_of side (f h)).link ≡ Some x
+  pub tag : (k x : ℕ) (side : Side) (h : HeldNode) → held_at k v.held.nodes ≡ Some h → (side_of side h).tag ≡ Some x → (side_of side (f h)).tag ≡ Some x
+
+module _ (f : HeldNode → HeldNode) (v w : View) (moves : MovesHeld f v w) (keeps : KeepsHeld f v) where
+  pub unmarked-kept : (k : ℕ) → IsUnmarked v k → IsUnmarked w k
+  unmarked-kept k h = record {
+    place = h.place;
+    held = f h.held;
+    at = moves.item h.place h.held h.at;
+    node_is = moves.node h.held ∙ h.node_is;
+    is = keeps.mark h.place h.held h.at h.is;
+  }
+
+  key-kept : (k x : ℕ) → HasLoaded v k (λ (h : HeldNode). h.key) x → HasLoaded w k (λ (h : HeldNode). h.key) x
+  key-kept k x h = record {
+    place = h.place;
+    held = f h.held;
+    at = moves.item h.place h.held h.at;
+    node_is = moves.node h.held ∙ h.node_is;
+    is = keeps.key h.place x h.held h.at h.is;
+  }
+
+  val-kept : (k x : ℕ) → HasLoaded v k (λ (h : HeldNode). h.val) x → HasLoaded w k (λ (h : HeldNode). h.val) x
+  val-kept k x h = record {
+    place = h.place;
+    held = f h.held;
+    at = moves.item h.place h.held h.at;
+    node_is = moves.node h.held ∙ h.node_is;
+    is = keeps.val h.place x h.held h.at h.is;
+  }
+
+  abbrev pub link-kept : (k child : ℕ) (side : Side) → HoldsLink v k side child → HoldsLink w k side child
+  link-kept k child side h =
+      let at = found-at k h.held v.held.nodes h.locked in
+      record {
+        root = h.root;
+        held = f h.held;
+        locked = moves.held k h.held h.locked;
+        unmarked = keeps.mark at.place h.held at.is h.unmarked;
+        leads = keeps.link k child side h.held h.locked h.leads;
+      }
+
+  module _ (found : KeepsFound v w) where
+    gap-kept : (k key : ℕ) (side : Side) → HoldsGap v k side key → HoldsGap w k side key
+    gap-kept k key side h = record {
+      null = link-kept k 0 side h.null;
+      tag = h.tag;
+      held_tag = keeps.tag k h.tag side h.null.held h.null.locked h.held_tag;
+      found = found.gap k h.tag key side h.found;
+    }
+
+    pub look-kept : (look : Look) → HoldsLook v look → HoldsLook w look
+    look-kept (LinkLook at child) h = link-kept at.node child at.side h
+    look-kept (KeyLook node key) h = key-kept node key h
+    look-kept (ValLook node val) h = val-kept node val h
+    look-kept (GapLook at key) h = gap-kept at.node key at.side h
+    look-kept (BetweenLook at low high) h = λ x above below. gap-kept at.node x at.side (h x above below)
+
+    pub looks-kept : KeepsLooks v w
+    looks-kept = record { looks = look-kept; unmarked = unmarked-kept; link = found.link; gap = found.gap; null = found.null }
 
 -- a head stays known by its entry, and with a number that was loaded
 pub record KnowsHead (l : LoadedHead) (s : HeldSide) : Type 0 where
@@ -103,35 +207,20 @@ pub record KnowsHead (l : LoadedHead) (s : HeldSide) : Type 0 where
   pub entry : now.entry ≡ l.entry
   pub written : is_written l.stamp ≡ true → is_written now.stamp ≡ true
 
--- what is known of the link stays known
+-- what is known of the link's head, and of the node's mark, stays known
 pub record KeepsAt (f : HeldNode → HeldNode) (at : Link) : Type 0 where
   pub mark : (h : HeldNode) → h.node ≡ at.node → h.mark ≡ Some 0 → (f h).mark ≡ Some 0
   pub head : (h : HeldNode) (l : LoadedHead) → h.node ≡ at.node → (side_of at.side h).head ≡ Some l → KnowsHead l (side_of at.side (f h))
 
-abbrev pub KeepsLook : (HeldNode → HeldNode) → Look → Type 0
-KeepsLook f (LinkLook at child) = KeepsAt f at
-KeepsLook f (KeyLook node key) = (h : HeldNode) → h.node ≡ node → h.key ≡ Some key → (f h).key ≡ Some key
-KeepsLook f (ValLook node val) = (h : HeldNode) → h.node ≡ node → h.val ≡ Some val → (f h).val ≡ Some val
-
-pub loaded-kept : (f : HeldNode → HeldNode) (v w : View) (node x : ℕ) (part : HeldNode → Option ℕ) → MapsHeld f v w
-    → ((h : HeldNode) → h.node ≡ node → part h ≡ Some x → part (f h) ≡ Some x) → HasLoaded v node part x → HasLoaded w node part x
-loaded-kept f v w node x part m keeps h = record {
-  place = h.place;
-  held = f h.held;
-  at = subst (λ hs. IsItem hs h.place (f h.held)) (sym m.maps) (item-map f v.held.nodes h.place h.held h.at);
-  node_is = m.node h.held ∙ h.node_is;
-  is = keeps h.held h.node_is h.is;
-}
-
--- what is known of a link in the view after
-abbrev pub entry-kept : (f : HeldNode → HeldNode) (v w : View) (at : Link) (entry : ℕ) → MapsHeld f v w → KeepsAt f at → HoldsEntry v at entry → HoldsEntry w at entry
+abbrev pub entry-kept : (f : HeldNode → HeldNode) (v w : View) (at : Link) (entry : ℕ) → MovesHeld f v w → KeepsAt f at → HoldsEntry v at entry
+    → HoldsEntry w at entry
 entry-kept f v w at entry m keeps h =
     let known = keeps.head h.head.held h.head.loaded h.head.node_is h.head.head in
     record {
       head = record {
         place = h.head.place;
         held = f h.head.held;
-        at = subst (λ hs. IsItem hs h.head.place (f h.head.held)) (sym m.maps) (item-map f v.held.nodes h.head.place h.head.held h.head.at);
+        at = m.item h.head.place h.head.held h.head.at;
         node_is = m.node h.head.held ∙ h.head.node_is;
         loaded = known.now;
         head = known.is;
@@ -140,24 +229,12 @@ entry-kept f v w at entry m keeps h =
       unmarked = keeps.mark h.head.held h.head.node_is h.unmarked;
     }
 
-pub numbered-kept : (f : HeldNode → HeldNode) (v w : View) (at : Link) (entry : ℕ) → MapsHeld f v w → KeepsAt f at → HoldsNumbered v at entry → HoldsNumbered w at entry
+pub numbered-kept : (f : HeldNode → HeldNode) (v w : View) (at : Link) (entry : ℕ) → MovesHeld f v w → KeepsAt f at → HoldsNumbered v at entry
+    → HoldsNumbered w at entry
 numbered-kept f v w at entry m keeps h = record {
   holds = entry-kept f v w at entry m keeps h.holds;
   numbered = elim h.numbered as (λ _. (entry ≡ 0) ⊎ (is_written (entry-kept f v w at entry m keeps h.holds).head.loaded.stamp ≡ true)) [
     | inl none' ↦ inl none'
     | inr written ↦ inr ((keeps.head h.holds.head.held h.holds.head.loaded h.holds.head.node_is h.holds.head.head).written written)
   ];
-}
-
-pub look-kept : (f : HeldNode → HeldNode) (v w : View) (look : Look) (entry : ℕ) → MapsHeld f v w → KeepsLook f look → FindsLook v look entry → FindsLook w look entry
-look-kept f v w (LinkLook at child) entry m keeps h = numbered-kept f v w at entry m keeps h
-look-kept f v w (KeyLook node key) entry m keeps h = loaded-kept f v w node key (λ (x : HeldNode). x.key) m keeps h
-look-kept f v w (ValLook node val) entry m keeps h = loaded-kept f v w node val (λ (x : HeldNode). x.val) m keeps h
-
--- the looks of the plan that hold stay
-pub looked-kept : (f : HeldNode → HeldNode) (v w : View) (n : ℕ) (plan : Plan) (entries : List ℕ) (done : ℕ) → HasLooked v n plan entries done → HasLockedAll w n plan entries
-    → MapsHeld f v w → ((place : ℕ) (look : Look) → place < done → slice_get (looks_of plan) place ≡ Some look → KeepsLook f look) → HasLooked w n plan entries done
-looked-kept f v w n plan entries done h trying m keeps = record {
-  trying = trying;
-  looks = λ place look below is. look-kept f v w look (slice_index entries place) m (keeps place look below is) (h.looks place look below is);
 }

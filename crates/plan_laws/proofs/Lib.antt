@@ -2,11 +2,11 @@
 pub mod Items
 -- What a view shows of its plan stays, in each step that does not touch it.
 pub mod Kept
+-- A change of what is known of one locked node.
+pub mod HeldParts
 -- How each load under a lock, and a prepare, maps the locked nodes, and what it keeps.
 pub mod HeldMaps
--- The looks of a plan are at different links and nodes.
-pub mod Apart
--- A try locks the nodes of its plan.
+-- A try locks nodes.
 pub mod Tries
 -- The looks of a try.
 pub mod Looks
@@ -30,17 +30,7 @@ pub mod PartedHeld
 pub mod Parting
 -- What follows the raise.
 pub mod Finals
--- The tree that a seat reads names each of its nodes once.
-pub mod SeenTree
--- The nodes of a plan are different ones.
-pub mod PlanNodes
--- What a seat knows at the begin of a try.
-pub mod Searches
 -- What the answer of an update needs.
 pub mod Answered
--- The search for a plan by loads.
-pub mod Walks
 -- What the steps leave as it was.
 pub mod Frames
--- How a seat comes to remember a link.
-pub mod Remembering

@@ -1,126 +1,49 @@
 -- The looks of a try.
-use Rattle.std.proofs.Common.{◌≡◌, ℕ, suc, ◌+◌, ◌<◌, inl, inr, List, [], ◌∷◌, Bool, true, false, cond, eqb, refl, ap, sym, ◌∙◌, subst, arith, Option, Some, None}
-use Rattle.std.specs.Prelude.{slice_index, ◌==◌}
-use Rattle.std.specs.List.{slice_get}
-use Rattle.std.proofs.lemmas.Bool.{false≢true}
-use Rattle.std.proofs.lemmas.Bool.Decides.{eqb_tells, nat_tests}
+use Rattle.std.proofs.Common.{◌≡◌, ℕ, suc, ◌+◌, ◌<◌, ◌≤◌, inr, List, [], ◌∷◌, Bool, true, false, cond, eqb, refl, ap, sym, ◌∙◌, subst, arith, Option, Some, None}
+use Rattle.std.specs.Prelude.{◌==◌, ◌&&◌}
+use Rattle.std.proofs.lemmas.Bool.Decides.{nat_tests}
 use Rattle.index_words.specs.declared.side.Side.{Side}
+use Rattle.index_words.specs.declared.side.Side.TheVariants.{Right}
 use Rattle.index_words.specs.declared.view.View.{View}
+use Rattle.index_words.specs.declared.view.reading.Link.{Link as ViewLink}
+use Rattle.index_words.specs.declared.view.reading.LinkSource.{LinkSource}
+use Rattle.index_words.specs.declared.view.reading.LinkSource.TheVariants.{Bundle, Plain}
+use Rattle.index_words.specs.declared.view.reading.Place.{Place}
+use Rattle.index_words.specs.declared.view.reading.Place.TheVariants.{Nowhere, Entry as AtEntry, Node as AtNode, Gap}
 use Rattle.index_words.specs.declared.view.update.HeldNode.{HeldNode}
-use Rattle.index_words.specs.declared.word.Field.TheVariants.{Key, Val, Mark, Head}
-use Rattle.index_words.specs.declared.word.Word.TheVariants.{Node}
+use Rattle.index_words.specs.declared.word.Field.TheVariants.{Key, Val}
+use Rattle.index_words.specs.Words.{same_side}
 use Rattle.key_map.specs.Lists.{count, IsItem}
+use Rattle.key_map.specs.Map.{pair}
 use Rattle.core_grace.specs.Holds.{held_slots}
 use Rattle.core_trees.specs.declared.link.Link.{Link}
-use Rattle.core_events.specs.declared.event.Kind.TheVariants.{LoadHead, LoadMark, LoadKeyOrVal}
-use Rattle.core_events.specs.LoadMoves.{head_loaded, ts_loaded, found_at, node_known, bundle_link}
-use Rattle.core_events.specs.LockMoves.{mark_loaded, pair_loaded, mark_known, pair_known}
-use Rattle.core_laws.specs.ViewNeeds.{May, event_at}
+use Rattle.core_events.specs.LoadMoves.{head_loaded, ts_loaded, next_at, is_above, found_at, node_known, bundle_link}
+use Rattle.core_events.specs.LockMoves.{locked_view, met_lock, mark_loaded, pair_loaded, just_locked, mark_known, pair_known}
+use Rattle.core_events.specs.PlainMoves.{link_loaded, tag_loaded, link_known_at, tag_known_at}
+use Rattle.core_events.specs.Searches.{is_plain, left_turn_after, plain_link, right_turn_after, searches_at, tag_found, turn_key, with_tag}
+use Rattle.core_events.specs.UpdateNeeds.{held_at}
+use Rattle.core_invariant.specs.Readers.{IsLocked}
+use Rattle.core_laws.specs.PlainNeeds.{HasFirmLink, IsHeldUnmarked}
 use Rattle.core_laws.proofs.ViewNeeds.{may_read_number_law}
 use Rattle.core_updates.specs.declared.plan.Plan.{Plan}
-use Rattle.core_updates.specs.declared.plan.Look.{Look}
-use Rattle.core_updates.specs.declared.plan.Look.TheVariants.{Link as LinkLook, Key as KeyLook, Val as ValLook}
-use Rattle.core_updates.specs.Held.{HasLoaded}
-use Rattle.core_updates.specs.PlanEvents.{IsLockOf, looked_node}
-use Rattle.core_updates.specs.Plans.{locks_of, looks_of}
-use Rattle.core_updates.proofs.PlanLocks.{locks_law}
-use Rattle.plan_laws.specs.Frames.{KeepsPass}
-use Rattle.plan_laws.specs.Tries.{HasLockedAll}
-use Rattle.plan_laws.specs.Looks.{IsUnmarked, HoldsEntry, HoldsNumbered, FindsLook, HasLooked, MarkLookLaw, HeadLookLaw, NumberLookLaw, MayNumberLaw, KeyLookLaw, ValLookLaw, LookStartLaw}
-use Rattle.plan_laws.proofs.Items.{every-counted, got-every, item-map, first-item, item-below}
-use Rattle.plan_laws.proofs.Apart.{looks_once}
-use Rattle.plan_laws.proofs.HeldMaps.{mark-node, mark-keeps, mark-is, number-keeps, numbered-side, is-written, found-node, found-mark, found-keeps, found-is, key-node, val-node, key-keeps, val-keeps, key-is, val-is}
-use Rattle.plan_laws.proofs.Kept.{KeepsLinks, MapsHeld, trying-kept, same-links, more-links, looked-kept}
-use Rattle.plan_laws.proofs.Tries.{no_slots, events}
+use Rattle.core_updates.specs.declared.plan.Plan.TheVariants.{Grow}
+use Rattle.core_updates.specs.declared.plan.PlanSlots.{PlanSlots}
+use Rattle.core_updates.specs.PlanEvents.{AllowsPlan, HoldsEntry, HoldsNumbered}
+use Rattle.core_updates.specs.Plans.{link_of}
+use Rattle.core_updates.proofs.HeldOnce.{held-item}
+use Rattle.core_updates.proofs.PlanSteps.{events_law}
+use Rattle.plan_laws.specs.Tries.{IsTrying}
+use Rattle.plan_laws.specs.Looks.{IsUnmarked, KeepsLooks, LookLaw, NumberLaw, HeadsStayLaw, StepsKeepLooksLaw, KeepsLooksLaw}
+use Rattle.plan_laws.proofs.HeldMaps.{mark-node, mark-keeps, mark-is, number-at, number-keeps, numbered-side, is-written, found-other, found-node, found-mark, found-keeps, found-is, key-node, val-node, key-keeps, val-keeps, key-is, val-is, link-node, link-mark, link-keeps, link-is, tag-node, tag-mark, tag-link, tag-keeps, tag-is}
+use Rattle.plan_laws.proofs.Items.{first-item, item-below, item-longer, item-map}
+use Rattle.plan_laws.proofs.Kept.{KeepsFound, KeepsHeld, MovesHeld, links-kept, looks-kept, mapped, more-links, numbered-kept, same-held, same-links, found-at, held-longer}
 
--- what is looked at is locked by the plan
-pub looked-locked : (plan : Plan) (place : ℕ) (look : Look) → slice_get (looks_of plan) place ≡ Some look → 0 < count (looked_node look) (locks_of plan)
-looked-locked plan place look is = got-every (λ l. IsLockOf plan (looked_node l)) (looks_of plan) place look (locks_law plan no_slots).looks is
+-- the plan and its slots are of no matter to what is loaded of a locked node
+no-plan : Plan
+no-plan = Grow (record { pair = pair 0 0; at = link_of 0 Right })
 
-pub look_start : LookStartLaw
-look_start v n plan entries t = record { trying = t; looks = λ place look below is. absurd (omega (arith, below)) }
-
--- one look more
-pub look-more : (v : View) (n : ℕ) (plan : Plan) (entries : List ℕ) (done : ℕ) (look : Look) → HasLooked v n plan entries done → slice_get (looks_of plan) done ≡ Some look
-    → FindsLook v look (slice_index entries done) → HasLooked v n plan entries (done + 1)
-look-more v n plan entries done look h is found = record {
-  trying = h.trying;
-  looks = λ place other below other_is. by place other (place == done) (told place done) below other_is;
-}
-  where
-    told : (a b : ℕ) → ((a == b) ≡ true → a ≡ b) × ((a == b) ≡ false → ¬ (a ≡ b))
-    told a b = (λ e. elim (eqb_tells a b) as (λ _. a ≡ b) [ inl is ↦ is.1 | inr apart ↦ absurd (false≢true (sym apart.0 ∙ e)) ], λ e. elim (eqb_tells a b) as (λ _. ¬ (a ≡ b)) [ inl is ↦ absurd (false≢true (sym e ∙ is.0)) | inr apart ↦ apart.1 ])
-
-    some_same : (a b : Look) → Some a ≡ Some b → a ≡ b
-    some_same a b e = cc
-
-    less : (a b : ℕ) → a < b + 1 → ¬ (a ≡ b) → a < b
-    less a b below apart = grind (arith)
-
-    by : (place : ℕ) (other : Look) (same : Bool) → ((same ≡ true → place ≡ done) × (same ≡ false → ¬ (place ≡ done))) → place < done + 1
-        → slice_get (looks_of plan) place ≡ Some other → FindsLook v other (slice_index entries place)
-    by place other true tells below other_is =
-        let at : place ≡ done = tells.0 refl in
-        let one : look ≡ other = some_same look other (sym is ∙ ap (slice_get (looks_of plan)) (sym at) ∙ other_is) in
-        subst (λ i. FindsLook v other (slice_index entries i)) (sym at) (subst (λ l. FindsLook v l (slice_index entries done)) one found)
-    by place other false tells below other_is = h.looks place other (less place done below (tells.1 refl)) other_is
-
--- the views after the loads
-module _ (v : View) where
-  pub mark-keeps-pass : (k x : ℕ) → KeepsPass v (mark_loaded v k x)
-  mark-keeps-pass k x = record { layout = refl; joined = refl; number = refl; word = refl; announced = refl; history = refl; section = refl; opened = refl; least = refl; tree = refl; nodes = refl; retired = refl; batch = refl; raised = refl; taken = refl }
-
-  pub head-keeps-pass : (k e number : ℕ) (side : Side) → KeepsPass v (head_loaded v k side e number)
-  head-keeps-pass k e number side = record { layout = refl; joined = refl; number = refl; word = refl; announced = refl; history = refl; section = refl; opened = refl; least = refl; tree = refl; nodes = refl; retired = refl; batch = refl; raised = refl; taken = refl }
-
-  pub number-keeps-pass : (e x : ℕ) → KeepsPass v (ts_loaded v e x)
-  number-keeps-pass e x = record { layout = refl; joined = refl; number = refl; word = refl; announced = refl; history = refl; section = refl; opened = refl; least = refl; tree = refl; nodes = refl; retired = refl; batch = refl; raised = refl; taken = refl }
-
-  pub key-keeps-pass : (k x : ℕ) → KeepsPass v (pair_loaded v Key k x)
-  key-keeps-pass k x = record { layout = refl; joined = refl; number = refl; word = refl; announced = refl; history = refl; section = refl; opened = refl; least = refl; tree = refl; nodes = refl; retired = refl; batch = refl; raised = refl; taken = refl }
-
-  pub val-keeps-pass : (k x : ℕ) → KeepsPass v (pair_loaded v Val k x)
-  val-keeps-pass k x = record { layout = refl; joined = refl; number = refl; word = refl; announced = refl; history = refl; section = refl; opened = refl; least = refl; tree = refl; nodes = refl; retired = refl; batch = refl; raised = refl; taken = refl }
-
-  mark-held : (k x : ℕ) → MapsHeld (mark_known k x) v (mark_loaded v k x)
-  mark-held k x = record { maps = refl; node = mark-node k x }
-
-  head-held : (k e number : ℕ) (side : Side) → MapsHeld (found_at k side e) v (head_loaded v k side e number)
-  head-held k e number side = record { maps = refl; node = found-node k e side }
-
-  number-held : (e x : ℕ) → MapsHeld (node_known e x) v (ts_loaded v e x)
-  number-held e x = record { maps = refl; node = λ h. refl }
-
-  key-held : (k x : ℕ) → MapsHeld (pair_known Key k x) v (pair_loaded v Key k x)
-  key-held k x = record { maps = refl; node = key-node k x }
-
-  val-held : (k x : ℕ) → MapsHeld (pair_known Val k x) v (pair_loaded v Val k x)
-  val-held k x = record { maps = refl; node = val-node k x }
-
-  head-links : (k e number : ℕ) (side : Side) → KeepsLinks v (head_loaded v k side e number)
-  head-links k e number side place l at = more-links (e == 0) v.reading.links (bundle_link k side 0 0) place l at
-
-  module _ (n : ℕ) (plan : Plan) (entries : List ℕ) (t : HasLockedAll v n plan entries) where
-    mark-tries : (k x : ℕ) → HasLockedAll (mark_loaded v k x) n plan entries
-    mark-tries k x =
-        trying-kept (mark_known k x) v (mark_loaded v k x) n plan entries (locks_of plan) (mark-keeps-pass k x) refl (same-links v (mark_loaded v k x) refl) (mark-held k x) t
-
-    head-tries : (k e number : ℕ) (side : Side) → HasLockedAll (head_loaded v k side e number) n plan entries
-    head-tries k e number side =
-        trying-kept (found_at k side e) v (head_loaded v k side e number) n plan entries (locks_of plan) (head-keeps-pass k e number side) refl (head-links k e number side)
-        (head-held k e number side) t
-
-    number-tries : (e x : ℕ) → HasLockedAll (ts_loaded v e x) n plan entries
-    number-tries e x =
-        trying-kept (node_known e x) v (ts_loaded v e x) n plan entries (locks_of plan) (number-keeps-pass e x) refl (same-links v (ts_loaded v e x) refl) (number-held e x) t
-
-    key-tries : (k x : ℕ) → HasLockedAll (pair_loaded v Key k x) n plan entries
-    key-tries k x =
-        trying-kept (pair_known Key k x) v (pair_loaded v Key k x) n plan entries (locks_of plan) (key-keeps-pass k x) refl (same-links v (pair_loaded v Key k x) refl) (key-held k x) t
-
-    val-tries : (k x : ℕ) → HasLockedAll (pair_loaded v Val k x) n plan entries
-    val-tries k x =
-        trying-kept (pair_known Val k x) v (pair_loaded v Val k x) n plan entries (locks_of plan) (val-keeps-pass k x) refl (same-links v (pair_loaded v Val k x) refl) (val-held k x) t
+no-slots : PlanSlots
+no-slots = record { node = 0; at = 0; left = 0; right = 0; next = 0 }
 
 -- a locked node stands somewhere among the held ones
 pub held-place : (hs : List HeldNode) (k : ℕ) → 0 < count k (held_slots hs) → (place : ℕ) × (held : HeldNode) × IsItem hs place held × (held.node ≡ k)
@@ -136,70 +59,265 @@ held-place (x ∷ hs) k some = by (eqb x.node k) (λ e. same_node x.node k e) so
     by true tells here more = (0, x, first-item x hs, tells refl)
     by false tells here more = let below = more (omega (arith, here)) in (suc below.0, below.1, item-below x below.1 hs below.0 below.2, below.3)
 
--- what is loaded of a node that all looks have locked
-module _ (v : View) (n : ℕ) (plan : Plan) (entries : List ℕ) (t : HasLockedAll v n plan entries) where
-  locked-place : (k : ℕ) → 0 < count k (locks_of plan) → (place : ℕ) × (held : HeldNode) × IsItem v.held.nodes place held × (held.node ≡ k)
-  locked-place k some = held-place v.held.nodes k (subst (λ ks. 0 < count k ks) (sym t.locked) some)
+-- a plain link keeps its node, its side, its child, and a tag that was kept with it
+module _ (k x : ℕ) (side : Side) where
+  tagged-node : (l : ViewLink) → (with_tag k side x l).node ≡ l.node
+  tagged-node l = by (l.node == k && same_side l.side side)
+    where
+      by : (b : Bool) → (cond b (record l { source = tag_found x l.source }) l).node ≡ l.node
+      by true = refl
+      by false = refl
 
-  loads : (f : HeldNode → HeldNode) (w : View) (k x : ℕ) (part : HeldNode → Option ℕ) → MapsHeld f v w → ((h : HeldNode) → h.node ≡ k → part (f h) ≡ Some x)
-      → 0 < count k (locks_of plan) → HasLoaded w k part x
-  loads f w k x part m is some =
-      let here = locked-place k some in
-      record {
-        place = here.0;
-        held = f here.1;
-        at = subst (λ hs. IsItem hs here.0 (f here.1)) (sym m.maps) (item-map f v.held.nodes here.0 here.1 here.2);
-        node_is = m.node here.1 ∙ here.3;
-        is = is here.1 here.3;
-      }
+  tagged-side : (l : ViewLink) → (with_tag k side x l).side ≡ l.side
+  tagged-side l = by (l.node == k && same_side l.side side)
+    where
+      by : (b : Bool) → (cond b (record l { source = tag_found x l.source }) l).side ≡ l.side
+      by true = refl
+      by false = refl
 
-pub mark_look : MarkLookLaw
-mark_look z v seat n plan entries done child at h is =
-    let allows = events z v seat n plan entries (locks_of plan) h.trying in
-    let locked : 0 < count at.node (locks_of plan) = looked-locked plan done (LinkLook at child) is in
-    record {
-      may = every-counted (λ k. May z v (event_at z seat LoadMark (Node Mark k) 0)) (locks_of plan) at.node allows.marked locked;
-      unmarked = (
-        looked-kept (mark_known at.node 0) v (mark_loaded v at.node 0) n plan entries done h (mark-tries v n plan entries h.trying at.node 0) (mark-held v at.node 0)
-            (λ place look below here. mark-keeps at.node look),
-        loads v n plan entries h.trying (mark_known at.node 0) (mark_loaded v at.node 0) at.node 0 (λ (x : HeldNode). x.mark) (mark-held v at.node 0)
-            (λ x here. mark-is at.node 0 x here) locked,
-      );
-      any = λ x. mark-tries v n plan entries h.trying at.node x;
-    }
+  tagged-child : (l : ViewLink) → (with_tag k side x l).child ≡ l.child
+  tagged-child l = by (l.node == k && same_side l.side side)
+    where
+      by : (b : Bool) → (cond b (record l { source = tag_found x l.source }) l).child ≡ l.child
+      by true = refl
+      by false = refl
+
+  tagged-plain : (l : ViewLink) → is_plain l.source ≡ true → is_plain (with_tag k side x l).source ≡ true
+  tagged-plain l plain = by (l.node == k && same_side l.side side)
+    where
+      still : (s : LinkSource) → is_plain s ≡ true → is_plain (tag_found x s) ≡ true
+      still (Bundle entry) is = is
+      still (Plain None above below) is = refl
+      still (Plain (Some tag) above below) is = refl
+
+      by : (b : Bool) → is_plain (cond b (record l { source = tag_found x l.source }) l).source ≡ true
+      by true = still l.source plain
+      by false = plain
+
+  tagged-source : (l : ViewLink) (tag : ℕ) (above below : Option ℕ) → l.source ≡ Plain (Some tag) above below
+      → (with_tag k side x l).source ≡ Plain (Some tag) above below
+  tagged-source l tag above below is = by (l.node == k && same_side l.side side)
+    where
+      by : (b : Bool) → (cond b (record l { source = tag_found x l.source }) l).source ≡ Plain (Some tag) above below
+      by true = ap (tag_found x) is
+      by false = is
+
+  tag-found : (v : View) → KeepsFound v (tag_loaded v k side x)
+  tag-found v = record {
+    link = λ at child r. record {
+      place = r.place;
+      link = with_tag k side x r.link;
+      is = item-map (with_tag k side x) v.reading.links r.place r.link r.is;
+      node_is = tagged-node r.link ∙ r.node_is;
+      side_is = tagged-side r.link ∙ r.side_is;
+      plain = tagged-plain r.link r.plain;
+      child_is = tagged-child r.link ∙ r.child_is;
+    };
+    gap = λ j tag key s r. record {
+      place = r.place;
+      link = with_tag k side x r.link;
+      is = item-map (with_tag k side x) v.reading.links r.place r.link r.is;
+      node_is = tagged-node r.link ∙ r.node_is;
+      side_is = tagged-side r.link ∙ r.side_is;
+      child_is = tagged-child r.link ∙ r.child_is;
+      above = r.above;
+      below = r.below;
+      source = tagged-source r.link tag r.above r.below r.source;
+      over = r.over;
+      under = r.under;
+    };
+    null = λ at tag above below r. record {
+      place = r.place;
+      link = with_tag k side x r.link;
+      is = item-map (with_tag k side x) v.reading.links r.place r.link r.is;
+      node_is = tagged-node r.link ∙ r.node_is;
+      side_is = tagged-side r.link ∙ r.side_is;
+      child_is = tagged-child r.link ∙ r.child_is;
+      source = tagged-source r.link tag above below r.source;
+    };
+  }
+
+module _ (v : View) where
+  mark-moves : (k x : ℕ) → MovesHeld (mark_known k x) v (mark_loaded v k x)
+  mark-moves k x = mapped (mark_known k x) v (mark_loaded v k x) refl (mark-node k x)
+
+  link-moves : (k x : ℕ) (side : Side) → MovesHeld (link_known_at k side x) v (link_loaded v k side x)
+  link-moves k x side = mapped (link_known_at k side x) v (link_loaded v k side x) refl (link-node k x side)
+
+  tag-moves : (k x : ℕ) (side : Side) → MovesHeld (tag_known_at k side x) v (tag_loaded v k side x)
+  tag-moves k x side = mapped (tag_known_at k side x) v (tag_loaded v k side x) refl (tag-node k x side)
+
+  head-moves : (k e number : ℕ) (side : Side) → MovesHeld (found_at k side e) v (head_loaded v k side e number)
+  head-moves k e number side = mapped (found_at k side e) v (head_loaded v k side e number) refl (found-node k e side)
+
+  number-moves : (e x : ℕ) → MovesHeld (node_known e x) v (ts_loaded v e x)
+  number-moves e x = mapped (node_known e x) v (ts_loaded v e x) refl (λ h. refl)
+
+  key-moves : (k x : ℕ) → MovesHeld (pair_known Key k x) v (pair_loaded v Key k x)
+  key-moves k x = mapped (pair_known Key k x) v (pair_loaded v Key k x) refl (key-node k x)
+
+  val-moves : (k x : ℕ) → MovesHeld (pair_known Val k x) v (pair_loaded v Val k x)
+  val-moves k x = mapped (pair_known Val k x) v (pair_loaded v Val k x) refl (val-node k x)
+
+  pub id-keeps : KeepsHeld (λ (h : HeldNode). h) v
+  id-keeps = record {
+    mark = λ place h at is. is;
+    key = λ place x h at is. is;
+    val = λ place x h at is. is;
+    link = λ k x side h at is. is;
+    tag = λ k x side h at is. is;
+  }
+
+  lock-moves : (k : ℕ) → MovesHeld (λ (h : HeldNode). h) v (locked_view v k)
+  lock-moves k = record {
+    held = λ j h is. held-longer j h v.held.nodes (just_locked k ∷ []) is;
+    item = λ place h at. item-longer v.held.nodes (just_locked k ∷ []) place h at;
+    node = λ h. refl;
+  }
+
+  -- a step that leaves what is held as it was, and forgets no link
+  next-looks : (e next : ℕ) (p : Place) → KeepsLooks v (next_at v p e next)
+  next-looks e next (AtEntry node side entry found) =
+      let w = next_at v (AtEntry node side entry found) e next in
+      looks-kept (λ (h : HeldNode). h) v w (same-held v w refl) id-keeps
+      (links-kept v w (more-links (next == 0 && is_above v e found) v.reading.links (bundle_link node side 0 0)))
+  next-looks e next Nowhere = looks-kept (λ (h : HeldNode). h) v v (same-held v v refl) id-keeps (links-kept v v (same-links v v refl))
+  next-looks e next (AtNode node key) = looks-kept (λ (h : HeldNode). h) v v (same-held v v refl) id-keeps (links-kept v v (same-links v v refl))
+  next-looks e next (Gap node side) = looks-kept (λ (h : HeldNode). h) v v (same-held v v refl) id-keeps (links-kept v v (same-links v v refl))
+
+pub steps_keep_looks : StepsKeepLooksLaw
+steps_keep_looks v = record {
+  locked = λ node apart. looks-kept (λ (h : HeldNode). h) v (locked_view v node) (lock-moves v node) (id-keeps v)
+      (links-kept v (locked_view v node) (same-links v (locked_view v node) refl));
+  met = λ own found. looks-kept (λ (h : HeldNode). h) v (met_lock v own found) (same-held v (met_lock v own found) refl) (id-keeps v)
+      (links-kept v (met_lock v own found) (same-links v (met_lock v own found) refl));
+  mark = λ node x first.
+      looks-kept (mark_known node x) v (mark_loaded v node x) (mark-moves v node x) (mark-keeps node x v first)
+      (links-kept v (mark_loaded v node x) (same-links v (mark_loaded v node x) refl));
+  link = λ node x side first.
+      looks-kept (link_known_at node side x) v (link_loaded v node side x) (link-moves v node x side) (link-keeps node x side v first)
+      (links-kept v (link_loaded v node side x)
+      (more-links (searches_at v.reading v.reading.place node side) v.reading.links
+      (plain_link node side x (turn_key (left_turn_after side v.reading)) (turn_key (right_turn_after side v.reading)))));
+  tag = λ node x side first.
+      looks-kept (tag_known_at node side x) v (tag_loaded v node side x) (tag-moves v node x side) (tag-keeps node x side v first) (tag-found node x side v);
+  key = λ node x first.
+      looks-kept (pair_known Key node x) v (pair_loaded v Key node x) (key-moves v node x) (key-keeps node x v first)
+      (links-kept v (pair_loaded v Key node x) (same-links v (pair_loaded v Key node x) refl));
+  val = λ node x first.
+      looks-kept (pair_known Val node x) v (pair_loaded v Val node x) (val-moves v node x) (val-keeps node x v first)
+      (links-kept v (pair_loaded v Val node x) (same-links v (pair_loaded v Val node x) refl));
+  head = λ node entry number side.
+      looks-kept (found_at node side entry) v (head_loaded v node side entry number) (head-moves v node entry number side) (found-keeps node entry side v)
+      (links-kept v (head_loaded v node side entry number) (more-links (entry == 0) v.reading.links (bundle_link node side 0 0)));
+  number = λ entry x.
+      looks-kept (node_known entry x) v (ts_loaded v entry x) (number-moves v entry x) (number-keeps entry x v)
+      (links-kept v (ts_loaded v entry x) (same-links v (ts_loaded v entry x) refl));
+  next = λ entry next. next-looks v entry next v.reading.place;
+}
+
+pub keeps_looks : KeepsLooksLaw
+keeps_looks u v w a b = record {
+  looks = λ look h. b.looks look (a.looks look h);
+  unmarked = λ k h. b.unmarked k (a.unmarked k h);
+  link = λ at child h. b.link at child (a.link at child h);
+  gap = λ k tag key side h. b.gap k tag key side (a.gap k tag key side h);
+  null = λ at tag above below h. b.null at tag above below (a.null at tag above below h);
+}
 
 -- the head that is found under the lock of an unmarked node
-pub head-found : (v : View) (at : Link) (e number : ℕ) → IsUnmarked v at.node → HoldsEntry (head_loaded v at.node at.side e number) at e
-head-found v at e number u =
-    let known = found-is at.node e at.side u.held u.node_is in
+pub head-found : (v : View) (k e number : ℕ) (side : Side) → IsUnmarked v k → HoldsEntry (head_loaded v k side e number) (record { node = k; side = side }) e
+head-found v k e number side u =
+    let known = found-is k e side u.held u.node_is in
     record {
       head = record {
         place = u.place;
-        held = found_at at.node at.side e u.held;
-        at = item-map (found_at at.node at.side e) v.held.nodes u.place u.held u.at;
-        node_is = found-node at.node e at.side u.held ∙ u.node_is;
+        held = found_at k side e u.held;
+        at = item-map (found_at k side e) v.held.nodes u.place u.held u.at;
+        node_is = found-node k e side u.held ∙ u.node_is;
         loaded = known.0;
         head = known.1;
         entry_is = known.2;
       };
-      unmarked = found-mark at.node e at.side u.held ∙ u.is;
+      unmarked = found-mark k e side u.held ∙ u.is;
     }
 
-pub head_look : HeadLookLaw
-head_look z v seat n plan entries done child at h is u =
-    let allows = events z v seat n plan entries (locks_of plan) h.trying in
-    let locked : 0 < count at.node (locks_of plan) = looked-locked plan done (LinkLook at child) is in
-    let e = slice_index entries done in
-    let w : ℕ → View = λ number. head_loaded v at.node at.side e number in
-    let kept : (number : ℕ) → HasLooked (w number) n plan entries done
-    = λ number. looked-kept (found_at at.node at.side e) v (w number) n plan entries done h (head-tries v n plan entries h.trying at.node e number at.side)
-    (head-held v at.node e number at.side)
-    (λ place look below here. found-keeps at.node e at.side look child (looks_once plan h.trying.making.once place done look (LinkLook at child) below here is).0) in
+-- a node is locked once
+pub found-once : (v : View) (n : ℕ) (nodes : List ℕ) (k place : ℕ) (h : HeldNode) → IsTrying v n nodes → IsItem v.held.nodes place h → h.node ≡ k
+    → held_at k v.held.nodes ≡ Some h
+found-once v n nodes k place h t at node_is =
+    subst (λ j. held_at j v.held.nodes ≡ Some h) node_is
+    (held-item v.held.nodes place h at (subst (λ ks. count h.node ks ≤ 1) (sym t.locked) (t.once h.node)))
+
+pub held-unmarked : (v : View) (n : ℕ) (nodes : List ℕ) (k : ℕ) → IsTrying v n nodes → IsUnmarked v k → IsHeldUnmarked v k
+held-unmarked v n nodes k t u = record { held = u.held; locked = found-once v n nodes k u.place u.held t u.at u.node_is; unmarked = u.is }
+
+-- the link of a locked node that was found unmarked may be loaded
+pub firm-link : (v : View) (n : ℕ) (nodes : List ℕ) (k : ℕ) (side : Side) → IsTrying v n nodes → IsLocked v k → (k ≡ 0 → side ≡ Right) → IsUnmarked v k
+    → HasFirmLink v k side
+firm-link v n nodes k side t locked root u = record { locked = locked; root = root; unmarked = λ some. held-unmarked v n nodes k t u }
+
+pub look : LookLaw
+look z v seat n node nodes t locked =
+    let allows : AllowsPlan z v seat n no-plan no-slots = events_law z v seat n no-plan no-slots t.working in
+    let here = held-place v.held.nodes node locked in
     record {
-      may = every-counted (λ k. (side : Side) → May z v (event_at z seat LoadHead (Node (Head side) k) 0)) (locks_of plan) at.node allows.head locked at.side;
-      same = λ number. (kept number, head-found v at e number u);
-      none = λ number none'. look-more (w number) n plan entries done (LinkLook at child) (kept number) is (record { holds = head-found v at e number u; numbered = inl none' });
-      any = λ head number. head-tries v n plan entries h.trying at.node head number at.side;
+      mark = (
+        allows.marked node locked,
+        record {
+          place = here.0;
+          held = mark_known node 0 here.1;
+          at = item-map (mark_known node 0) v.held.nodes here.0 here.1 here.2;
+          node_is = mark-node node 0 here.1 ∙ here.3;
+          is = mark-is node 0 here.1 here.3;
+        },
+      );
+      link = λ side x root u. (
+        allows.link node side (firm-link v n nodes node side t locked root u),
+        record {
+          root = root;
+          held = link_known_at node side x u.held;
+          locked = (link-moves v node x side).held node u.held (found-once v n nodes node u.place u.held t u.at u.node_is);
+          unmarked = link-mark node x side u.held ∙ u.is;
+          leads = link-is node x side u.held u.node_is;
+        },
+      );
+      tag = λ side x key h g. (
+        allows.tag node side locked,
+        record {
+          null = record {
+            root = h.root;
+            held = tag_known_at node side x h.held;
+            locked = (tag-moves v node x side).held node h.held h.locked;
+            unmarked = tag-mark node x side h.held ∙ h.unmarked;
+            leads = tag-link node x side side h.held ∙ h.leads;
+          };
+          tag = x;
+          held_tag = tag-is node x side h.held (found-at node h.held v.held.nodes h.locked).node_is;
+          found = (tag-found node x side v).gap node x key side g;
+        },
+      );
+      key = λ x. (
+        allows.key node locked,
+        record {
+          place = here.0;
+          held = pair_known Key node x here.1;
+          at = item-map (pair_known Key node x) v.held.nodes here.0 here.1 here.2;
+          node_is = key-node node x here.1 ∙ here.3;
+          is = key-is node x here.1 here.3;
+        },
+      );
+      val = λ x. (
+        allows.val node locked,
+        record {
+          place = here.0;
+          held = pair_known Val node x here.1;
+          at = item-map (pair_known Val node x) v.held.nodes here.0 here.1 here.2;
+          node_is = val-node node x here.1 ∙ here.3;
+          is = val-is node x here.1 here.3;
+        },
+      );
+      head = λ side entry number u. (allows.head node side locked, head-found v node entry number side u);
     }
 
 -- the number of the head that was found
@@ -220,47 +338,19 @@ head-numbered v at e x some h = record {
   numbered = inr (is-written e x some);
 }
 
-pub number_look : NumberLookLaw
-number_look v n plan entries done child at h is e =
-    let entry = slice_index entries done in
+pub number_look : NumberLaw
+number_look z v seat at entry number some holds =
+    let w = head_loaded v at.node at.side entry number in
     record {
-      written = λ x some.
-          let w = ts_loaded v entry x in
-          look-more w n plan entries done (LinkLook at child)
-          (looked-kept (node_known entry x) v w n plan entries done h (number-tries v n plan entries h.trying entry x) (number-held v entry x)
-          (λ place look below here. number-keeps entry x some look))
-          is (head-numbered v at entry x some e);
-      any = λ x. number-tries v n plan entries h.trying entry x;
+      may = λ there. may_read_number_law z w seat entry (record {
+        at = record { node = at.node; side = at.side; found = None; place = refl; some = some; there = there };
+      });
+      written = λ x above. head-numbered w at entry x above holds;
     }
 
-pub may_number : MayNumberLaw
-may_number z v seat at entry number some there =
-    may_read_number_law z (head_loaded v at.node at.side entry number) seat entry (record {
-      at = record { node = at.node; side = at.side; found = None; place = refl; some = some; there = there };
-    })
-
-pub key_look : KeyLookLaw
-key_look z v seat n plan entries done node key h is =
-    let allows = events z v seat n plan entries (locks_of plan) h.trying in
-    let locked : 0 < count node (locks_of plan) = looked-locked plan done (KeyLook node key) is in
-    let w = pair_loaded v Key node key in
-    record {
-      may = every-counted (λ k. May z v (event_at z seat LoadKeyOrVal (Node Key k) 0)) (locks_of plan) node allows.key locked;
-      found = look-more w n plan entries done (KeyLook node key)
-          (looked-kept (pair_known Key node key) v w n plan entries done h (key-tries v n plan entries h.trying node key) (key-held v node key)
-          (λ place look below here. key-keeps node key look key (looks_once plan h.trying.making.once place done look (KeyLook node key) below here is).0))
-          is (loads v n plan entries h.trying (pair_known Key node key) w node key (λ (x : HeldNode). x.key) (key-held v node key) (λ x here. key-is node key x here) locked);
-    }
-
-pub val_look : ValLookLaw
-val_look z v seat n plan entries done node val h is =
-    let allows = events z v seat n plan entries (locks_of plan) h.trying in
-    let locked : 0 < count node (locks_of plan) = looked-locked plan done (ValLook node val) is in
-    let w = pair_loaded v Val node val in
-    record {
-      may = every-counted (λ k. May z v (event_at z seat LoadKeyOrVal (Node Val k) 0)) (locks_of plan) node allows.val locked;
-      found = look-more w n plan entries done (ValLook node val)
-          (looked-kept (pair_known Val node val) v w n plan entries done h (val-tries v n plan entries h.trying node val) (val-held v node val)
-          (λ place look below here. val-keeps node val look val (looks_once plan h.trying.making.once place done look (ValLook node val) below here is).0))
-          is (loads v n plan entries h.trying (pair_known Val node val) w node val (λ (x : HeldNode). x.val) (val-held v node val) (λ x here. val-is node val x here) locked);
-    }
+pub heads_stay : HeadsStayLaw
+heads_stay v at entry h = record {
+  head = λ node e number side apart.
+      numbered-kept (found_at node side e) v (head_loaded v node side e number) at entry (head-moves v node e number side) (found-other node e side at apart) h;
+  number = λ e x some. numbered-kept (node_known e x) v (ts_loaded v e x) at entry (number-moves v e x) (number-at e x some at) h;
+}

@@ -1,24 +1,23 @@
 -- What is known of the locked nodes in the steps around the wait of a removal.
-use Rattle.std.proofs.Common.{◌≡◌, ℕ, zero, suc, ◌+◌, ◌<◌, ◌≤◌, ◌⊎◌, inl, inr, List, [], ◌∷◌, map, Bool, true, false, not, cond, eqb, ◌||◌, ◌&&◌, refl, ap, sym, ◌∙◌, subst, arith, Option, Some, None}
-use Rattle.std.specs.List.{list_any, list_all, slice_get}
+use Rattle.std.proofs.Common.{◌≡◌, ℕ, ◌<◌, ◌⊎◌, inl, inr, List, [], ◌∷◌, map, Bool, true, false, not, cond, eqb, ◌||◌, ◌&&◌, refl, ap, sym, ◌∙◌, subst, arith, Option, Some, None}
+use Rattle.std.specs.List.{list_any, list_all}
 use Rattle.std.proofs.lemmas.Bool.{and_from}
 use Rattle.std.proofs.lemmas.Bool.Decides.{nat_tests}
 use Rattle.index_words.specs.declared.side.Side.{Side}
 use Rattle.index_words.specs.declared.side.Side.TheVariants.{Left, Right}
-use Rattle.index_words.specs.declared.view.View.{View}
 use Rattle.index_words.specs.declared.view.update.HeldNode.{HeldNode}
 use Rattle.index_words.specs.declared.view.update.OwedTag.{OwedTag}
 use Rattle.index_words.specs.declared.view.update.Unlinking.{Unlinking}
 use Rattle.index_words.specs.declared.view.update.UnsetLink.{UnsetLink}
 use Rattle.index_words.specs.declared.view.update.Updating.{Updating}
 use Rattle.index_words.specs.Words.{same_side}
-use Rattle.key_map.specs.Lists.{count, has, Every, IsItem}
+use Rattle.key_map.specs.Lists.{count, has, Every}
 use Rattle.core_grace.specs.Batches.{is_number}
 use Rattle.core_grace.specs.Holds.{held_slots}
 use Rattle.core_events.specs.LockMoves.{mark_known, other_nodes}
 use Rattle.core_events.specs.Needs.{is_successor}
-use Rattle.core_events.specs.PlainMoves.{link_known, tag_known, link_known_at, tag_known_at}
-use Rattle.core_events.specs.PlainNeeds.{is_link_of, sets_others}
+use Rattle.core_events.specs.PlainMoves.{link_known, link_known_at}
+use Rattle.core_events.specs.PlainNeeds.{sets_others}
 use Rattle.core_events.specs.UpdateNeeds.{held_at, side_of}
 use Rattle.core_events.specs.Waits.{keeps_lock}
 use Rattle.core_laws.specs.ViewNeeds.{IsKnownMarked}
@@ -32,48 +31,7 @@ some-is x h is = cc
 pub clash : (b : Bool) → b ≡ true → b ≡ false → ⊥
 clash b is isnt = cc
 
--- a node is found in the list of those that are locked
-item-first : (x h : HeldNode) (hs : List HeldNode) → IsItem (x ∷ hs) 0 h → x ≡ h
-item-first x h hs is = is.is x
-
-item-rest : (x h : HeldNode) (hs : List HeldNode) (i : ℕ) → IsItem (x ∷ hs) (suc i) h → IsItem hs i h
-item-rest x h hs i is = record { within = omega (arith, is.within); is = is.is }
-
-item-counts : (hs : List HeldNode) (i : ℕ) (h : HeldNode) → IsItem hs i h → 0 < count h.node (held_slots hs)
-item-counts [] i h is = absurd (omega (arith, is.within))
-item-counts (x ∷ hs) zero h is =
-    subst (λ (y : HeldNode). 0 < cond (eqb y.node h.node) 1 0 + count h.node (held_slots hs)) (sym (item-first x h hs is))
-    (subst (λ b. 0 < cond b 1 0 + count h.node (held_slots hs)) (sym (same-node h.node)) (omega arith))
-item-counts (x ∷ hs) (suc i) h is = omega (arith, item-counts hs i h (item-rest x h hs i is))
-
-pub item-held : (k : ℕ) (hs : List HeldNode) (i : ℕ) (h : HeldNode) → IsItem hs i h → h.node ≡ k → count k (held_slots hs) ≤ 1 → held_at k hs ≡ Some h
-item-held k [] i h is node once = absurd (omega (arith, is.within))
-item-held k (x ∷ hs) zero h is node once =
-    subst (λ (y : HeldNode). cond (eqb y.node k) (Some y) (held_at k hs) ≡ Some h) (sym (item-first x h hs is))
-    (ap (λ n. cond (eqb n k) (Some h) (held_at k hs)) node ∙ ap (λ b. cond b (Some h) (held_at k hs)) (same-node k))
-item-held k (x ∷ hs) (suc i) h is node once =
-    let rest : IsItem hs i h = item-rest x h hs i is in
-    let there : 0 < count k (held_slots hs) = subst (λ n. 0 < count n (held_slots hs)) node (item-counts hs i h rest) in
-    by (eqb x.node k) refl once there (λ le. item-held k hs i h rest node le)
-  where
-    by : (b : Bool) → eqb x.node k ≡ b → cond b 1 0 + count k (held_slots hs) ≤ 1 → 0 < count k (held_slots hs) → (count k (held_slots hs) ≤ 1 → held_at k hs ≡ Some h) → held_at k (x ∷ hs) ≡ Some h
-    by true e le some more = absurd (omega (arith, le, some))
-    by false e le some more = ap (λ b. cond b (Some x) (held_at k hs)) e ∙ more (omega (arith, le))
-
--- and is found where the list is mapped
-pub held-map : (f : HeldNode → HeldNode) → ((h : HeldNode) → (f h).node ≡ h.node) → (k : ℕ) (hs : List HeldNode) (h : HeldNode) → held_at k hs ≡ Some h → held_at k (map f hs) ≡ Some (f h)
-held-map f node k [] h is = cc
-held-map f node k (x ∷ hs) h is = by (eqb x.node k) refl is (λ here. held-map f node k hs h here)
-  where
-    by : (b : Bool) → eqb x.node k ≡ b → cond b (Some x) (held_at k hs) ≡ Some h → (held_at k hs ≡ Some h → held_at k (map f hs) ≡ Some (f h)) → cond (eqb (f x).node k) (Some (f x)) (held_at k (map f hs)) ≡ Some (f h)
-    by true e here more =
-        ap (λ n. cond (eqb n k) (Some (f x)) (held_at k (map f hs))) (node x) ∙ ap (λ c. cond c (Some (f x)) (held_at k (map f hs))) e
-        ∙ ap (λ (y : HeldNode). Some (f y)) (some-is x h here)
-    by false e here more =
-        ap (λ n. cond (eqb n k) (Some (f x)) (held_at k (map f hs))) (node x) ∙ ap (λ c. cond c (Some (f x)) (held_at k (map f hs))) e
-        ∙ more here
-
--- and where another one was given back
+-- a node is found among the locked ones where another one was given back
 pub held-others : (k a : ℕ) → eqb a k ≡ false → (hs : List HeldNode) → held_at k (other_nodes a hs) ≡ held_at k hs
 held-others k a apart [] = refl
 held-others k a apart (x ∷ hs) = by (eqb x.node a) refl (held-others k a apart hs)
@@ -81,20 +39,10 @@ held-others k a apart (x ∷ hs) = by (eqb x.node a) refl (held-others k a apart
     off : eqb x.node a ≡ true → eqb x.node k ≡ false
     off e = grind (arith, nat_tests, e, apart)
 
-    by : (b : Bool) → eqb x.node a ≡ b → held_at k (other_nodes a hs) ≡ held_at k hs → held_at k (cond (not b) (x ∷ other_nodes a hs) (other_nodes a hs)) ≡ held_at k (x ∷ hs)
+    by : (b : Bool) → eqb x.node a ≡ b → held_at k (other_nodes a hs) ≡ held_at k hs
+        → held_at k (cond (not b) (x ∷ other_nodes a hs) (other_nodes a hs)) ≡ held_at k (x ∷ hs)
     by true e more = more ∙ sym (ap (λ c. cond c (Some x) (held_at k hs)) (off e))
     by false e more = ap (λ (o : Option HeldNode). cond (eqb x.node k) (Some x) o) more
-
-pub held-node : (k : ℕ) (hs : List HeldNode) (h : HeldNode) → held_at k hs ≡ Some h → h.node ≡ k
-held-node k [] h is = cc
-held-node k (x ∷ hs) h is = by (eqb x.node k) refl is (λ here. held-node k hs h here)
-  where
-    same : (a b : ℕ) → eqb a b ≡ true → a ≡ b
-    same a b e = grind (arith, nat_tests)
-
-    by : (b : Bool) → eqb x.node k ≡ b → cond b (Some x) (held_at k hs) ≡ Some h → (held_at k hs ≡ Some h → h.node ≡ k) → h.node ≡ k
-    by true e here more = ap (λ (y : HeldNode). y.node) (sym (some-is x h here)) ∙ same x.node k e
-    by false e here more = more here
 
 -- the parts of a node that a load or a store of another part leaves as they were
 pub link-tag : (k x : ℕ) (side s : Side) (h : HeldNode) → (side_of s (link_known_at k side x h)).tag ≡ (side_of s h).tag
@@ -118,14 +66,6 @@ mark-tag k x s h = by (eqb h.node k) s
 pub mark-other : (k x : ℕ) (h : HeldNode) → eqb h.node k ≡ false → (mark_known k x h).mark ≡ h.mark
 mark-other k x h apart = ap (λ b. (cond b (record h { mark = Some x }) h).mark) apart
 
-pub tag-is : (k x : ℕ) (side : Side) (h : HeldNode) → h.node ≡ k → (side_of side (tag_known_at k side x h)).tag ≡ Some x
-tag-is k x side h node =
-    ap (λ (y : HeldNode). (side_of side y).tag) (ap (λ b. cond b (tag_known side x h) h) (ap (λ n. eqb n k) node ∙ same-node k)) ∙ known side
-  where
-    known : (s : Side) → (side_of s (tag_known s x h)).tag ≡ Some x
-    known Left = refl
-    known Right = refl
-
 -- which of the nodes that the update took out are known to be marked
 pub known-same : (u w : Updating) (hs : List HeldNode) → w.taken ≡ u.taken → w.unlinking ≡ u.unlinking → Every (IsKnownMarked u) hs → Every (IsKnownMarked w) hs
 known-same u w hs taken unlinking all =
@@ -136,7 +76,8 @@ known-same u w hs taken unlinking all =
     ])
     all
 
-pub known-map : (f : HeldNode → HeldNode) → ((h : HeldNode) → (f h).node ≡ h.node) → ((h : HeldNode) → (f h).mark ≡ h.mark) → (u : Updating) (hs : List HeldNode)
+pub known-map : (f : HeldNode → HeldNode) → ((h : HeldNode) → (f h).node ≡ h.node) → ((h : HeldNode) → (f h).mark ≡ h.mark)
+    → (u : Updating) (hs : List HeldNode)
     → Every (IsKnownMarked u) hs → Every (IsKnownMarked u) (map f hs)
 known-map f node mark u [] all = tt
 known-map f node mark u (h ∷ hs) all = (
@@ -156,7 +97,8 @@ known-marks k u (h ∷ hs) all = (by (eqb h.node k) all.0, known-marks k u hs al
     by false marked = marked
 
 -- the first node that an update took out is marked, and the second one is the successor
-pub known-first : (n : ℕ) (x : Unlinking) (u : Updating) (hs : List HeldNode) → u.taken ≡ n ∷ x.successor ∷ [] → u.unlinking ≡ Some x → Every (IsKnownMarked u) (map (mark_known n 1) hs)
+pub known-first : (n : ℕ) (x : Unlinking) (u : Updating) (hs : List HeldNode) → u.taken ≡ n ∷ x.successor ∷ [] → u.unlinking ≡ Some x
+    → Every (IsKnownMarked u) (map (mark_known n 1) hs)
 known-first n x u [] taken last = tt
 known-first n x u (h ∷ hs) taken last = (by (eqb h.node n) refl, known-first n x u hs taken last)
   where
@@ -177,7 +119,8 @@ one-link s (u ∷ []) e =
     (and_from (eqb s.at.node s.at.node) (same_side s.at.side s.at.side) (same-node s.at.node) (own-side s.at.side)))
 one-link s (u ∷ w ∷ us) e = cc
 
-pub none-set : (s : SetLink) (k : ℕ) (us : List UnsetLink) → map set_of us ≡ s ∷ [] → eqb s.at.node k ≡ false → list_any (λ (x : UnsetLink). eqb x.node k) us ≡ false
+pub none-set : (s : SetLink) (k : ℕ) (us : List UnsetLink) → map set_of us ≡ s ∷ [] → eqb s.at.node k ≡ false
+    → list_any (λ (x : UnsetLink). eqb x.node k) us ≡ false
 none-set s k [] e apart = cc
 none-set s k (u ∷ []) e apart =
     let same : set_of u ≡ s = cc in
@@ -192,14 +135,16 @@ none-owed s k apart = by (eqb s.child 0)
     by false = refl
 
 -- the two locks that are kept
-pub keeps-both : (x : Unlinking) (taken : List ℕ) (hs : List HeldNode) (h : HeldNode) → held_slots hs ≡ x.parent ∷ x.successor ∷ [] → has x.successor taken ≡ true
+pub keeps-both : (x : Unlinking) (taken : List ℕ) (hs : List HeldNode) (h : HeldNode) → held_slots hs ≡ x.parent ∷ x.successor ∷ []
+    → has x.successor taken ≡ true
     → held_at x.parent hs ≡ Some h → h.mark ≡ Some 0 → list_all (keeps_lock taken x) hs ≡ true
 keeps-both x taken [] h slots out here mark = cc
 keeps-both x taken (a ∷ []) h slots out here mark = cc
 keeps-both x taken (a ∷ b ∷ []) h slots out here mark =
     let first : a.node ≡ x.parent = cc in
     let second : b.node ≡ x.successor = cc in
-    let found : a ≡ h = some-is a h (sym (ap (λ c. cond c (Some a) (held_at x.parent (b ∷ []))) (ap (λ n. eqb n x.parent) first ∙ same-node x.parent)) ∙ here) in
+    let found : a ≡ h = some-is a h (sym (ap (λ c. cond c (Some a) (held_at x.parent (b ∷ []))) (ap (λ n. eqb n x.parent) first ∙ same-node x.parent))
+    ∙ here) in
     let unmarked : is_number 0 a.mark ≡ true = ap (λ (y : HeldNode). is_number 0 y.mark) found ∙ ap (is_number 0) mark in
     let parent : keeps_lock taken x a ≡ true
     = or-last (eqb a.node x.successor && has a.node taken) (eqb a.node x.parent && is_number 0 a.mark)
@@ -215,8 +160,10 @@ keeps-both x taken (a ∷ b ∷ []) h slots out here mark =
 keeps-both x taken (a ∷ b ∷ c ∷ hs) h slots out here mark = cc
 
 -- where the successor is marked too, both are known to be marked that the update took out
-pub both-marked : (x : Unlinking) (u : Updating) (hs : List HeldNode) (h : HeldNode) → held_slots hs ≡ x.parent ∷ x.successor ∷ [] → eqb x.successor x.parent ≡ false
-    → u.unlinking ≡ Some x → held_at x.successor hs ≡ Some h → h.mark ≡ Some 1 → Every (IsKnownMarked u) hs → Every (λ (y : HeldNode). 0 < count y.node u.taken → y.mark ≡ Some 1) hs
+pub both-marked : (x : Unlinking) (u : Updating) (hs : List HeldNode) (h : HeldNode) → held_slots hs ≡ x.parent ∷ x.successor ∷ []
+    → eqb x.successor x.parent ≡ false
+    → u.unlinking ≡ Some x → held_at x.successor hs ≡ Some h → h.mark ≡ Some 1 → Every (IsKnownMarked u) hs
+    → Every (λ (y : HeldNode). 0 < count y.node u.taken → y.mark ≡ Some 1) hs
 both-marked x u [] h slots apart last here mark all = cc
 both-marked x u (a ∷ []) h slots apart last here mark all = cc
 both-marked x u (a ∷ b ∷ []) h slots apart last here mark all =
@@ -224,7 +171,8 @@ both-marked x u (a ∷ b ∷ []) h slots apart last here mark all =
     let second : b.node ≡ x.successor = cc in
     let off : eqb a.node x.successor ≡ false = ap (λ n. eqb n x.successor) first ∙ swap x.successor x.parent apart in
     let found : b ≡ h
-    = some-is b h (sym (ap (λ c. cond c (Some a) (cond (eqb b.node x.successor) (Some b) None)) off ∙ ap (λ c. cond c (Some b) None) (ap (λ n. eqb n x.successor) second ∙ same-node x.successor)) ∙ here) in (
+    = some-is b h (sym (ap (λ c. cond c (Some a) (cond (eqb b.node x.successor) (Some b) None)) off ∙ ap (λ c. cond c (Some b) None)
+    (ap (λ n. eqb n x.successor) second ∙ same-node x.successor)) ∙ here) in (
       λ some. elim (all.0 some) as (λ _. a.mark ≡ Some 1) [
         | inl one ↦ one
         | inr is ↦ absurd (clash (eqb x.successor a.node) (sym (ap (is_successor a.node) last) ∙ is) (ap (λ n. eqb x.successor n) first ∙ apart))

@@ -1,5 +1,5 @@
 -- A removal with a far successor ends in two halves around its wait.
-use Rattle.std.proofs.Common.{◌≡◌, ℕ, zero, suc, ◌+◌, ◌<◌, ◌≤◌, inl, inr, List, [], ◌∷◌, ◌++◌, length, map, Bool, true, false, not, cond, eqb, ◌||◌, ◌&&◌, refl, ap, sym, ◌∙◌, subst, arith, Option, Some, None, is_some}
+use Rattle.std.proofs.Common.{◌≡◌, ℕ, zero, suc, ◌+◌, ◌<◌, ◌≤◌, List, [], ◌∷◌, ◌++◌, length, map, Bool, true, false, not, cond, eqb, ◌&&◌, refl, ap, sym, ◌∙◌, subst, arith, Option, Some, None, is_some}
 use Rattle.std.specs.Prelude.{◌==◌}
 use Rattle.std.specs.List.{slice_get, list_any, list_all}
 use Rattle.std.proofs.lemmas.Bool.{and_from}
@@ -9,18 +9,17 @@ use Rattle.index_words.specs.declared.view.View.{View}
 use Rattle.index_words.specs.declared.view.update.HeldNode.{HeldNode}
 use Rattle.index_words.specs.declared.view.update.OwedTag.{OwedTag}
 use Rattle.index_words.specs.declared.view.update.Unlinking.{Unlinking}
-use Rattle.index_words.specs.declared.view.update.UnsetLink.{UnsetLink}
 use Rattle.index_words.specs.declared.view.update.Updating.{Updating}
 use Rattle.index_words.specs.Views.{no_update}
 use Rattle.index_words.specs.Words.{same_side}
 use Rattle.key_map.specs.Lists.{count, has, Every}
 use Rattle.core_grace.specs.Holds.{held_slots}
 use Rattle.core_grace.specs.Sections.{is_even, left_word}
-use Rattle.core_events.specs.LockMoves.{mark_known, other_nodes, unlocked_view, with_mark}
+use Rattle.core_events.specs.LockMoves.{mark_known, other_nodes, unlocked_view}
 use Rattle.core_events.specs.Needs.{is_successor}
-use Rattle.core_events.specs.PlainMoves.{link_known_at, tag_known_at, link_set, tag_loaded, tag_set, still_unlinking, other_links, other_tags}
-use Rattle.core_events.specs.PlainNeeds.{is_done_at, sets_others, unlinks_at}
-use Rattle.core_events.specs.UpdateNeeds.{held_at, side_of}
+use Rattle.core_events.specs.PlainMoves.{link_known_at, tag_known_at, link_set, still_unlinking}
+use Rattle.core_events.specs.PlainNeeds.{sets_others, unlinks_at}
+use Rattle.core_events.specs.UpdateNeeds.{held_at}
 use Rattle.core_events.specs.Waits.{is_waiting_for, is_waiting, keeps_lock, looked_waiting}
 use Rattle.core_laws.specs.PlainNeeds.{MayUnlink}
 use Rattle.core_laws.specs.ViewNeeds.{IsKnownMarked}
@@ -28,15 +27,15 @@ use Rattle.core_updates.specs.declared.plan.Front.{Front}
 use Rattle.core_updates.specs.declared.plan.JoinPlan.{JoinPlan}
 use Rattle.core_updates.specs.declared.plan.Plan.TheVariants.{Join}
 use Rattle.core_updates.specs.declared.plan.PlanSlots.{PlanSlots}
-use Rattle.core_updates.specs.Plans.{locks_of, fronts_of, sets_of, set_by, unlinks_of}
-use Rattle.core_updates.specs.SetLinks.{SetLink, set_of, nulls_of}
-use Rattle.plan_laws.specs.Parting.{copy_set, far_set, far_unlinking, kept_locks, far_locks, IsFar, IsParting, IsParted, Knows, StartPartingLaw, LinkCopyLaw, LoadFarTagLaw, UnlockUpperLaw, LeavePartedLaw, LookPartedLaw, MarkFarLaw, UnlinkFarLaw}
-use Rattle.plan_laws.specs.Prunes.{HasNumbered}
-use Rattle.plan_laws.specs.Releases.{IsGivingBack}
-use Rattle.plan_laws.proofs.HeldMaps.{mark-node}
+use Rattle.core_updates.specs.Plans.{locks_of, fronts_of, or_none, sets_of, set_by, unlinks_of}
+use Rattle.core_updates.specs.SetLinks.{set_of, nulls_of}
+use Rattle.plan_laws.specs.Parting.{copy_set, far_set, far_unlinking, kept_locks, far_locks, IsFar, IsParting, StartPartingLaw, LinkCopyLaw, LoadFarTagLaw, UnlockUpperLaw, LeavePartedLaw, LookPartedLaw, MarkFarLaw, UnlinkFarLaw}
+use Rattle.core_updates.proofs.HeldOnce.{held-item}
+use Rattle.plan_laws.proofs.HeldMaps.{mark-node, link-node, link-mark, tag-node, tag-mark, tag-is}
 use Rattle.plan_laws.proofs.Items.{map-keeps}
-use Rattle.plan_laws.proofs.PartedHeld.{item-held, held-map, held-others, held-node, link-tag, mark-tag, mark-other, tag-is, known-same, known-map, known-marks, known-first, one-link, none-set, none-owed, keeps-both, both-marked, clash}
-use Rattle.plan_laws.proofs.PlainLinks.{link-node, link-mark, tag-node, tag-mark, slots-stay, marks-stay, same-node, own-side, sets-first, sets-rest, owes-first, tags-rest, no-links}
+use Rattle.plan_laws.proofs.Kept.{found-at, held-maps}
+use Rattle.plan_laws.proofs.PartedHeld.{held-others, link-tag, mark-tag, mark-other, known-same, known-map, known-marks, known-first, one-link, none-set, none-owed, keeps-both, both-marked, clash}
+use Rattle.plan_laws.proofs.PlainLinks.{slots-stay, marks-stay, same-node, own-side, sets-first, sets-rest, owes-first, tags-rest, no-links}
 use Rattle.plan_laws.proofs.Releases.{first-gone, others-every}
 
 -- the fronts of the two links, without their entries
@@ -64,14 +63,16 @@ module _ (p : JoinPlan) (slots : PlanSlots) (far : IsFar p) where
 
   sets-are : sets_of (Join p) slots ≡ copy_set p slots.node ∷ far_set p ∷ []
   sets-are =
-      ap (λ b. map set_by (record { at = p.at; entry = slots.at; child = slots.node } ∷ cond b [] (record { at = p.next.at; entry = slots.next; child = p.next.right } ∷ []))) far
+      ap (λ b. map set_by (record { at = p.at; entry = slots.at; child = slots.node } ∷ or_none
+      (cond b None (Some (record { at = p.next.at; entry = slots.next; child = p.next.right }))))) far
 
   unlinks-are : unlinks_of (Join p) ≡ Some (far_unlinking p)
   unlinks-are = ap (λ b. cond b None (Some (far_unlinking p))) far
 
   second-front : slice_get (fronts_of (Join p) slots) 1 ≡ Some (record { at = p.next.at; entry = slots.next; child = p.next.right })
   second-front =
-      ap (λ b. slice_get (record { at = p.at; entry = slots.at; child = slots.node } ∷ cond b [] (record { at = p.next.at; entry = slots.next; child = p.next.right } ∷ [])) 1) far
+      ap (λ b. slice_get (record { at = p.at; entry = slots.at; child = slots.node } ∷ or_none
+      (cond b None (Some (record { at = p.next.at; entry = slots.next; child = p.next.right })))) 1) far
 
   nulls-are : 0 < slots.node → nulls_of (copy_set p slots.node ∷ far_set p ∷ []) ≡ nulls_of (far_set p ∷ [])
   nulls-are some =
@@ -88,8 +89,9 @@ start_parting v n p slots h far node =
     let found = h.unmarked 1 (record { at = p.next.at; entry = slots.next; child = p.next.right }) (second-front p slots far) in
     let q : ℕ = p.next.at.node in
     let at : held_at q v.held.nodes ≡ Some found.held
-    = item-held q v.held.nodes found.place found.held found.at found.node_is (subst (λ ks. count q ks ≤ 1) (sym locked) (once q)) in
-    let off : eqb found.held.node p.node ≡ false = ap (λ k. eqb k p.node) (held-node q v.held.nodes found.held at) ∙ far in
+    = subst (λ k. held_at k v.held.nodes ≡ Some found.held) found.node_is
+    (held-item v.held.nodes found.place found.held found.at (subst (λ ks. count found.held.node ks ≤ 1) (sym locked) (once found.held.node))) in
+    let off : eqb found.held.node p.node ≡ false = ap (λ k. eqb k p.node) (found-at q found.held v.held.nodes at).node_is ∙ far in
     record {
       may = record {
         locked = subst (λ ks. 0 < count p.node ks) (sym locked) (second p.at.node p.node (kept_locks p));
@@ -110,7 +112,7 @@ start_parting v n p slots h far node =
         unlinking = last;
         unmarked = record {
           node = mark_known p.node 1 found.held;
-          at = held-map (mark_known p.node 1) (mark-node p.node 1) q v.held.nodes found.held at;
+          at = held-maps (mark_known p.node 1) (mark-node p.node 1) q found.held v.held.nodes at;
           is = mark-other p.node 1 found.held off ∙ found.is;
         };
       };
@@ -168,7 +170,7 @@ link_copy v n p copy h =
         unlinking = last;
         unmarked = record {
           node = link_known_at k side copy h.unmarked.node;
-          at = held-map (link_known_at k side copy) (link-node k copy side) p.next.at.node v.held.nodes h.unmarked.node h.unmarked.at;
+          at = held-maps (link_known_at k side copy) (link-node k copy side) p.next.at.node h.unmarked.node v.held.nodes h.unmarked.at;
           is = link-mark k copy side h.unmarked.node ∙ h.unmarked.is;
         };
       };
@@ -182,9 +184,10 @@ load_far_tag v n p h =
     let q : ℕ = p.next.at.node in
     let side : Side = p.next.at.side in
     record {
-      may = record { inside = h.word; locked = subst (λ ks. 0 < count q ks) (sym h.locked) (third p.at.node p.node q (p.next.node ∷ [])) };
+      locked = subst (λ ks. 0 < count q ks) (sym h.locked) (third p.at.node p.node q (p.next.node ∷ []));
+      may = λ there. record { inside = h.word; there = there };
       parted = λ tag.
-          let at = held-map (tag_known_at q side tag) (tag-node q tag side) q v.held.nodes h.unmarked.node h.unmarked.at in
+          let at = held-maps (tag_known_at q side tag) (tag-node q tag side) q h.unmarked.node v.held.nodes h.unmarked.at in
           record {
             parting = record {
               live = h.live;
@@ -201,7 +204,12 @@ load_far_tag v n p h =
               unlinking = h.unlinking;
               unmarked = record { node = tag_known_at q side tag h.unmarked.node; at = at; is = tag-mark q tag side h.unmarked.node ∙ h.unmarked.is };
             };
-            tagged = record { node = tag_known_at q side tag h.unmarked.node; at = at; is = tag-is q tag side h.unmarked.node (held-node q v.held.nodes h.unmarked.node h.unmarked.at) };
+            tagged = record {
+              node = tag_known_at q side tag h.unmarked.node;
+              at = at;
+              is = tag-is q tag side h.unmarked.node
+                  (found-at q h.unmarked.node v.held.nodes h.unmarked.at).node_is;
+            };
           };
     }
   where
@@ -309,7 +317,8 @@ look_parted v n p tag other parted ne there =
     record {
       may = record { other = λ e. ne (own n other (sym h.own ∙ e)); there = there; even = h.word; waiting = waits true v n p h };
       locked = some-held p.next.at.node v.held.nodes
-          (subst (λ ks. 0 < count p.next.at.node ks) (sym h.locked) (subst (λ b. 0 < cond b 1 0 + count p.next.at.node (p.next.node ∷ [])) (sym (same-node p.next.at.node)) (omega arith)));
+          (subst (λ ks. 0 < count p.next.at.node ks) (sym h.locked)
+          (subst (λ b. 0 < cond b 1 0 + count p.next.at.node (p.next.node ∷ [])) (sym (same-node p.next.at.node)) (omega arith)));
       parted = λ word. record {
         parting = record {
           live = h.live;
@@ -338,7 +347,8 @@ found-held : (k : ℕ) (hs : List HeldNode) → 0 < count k (held_slots hs) → 
 found-held k [] some = absurd (omega (arith, some))
 found-held k (x ∷ hs) some = by (eqb x.node k) refl some (λ more. found-held k hs more)
   where
-    by : (b : Bool) → eqb x.node k ≡ b → 0 < cond b 1 0 + count k (held_slots hs) → (0 < count k (held_slots hs) → (h : HeldNode) × (held_at k hs ≡ Some h)) → (h : HeldNode) × (held_at k (x ∷ hs) ≡ Some h)
+    by : (b : Bool) → eqb x.node k ≡ b → 0 < cond b 1 0 + count k (held_slots hs) → (0 < count k (held_slots hs) → (h : HeldNode) × (held_at k hs ≡ Some h))
+        → (h : HeldNode) × (held_at k (x ∷ hs) ≡ Some h)
     by true e some rest = (x, ap (λ c. cond c (Some x) (held_at k hs)) e)
     by false e some rest = let more = rest (omega (arith, some)) in (more.0, ap (λ c. cond c (Some x) (held_at k hs)) e ∙ more.1)
 
@@ -361,7 +371,7 @@ mark_far v n p tag parted =
     let f = mark_known s 1 in
     let locked : 0 < count s (held_slots v.held.nodes) = subst (λ ks. 0 < count s ks) (sym h.locked) (second-counts q s) in
     let off : eqb q s ≡ false = swapped s q (kept-apart q s (h.once q)) in
-    let other : eqb h.unmarked.node.node s ≡ false = ap (λ k. eqb k s) (held-node q v.held.nodes h.unmarked.node h.unmarked.at) ∙ off in
+    let other : eqb h.unmarked.node.node s ≡ false = ap (λ k. eqb k s) (found-at q h.unmarked.node v.held.nodes h.unmarked.at).node_is ∙ off in
     let here = found-held s v.held.nodes locked in
     record {
       may = record { locked = locked; taken = subst (λ ks. 0 < count s ks) (sym h.taken) (second-counts p.node s) };
@@ -381,20 +391,20 @@ mark_far v n p tag parted =
           unlinking = h.unlinking;
           unmarked = record {
             node = f h.unmarked.node;
-            at = held-map f (mark-node s 1) q v.held.nodes h.unmarked.node h.unmarked.at;
+            at = held-maps f (mark-node s 1) q h.unmarked.node v.held.nodes h.unmarked.at;
             is = mark-other s 1 h.unmarked.node other ∙ h.unmarked.is;
           };
         };
         tagged = record {
           node = f parted.tagged.node;
-          at = held-map f (mark-node s 1) q v.held.nodes parted.tagged.node parted.tagged.at;
+          at = held-maps f (mark-node s 1) q parted.tagged.node v.held.nodes parted.tagged.at;
           is = mark-tag s 1 p.next.at.side parted.tagged.node ∙ parted.tagged.is;
         };
       };
       known = record {
         node = f here.0;
-        at = held-map f (mark-node s 1) s v.held.nodes here.0 here.1;
-        is = ap (λ b. (cond b (record here.0 { mark = Some 1 }) here.0).mark) (ap (λ k. eqb k s) (held-node s v.held.nodes here.0 here.1) ∙ same-node s);
+        at = held-maps f (mark-node s 1) s here.0 v.held.nodes here.1;
+        is = ap (λ b. (cond b (record here.0 { mark = Some 1 }) here.0).mark) (ap (λ k. eqb k s) (found-at s here.0 v.held.nodes here.1).node_is ∙ same-node s);
       };
     }
 
@@ -416,14 +426,15 @@ unlink_far v n p tag parted known passed =
     = both-marked x v.update v.held.nodes known.node h.locked (kept-apart q p.next.node (h.once q)) h.unlinking known.at known.is h.marked in
     let marked' : Every (λ (y : HeldNode). 0 < count y.node v.update.taken → y.mark ≡ Some 1) w.held.nodes
     = marks-stay (link_known_at q side child) (link-node q child side) v.update.taken (link-mark q child side) v.held.nodes marked in
-    let at = held-map (link_known_at q side child) (link-node q child side) q v.held.nodes parted.tagged.node parted.tagged.at in
+    let at = held-maps (link_known_at q side child) (link-node q child side) q parted.tagged.node v.held.nodes parted.tagged.at in
     record {
       may = record {
         locked = subst (λ ks. 0 < count q ks) (sym h.locked) (subst (λ b. 0 < cond b 1 0 + count q (p.next.node ∷ [])) (sym (same-node q)) (omega arith));
         done = h.idle;
         marked = h.marked;
         unset = sets-first v.update.unset f [] h.unset;
-        order = ap (λ b. not (unlinks_at q side v.update.unlinking && b)) (one-link (far_set p) v.update.unset h.unset) ∙ not-and (unlinks_at q side v.update.unlinking);
+        order = ap (λ b. not (unlinks_at q side v.update.unlinking && b)) (one-link (far_set p) v.update.unset h.unset) ∙ not-and
+            (unlinks_at q side v.update.unlinking);
         waited = λ u is at_it.
             let same : x ≡ u = one x u (sym h.unlinking ∙ is) in
             subst (λ (y : Unlinking). MayUnlink v y) same (record { node = known.node; locked = known.at; marked = known.is; passed = passed });

@@ -1,7 +1,8 @@
 -- The entries that a plan puts in front, and what is filled of each.
-use Rattle.std.proofs.Common.{◌≡◌, ℕ, zero, suc, ◌+◌, ◌<◌, List, [], ◌∷◌, ◌++◌, take, Bool, true, false, cond, refl, ap, sym, ◌∙◌, subst, arith, Some, None}
-use Rattle.std.specs.Prelude.{◌==◌, slice_index, IfSome}
+use Rattle.std.proofs.Common.{◌≡◌, ℕ, zero, suc, ◌+◌, ◌<◌, ◌≤◌, List, [], ◌∷◌, ◌++◌, take, Bool, true, false, cond, refl, ap, sym, ◌∙◌, subst, arith, eqb, Option, Some, None}
+use Rattle.std.specs.Prelude.{◌==◌, IfSome}
 use Rattle.std.specs.List.{slice_get}
+use Rattle.std.proofs.lemmas.Bool.Decides.{nat_tests}
 use Rattle.index_words.specs.declared.view.View.{View}
 use Rattle.index_words.specs.declared.view.reading.Filled.{Filled}
 use Rattle.key_map.specs.Lists.{count, Every}
@@ -10,10 +11,14 @@ use Rattle.core_updates.specs.declared.plan.Plan.TheVariants.{Grow, Replace, Lif
 use Rattle.core_updates.specs.declared.plan.PlanSlots.{PlanSlots}
 use Rattle.core_updates.specs.declared.plan.Front.{Front}
 use Rattle.core_updates.specs.declared.plan.NewNode.{NewNode}
+use Rattle.core_trees.specs.declared.link.Link.{Link}
+use Rattle.core_updates.specs.declared.plan.Heads.{Heads}
+use Rattle.core_updates.specs.PlanEvents.{HoldsNumbered}
 use Rattle.core_updates.specs.PlanReady.{HoldsFill, HoldsFreshEntry, HoldsNewNode}
-use Rattle.core_updates.specs.Plans.{fronts_of, new_node_of, entries_of, entry_fills, node_fills, fresh_to}
-use Rattle.plan_laws.specs.Places.{look_of_front}
-use Rattle.plan_laws.specs.Fills.{fresh_fills, new_fills, front_fills, fills_of}
+use Rattle.core_updates.specs.Plans.{front_of, fronts_of, link_at, new_node_of, next_front_of, next_link_of, or_none, entries_of, entry_fills, node_fills, fresh_to}
+use Rattle.plan_laws.specs.Places.{LocksOnce}
+use Rattle.plan_laws.specs.Fills.{HasHeads, fresh_fills, new_fills, new_fills_of, front_fills, next_fills, fills_of}
+use Rattle.plan_laws.specs.Fronts.{behind_of}
 use Rattle.plan_laws.proofs.Items.{every-first, every-rest, take-got}
 
 -- the entry of the front at a place
@@ -39,43 +44,107 @@ front_is (Lift p) slots (suc place) f is = cc
 front_is (Join p) slots zero f is = record { entry = entry_is (record { at = p.at; entry = slots.at; child = slots.node }) f is; few = omega arith }
 front_is (Join p) slots (suc place) f is = by (p.next.at.node == p.node) place is
   where
-    by : (near : Bool) (place : ℕ) → slice_get (cond near [] (record { at = p.next.at; entry = slots.next; child = p.next.right } ∷ [])) place ≡ Some f
+    by : (near : Bool) (place : ℕ) → slice_get (or_none (cond near None
+        (Some (record { at = p.next.at; entry = slots.next; child = p.next.right })))) place ≡ Some f
         → FrontIs slots (suc place) f
     by true place e = cc
     by false zero e = record { entry = entry_is (record { at = p.next.at; entry = slots.next; child = p.next.right }) f e; few = omega arith }
     by false (suc n) e = cc
 
--- two fronts are put at different looks
-pub looks_apart : (first second : ℕ) → first < second → second < 2 → ¬ (look_of_front first ≡ look_of_front second)
-looks_apart zero zero below few e = absurd (omega (arith, below))
-looks_apart zero (suc second) below few e = cc
-looks_apart (suc first) second below few e = absurd (omega (arith, below, few))
+-- what stands first in a list does not stand behind
+head-apart : (x y : ℕ) (xs : List ℕ) → count y (x ∷ xs) ≤ 1 → 0 < count y xs → ¬ (x ≡ y)
+head-apart x y xs once some same = omega (arith, once, some, twice x y (count y xs) same)
+  where
+    twice : (a b n : ℕ) → a ≡ b → cond (eqb a b) 1 0 + n ≡ 1 + n
+    twice a b n e = grind (arith, nat_tests)
+
+-- the bundles of two fronts are those of different nodes
+pub fronts_apart : (plan : Plan) (slots : PlanSlots) (f g : Front) → LocksOnce plan → slice_get (fronts_of plan slots) 0 ≡ Some f
+    → slice_get (fronts_of plan slots) 1 ≡ Some g
+    → ¬ (f.at.node ≡ g.at.node)
+fronts_apart (Grow p) slots f g once first second = cc
+fronts_apart (Replace p) slots f g once first second = cc
+fronts_apart (Lift p) slots f g once first second = cc
+fronts_apart (Join p) slots f g once first second = by (p.next.at.node == p.node) once second
+  where
+    node_of : (a b : Front) → Some a ≡ Some b → b.at.node ≡ a.at.node
+    node_of a b e = let same : a ≡ b = cc in ap (λ (x : Front). x.at.node) (sym same)
+
+    here : (k : ℕ) (ks : List ℕ) → 0 < count k (k ∷ ks)
+    here k ks = counted k (count k ks)
+      where
+        counted : (k n : ℕ) → 0 < cond (eqb k k) 1 0 + n
+        counted k n = grind (arith, nat_tests)
+
+    by : (near : Bool) → ((k : ℕ) → count k (p.at.node ∷ p.node ∷ (cond near [] (p.next.at.node ∷ []) ++ p.next.node ∷ [])) ≤ 1)
+        → slice_get (or_none (cond near None (Some (record { at = p.next.at; entry = slots.next; child = p.next.right })))) 0 ≡ Some g
+        → ¬ (f.at.node ≡ g.at.node)
+    by true once second same = cc
+    by false once second same =
+        let one : f.at.node ≡ p.at.node = node_of (record { at = p.at; entry = slots.at; child = slots.node }) f first in
+        let two : g.at.node ≡ p.next.at.node = node_of (record { at = p.next.at; entry = slots.next; child = p.next.right }) g second in
+        head-apart p.at.node p.next.at.node (p.node ∷ p.next.at.node ∷ p.next.node ∷ []) (once p.next.at.node)
+        (omega (arith, here p.next.at.node (p.next.node ∷ []))) (sym one ∙ same ∙ two)
 
 -- what is filled of a front
-from-fronts : (P : Filled → Type 0) (start : ℕ) (fs : List Front) (entries : List ℕ) (place : ℕ) (f : Front) → Every P (front_fills start fs entries)
-    → slice_get fs place ≡ Some f → Every P (entry_fills f.entry f.child (slice_index entries (look_of_front (start + place))))
-from-fronts P start [] entries place f all is = cc
-from-fronts P start (x ∷ fs) entries zero f all is =
-    let same : x ≡ f = cc in
-    let at : start ≡ start + 0 = omega arith in
-    subst (λ n. Every P (entry_fills f.entry f.child (slice_index entries (look_of_front n)))) at
-    (subst (λ (g : Front). Every P (entry_fills g.entry g.child (slice_index entries (look_of_front start)))) same
-    (every-first P (entry_fills x.entry x.child (slice_index entries (look_of_front start))) (front_fills (suc start) fs entries) all))
-from-fronts P start (x ∷ fs) entries (suc place) f all is =
-    let at : suc start + place ≡ start + suc place = omega arith in
-    subst (λ n. Every P (entry_fills f.entry f.child (slice_index entries (look_of_front n)))) at
-    (from-fronts P (suc start) fs entries place f (every-rest P (entry_fills x.entry x.child (slice_index entries (look_of_front start))) (front_fills (suc start) fs entries) all) is)
+pub same-front : (a b : Front) → Some a ≡ Some b → a ≡ b
+same-front a b e = cc
 
-pub front_filled : (P : Filled → Type 0) (plan : Plan) (slots : PlanSlots) (entries : List ℕ) (place : ℕ) (f : Front) → Every P (fills_of plan slots entries)
-    → slice_get (fronts_of plan slots) place ≡ Some f → Every P (entry_fills f.entry f.child (slice_index entries (look_of_front place)))
-front_filled P plan slots entries place f all is =
-    let at : 0 + place ≡ place = omega arith in
-    subst (λ n. Every P (entry_fills f.entry f.child (slice_index entries (look_of_front n)))) at
-    (from-fronts P 0 (fronts_of plan slots) entries place f (every-rest P (new_fills (new_node_of plan slots)) (front_fills 0 (fronts_of plan slots) entries) all) is)
+pub front_filled : (P : Filled → Type 0) (plan : Plan) (slots : PlanSlots) (heads : Heads) (place : ℕ) (f : Front) → Every P (fills_of plan slots heads)
+    → slice_get (fronts_of plan slots) place ≡ Some f → Every P (entry_fills f.entry f.child (behind_of heads place))
+front_filled P plan slots heads place f all is =
+    let fronts = every-rest P (new_fills_of (new_node_of plan slots))
+    (front_fills heads.at (front_of plan slots) ++ next_fills heads.next (next_front_of plan slots)) all in
+    by place (next_front_of plan slots) is (every-first P (front_fills heads.at (front_of plan slots))
+    (next_fills heads.next (next_front_of plan slots)) fronts)
+    (every-rest P (front_fills heads.at (front_of plan slots)) (next_fills heads.next (next_front_of plan slots)) fronts)
+  where
+    by : (place : ℕ) (o : Option Front) → slice_get (front_of plan slots ∷ or_none o) place ≡ Some f → Every P (front_fills heads.at (front_of plan slots))
+        → Every P (next_fills heads.next o) → Every P (entry_fills f.entry f.child (behind_of heads place))
+    by zero o here at next = subst (λ (g : Front). Every P (entry_fills g.entry g.child heads.at)) (same-front (front_of plan slots) f here) at
+    by (suc place) None here at next = cc
+    by (suc zero) (Some g) here at next = subst (λ (x : Front). Every P (entry_fills x.entry x.child heads.next)) (same-front g f here) next
+    by (suc (suc place)) (Some g) here at next = cc
+
+-- the head of a front's bundle was found
+pub front_link : (plan : Plan) (slots : PlanSlots) → (front_of plan slots).at ≡ link_at plan
+front_link (Grow p) slots = refl
+front_link (Replace p) slots = refl
+front_link (Lift p) slots = refl
+front_link (Join p) slots = refl
+
+next_link_is : (plan : Plan) (slots : PlanSlots) (f : Front) → next_front_of plan slots ≡ Some f → next_link_of plan ≡ Some f.at
+next_link_is (Grow p) slots f is = cc
+next_link_is (Replace p) slots f is = cc
+next_link_is (Lift p) slots f is = cc
+next_link_is (Join p) slots f is = by (p.next.at.node == p.node) is
+  where
+    by : (near : Bool) → cond near None (Some (record { at = p.next.at; entry = slots.next; child = p.next.right })) ≡ Some f
+        → cond near None (Some p.next.at) ≡ Some f.at
+    by true e = cc
+    by false e = ap (λ (x : Front). Some x.at) (same-front (record { at = p.next.at; entry = slots.next; child = p.next.right }) f e)
+
+pub front_head : (v : View) (n : ℕ) (plan : Plan) (slots : PlanSlots) (heads : Heads) (place : ℕ) (f : Front) → HasHeads v n plan heads
+    → slice_get (fronts_of plan slots) place ≡ Some f → HoldsNumbered v f.at (behind_of heads place)
+front_head v n plan slots heads place f h is = by place (next_front_of plan slots) refl is
+  where
+    some-holds : (o : Option Link) (at : Link) → o ≡ Some at → IfSome o (λ l. HoldsNumbered v l heads.next) → HoldsNumbered v at heads.next
+    some-holds o at e holds = subst (λ u. IfSome u (λ l. HoldsNumbered v l heads.next)) e holds
+
+    by : (place : ℕ) (o : Option Front) → next_front_of plan slots ≡ o → slice_get (front_of plan slots ∷ or_none o) place ≡ Some f
+        → HoldsNumbered v f.at (behind_of heads place)
+    by zero o e here =
+        subst (λ at. HoldsNumbered v at heads.at) (sym (front_link plan slots) ∙ ap (λ (x : Front). x.at) (same-front (front_of plan slots) f here)) h.at
+    by (suc place) None e here = cc
+    by (suc zero) (Some g) e here =
+        subst (λ (x : Front). HoldsNumbered v x.at heads.next) (same-front g f here) (some-holds (next_link_of plan) g.at (next_link_is plan slots g e) h.next)
+    by (suc (suc place)) (Some g) e here = cc
 
 -- the new node is filled, with the entries of its links
-module _ (v : View) (slots : PlanSlots) (node : 0 < count slots.node v.free.nodes) (left : 0 < count slots.left v.free.entries) (right : 0 < count slots.right v.free.entries) where
-  fresh-holds : (entry child : ℕ) → 0 < count entry v.free.entries → Every (HoldsFill v) (fresh_fills (fresh_to entry child)) → IfSome (fresh_to entry child) (HoldsFreshEntry v)
+module _ (v : View) (slots : PlanSlots) (node : 0 < count slots.node v.free.nodes) (left : 0 < count slots.left v.free.entries)
+    (right : 0 < count slots.right v.free.entries) where
+  fresh-holds : (entry child : ℕ) → 0 < count entry v.free.entries → Every (HoldsFill v) (fresh_fills (fresh_to entry child))
+      → IfSome (fresh_to entry child) (HoldsFreshEntry v)
   fresh-holds entry child free = by (child == 0)
     where
       by : (b : Bool) → Every (HoldsFill v) (fresh_fills (cond b None (Some (record { entry = entry; child = child }))))
@@ -85,7 +154,7 @@ module _ (v : View) (slots : PlanSlots) (node : 0 < count slots.node v.free.node
 
   -- by the children of its links
   new-holds : (n : NewNode) (low high : ℕ) → n.slot ≡ slots.node → n.left ≡ fresh_to slots.left low → n.right ≡ fresh_to slots.right high
-      → Every (HoldsFill v) (new_fills (Some n)) → HoldsNewNode v n
+      → Every (HoldsFill v) (new_fills n) → HoldsNewNode v n
   new-holds n low high slot low_is high_is all =
       let below = every-rest (HoldsFill v) (node_fills n) (fresh_fills n.left ++ fresh_fills n.right) all in
       record {
@@ -97,7 +166,7 @@ module _ (v : View) (slots : PlanSlots) (node : 0 < count slots.node v.free.node
             (subst (λ o. Every (HoldsFill v) (fresh_fills o)) high_is (every-rest (HoldsFill v) (fresh_fills n.left) (fresh_fills n.right) below)));
       }
 
-  pub new_node_holds : (plan : Plan) → Every (HoldsFill v) (new_fills (new_node_of plan slots)) → IfSome (new_node_of plan slots) (HoldsNewNode v)
+  pub new_node_holds : (plan : Plan) → Every (HoldsFill v) (new_fills_of (new_node_of plan slots)) → IfSome (new_node_of plan slots) (HoldsNewNode v)
   new_node_holds (Grow p) all = new-holds (record { slot = slots.node; pair = p.pair; left = None; right = None }) 0 0 refl refl refl all
   new_node_holds (Replace p) all =
       new-holds (record { slot = slots.node; pair = p.pair; left = fresh_to slots.left p.left; right = fresh_to slots.right p.right }) p.left p.right refl refl refl all
@@ -111,5 +180,6 @@ entries-append : (fs : List Front) (f : Front) → entries_of (fs ++ f ∷ []) �
 entries-append [] f = refl
 entries-append (x ∷ fs) f = ap (λ es. x.entry ∷ es) (entries-append fs f)
 
-pub entries-more : (fs : List Front) (place : ℕ) (f : Front) → slice_get fs place ≡ Some f → entries_of (take (place + 1) fs) ≡ entries_of (take place fs) ++ f.entry ∷ []
+pub entries-more : (fs : List Front) (place : ℕ) (f : Front) → slice_get fs place ≡ Some f
+    → entries_of (take (place + 1) fs) ≡ entries_of (take place fs) ++ f.entry ∷ []
 entries-more fs place f is = ap entries_of (take-got fs place f is) ∙ entries-append (take place fs) f

@@ -1,7 +1,10 @@
 -- What the loads, the looks and the cuts between the numbers and the marks of an update leave as it was.
-use Rattle.std.proofs.Common.{◌≡◌, ℕ, ◌+◌, ◌≤◌, List, [], ◌∷◌, ◌++◌, length, map, Bool, true, false, not, ◌&&◌, refl, ap, sym, ◌∙◌, subst, arith}
+use Rattle.std.proofs.Common.{◌≡◌, ℕ, ◌<◌, List, [], ◌∷◌, ◌++◌, length, map, Bool, true, false, eqb, not, ◌&&◌, refl, ap, sym, ◌∙◌, subst, arith}
 use Rattle.std.specs.Prelude.{◌==◌, is_some}
+use Rattle.std.proofs.lemmas.Bool.Decides.{nat_tests}
 use Rattle.std.proofs.lemmas.List.{length-append}
+use Rattle.index_words.specs.declared.view.history.Counts.{Counts}
+use Rattle.index_words.specs.declared.view.reading.Link.{Link as ViewLink}
 use Rattle.index_words.specs.declared.side.Side.{Side}
 use Rattle.index_words.specs.declared.view.View.{View}
 use Rattle.index_words.specs.declared.view.reading.Place.{Place}
@@ -11,15 +14,30 @@ use Rattle.index_words.specs.declared.view.update.HeldNode.{HeldNode}
 use Rattle.index_words.specs.declared.view.update.Updating.{Updating}
 use Rattle.core_events.specs.Announcing.{ann_loaded}
 use Rattle.core_events.specs.CutMoves.{cut_view}
-use Rattle.core_events.specs.LoadMoves.{head_loaded, ts_loaded, meets_pending, next_loaded, next_at, found_at, node_known, has_moved, stored_by}
+use Rattle.core_events.specs.LoadMoves.{bundle_link, head_loaded, ts_loaded, is_above, is_watching, meets_pending, next_at, found_at, node_known, has_moved, raised_if, remembered_if, stored_by}
+use Rattle.core_events.specs.Searches.{is_plain}
 use Rattle.core_updates.specs.declared.plan.Plan.{Plan}
 use Rattle.core_updates.specs.declared.plan.PlanSlots.{PlanSlots}
 use Rattle.core_updates.specs.Plans.{sets_of}
-use Rattle.plan_laws.specs.PlainLinks.{LeavesLinks}
+use Rattle.key_map.specs.Lists.{Every, IsItem, has}
+use Rattle.plan_laws.specs.Looks.{IsUnmarked}
+use Rattle.plan_laws.specs.PlainLinks.{HasNotSearched, LeavesLinks}
 use Rattle.plan_laws.specs.Prunes.{HasNumbered, KeepsPruned, StaysNumbered, PruneStepLaw, KeepsPrunedLaw, OwnedIsPrunedLaw}
 use Rattle.plan_laws.proofs.Frames.{same-counts, moves-grow, waits-grow}
 use Rattle.plan_laws.proofs.HeldMaps.{found-node, found-mark}
-use Rattle.plan_laws.proofs.Kept.{MapsHeld, slots-kept, loaded-kept}
+use Rattle.plan_laws.proofs.Items.{item-map}
+use Rattle.plan_laws.proofs.Kept.{slots-kept}
+
+-- one link more that is not a plain one
+one-more : (ls : List ViewLink) (l : ViewLink) → is_plain l.source ≡ false → Every (λ (x : ViewLink). is_plain x.source ≡ false) ls
+    → Every (λ (x : ViewLink). is_plain x.source ≡ false) (ls ++ l ∷ [])
+one-more [] l is all = (is, tt)
+one-more (x ∷ ls) l is all = (all.0, one-more ls l is all.1)
+
+none-more : (b : Bool) (ls : List ViewLink) (node : ℕ) (side : Side) → Every (λ (x : ViewLink). is_plain x.source ≡ false) ls
+    → Every (λ (x : ViewLink). is_plain x.source ≡ false) (remembered_if b ls (bundle_link node side 0 0))
+none-more true ls node side all = one-more ls (bundle_link node side 0 0) refl all
+none-more false ls node side all = all
 
 -- what no such step changes of the seat and its update
 record KeepsSeat (v w : View) : Type 0 where
@@ -28,30 +46,48 @@ record KeepsSeat (v w : View) : Type 0 where
   word : w.section_word ≡ v.section_word
   update : w.update ≡ v.update
   section : w.reading.section ≡ v.reading.section
+  unsearched : HasNotSearched v → HasNotSearched w
 
-numbered-kept : (f : HeldNode → HeldNode) (v w : View) (n : ℕ) (plan : Plan) (slots : PlanSlots) → MapsHeld f v w → ((h : HeldNode) → (f h).mark ≡ h.mark) → KeepsSeat v w
+still-unmarked : (f : HeldNode → HeldNode) (v w : View) → w.held.nodes ≡ map f v.held.nodes → ((h : HeldNode) → (f h).node ≡ h.node)
+    → ((h : HeldNode) → (f h).mark ≡ h.mark)
+    → (k : ℕ) → IsUnmarked v k → IsUnmarked w k
+still-unmarked f v w maps node mark k u = record {
+  place = u.place;
+  held = f u.held;
+  at = subst (λ hs. IsItem hs u.place (f u.held)) (sym maps) (item-map f v.held.nodes u.place u.held u.at);
+  node_is = node u.held ∙ u.node_is;
+  is = mark u.held ∙ u.is;
+}
+
+numbered-kept : (f : HeldNode → HeldNode) (v w : View) (n : ℕ) (plan : Plan) (slots : PlanSlots) → w.held.nodes ≡ map f v.held.nodes
+    → ((h : HeldNode) → (f h).node ≡ h.node) → ((h : HeldNode) → (f h).mark ≡ h.mark) → KeepsSeat v w
     → HasNumbered v n plan slots → HasNumbered w n plan slots
-numbered-kept f v w n plan slots maps mark keeps h = record {
+numbered-kept f v w n plan slots maps node mark keeps h = record {
   live = keeps.joined ∙ h.live;
   own = keeps.number ∙ h.own;
   inside = cc;
   once = h.once;
-  locked = slots-kept f v w maps ∙ h.locked;
+  locked = slots-kept f v w maps node ∙ h.locked;
   raised = ap (λ (u : Updating). is_some u.raised) keeps.update ∙ h.raised;
   taken = ap (λ (u : Updating). u.taken) keeps.update ∙ h.taken;
   idle = ap (λ (u : Updating). u.pending) keeps.update ∙ h.idle;
   reads = ap is_some keeps.section ∙ h.reads;
-  unmarked = λ place front is. loaded-kept f v w front.at.node 0 (λ (x : HeldNode). x.mark) maps (λ x here found. mark x ∙ found) (h.unmarked place front is);
+  unmarked = λ place front is. still-unmarked f v w maps node mark front.at.node (h.unmarked place front is);
   links = subst (λ (u : Updating). LeavesLinks u.unset u.owed u.unlinking plan (sets_of plan slots) (sets_of plan slots)) (sym keeps.update) h.links;
+  unsearched = keeps.unsearched h.unsearched;
 }
 
--- the locked nodes are as they were
-no-map : (v w : View) → w.held.nodes ≡ v.held.nodes → MapsHeld (λ (h : HeldNode). h) v w
-no-map v w same = record { maps = same ∙ sym-map v.held.nodes; node = λ h. refl }
+-- an entry that has a number is not pending
+meets-none : (v : View) (e x : ℕ) → 0 < x → meets_pending v e x ≡ false
+meets-none v e x some = ap (λ b. b && not (has e v.update.pending) && is_watching v v.reading.place) (above x some)
   where
-    sym-map : (hs : List HeldNode) → hs ≡ map (λ (h : HeldNode). h) hs
-    sym-map [] = refl
-    sym-map (h ∷ hs) = ap (λ (xs : List HeldNode). h ∷ xs) (sym-map hs)
+    above : (y : ℕ) → 0 < y → eqb y 0 ≡ false
+    above y some = grind (arith, nat_tests)
+
+-- the locked nodes are as they were
+map-same : (hs : List HeldNode) → hs ≡ map (λ (h : HeldNode). h) hs
+map-same [] = refl
+map-same (h ∷ hs) = ap (λ (xs : List HeldNode). h ∷ xs) (map-same hs)
 
 module _ (v : View) (n : ℕ) (plan : Plan) (slots : PlanSlots) (h : HasNumbered v n plan slots) where
   head-stays : (node entry number : ℕ) (side : Side) → StaysNumbered v (head_loaded v node side entry number) n plan slots
@@ -59,8 +95,16 @@ module _ (v : View) (n : ℕ) (plan : Plan) (slots : PlanSlots) (h : HasNumbered
       let w = head_loaded v node side entry number in
       record {
         numbered =
-            numbered-kept (found_at node side entry) v w n plan slots (record { maps = refl; node = found-node node entry side }) (found-mark node entry side)
-            (record { joined = refl; number = refl; word = refl; update = refl; section = refl }) h;
+            numbered-kept (found_at node side entry) v w n plan slots refl (found-node node entry side) (found-mark node entry side)
+            (record {
+              joined = refl;
+              number = refl;
+              word = refl;
+              update = refl;
+              section = refl;
+              unsearched = none-more
+                  (entry == 0) v.reading.links node side;
+            }) h;
         keeps = record {
           layout = refl;
           joined = refl;
@@ -71,16 +115,17 @@ module _ (v : View) (n : ℕ) (plan : Plan) (slots : PlanSlots) (h : HasNumbered
           nodes = refl;
           entries = omega arith;
           grown = moves-grow v w (has_moved v.reading.links node side entry && not (stored_by v entry number)) refl;
+          waits = refl;
         };
       }
 
-  number-stays : (entry x : ℕ) → StaysNumbered v (ts_loaded v entry x) n plan slots
-  number-stays entry x =
+  number-stays : (entry x : ℕ) → 0 < x → StaysNumbered v (ts_loaded v entry x) n plan slots
+  number-stays entry x some =
       let w = ts_loaded v entry x in
       record {
         numbered =
-            numbered-kept (node_known entry x) v w n plan slots (record { maps = refl; node = λ y. refl }) (λ y. refl)
-            (record { joined = refl; number = refl; word = refl; update = refl; section = refl }) h;
+            numbered-kept (node_known entry x) v w n plan slots refl (λ y. refl) (λ y. refl)
+            (record { joined = refl; number = refl; word = refl; update = refl; section = refl; unsearched = λ all. all }) h;
         keeps = record {
           layout = refl;
           joined = refl;
@@ -91,23 +136,37 @@ module _ (v : View) (n : ℕ) (plan : Plan) (slots : PlanSlots) (h : HasNumbered
           nodes = refl;
           entries = omega arith;
           grown = waits-grow v w (meets_pending v entry x) refl;
+          waits = ap (λ b. raised_if b v.counts.waits) (meets-none v entry x some);
         };
       }
 
   -- a step that moves no locked node
   still : (w : View) → w.held.nodes ≡ v.held.nodes → KeepsSeat v w → KeepsPruned v w → StaysNumbered v w n plan slots
-  still w same keeps pruned = record { numbered = numbered-kept (λ (x : HeldNode). x) v w n plan slots (no-map v w same) (λ x. refl) keeps h; keeps = pruned }
+  still w same keeps pruned = record {
+    numbered = numbered-kept (λ (x : HeldNode). x) v w n plan slots (same ∙ map-same v.held.nodes) (λ x. refl)
+        (λ x. refl) keeps h;
+    keeps = pruned;
+  }
 
   as-before : StaysNumbered v v n plan slots
   as-before =
-      still v refl (record { joined = refl; number = refl; word = refl; update = refl; section = refl })
-      (record { layout = refl; joined = refl; number = refl; history = refl; free = refl; batch = refl; nodes = refl; entries = omega arith; grown = same-counts v v refl })
+      still v refl (record { joined = refl; number = refl; word = refl; update = refl; section = refl; unsearched = λ all. all })
+      (record { layout = refl; joined = refl; number = refl; history = refl; free = refl; batch = refl; nodes = refl; entries = omega arith; grown = same-counts v v refl; waits = refl })
 
   next-stays : (entry next : ℕ) (p : Place) → StaysNumbered v (next_at v p entry next) n plan slots
   next-stays entry next (AtEntry node side e found) =
       let w = next_at v (AtEntry node side e found) entry next in
-      still w refl (record { joined = refl; number = refl; word = refl; update = refl; section = refl })
-      (record { layout = refl; joined = refl; number = refl; history = refl; free = refl; batch = refl; nodes = refl; entries = omega arith; grown = same-counts v w refl })
+      still w refl
+      (record {
+        joined = refl;
+        number = refl;
+        word = refl;
+        update = refl;
+        section = refl;
+        unsearched = none-more
+            (next == 0 && is_above v entry found) v.reading.links node side;
+      })
+      (record { layout = refl; joined = refl; number = refl; history = refl; free = refl; batch = refl; nodes = refl; entries = omega arith; grown = same-counts v w refl; waits = refl })
   next-stays entry next Nowhere = as-before
   next-stays entry next (AtNode node key) = as-before
   next-stays entry next (Gap node side) = as-before
@@ -115,13 +174,13 @@ module _ (v : View) (n : ℕ) (plan : Plan) (slots : PlanSlots) (h : HasNumbered
   looked-stays : (pass word : ℕ) → StaysNumbered v (ann_loaded v pass word) n plan slots
   looked-stays pass word =
       let w = ann_loaded v pass word in
-      still w refl (record { joined = refl; number = refl; word = refl; update = refl; section = refl })
-      (record { layout = refl; joined = refl; number = refl; history = refl; free = refl; batch = refl; nodes = refl; entries = omega arith; grown = same-counts v w refl })
+      still w refl (record { joined = refl; number = refl; word = refl; update = refl; section = refl; unsearched = λ all. all })
+      (record { layout = refl; joined = refl; number = refl; history = refl; free = refl; batch = refl; nodes = refl; entries = omega arith; grown = same-counts v w refl; waits = refl })
 
   cut-stays : (entry : ℕ) (back : List ℕ) → StaysNumbered v (cut_view v entry back) n plan slots
   cut-stays entry back =
       let w = cut_view v entry back in
-      still w refl (record { joined = refl; number = refl; word = refl; update = refl; section = refl })
+      still w refl (record { joined = refl; number = refl; word = refl; update = refl; section = refl; unsearched = λ all. all })
       (record {
         layout = refl;
         joined = refl;
@@ -132,6 +191,7 @@ module _ (v : View) (n : ℕ) (plan : Plan) (slots : PlanSlots) (h : HasNumbered
         nodes = refl;
         entries = omega (arith, length-append v.retired.entries back);
         grown = same-counts v w refl;
+        waits = refl;
       })
 
 pub prune_step : PruneStepLaw
@@ -158,6 +218,7 @@ keeps_pruned u v w a b = record {
     waits = omega (arith, a.grown.waits, b.grown.waits);
     moves = omega (arith, a.grown.moves, b.grown.moves);
   };
+  waits = b.waits ∙ a.waits;
 }
 
 pub owned_is_pruned : OwnedIsPrunedLaw
@@ -171,4 +232,5 @@ owned_is_pruned v w keeps = record {
   nodes = ap (λ (s : Slots). s.nodes) keeps.retired;
   entries = omega (arith, ap (λ (s : Slots). length s.entries) keeps.retired);
   grown = same-counts v w keeps.counts;
+  waits = ap (λ (c : Counts). c.waits) keeps.counts;
 }

@@ -1,10 +1,8 @@
 -- A pass gives its locks back, leaves its section, and takes its announcement back.
-use Rattle.std.specs.List.{slice_get, list_any}
-use Rattle.std.proofs.lemmas.List.{drop_all}
-use Rattle.std.proofs.Common.{◌≡◌, ℕ, zero, suc, ◌+◌, ◌<◌, ◌≤◌, List, [], ◌∷◌, length, take, drop, Bool, true, false, not, cond, eqb, ◌&&◌, refl, ap, sym, ◌∙◌, subst, arith, inl, Option, Some, None}
+use Rattle.std.specs.List.{list_any}
+use Rattle.std.proofs.Common.{◌≡◌, ℕ, ◌+◌, ◌<◌, ◌≤◌, List, [], ◌∷◌, length, Bool, true, false, not, cond, eqb, ◌&&◌, refl, ap, sym, ◌∙◌, subst, arith, inl, Option, Some, None}
 use Rattle.std.specs.Prelude.{◌==◌}
 use Rattle.std.proofs.lemmas.Bool.Decides.{nat_tests}
-use Rattle.index_words.specs.declared.view.View.{View}
 use Rattle.index_words.specs.declared.view.update.HeldNode.{HeldNode}
 use Rattle.index_words.specs.declared.view.update.OwedTag.{OwedTag}
 use Rattle.index_words.specs.declared.view.update.Unlinking.{Unlinking}
@@ -20,43 +18,24 @@ use Rattle.core_events.specs.PlainNeeds.{is_done_at}
 use Rattle.core_laws.proofs.AnnounceNeeds.{may_take_back_law}
 use Rattle.core_laws.proofs.ViewNeeds.{may_leave_law, may_unlock_law}
 use Rattle.core_laws.specs.ViewNeeds.{IsKnownMarked}
-use Rattle.core_updates.specs.declared.plan.Plan.{Plan}
-use Rattle.core_updates.specs.Plans.{locks_of}
-use Rattle.plan_laws.specs.Tries.{IsTrying}
-use Rattle.plan_laws.specs.Releases.{IsReleasing, GiveUpLaw, GiveAllUpLaw, NothingLockedLaw, UnlockPlaceLaw, UnlockEndLaw, TakesFirstLaw, UnlockStepLaw, LeaveStepLaw, TakeBackStepLaw}
-use Rattle.plan_laws.proofs.Fills.{got-none}
-use Rattle.plan_laws.proofs.Items.{drop-got}
-
--- the first items of a list are no more than it has
-count-take : (k : ℕ) (xs : List ℕ) (n : ℕ) → count k (take n xs) ≤ count k xs
-count-take k [] zero = omega arith
-count-take k [] (suc n) = omega arith
-count-take k (x ∷ xs) zero = omega arith
-count-take k (x ∷ xs) (suc n) = omega (arith, count-take k xs n)
+use Rattle.plan_laws.specs.Releases.{GiveUpLaw, NothingLockedLaw, UnlockStepLaw, LeaveStepLaw, TakeBackStepLaw}
 
 pub none-taken : (hs : List HeldNode) → Every (λ (h : HeldNode). 0 < count h.node [] → h.mark ≡ Some 1) hs
 none-taken [] = tt
 none-taken (h ∷ hs) = (λ some. absurd (omega (arith, some)), none-taken hs)
 
-gives-up : (v : View) (n : ℕ) (plan : Plan) (entries nodes : List ℕ) → ((k : ℕ) → count k nodes ≤ 1) → IsTrying v n plan entries nodes → IsReleasing v n nodes
-gives-up v n plan entries nodes once t = record {
-  live = t.making.reads.live;
-  own = t.making.reads.own;
-  word = t.making.reads.inside;
-  once = once;
+pub give_up : GiveUpLaw
+give_up v n nodes t = record {
+  live = t.working.live;
+  own = t.working.own;
+  word = t.working.inside;
+  once = t.once;
   locked = t.locked;
   done = ap (λ (u : Updating). u.pending) t.idle;
   marked = subst (λ (u : Updating). Every (λ (h : HeldNode). 0 < count h.node u.taken → h.mark ≡ Some 1) v.held.nodes) (sym t.idle) (none-taken v.held.nodes);
   set = (ap (λ (u : Updating). u.unset) t.idle, ap (λ (u : Updating). u.owed) t.idle, ap (λ (u : Updating). u.unlinking) t.idle);
   ended = λ none'. t.idle;
 }
-
-pub give_up : GiveUpLaw
-give_up v n plan entries done t =
-    gives-up v n plan entries (take done (locks_of plan)) (λ k. omega (arith, t.making.once k, count-take k (locks_of plan) done)) t
-
-pub give_all_up : GiveAllUpLaw
-give_all_up v n plan entries t = gives-up v n plan entries (locks_of plan) t.making.once t
 
 own_node : (a : ℕ) → eqb a a ≡ true
 own_node a = grind (arith, nat_tests)
@@ -202,27 +181,3 @@ nothing_locked v n live own inside bare idle = record {
   set = (ap (λ (u : Updating). u.unset) idle, ap (λ (u : Updating). u.owed) idle, ap (λ (u : Updating). u.unlinking) idle);
   ended = λ none'. idle;
 }
-
-pub unlock_place : UnlockPlaceLaw
-unlock_place z v seat n node place nodes r is =
-    unlock_step false z v seat n node (drop (place + 1) nodes) (subst (IsReleasing v n) (drop-got nodes place node is) r)
-
-pub unlock_end : UnlockEndLaw
-unlock_end v n place nodes r none' = subst (IsReleasing v n) (drop_all place nodes (got-none nodes place none')) r
-
-pub takes_first : TakesFirstLaw
-takes_first nodes done place = record { here = λ below. first-here nodes done place below; past = λ from. first-past nodes done place from }
-  where
-    first-here : (xs : List ℕ) (m i : ℕ) → i < m → slice_get (take m xs) i ≡ slice_get xs i
-    first-here [] zero i below = absurd (omega (arith, below))
-    first-here [] (suc m) i below = refl
-    first-here (x ∷ xs) zero i below = absurd (omega (arith, below))
-    first-here (x ∷ xs) (suc m) zero below = refl
-    first-here (x ∷ xs) (suc m) (suc i) below = first-here xs m i (omega (arith, below))
-
-    first-past : (xs : List ℕ) (m i : ℕ) → m ≤ i → slice_get (take m xs) i ≡ None
-    first-past [] zero i from = refl
-    first-past [] (suc m) i from = refl
-    first-past (x ∷ xs) zero i from = refl
-    first-past (x ∷ xs) (suc m) zero from = absurd (omega (arith, from))
-    first-past (x ∷ xs) (suc m) (suc i) from = first-past xs m i (omega (arith, from))

@@ -1,171 +1,221 @@
--- A try locks the nodes of its plan.
-use Rattle.std.proofs.Common.{ℕ, ◌+◌, ◌<◌, List, [], ◌∷◌, ◌++◌, take, refl, ap, sym, ◌∙◌, subst, arith, ◌≡◌, Some, inl, inr, slice_index}
-use Rattle.std.proofs.lemmas.Bool.{cases_lt}
-use Rattle.std.proofs.lemmas.Bool.Decides.{eqb_tells}
-use Rattle.index_words.specs.declared.layout.Layout.{Layout}
+-- A try locks nodes that it has searched, and each of its loads leaves that as it is.
+use Rattle.std.proofs.Common.{◌≡◌, ℕ, zero, suc, ◌+◌, ◌<◌, ◌≤◌, ◌⊎◌, inl, inr, List, [], ◌∷◌, ◌++◌, length, Bool, true, false, not, cond, eqb, refl, ap, sym, ◌∙◌, subst, arith}
+use Rattle.std.specs.Prelude.{◌==◌}
+use Rattle.std.proofs.lemmas.Bool.Decides.{nat_tests}
+use Rattle.index_words.specs.declared.side.Side.{Side}
 use Rattle.index_words.specs.declared.view.View.{View}
+use Rattle.index_words.specs.declared.view.reading.Place.{Place}
+use Rattle.index_words.specs.declared.view.reading.Place.TheVariants.{Nowhere, Entry as AtEntry, Node as AtNode, Gap}
+use Rattle.index_words.specs.declared.view.reading.Reading.{Reading}
+use Rattle.index_words.specs.declared.view.slots.Slots.{Slots}
 use Rattle.index_words.specs.declared.view.update.HeldNode.{HeldNode}
 use Rattle.index_words.specs.declared.view.update.Updating.{Updating}
-use Rattle.index_words.specs.declared.word.Field.TheVariants.{Lock, Mark, Head}
-use Rattle.index_words.specs.declared.word.Part.TheVariants.{Stamp as Number}
-use Rattle.index_words.specs.declared.word.Word.TheVariants.{Node, Entry}
-use Rattle.index_words.specs.Words.{word_at}
+use Rattle.index_words.specs.declared.word.Field.TheVariants.{Key, Val}
+use Rattle.index_words.specs.Views.{no_update}
 use Rattle.key_map.specs.Lists.{count}
-use Rattle.core_events.specs.declared.event.Kind.TheVariants.{TryLock, LoadMark}
-use Rattle.core_events.specs.LoadMoves.{risen}
-use Rattle.core_events.specs.Tables.{held_by}
-use Rattle.core_events.specs.LockMoves.{locked_view, met_lock, just_locked}
-use Rattle.core_invariant.specs.Readers.{IsLocked}
-use Rattle.core_laws.specs.Counts.{FindsMark, RemembersOther}
-use Rattle.core_laws.specs.ViewNeeds.{May, event_at}
-use Rattle.core_laws.proofs.Alone.{nothing}
-use Rattle.core_updates.specs.declared.plan.Plan.{Plan}
-use Rattle.core_updates.specs.declared.plan.PlanSlots.{PlanSlots}
-use Rattle.core_updates.specs.declared.plan.Look.TheVariants.{Link as LinkLook}
-use Rattle.core_updates.specs.Plans.{locks_of}
-use Rattle.core_trees.specs.declared.link.Link.{Link}
-use Rattle.core_updates.specs.PlanEvents.{AllowsPlan}
-use Rattle.core_updates.proofs.PlanSteps.{events_law, meets_law, failures_law}
+use Rattle.key_map.proofs.Counting.{count-append}
+use Rattle.core_grace.specs.Holds.{held_slots}
+use Rattle.core_grace.specs.Sections.{is_even}
+use Rattle.core_events.specs.LoadMoves.{head_loaded, ts_loaded, next_at, found_at, node_known}
+use Rattle.core_events.specs.LockMoves.{locked_view, met_lock, mark_loaded, pair_loaded, just_locked, mark_known, pair_known, other_nodes}
+use Rattle.core_events.specs.PlainMoves.{link_loaded, tag_loaded, link_known_at, tag_known_at}
+use Rattle.core_laws.proofs.ViewNeeds.{may_lock_law}
 use Rattle.plan_laws.specs.Frames.{KeepsPass}
-use Rattle.plan_laws.specs.Tries.{IsTrying, LockStepLaw, LockEndLaw, TryReadsLaw, RemembersLink, TryFailsLaw, TryAloneLaw}
-use Rattle.plan_laws.proofs.Items.{map-append, every-counted, got-counts, not-yet, take-got, take-past}
-use Rattle.plan_laws.proofs.Kept.{making-kept, remembered-kept, same-links}
+use Rattle.plan_laws.specs.Tries.{KeepsTrying, LockStepLaw, LoadsKeepLaw, LastUnlockLaw}
+use Rattle.plan_laws.proofs.HeldMaps.{mark-node, found-node, key-node, val-node, link-node, tag-node}
+use Rattle.plan_laws.proofs.Items.{map-append}
+use Rattle.plan_laws.proofs.Kept.{slots-kept}
 
--- the slots are of no matter to what is read and locked
-abbrev pub no_slots : PlanSlots
-no_slots = record { node = 0; at = 0; left = 0; right = 0; next = 0 }
+-- the seat reads at the same number, and the same tree
+pub record ReadsAs (r s : Reading) : Type 0 where
+  pub section : s.section ≡ r.section
+  pub opened : s.opened ≡ r.opened
+  pub least : s.least ≡ r.least
+  pub tree : s.tree ≡ r.tree
 
-pub events : (z : Layout) (v : View) (seat n : ℕ) (plan : Plan) (entries nodes : List ℕ) → IsTrying v n plan entries nodes → AllowsPlan z v seat n plan no_slots
-events z v seat n plan entries nodes t = events_law z v seat n plan no_slots t.making.reads
+-- where besides only locks, counts and the slots that were never used have changed the rest is kept
+pub read-as : (v w : View) → w ≡ record v { reading = w.reading; held = w.held; counts = w.counts; unused = w.unused } → ReadsAs v.reading w.reading
+    → KeepsPass v w
+read-as v w is reads = record {
+  layout = ap (λ (u : View). u.layout) is;
+  joined = ap (λ (u : View). u.joined) is;
+  number = ap (λ (u : View). u.number) is;
+  word = ap (λ (u : View). u.section_word) is;
+  announced = ap (λ (u : View). u.announced) is;
+  history = ap (λ (u : View). u.history) is;
+  section = reads.section;
+  opened = reads.opened;
+  least = reads.least;
+  tree = reads.tree;
+  nodes = ap (λ (u : View). u.free.nodes) is;
+  retired = ap (λ (u : View). u.retired) is;
+  batch = ap (λ (u : View). u.batch) is;
+  raised = ap (λ (u : View). u.update.raised) is;
+  taken = ap (λ (u : View). u.update.taken) is;
+}
 
-module _ (v : View) (k : ℕ) where
-  pub locked-keeps : KeepsPass v (locked_view v k)
-  locked-keeps = record {
-    layout = refl;
-    joined = refl;
-    number = refl;
-    word = refl;
-    announced = refl;
-    history = refl;
-    section = refl;
-    opened = refl;
-    least = refl;
-    tree = refl;
-    nodes = refl;
-    retired = refl;
-    batch = refl;
-    raised = refl;
-    taken = refl;
-  }
+-- the views after the steps
+module _ (v : View) where
+  pub locked-keeps : (k : ℕ) → KeepsPass v (locked_view v k)
+  locked-keeps k = read-as v (locked_view v k) refl (record { section = refl; opened = refl; least = refl; tree = refl })
 
   pub met-keeps : (own found : ℕ) → KeepsPass v (met_lock v own found)
-  met-keeps own found = record {
-    layout = refl;
-    joined = refl;
-    number = refl;
-    word = refl;
-    announced = refl;
-    history = refl;
-    section = refl;
-    opened = refl;
-    least = refl;
-    tree = refl;
-    nodes = refl;
-    retired = refl;
-    batch = refl;
-    raised = refl;
-    taken = refl;
-  }
+  met-keeps own found = read-as v (met_lock v own found) refl (record { section = refl; opened = refl; least = refl; tree = refl })
+
+  pub mark-keeps-pass : (k x : ℕ) → KeepsPass v (mark_loaded v k x)
+  mark-keeps-pass k x = read-as v (mark_loaded v k x) refl (record { section = refl; opened = refl; least = refl; tree = refl })
+
+  pub link-keeps-pass : (k x : ℕ) (side : Side) → KeepsPass v (link_loaded v k side x)
+  link-keeps-pass k x side = read-as v (link_loaded v k side x) refl (record { section = refl; opened = refl; least = refl; tree = refl })
+
+  pub tag-keeps-pass : (k x : ℕ) (side : Side) → KeepsPass v (tag_loaded v k side x)
+  tag-keeps-pass k x side = read-as v (tag_loaded v k side x) refl (record { section = refl; opened = refl; least = refl; tree = refl })
+
+  pub head-keeps-pass : (k e number : ℕ) (side : Side) → KeepsPass v (head_loaded v k side e number)
+  head-keeps-pass k e number side = read-as v (head_loaded v k side e number) refl (record { section = refl; opened = refl; least = refl; tree = refl })
+
+  pub number-keeps-pass : (e x : ℕ) → KeepsPass v (ts_loaded v e x)
+  number-keeps-pass e x = read-as v (ts_loaded v e x) refl (record { section = refl; opened = refl; least = refl; tree = refl })
+
+  pub key-keeps-pass : (k x : ℕ) → KeepsPass v (pair_loaded v Key k x)
+  key-keeps-pass k x = read-as v (pair_loaded v Key k x) refl (record { section = refl; opened = refl; least = refl; tree = refl })
+
+  pub val-keeps-pass : (k x : ℕ) → KeepsPass v (pair_loaded v Val k x)
+  val-keeps-pass k x = read-as v (pair_loaded v Val k x) refl (record { section = refl; opened = refl; least = refl; tree = refl })
+
+  pub next-keeps-pass : (e next : ℕ) (p : Place) → KeepsPass v (next_at v p e next)
+  next-keeps-pass e next (AtEntry node side entry found) = read-as v (next_at v (AtEntry node side entry found) e next) refl
+      (record { section = refl; opened = refl; least = refl; tree = refl })
+  next-keeps-pass e next Nowhere = read-as v v refl (record { section = refl; opened = refl; least = refl; tree = refl })
+  next-keeps-pass e next (AtNode node key) = read-as v v refl (record { section = refl; opened = refl; least = refl; tree = refl })
+  next-keeps-pass e next (Gap node side) = read-as v v refl (record { section = refl; opened = refl; least = refl; tree = refl })
+
+-- the same nodes are locked, and nothing else is done
+pub trying-kept : (v w : View) → KeepsPass v w → w.update ≡ v.update → held_slots w.held.nodes ≡ held_slots v.held.nodes → KeepsTrying v w
+trying-kept v w keeps update slots n nodes t = record {
+  working = record { live = keeps.joined ∙ t.working.live; own = keeps.number ∙ t.working.own; inside = ap is_even keeps.word ∙ t.working.inside };
+  number = t.number;
+  section = keeps.section ∙ t.section;
+  least = keeps.least ∙ t.least;
+  idle = update ∙ t.idle;
+  once = t.once;
+  locked = slots ∙ t.locked;
+  others = λ k some. ap (λ (s : Slots). count k s.nodes) keeps.retired ∙ t.others k some;
+}
+
+one-more : (b : Bool) (c : ℕ) → (b ≡ true → c ≡ 0) → c ≤ 1 → c + (cond b 1 0 + 0) ≤ 1
+one-more true c none' few = omega (arith, none' refl)
+one-more false c none' few = omega (arith, few)
+
+told : (a b : ℕ) → eqb a b ≡ true → a ≡ b
+told a b e = grind (arith, nat_tests)
 
 pub lock_step : LockStepLaw
-lock_step z v seat n plan entries done node h is =
-    let allows = events z v seat n plan entries (take done (locks_of plan)) h in
+lock_step z v seat n nodes node t can =
+    let absent : count node nodes ≡ 0 = no-count (count node nodes) (λ some. can.unlocked (subst (λ ks. 0 < count node ks) (sym t.locked) some)) in
     record {
-      may = every-counted (λ k. ¬ IsLocked v k → May z v (event_at z seat TryLock (Node Lock k) (n + 1))) (locks_of plan) node allows.lock (got-counts (locks_of plan) done node is)
-          (λ locked. omega (arith, not-yet (locks_of plan) done node (h.making.once node) is, subst (λ ks. 0 < count node ks) h.locked locked));
-      locked = record {
-        making = making-kept v (locked_view v node) n plan (locked-keeps v node) h.making;
-        idle = h.idle;
-        remembered = remembered-kept v (locked_view v node) plan entries refl (same-links v (locked_view v node) refl) h.remembered;
-        locked = map-append (λ (x : HeldNode). x.node) v.held.nodes (just_locked node ∷ [])
-            ∙ ap (λ ks. ks ++ node ∷ []) h.locked
-            ∙ sym (take-got (locks_of plan) done node is);
+      may = may_lock_law z v seat n node (record { own = t.working.own; inside = t.working.inside; searched = can.searched; unlocked = can.unlocked });
+      locked = λ other. record {
+        working = record { live = t.working.live; own = t.working.own; inside = t.working.inside };
+        number = t.number;
+        section = t.section;
+        least = t.least;
+        idle = t.idle;
+        once = λ k.
+            let sum = count-append k nodes (node ∷ []) in
+            subst (λ c. c ≤ 1) (sym sum) (one-more (eqb node k) (count k nodes) (λ e. ap (λ j. count j nodes) (sym (told node k e)) ∙ absent) (t.once k));
+        locked = map-append (λ (x : HeldNode). x.node) v.held.nodes (just_locked node ∷ []) ∙ ap (λ ks. ks ++ node ∷ []) t.locked;
+        others = λ k some.
+            elim (of-either (eqb node k) (count k nodes) (subst (λ c. 0 < c) (count-append k nodes (node ∷ [])) some)) as (λ _. count k v.retired.nodes ≡ 0) [
+              | inl before ↦ t.others k before
+              | inr last ↦ subst (λ j. count j v.retired.nodes ≡ 0) (told node k last) other
+            ];
       };
-      held = λ own found. record {
-        making = making-kept v (met_lock v own found) n plan (met-keeps v node own found) h.making;
-        idle = h.idle;
-        remembered = remembered-kept v (met_lock v own found) plan entries refl (same-links v (met_lock v own found) refl) h.remembered;
-        locked = h.locked;
-      };
+      held = λ own found. trying-kept v (met_lock v own found) (met-keeps v own found) refl refl n nodes t;
     }
+  where
+    no-count : (c : ℕ) → (0 < c → ⊥) → c ≡ 0
+    no-count zero never = refl
+    no-count (suc c) never = absurd (never (omega arith))
 
-pub lock_end : LockEndLaw
-lock_end v n plan entries done h is = record {
-  making = h.making;
-  idle = h.idle;
-  remembered = h.remembered;
-  locked = h.locked ∙ take-past (locks_of plan) done is;
+    of-either : (b : Bool) (c : ℕ) → 0 < c + (cond b 1 0 + 0) → (0 < c) ⊎ (b ≡ true)
+    of-either true c some = inr refl
+    of-either false c some = inl (omega (arith, some))
+
+pub loads_keep : LoadsKeepLaw
+loads_keep v = record {
+  link = λ node x side. trying-kept v (link_loaded v node side x) (link-keeps-pass v node x side) refl
+      (slots-kept (link_known_at node side x) v (link_loaded v node side x) refl (link-node node x side));
+  tag = λ node x side. trying-kept v (tag_loaded v node side x) (tag-keeps-pass v node x side) refl
+      (slots-kept (tag_known_at node side x) v (tag_loaded v node side x) refl (tag-node node x side));
+  mark = λ node x. trying-kept v (mark_loaded v node x) (mark-keeps-pass v node x) refl
+      (slots-kept (mark_known node x) v (mark_loaded v node x) refl (mark-node node x));
+  key = λ node x. trying-kept v (pair_loaded v Key node x) (key-keeps-pass v node x) refl
+      (slots-kept (pair_known Key node x) v (pair_loaded v Key node x) refl (key-node node x));
+  val = λ node x. trying-kept v (pair_loaded v Val node x) (val-keeps-pass v node x) refl
+      (slots-kept (pair_known Val node x) v (pair_loaded v Val node x) refl (val-node node x));
+  head = λ node entry number side.
+      trying-kept v (head_loaded v node side entry number) (head-keeps-pass v node entry number side) refl
+      (slots-kept (found_at node side entry) v (head_loaded v node side entry number) refl (found-node node entry side));
+  number = λ entry x. trying-kept v (ts_loaded v entry x) (number-keeps-pass v entry x) refl
+      (slots-kept (node_known entry x) v (ts_loaded v entry x) refl (λ h. refl));
+  next = λ entry next. next-kept entry next v.reading.place;
 }
+  where
+    next-kept : (entry next : ℕ) (p : Place) → KeepsTrying v (next_at v p entry next)
+    next-kept entry next (AtEntry node side e found) =
+        trying-kept v (next_at v (AtEntry node side e found) entry next) (next-keeps-pass v entry next (AtEntry node side e found)) refl refl
+    next-kept entry next Nowhere = trying-kept v v (next-keeps-pass v entry next Nowhere) refl refl
+    next-kept entry next (AtNode node key) = trying-kept v v (next-keeps-pass v entry next (AtNode node key)) refl refl
+    next-kept entry next (Gap node side) = trying-kept v v (next-keeps-pass v entry next (Gap node side)) refl refl
 
-pub try_reads : TryReadsLaw
-try_reads v n plan entries nodes t = (
-  t.making.reads,
-  record {
-    number = t.making.number;
-    section = t.making.section;
-    own = t.making.own;
-    idle = ap (λ (u : Updating). u.pending) t.idle;
-  },
-)
+-- the last one goes
+last-gone : (node : ℕ) (nodes : List ℕ) (hs : List HeldNode) → held_slots hs ≡ nodes ++ node ∷ [] → count node nodes ≡ 0
+    → held_slots (other_nodes node hs) ≡ nodes
+last-gone node [] [] is none' = cc
+last-gone node [] (h ∷ hs) is none' =
+    let here : h.node ≡ node = cc in
+    let rest : held_slots hs ≡ [] = cc in
+    by hs rest (ap (λ k. eqb k node) here ∙ own node)
+  where
+    own : (a : ℕ) → eqb a a ≡ true
+    own a = grind (arith, nat_tests)
 
--- where the remembered entry is not the head, another one is remembered
-other-entry : (v : View) (at : Link) (child entry head : ℕ) → RemembersLink v at child entry → ¬ (head ≡ entry) → RemembersOther v at.node at.side head
-other-entry v at child entry head r apart = record {
-  place = r.known.place;
-  link = r.link;
-  is = r.known.link;
-  node_is = r.node_is;
-  side_is = r.side_is;
-  entry = entry;
-  source = r.known.source;
-  apart = λ e. apart (sym e);
-}
+    by : (hs : List HeldNode) → held_slots hs ≡ [] → eqb h.node node ≡ true → held_slots (other_nodes node (h ∷ hs)) ≡ []
+    by [] none' e = ap (λ b. held_slots (cond (not b) (h ∷ []) [])) e
+    by (x ∷ hs) none' e = cc
+last-gone node (k ∷ nodes) [] is none' = cc
+last-gone node (k ∷ nodes) (h ∷ hs) is none' =
+    let here : h.node ≡ k = cc in
+    let rest : held_slots hs ≡ nodes ++ node ∷ [] = cc in
+    let parts = none-here k node (count node nodes) none' in
+    ap (λ b. held_slots (cond (not b) (h ∷ other_nodes node hs) (other_nodes node hs))) (ap (λ j. eqb j node) here ∙ parts.0)
+    ∙ (λ i. here i ∷ last-gone node nodes hs rest parts.1 i)
+  where
+    none-here : (x k n : ℕ) → cond (eqb x k) 1 0 + n ≡ 0 → (eqb x k ≡ false) × (n ≡ 0)
+    none-here x k n e = (by (eqb x k) e, omega (arith, e))
+      where
+        by : (b : Bool) → cond b 1 0 + n ≡ 0 → b ≡ false
+        by true h = absurd (omega (arith, h))
+        by false h = refl
 
-pub try_fails : TryFailsLaw
-try_fails t e v w n plan entries nodes right met before behind h =
-    let reads = try_reads v n plan entries nodes h in
-    let counts = failures_law t e v w n plan right met before behind reads.0 reads.1 in
+still-idle : (b : Bool) (u : Updating) → u ≡ no_update → cond b no_update u ≡ no_update
+still-idle true u idle = refl
+still-idle false u idle = idle
+
+pub last_unlock : LastUnlockLaw
+last_unlock v n node nodes t =
+    let absent : count node nodes ≡ 0 = absent-of (count node nodes) (subst (λ c. c ≤ 1) (count-append node nodes (node ∷ [])) (t.once node)) in
     record {
-      busy = counts.busy;
-      waits = counts.waits;
-      mark = λ k locked kind word marked.
-          every-counted (λ j. e.kind ≡ LoadMark → word_at t.layout e.word ≡ Some (Node Mark j) → held_by t (Node Mark j) ≡ 1 → count j v.retired.nodes ≡ 0 → w.counts.moves ≡ risen v.counts.moves)
-          (locks_of plan) k counts.mark locked kind word marked (every-counted (λ j. count j v.retired.nodes ≡ 0) (locks_of plan) k h.making.kept locked);
-      head = λ place child at look kind word apart.
-          counts.head at.node at.side kind word
-          (other-entry v at child (slice_index entries place) (held_by t (Node (Head at.side) at.node)) (h.remembered place (LinkLook at child) look) apart);
+      working = record { live = t.working.live; own = t.working.own; inside = t.working.inside };
+      number = t.number;
+      section = t.section;
+      least = t.least;
+      idle = still-idle (length (other_nodes node v.held.nodes) == 0) v.update t.idle;
+      once = λ k. omega (arith, t.once k, count-append k nodes (node ∷ []));
+      locked = last-gone node nodes v.held.nodes t.locked absent;
+      others = λ k some. t.others k (omega (arith, some, count-append k nodes (node ∷ [])));
     }
-
-pub try_alone : TryAloneLaw
-try_alone t e v n plan entries nodes right one met before h =
-    let reads = try_reads v n plan entries nodes h in
-    let none = nothing t e v right one met before in
-    let meets = meets_law t e v n plan right met before reads.0 reads.1 in
-    record {
-      lock = none.lock;
-      number = λ entry kind word.
-          elim (cases_lt 0 (held_by t (Entry Number entry))) as (λ _. 0 < held_by t (Entry Number entry)) [
-            | inl some ↦ some
-            | inr low ↦ absurd (none.number (meets.number entry kind word (omega (arith, low))))
-          ];
-      mark = λ k locked kind word marked.
-          none.mark (every-counted (λ j. e.kind ≡ LoadMark → word_at t.layout e.word ≡ Some (Node Mark j) → held_by t (Node Mark j) ≡ 1 → count j v.retired.nodes ≡ 0 → FindsMark t e v)
-          (locks_of plan) k meets.mark locked kind word marked (every-counted (λ j. count j v.retired.nodes ≡ 0) (locks_of plan) k h.making.kept locked));
-      head = λ place child at look kind word.
-          let head : ℕ = held_by t (Node (Head at.side) at.node) in
-          elim (eqb_tells head (slice_index entries place)) as (λ _. head ≡ slice_index entries place) [
-            | inl same ↦ same.1
-            | inr other ↦
-                absurd (none.head (meets.head at.node at.side kind word (other-entry v at child (slice_index entries place) head (h.remembered place (LinkLook at child) look) other.1)))
-          ];
-    }
+  where
+    absent-of : (c : ℕ) → c + (cond (eqb node node) 1 0 + 0) ≤ 1 → c ≡ 0
+    absent-of c few = grind (arith, nat_tests)

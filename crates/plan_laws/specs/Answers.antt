@@ -15,10 +15,10 @@ use Rattle.core_updates.specs.declared.plan.Plan.{Plan}
 use Rattle.core_updates.specs.declared.plan.Plan.TheVariants.{Grow, Replace, Lift, Join}
 use Rattle.core_updates.specs.declared.plan.PlanSlots.{PlanSlots}
 use Rattle.core_updates.specs.Held.{CanRaise}
-use Rattle.core_updates.specs.Plans.{key_of, new_node_of, fronts_of, entries_of}
+use Rattle.core_updates.specs.Plans.{key_of, new_node_of, fronts_of, entries_of, fresh_entries}
 use Rattle.plan_laws.specs.Fills.{AreApart}
 use Rattle.plan_laws.specs.Fronts.{IsReadyToRaise}
-use Rattle.plan_laws.specs.Raises.{fresh_entries, update_by, raised_at}
+use Rattle.plan_laws.specs.Raises.{update_by, raised_at}
 
 -- how many slots a view owns: free ones, those of its batch, and retired ones
 abbrev pub owned_nodes : View → ℕ

@@ -1,22 +1,22 @@
--- Behind its last look a try fills its own free slots: the new node, the entries of its links, and the entries that are put in front of
--- bundles, each of these with the entry behind it that the look has found. No other seat reads these words yet.
-use Rattle.std.specs.Prelude.{◌≡◌, ℕ, suc, ◌+◌, ◌<◌, ◌^◌, List, [], ◌∷◌, ◌++◌, length, Option, Some, None, slice_index}
-use Rattle.std.specs.List.{slice_get}
-use Rattle.index_words.specs.declared.layout.Layout.{Layout}
+-- Behind its last look a try finds the newest entries of the bundles that it changes, and fills its own free slots: the new node,
+-- the entries of its links, and the entries that are put in front of bundles, each of these with the entry behind it that was found.
+-- No other seat reads these words yet.
+use Rattle.std.specs.Prelude.{◌≡◌, ℕ, ◌<◌, ◌^◌, List, [], ◌∷◌, ◌++◌, Option, Some, None, IfSome}
 use Rattle.index_words.specs.declared.view.View.{View}
 use Rattle.index_words.specs.declared.view.reading.Filled.{Filled}
 use Rattle.key_map.specs.Lists.{Every}
 use Rattle.core_events.specs.FillMoves.{filled_view}
+use Rattle.core_laws.specs.ViewNeeds.{MayFill}
 use Rattle.core_updates.specs.declared.plan.Plan.{Plan}
 use Rattle.core_updates.specs.declared.plan.PlanSlots.{PlanSlots}
 use Rattle.core_updates.specs.declared.plan.Front.{Front}
 use Rattle.core_updates.specs.declared.plan.Fresh.{Fresh}
+use Rattle.core_updates.specs.declared.plan.Heads.{Heads}
 use Rattle.core_updates.specs.declared.plan.NewNode.{NewNode}
-use Rattle.core_updates.specs.PlanEvents.{HasSlots, MayFillAll}
+use Rattle.core_updates.specs.PlanEvents.{HasSlots, HoldsNumbered}
 use Rattle.core_updates.specs.PlanReady.{HoldsFill}
-use Rattle.core_updates.specs.Plans.{looks_of, fronts_of, new_node_of, node_fills, entry_fills}
-use Rattle.plan_laws.specs.Places.{look_of_front}
-use Rattle.plan_laws.specs.Looks.{HasLooked}
+use Rattle.core_updates.specs.Plans.{front_of, link_at, next_front_of, next_link_of, new_node_of, node_fills, entry_fills}
+use Rattle.plan_laws.specs.Looks.{HasLookedAll}
 
 -- the entries of the slots are different ones, and none is 0; those that are put in front have numbers of 32 bits
 pub record AreApart (slots : PlanSlots) : Type 0 where
@@ -33,63 +33,59 @@ pub record AreApart (slots : PlanSlots) : Type 0 where
   pub at_small : slots.at < 2 ^ 32
   pub next_small : slots.next < 2 ^ 32
 
+-- all looks hold, and these are the newest entries of the bundles in front of which the plan puts its own, with their numbers
+pub record HasHeads (v : View) (n : ℕ) (plan : Plan) (heads : Heads) : Type 0 where
+  pub looked : HasLookedAll v n plan
+  pub at : HoldsNumbered v (link_at plan) heads.at
+  pub next : IfSome (next_link_of plan) (λ at. HoldsNumbered v at heads.next)
+
 -- what is filled of the entry of a new node's link
 abbrev pub fresh_fills : Option Fresh → List Filled
 fresh_fills None = []
 fresh_fills (Some fresh) = entry_fills fresh.entry fresh.child 0
 
--- of the new node, and of the entries of its links
-abbrev pub new_fills : Option NewNode → List Filled
-new_fills None = []
-new_fills (Some n) = node_fills n ++ (fresh_fills n.left ++ fresh_fills n.right)
+-- of a new node, and of the entries of its links
+abbrev pub new_fills : NewNode → List Filled
+new_fills n = node_fills n ++ (fresh_fills n.left ++ fresh_fills n.right)
 
--- of the entries that are put in front, each with the entry behind it, from the front at this place on
-abbrev pub front_fills : ℕ → List Front → List ℕ → List Filled
-front_fills place [] entries = []
-front_fills place (f ∷ fs) entries = entry_fills f.entry f.child (slice_index entries (look_of_front place)) ++ front_fills (suc place) fs entries
+abbrev pub new_fills_of : Option NewNode → List Filled
+new_fills_of None = []
+new_fills_of (Some n) = new_fills n
+
+-- of an entry that is put in front, with the entry behind it
+abbrev pub front_fills : ℕ → Front → List Filled
+front_fills behind f = entry_fills f.entry f.child behind
+
+abbrev pub next_fills : ℕ → Option Front → List Filled
+next_fills behind None = []
+next_fills behind (Some f) = front_fills behind f
 
 -- all that a try fills, in its order
-abbrev pub fills_of : Plan → PlanSlots → List ℕ → List Filled
-fills_of plan slots entries = new_fills (new_node_of plan slots) ++ front_fills 0 (fronts_of plan slots) entries
+abbrev pub fills_of : Plan → PlanSlots → Heads → List Filled
+fills_of plan slots heads =
+    new_fills_of (new_node_of plan slots) ++ (front_fills heads.at (front_of plan slots) ++ next_fills heads.next (next_front_of plan slots))
 
--- all looks of the plan hold
-abbrev pub HasLookedAll : View → ℕ → Plan → List ℕ → Type 0
-HasLookedAll v n plan entries = HasLooked v n plan entries (length (looks_of plan))
-
-abbrev pub LookEndLaw : Type 0
-LookEndLaw =
-    (v : View) (n : ℕ) (plan : Plan) (entries : List ℕ) (done : ℕ) → HasLooked v n plan entries done → slice_get (looks_of plan) done ≡ None
-    → HasLookedAll v n plan entries
-
--- all looks hold, the slots are free ones, and the first words are filled
-pub record IsFilling (v : View) (n : ℕ) (plan : Plan) (slots : PlanSlots) (entries : List ℕ) (done : ℕ) : Type 0 where
-  pub looked : HasLookedAll v n plan entries
-  pub free : HasSlots v slots
-  pub filled : (place : ℕ) (f : Filled) → place < done → slice_get (fills_of plan slots entries) place ≡ Some f → HoldsFill v f
+-- the view behind these fills
+abbrev pub filled_all : View → List Filled → View
+filled_all v [] = v
+filled_all v (f ∷ fs) = filled_all (filled_view v f.word f.value) fs
 
 -- all words are filled
-pub record HasFilledAll (v : View) (n : ℕ) (plan : Plan) (slots : PlanSlots) (entries : List ℕ) : Type 0 where
-  pub looked : HasLookedAll v n plan entries
+pub record HasFilledAll (v : View) (n : ℕ) (plan : Plan) (slots : PlanSlots) (heads : Heads) : Type 0 where
+  pub found : HasHeads v n plan heads
   pub free : HasSlots v slots
-  pub filled : Every (HoldsFill v) (fills_of plan slots entries)
+  pub filled : Every (HoldsFill v) (fills_of plan slots heads)
 
-abbrev pub FillStartLaw : Type 0
-FillStartLaw =
-    (v : View) (n : ℕ) (plan : Plan) (slots : PlanSlots) (entries : List ℕ) → HasLookedAll v n plan entries → HasSlots v slots
-    → IsFilling v n plan slots entries 0
+-- a fill takes no free slot away
+abbrev pub MayFillOnLaw : Type 0
+MayFillOnLaw = (v : View) (f g : Filled) → MayFill v g.word → MayFill (filled_view v f.word f.value) g.word
 
--- the next word may be filled, and then one more is
-pub record FillsNext (z : Layout) (v : View) (seat n : ℕ) (plan : Plan) (slots : PlanSlots) (entries : List ℕ) (done : ℕ) (f : Filled) : Type 0 where
-  pub may : MayFillAll z v seat f
-  pub filled : IsFilling (filled_view v f.word f.value) n plan slots entries (done + 1)
+-- each word may be filled, and behind the last one all are
+pub record FillsAll (v : View) (n : ℕ) (plan : Plan) (slots : PlanSlots) (heads : Heads) : Type 0 where
+  pub may : Every (λ (f : Filled). MayFill v f.word) (fills_of plan slots heads)
+  pub filled : HasFilledAll (filled_all v (fills_of plan slots heads)) n plan slots heads
 
-abbrev pub FillStepLaw : Type 0
-FillStepLaw =
-    (z : Layout) (v : View) (seat n : ℕ) (plan : Plan) (slots : PlanSlots) (entries : List ℕ) (done : ℕ) (f : Filled)
-    → IsFilling v n plan slots entries done → AreApart slots → slice_get (fills_of plan slots entries) done ≡ Some f
-    → FillsNext z v seat n plan slots entries done f
-
-abbrev pub FillEndLaw : Type 0
-FillEndLaw =
-    (v : View) (n : ℕ) (plan : Plan) (slots : PlanSlots) (entries : List ℕ) (done : ℕ) → IsFilling v n plan slots entries done
-    → slice_get (fills_of plan slots entries) done ≡ None → HasFilledAll v n plan slots entries
+abbrev pub FillLaw : Type 0
+FillLaw =
+    (v : View) (n : ℕ) (plan : Plan) (slots : PlanSlots) (heads : Heads) → HasHeads v n plan heads → HasSlots v slots → AreApart slots
+    → FillsAll v n plan slots heads

@@ -7,6 +7,7 @@ use Rattle.index_words.specs.declared.word.Word.{Word}
 use Rattle.core_events.specs.FillMoves.{filled_view}
 use Rattle.core_events.specs.LoadMoves.{head_loaded, ts_loaded}
 use Rattle.core_events.specs.LockMoves.{locked_view, met_lock, mark_loaded, pair_loaded}
+use Rattle.core_events.specs.PlainMoves.{link_loaded, tag_loaded}
 use Rattle.core_events.specs.UpdateMoves.{prepared}
 use Rattle.core_laws.specs.ViewNeeds.{IsInside}
 
@@ -56,6 +57,8 @@ pub record StepsKeep (v : View) : Type 0 where
   pub locked : (node : ℕ) → KeepsTry v (locked_view v node)
   pub met : (own found : ℕ) → KeepsTry v (met_lock v own found)
   pub mark : (node x : ℕ) → KeepsTry v (mark_loaded v node x)
+  pub link : (node x : ℕ) (side : Side) → KeepsTry v (link_loaded v node side x)
+  pub tag : (node x : ℕ) (side : Side) → KeepsTry v (tag_loaded v node side x)
   pub head : (node entry number : ℕ) (side : Side) → KeepsTry v (head_loaded v node side entry number)
   pub number : (entry x : ℕ) → KeepsTry v (ts_loaded v entry x)
   pub key : (node x : ℕ) → KeepsTry v (pair_loaded v Key node x)

@@ -1,9 +1,7 @@
 pub mod Frames
 pub mod Places
+pub mod Slots
 pub mod Tries
-pub mod Searches
-pub mod Walks
-pub mod Remembering
 pub mod Looks
 pub mod Fills
 pub mod Fronts

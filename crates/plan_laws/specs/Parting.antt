@@ -1,8 +1,7 @@
 -- The end of a removal with a far successor, in two halves around its wait. The first half ends its section: the removed node is
 -- marked, its copy is linked, and the locks of the removed node and of its parent are given back. Those of the successor and of its
 -- parent are kept. Behind the wait the successor is marked and unlinked, and then these locks are given back.
-use Rattle.std.specs.Prelude.{◌≡◌, ℕ, ◌+◌, ◌<◌, ◌≤◌, ◌==◌, List, [], ◌∷◌, Bool, true, false, map, Option, Some, None, is_some}
-use Rattle.index_words.specs.declared.layout.Layout.{Layout}
+use Rattle.std.specs.Prelude.{◌≡◌, ℕ, ◌+◌, ◌<◌, ◌≤◌, ◌==◌, List, [], ◌∷◌, Bool, true, false, map, Option, Some, is_some}
 use Rattle.index_words.specs.declared.view.View.{View}
 use Rattle.index_words.specs.declared.view.update.HeldNode.{HeldNode}
 use Rattle.index_words.specs.declared.view.update.Unlinking.{Unlinking}
@@ -15,14 +14,14 @@ use Rattle.core_events.specs.Moves.{left}
 use Rattle.core_events.specs.PlainMoves.{tag_loaded, link_set, tag_set}
 use Rattle.core_events.specs.UpdateNeeds.{held_at, side_of}
 use Rattle.core_events.specs.Waits.{has_no_lock, looked_waiting}
-use Rattle.core_laws.specs.PlainNeeds.{MayReadLink, MaySetLink, MaySetTag}
+use Rattle.core_invariant.specs.Readers.{IsLocked}
+use Rattle.core_laws.specs.PlainNeeds.{MayReadTag, MaySetLink, MaySetTag}
 use Rattle.core_laws.specs.ViewNeeds.{IsKnownMarked, MayMark, MayUnlock}
 use Rattle.core_laws.specs.Waits.{MayLeaveWaiting, MayLookWaiting}
 use Rattle.core_updates.specs.declared.plan.JoinPlan.{JoinPlan}
 use Rattle.core_updates.specs.declared.plan.Plan.TheVariants.{Join}
 use Rattle.core_updates.specs.declared.plan.PlanSlots.{PlanSlots}
 use Rattle.core_updates.specs.SetLinks.{SetLink, set_of, nulls_of}
-use Rattle.plan_laws.specs.Frames.{KeepsOwned}
 use Rattle.plan_laws.specs.Prunes.{HasNumbered}
 use Rattle.plan_laws.specs.Releases.{IsGivingBack}
 
@@ -100,9 +99,10 @@ pub record LinksCopy (v : View) (n : ℕ) (p : JoinPlan) (copy : ℕ) : Type 0 w
 abbrev pub LinkCopyLaw : Type 0
 LinkCopyLaw = (v : View) (n : ℕ) (p : JoinPlan) (copy : ℕ) → IsParting false v n p (far_locks p) (copy_set p copy ∷ far_set p ∷ []) → LinksCopy v n p copy
 
--- the tag of the link to the successor may be loaded
+-- the tag of the link to the successor may be loaded, as the node is a locked one
 pub record LoadsFarTag (v : View) (n : ℕ) (p : JoinPlan) : Type 0 where
-  pub may : MayReadLink v p.next.at.node
+  pub locked : IsLocked v p.next.at.node
+  pub may : p.next.at.node ≤ v.layout.nodes → MayReadTag v p.next.at.node
   pub parted : (tag : ℕ) → IsParted false (tag_loaded v p.next.at.node p.next.at.side tag) n p tag (far_locks p)
 
 abbrev pub LoadFarTagLaw : Type 0

@@ -1,9 +1,9 @@
--- The plain links of an update, behind its marks. Those at which the tree has another child since the raise are set, one after
--- another. Then the tags of those that a removal has made null are raised. Until both are done no lock is given back. A removal with
--- a far successor ends otherwise, in two halves around a wait.
-use Rattle.std.specs.Prelude.{◌≡◌, ℕ, ◌+◌, ◌<◌, List, [], Bool, true, false, drop, map, ◌==◌, ◌&&◌, Option, Some, None}
-use Rattle.std.specs.List.{slice_get}
+-- The plain link of an update, behind its marks. The link at which the tree has another child since the raise is set. Then its tag
+-- is raised, where a removal has made it null. Until both are done no lock is given back. A removal with a far successor ends
+-- otherwise, in two halves around a wait.
+use Rattle.std.specs.Prelude.{◌≡◌, ℕ, ◌+◌, ◌<◌, ◌≤◌, List, [], Bool, true, false, map, ◌==◌, ◌&&◌, Option, Some, None}
 use Rattle.index_words.specs.declared.view.View.{View}
+use Rattle.index_words.specs.declared.view.reading.Link.{Link as ViewLink}
 use Rattle.index_words.specs.declared.view.update.HeldNode.{HeldNode}
 use Rattle.index_words.specs.declared.view.update.OwedTag.{OwedTag}
 use Rattle.index_words.specs.declared.view.update.Unlinking.{Unlinking}
@@ -12,13 +12,15 @@ use Rattle.key_map.specs.Lists.{count, Every}
 use Rattle.key_map.specs.declared.update.Change.{Change}
 use Rattle.key_map.specs.declared.update.Change.TheVariants.{Put, Remove}
 use Rattle.core_grace.specs.Holds.{held_slots}
+use Rattle.core_events.specs.Searches.{is_plain}
 use Rattle.core_events.specs.PlainMoves.{tag_loaded, link_set, tag_set}
-use Rattle.core_laws.specs.PlainNeeds.{MayReadLink, MaySetLink, MaySetTag}
+use Rattle.core_invariant.specs.Readers.{IsLocked}
+use Rattle.core_laws.specs.PlainNeeds.{MayReadTag, MaySetLink, MaySetTag}
 use Rattle.core_laws.specs.ViewNeeds.{IsInside}
 use Rattle.core_updates.specs.declared.plan.Plan.{Plan}
 use Rattle.core_updates.specs.declared.plan.PlanSlots.{PlanSlots}
 use Rattle.core_updates.specs.declared.plan.Front.{Front}
-use Rattle.core_updates.specs.Plans.{change_of, locks_of, fronts_of, sets_of, unlinks_of}
+use Rattle.core_updates.specs.Plans.{change_of, locks_of, front_of, sets_of, unlinks_of}
 use Rattle.core_updates.specs.SetLinks.{SetLink, set_of, owed_of}
 use Rattle.plan_laws.specs.Frames.{KeepsOwned}
 use Rattle.plan_laws.specs.Places.{LocksOnce}
@@ -34,6 +36,10 @@ pub record LeavesLinks (unset : List UnsetLink) (owed : List OwedTag) (unlinking
 abbrev pub SetsAtOnce : Plan → Type 0
 SetsAtOnce plan = unlinks_of plan ≡ None
 
+-- since its raise a pass remembers no plain link, so that no tag differs from what it remembers
+abbrev pub HasNotSearched : View → Type 0
+HasNotSearched v = Every (λ (l : ViewLink). is_plain l.source ≡ false) v.reading.links
+
 -- a pass whose update has raised and is done with its entries and its marks: all nodes of the plan are locked
 pub record IsSetting (v : View) (n : ℕ) (plan : Plan) (sets tags : List SetLink) : Type 0 where
   pub live : v.joined ≡ false
@@ -44,24 +50,18 @@ pub record IsSetting (v : View) (n : ℕ) (plan : Plan) (sets tags : List SetLin
   pub idle : v.update.pending ≡ []
   pub marked : Every (λ (h : HeldNode). 0 < count h.node v.update.taken → h.mark ≡ Some 1) v.held.nodes
   pub links : LeavesLinks v.update.unset v.update.owed v.update.unlinking plan sets tags
+  pub unsearched : HasNotSearched v
 
--- the link in front of whose bundle the plan has put this entry may be set to the entry's child, and then one more is
-pub record SetsNext (v : View) (n : ℕ) (plan : Plan) (slots : PlanSlots) (done : ℕ) (tags : List SetLink) (f : Front) : Type 0 where
+-- the link at which the tree has changed may be set, and then none is left
+pub record SetsLink (v : View) (n : ℕ) (plan : Plan) (slots : PlanSlots) (tags : List SetLink) (f : Front) : Type 0 where
   pub may : MaySetLink v f.at.node f.at.side f.child
-  pub set : IsSetting (link_set v f.at.node f.at.side f.child) n plan (drop (done + 1) (sets_of plan slots)) tags
+  pub set : IsSetting (link_set v f.at.node f.at.side f.child) n plan [] tags
   pub keeps : KeepsOwned v (link_set v f.at.node f.at.side f.child)
 
-abbrev pub SetStepLaw : Type 0
-SetStepLaw =
-    (v : View) (n : ℕ) (plan : Plan) (slots : PlanSlots) (done : ℕ) (tags : List SetLink) (f : Front)
-    → SetsAtOnce plan → IsSetting v n plan (drop done (sets_of plan slots)) tags → slice_get (fronts_of plan slots) done ≡ Some f
-    → SetsNext v n plan slots done tags f
-
--- behind the last one none is left
-abbrev pub SetEndLaw : Type 0
-SetEndLaw =
-    (v : View) (n : ℕ) (plan : Plan) (slots : PlanSlots) (done : ℕ) (tags : List SetLink)
-    → IsSetting v n plan (drop done (sets_of plan slots)) tags → slice_get (fronts_of plan slots) done ≡ None → IsSetting v n plan [] tags
+abbrev pub SetLaw : Type 0
+SetLaw =
+    (v : View) (n : ℕ) (plan : Plan) (slots : PlanSlots) (tags : List SetLink) → SetsAtOnce plan
+    → IsSetting v n plan (sets_of plan slots) tags → SetsLink v n plan slots tags (front_of plan slots)
 
 abbrev pub is_removal : Change → Bool
 is_removal (Put val) = false
@@ -71,34 +71,25 @@ is_removal Remove = true
 abbrev pub owes_tag : Plan → Front → Bool
 owes_tag plan f = is_removal (change_of plan) && f.child == 0
 
--- all links are set, and the tag of this one is looked at next
-pub record IsTagNext (v : View) (n : ℕ) (plan : Plan) (slots : PlanSlots) (done : ℕ) (f : Front) : Type 0 where
-  pub set : IsSetting v n plan [] (drop done (sets_of plan slots))
-  pub front : slice_get (fronts_of plan slots) done ≡ Some f
-
--- the tag may be loaded, and raised by one, and then one more is
-pub record RaisesNext (v : View) (n : ℕ) (plan : Plan) (slots : PlanSlots) (done tag : ℕ) (f : Front) (w : View) : Type 0 where
+-- the tag may be loaded, as the node is a locked one, and raised by one, and then the locks may be given back
+pub record RaisesTag (n : ℕ) (plan : Plan) (tag : ℕ) (f : Front) (w : View) : Type 0 where
   pub may : MaySetTag w f.at.node f.at.side tag
-  pub raised : IsSetting (tag_set w f.at.node f.at.side (tag + 1)) n plan [] (drop (done + 1) (sets_of plan slots))
-  pub keeps : KeepsOwned v (tag_set w f.at.node f.at.side (tag + 1))
+  pub released : IsReleasing (tag_set w f.at.node f.at.side (tag + 1)) n (locks_of plan)
+  pub keeps : KeepsOwned w (tag_set w f.at.node f.at.side (tag + 1))
 
-pub record LoadsNext (v : View) (n : ℕ) (plan : Plan) (slots : PlanSlots) (done : ℕ) (f : Front) : Type 0 where
-  pub may : MayReadLink v f.at.node
-  pub raises : (tag : ℕ) → RaisesNext v n plan slots done tag f (tag_loaded v f.at.node f.at.side tag)
+pub record LoadsTag (v : View) (n : ℕ) (plan : Plan) (f : Front) : Type 0 where
+  pub locked : IsLocked v f.at.node
+  pub may : f.at.node ≤ v.layout.nodes → MayReadTag v f.at.node
+  pub keeps : (tag : ℕ) → KeepsOwned v (tag_loaded v f.at.node f.at.side tag)
+  pub raises : (tag : ℕ) → RaisesTag n plan tag f (tag_loaded v f.at.node f.at.side tag)
 
-abbrev pub TagStepLaw : Type 0
-TagStepLaw =
-    (v : View) (n : ℕ) (plan : Plan) (slots : PlanSlots) (done : ℕ) (f : Front) → IsTagNext v n plan slots done f → owes_tag plan f ≡ true
-    → LoadsNext v n plan slots done f
+abbrev pub TagLaw : Type 0
+TagLaw =
+    (v : View) (n : ℕ) (plan : Plan) (slots : PlanSlots) → SetsAtOnce plan → IsSetting v n plan [] (sets_of plan slots)
+    → owes_tag plan (front_of plan slots) ≡ true → LoadsTag v n plan (front_of plan slots)
 
--- where the tag stays the next link is looked at
-abbrev pub TagPassLaw : Type 0
-TagPassLaw =
-    (v : View) (n : ℕ) (plan : Plan) (slots : PlanSlots) (done : ℕ) (f : Front) → IsTagNext v n plan slots done f → owes_tag plan f ≡ false
-    → IsSetting v n plan [] (drop (done + 1) (sets_of plan slots))
-
--- behind the last one the locks may be given back
-abbrev pub TagEndLaw : Type 0
-TagEndLaw =
-    (v : View) (n : ℕ) (plan : Plan) (slots : PlanSlots) (done : ℕ) → SetsAtOnce plan → IsSetting v n plan [] (drop done (sets_of plan slots))
-    → slice_get (fronts_of plan slots) done ≡ None → IsReleasing v n (locks_of plan)
+-- where the tag stays they may be given back at once
+abbrev pub NoTagLaw : Type 0
+NoTagLaw =
+    (v : View) (n : ℕ) (plan : Plan) (slots : PlanSlots) → SetsAtOnce plan → IsSetting v n plan [] (sets_of plan slots)
+    → owes_tag plan (front_of plan slots) ≡ false → IsReleasing v n (locks_of plan)

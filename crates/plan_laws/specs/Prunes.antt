@@ -1,7 +1,7 @@
 -- Between the numbers of an update's entries and its marks the bundles that the update changed may be cut. What the
 -- seat's view shows of the update stays, whatever it loads on its way along them, at whomever it looks, and whatever it
 -- cuts.
-use Rattle.std.specs.Prelude.{◌≡◌, ℕ, ◌≤◌, List, [], length, true, false, Some, is_some}
+use Rattle.std.specs.Prelude.{◌≡◌, ℕ, ◌<◌, ◌≤◌, List, [], length, true, false, Some, is_some}
 use Rattle.std.specs.List.{slice_get}
 use Rattle.index_words.specs.declared.side.Side.{Side}
 use Rattle.index_words.specs.declared.view.View.{View}
@@ -17,7 +17,7 @@ use Rattle.core_updates.specs.Plans.{locks_of, out_of, fronts_of, sets_of}
 use Rattle.plan_laws.specs.Frames.{CountsGrow, KeepsOwned}
 use Rattle.plan_laws.specs.Looks.{IsUnmarked}
 use Rattle.plan_laws.specs.Places.{LocksOnce}
-use Rattle.plan_laws.specs.PlainLinks.{LeavesLinks}
+use Rattle.plan_laws.specs.PlainLinks.{HasNotSearched, LeavesLinks}
 
 -- of each node at which the plan puts an entry in front, the mark was found 0 under its lock
 abbrev pub AreUnmarked : View → Plan → PlanSlots → Type 0
@@ -37,9 +37,10 @@ pub record HasNumbered (v : View) (n : ℕ) (plan : Plan) (slots : PlanSlots) : 
   pub reads : is_some v.reading.section ≡ true
   pub unmarked : AreUnmarked v plan slots
   pub links : LeavesLinks v.update.unset v.update.owed v.update.unlinking plan (sets_of plan slots) (sets_of plan slots)
+  pub unsearched : HasNotSearched v
 
 -- what pruning leaves as it was: what the pass knows of the history, and its slots, but for entries that it retires. No
--- count falls
+-- count falls, and that of entries without a number is as it was
 pub record KeepsPruned (v w : View) : Type 0 where
   pub layout : w.layout ≡ v.layout
   pub joined : w.joined ≡ v.joined
@@ -50,6 +51,7 @@ pub record KeepsPruned (v w : View) : Type 0 where
   pub nodes : w.retired.nodes ≡ v.retired.nodes
   pub entries : length v.retired.entries ≤ length w.retired.entries
   pub grown : CountsGrow v w
+  pub waits : w.counts.waits ≡ v.counts.waits
 
 -- the update stands as it did
 pub record StaysNumbered (v w : View) (n : ℕ) (plan : Plan) (slots : PlanSlots) : Type 0 where
@@ -58,7 +60,7 @@ pub record StaysNumbered (v w : View) (n : ℕ) (plan : Plan) (slots : PlanSlots
 
 pub record PrunesOn (v : View) (n : ℕ) (plan : Plan) (slots : PlanSlots) : Type 0 where
   pub head : (node entry number : ℕ) (side : Side) → StaysNumbered v (head_loaded v node side entry number) n plan slots
-  pub number : (entry x : ℕ) → StaysNumbered v (ts_loaded v entry x) n plan slots
+  pub number : (entry x : ℕ) → 0 < x → StaysNumbered v (ts_loaded v entry x) n plan slots
   pub next : (entry next : ℕ) → StaysNumbered v (next_loaded v entry next) n plan slots
   pub looked : (pass word : ℕ) → StaysNumbered v (ann_loaded v pass word) n plan slots
   pub cut : (entry : ℕ) (back : List ℕ) → StaysNumbered v (cut_view v entry back) n plan slots

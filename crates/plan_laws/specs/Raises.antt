@@ -1,6 +1,6 @@
 -- The raise of a plan, and what follows it: the numbers of its entries are written, one after another, and then, behind
 -- the pruning, the nodes that went out are marked. Until both are done, and the plain links are set, no lock is given back.
-use Rattle.std.specs.Prelude.{◌≡◌, ℕ, ◌+◌, ◌<◌, List, [], ◌∷◌, ◌++◌, take, drop, true, false, Option, Some, None, is_some}
+use Rattle.std.specs.Prelude.{◌≡◌, ℕ, ◌+◌, ◌<◌, [], take, drop, true, false, Some, None, is_some}
 use Rattle.std.specs.List.{slice_get}
 use Rattle.index_words.specs.declared.layout.Layout.{Layout}
 use Rattle.index_words.specs.declared.view.View.{View}
@@ -22,30 +22,15 @@ use Rattle.core_invariant.specs.Rule.{IsRight}
 use Rattle.core_laws.specs.ViewNeeds.{May, IsInside, event_at}
 use Rattle.core_updates.specs.declared.plan.Plan.{Plan}
 use Rattle.core_updates.specs.declared.plan.PlanSlots.{PlanSlots}
-use Rattle.core_updates.specs.declared.plan.Fresh.{Fresh}
-use Rattle.core_updates.specs.declared.plan.NewNode.{NewNode}
 use Rattle.core_updates.specs.Held.{CanRaise, raise_of}
-use Rattle.core_updates.specs.Plans.{key_of, change_of, locks_of, out_of, new_node_of, fronts_of, entries_of, sets_of}
+use Rattle.core_updates.specs.Plans.{key_of, change_of, locks_of, out_of, entries_in, sets_of}
 use Rattle.core_updates.specs.Ready.{update_of}
 use Rattle.plan_laws.specs.Frames.{KeepsOwned}
 use Rattle.plan_laws.specs.Places.{LocksOnce}
-use Rattle.plan_laws.specs.PlainLinks.{IsSetting, LeavesLinks}
+use Rattle.plan_laws.specs.PlainLinks.{HasNotSearched, IsSetting, LeavesLinks}
 use Rattle.plan_laws.specs.Fills.{AreApart}
 use Rattle.plan_laws.specs.Fronts.{IsReadyToRaise}
 use Rattle.plan_laws.specs.Prunes.{AreUnmarked, HasNumbered}
-
-abbrev pub fresh_entry : Option Fresh → List ℕ
-fresh_entry None = []
-fresh_entry (Some fresh) = fresh.entry ∷ []
-
--- the entries of the new node's links
-abbrev pub fresh_entries : Option NewNode → List ℕ
-fresh_entries None = []
-fresh_entries (Some n) = fresh_entry n.left ++ fresh_entry n.right
-
--- the entries that get their number by the raise: those in front, and those of the new node's links
-abbrev pub raised_entries : Plan → PlanSlots → List ℕ
-raised_entries plan slots = entries_of (fronts_of plan slots) ++ fresh_entries (new_node_of plan slots)
 
 -- the update was raised at this place, and the first of its entries have their number written
 pub record HasFinalised (v : View) (n : ℕ) (plan : Plan) (slots : PlanSlots) (place done : ℕ) : Type 0 where
@@ -56,10 +41,11 @@ pub record HasFinalised (v : View) (n : ℕ) (plan : Plan) (slots : PlanSlots) (
   pub locked : held_slots v.held.nodes ≡ locks_of plan
   pub raised : v.update.raised ≡ Some place
   pub taken : v.update.taken ≡ out_of plan
-  pub pending : v.update.pending ≡ drop done (raised_entries plan slots)
+  pub pending : v.update.pending ≡ drop done (entries_in plan slots)
   pub reads : is_some v.reading.section ≡ true
   pub unmarked : AreUnmarked v plan slots
   pub links : LeavesLinks v.update.unset v.update.owed v.update.unlinking plan (sets_of plan slots) (sets_of plan slots)
+  pub unsearched : HasNotSearched v
 
 -- the update of a plan
 abbrev pub update_by : ℕ → ℕ → Plan → Update
@@ -88,7 +74,7 @@ pub record FinalisesNext (z : Layout) (v : View) (seat n : ℕ) (plan : Plan) (s
 abbrev pub FinaliseStepLaw : Type 0
 FinaliseStepLaw =
     (z : Layout) (v : View) (seat n : ℕ) (plan : Plan) (slots : PlanSlots) (place done entry : ℕ) → HasFinalised v n plan slots place done → AreApart slots
-    → slice_get (raised_entries plan slots) done ≡ Some entry → FinalisesNext z v seat n plan slots place done entry
+    → slice_get (entries_in plan slots) done ≡ Some entry → FinalisesNext z v seat n plan slots place done entry
 
 -- each entry has its number, and the first of the nodes that went out are marked
 pub record HasMarked (v : View) (n : ℕ) (plan : Plan) (slots : PlanSlots) (done : ℕ) : Type 0 where
@@ -101,11 +87,12 @@ pub record HasMarked (v : View) (n : ℕ) (plan : Plan) (slots : PlanSlots) (don
   pub idle : v.update.pending ≡ []
   pub marked : Every (λ (h : HeldNode). 0 < count h.node (take done (out_of plan)) → h.mark ≡ Some 1) v.held.nodes
   pub links : LeavesLinks v.update.unset v.update.owed v.update.unlinking plan (sets_of plan slots) (sets_of plan slots)
+  pub unsearched : HasNotSearched v
 
 abbrev pub FinaliseEndLaw : Type 0
 FinaliseEndLaw =
     (v : View) (n : ℕ) (plan : Plan) (slots : PlanSlots) (place done : ℕ) → HasFinalised v n plan slots place done
-    → slice_get (raised_entries plan slots) done ≡ None → HasNumbered v n plan slots
+    → slice_get (entries_in plan slots) done ≡ None → HasNumbered v n plan slots
 
 -- behind the pruning the nodes may be marked
 abbrev pub MarkStartLaw : Type 0

@@ -1,7 +1,6 @@
 -- The end of an update, and of a try that fails: the locks are given back, one after another, the section is left, and the
 -- announcement is taken back.
-use Rattle.std.specs.Prelude.{◌≡◌, ℕ, ◌+◌, ◌<◌, ◌≤◌, List, [], ◌∷◌, take, drop, Bool, true, false, Some, None}
-use Rattle.std.specs.List.{slice_get}
+use Rattle.std.specs.Prelude.{◌≡◌, ℕ, ◌<◌, ◌≤◌, List, [], ◌∷◌, Bool, true, false, Some, None}
 use Rattle.index_words.specs.declared.layout.Layout.{Layout}
 use Rattle.index_words.specs.declared.view.View.{View}
 use Rattle.index_words.specs.declared.view.update.HeldNode.{HeldNode}
@@ -16,10 +15,8 @@ use Rattle.core_events.specs.Announcing.{announced_view}
 use Rattle.core_events.specs.LockMoves.{unlocked_view}
 use Rattle.core_events.specs.Moves.{left}
 use Rattle.core_laws.specs.ViewNeeds.{May, IsInside, event_at}
-use Rattle.core_updates.specs.declared.plan.Plan.{Plan}
-use Rattle.core_updates.specs.Plans.{locks_of}
 use Rattle.plan_laws.specs.Frames.{KeepsOwned}
-use Rattle.plan_laws.specs.Tries.{HasLocked, HasLockedAll}
+use Rattle.plan_laws.specs.Tries.{IsTrying}
 
 -- a pass still has these nodes locked, in this order, and no others, inside a section, or behind one with a wait. Nothing is pending, and of
 -- these nodes those that its update took out are known to be marked; no plain link is to be set any more, no tag to be raised, and no
@@ -41,11 +38,7 @@ IsReleasing = IsGivingBack false
 
 -- a try may give up at each of its steps before it fills its slots
 abbrev pub GiveUpLaw : Type 0
-GiveUpLaw =
-    (v : View) (n : ℕ) (plan : Plan) (entries : List ℕ) (done : ℕ) → HasLocked v n plan entries done → IsReleasing v n (take done (locks_of plan))
-
-abbrev pub GiveAllUpLaw : Type 0
-GiveAllUpLaw = (v : View) (n : ℕ) (plan : Plan) (entries : List ℕ) → HasLockedAll v n plan entries → IsReleasing v n (locks_of plan)
+GiveUpLaw = (v : View) (n : ℕ) (nodes : List ℕ) → IsTrying v n nodes → IsReleasing v n nodes
 
 -- a pass inside a section that has locked no node may leave it
 abbrev pub NothingLockedLaw : Type 0
@@ -61,25 +54,6 @@ pub record GivesBackNext (even : Bool) (z : Layout) (v : View) (seat n node : �
 abbrev pub UnlockStepLaw : Type 0
 UnlockStepLaw =
     (even : Bool) (z : Layout) (v : View) (seat n node : ℕ) (rest : List ℕ) → IsGivingBack even v n (node ∷ rest) → GivesBackNext even z v seat n node rest
-
--- the same by the lock's place in a list of nodes, of which those in front are given back already
-abbrev pub UnlockPlaceLaw : Type 0
-UnlockPlaceLaw =
-    (z : Layout) (v : View) (seat n node place : ℕ) (nodes : List ℕ) → IsReleasing v n (drop place nodes) → slice_get nodes place ≡ Some node
-    → GivesBackNext false z v seat n node (drop (place + 1) nodes)
-
--- behind the last one none is left
-abbrev pub UnlockEndLaw : Type 0
-UnlockEndLaw =
-    (v : View) (n place : ℕ) (nodes : List ℕ) → IsReleasing v n (drop place nodes) → slice_get nodes place ≡ None → IsReleasing v n []
-
--- where the first nodes of a plan are locked, these are the ones by their places
-pub record TakesFirst (nodes : List ℕ) (done place : ℕ) : Type 0 where
-  pub here : place < done → slice_get (take done nodes) place ≡ slice_get nodes place
-  pub past : done ≤ place → slice_get (take done nodes) place ≡ None
-
-abbrev pub TakesFirstLaw : Type 0
-TakesFirstLaw = (nodes : List ℕ) (done place : ℕ) → TakesFirst nodes done place
 
 -- outside a section, with nothing read, locked or under way
 pub record HasLeft (v : View) (n : ℕ) : Type 0 where

@@ -3,10 +3,12 @@
 ghost use Rattle.plan_laws.specs.Answers.{AnswerLaw, PreparedOwnsLaw, FourEntriesLaw};
 ghost use Rattle.plan_laws.specs.Frames.{StepsKeepLaw, KeepsPassLaw, KeepsTryLaw, KeepsOwnedLaw};
 ghost use Rattle.plan_laws.specs.Parting.{StartPartingLaw, LinkCopyLaw, LoadFarTagLaw, UnlockUpperLaw, LeavePartedLaw, LookPartedLaw, MarkFarLaw, UnlinkFarLaw};
-ghost use Rattle.plan_laws.specs.PlainLinks.{SetStepLaw, SetEndLaw, TagStepLaw, TagPassLaw, TagEndLaw};
+ghost use Rattle.plan_laws.specs.PlainLinks.{SetLaw, TagLaw, NoTagLaw};
 ghost use Rattle.plan_laws.specs.Prunes.{PruneStepLaw, KeepsPrunedLaw, OwnedIsPrunedLaw};
 ghost use Rattle.plan_laws.specs.Raises.{RaiseStepLaw, FinaliseStepLaw, FinaliseEndLaw, MarkStartLaw, MarkStepLaw, MarkEndLaw};
-ghost use Rattle.plan_laws.specs.Releases.{GiveUpLaw, GiveAllUpLaw, NothingLockedLaw, UnlockStepLaw, UnlockPlaceLaw, UnlockEndLaw, TakesFirstLaw, LeaveStepLaw, TakeBackStepLaw};
+ghost use Rattle.plan_laws.specs.Releases.{GiveUpLaw, NothingLockedLaw, UnlockStepLaw, LeaveStepLaw, TakeBackStepLaw};
+
+use core_updates::ready_plans_may_raise;
 
 /// A seat that is ready for its plan may raise, at the place behind the stamp. Then the numbers of its entries are
 /// written, and the nodes that went out are marked.
@@ -17,16 +19,16 @@ pub fn updates_raise()
     ensures mark_start { MarkStartLaw }
     ensures mark { MarkStepLaw }
     ensures marked { MarkEndLaw }
-{}
+{
+    ready_plans_may_raise();
+}
 
-/// Behind the marks the plain links are set at which the tree has another child since the raise, and the tags of those are
-/// raised that a removal has made null. Then the locks may be given back.
+/// Behind the marks the plain link is set at which the tree has another child since the raise, and its tag is raised
+/// where a removal has made it null. Then the locks may be given back.
 pub fn plain_links_are_set()
-    ensures set { SetStepLaw }
-    ensures all_set { SetEndLaw }
-    ensures raise_tag { TagStepLaw }
-    ensures pass { TagPassLaw }
-    ensures done { TagEndLaw }
+    ensures set { SetLaw }
+    ensures raise_tag { TagLaw }
+    ensures no_tag { NoTagLaw }
 {}
 
 /// A removal with a far successor ends in two halves around its wait. Before it the copy is linked, and the section is
@@ -54,12 +56,8 @@ pub fn bundles_are_pruned()
 /// section, and takes its announcement back.
 pub fn locks_are_given_back()
     ensures give_up { GiveUpLaw }
-    ensures give_all_up { GiveAllUpLaw }
     ensures nothing_locked { NothingLockedLaw }
     ensures unlock { UnlockStepLaw }
-    ensures unlock_place { UnlockPlaceLaw }
-    ensures unlock_end { UnlockEndLaw }
-    ensures first_locks { TakesFirstLaw }
     ensures leave { LeaveStepLaw }
     ensures take_back { TakeBackStepLaw }
 {}
@@ -79,4 +77,6 @@ pub fn updates_are_answered()
     ensures answer { AnswerLaw }
     ensures prepared { PreparedOwnsLaw }
     ensures four { FourEntriesLaw }
-{}
+{
+    ready_plans_may_raise();
+}

@@ -6,12 +6,10 @@
 #![tactic(auto)]
 
 mod end_laws;
-mod search_laws;
 mod try_laws;
 
 pub use end_laws::{
     bundles_are_pruned, locks_are_given_back, plain_links_are_set, removals_wait,
     steps_keep_the_rest, updates_are_answered, updates_raise,
 };
-pub use search_laws::{plans_can_be_tried, searches_remember, searches_walk_down};
 pub use try_laws::{tries_fill, tries_lock, tries_look, tries_prepare};

@@ -1,36 +1,33 @@
-// Laws on the steps of a try, up to its last look. These calls do nothing: their clauses are what is proved.
-ghost use Rattle.plan_laws.specs.Tries.{LockStepLaw, LockEndLaw, TryReadsLaw, TryFailsLaw, TryAloneLaw};
-ghost use Rattle.plan_laws.specs.Fills.{LookEndLaw, FillStartLaw, FillStepLaw, FillEndLaw};
+// Laws on the steps of a try, up to its raise. These calls do nothing: their clauses are what is proved.
+ghost use Rattle.plan_laws.specs.Fills.{FillLaw, MayFillOnLaw};
 ghost use Rattle.plan_laws.specs.Fronts.{PrepareStartLaw, PrepareStepLaw, PrepareEndLaw};
-ghost use Rattle.plan_laws.specs.Looks.{MarkLookLaw, HeadLookLaw, NumberLookLaw, MayNumberLaw, KeyLookLaw, ValLookLaw, LookStartLaw};
+ghost use Rattle.plan_laws.specs.Looks.{HeadsStayLaw, KeepsLooksLaw, LookLaw, NumberLaw, StepsKeepLooksLaw};
+ghost use Rattle.plan_laws.specs.Slots.{SlotsSomeLaw};
+ghost use Rattle.plan_laws.specs.Tries.{LastUnlockLaw, LoadsKeepLaw, LockStepLaw};
 
-/// A try locks the nodes of its plan, one after another. Where a step of a try fails, the count has risen that the
-/// answer needs; on a table of one pass none fails.
+/// A try searches, and locks nodes that it has searched, one after another. No load of it takes anything from that, nor
+/// does the unlock of the node that it has locked last.
 pub fn tries_lock()
     ensures step { LockStepLaw }
-    ensures end { LockEndLaw }
-    ensures reads { TryReadsLaw }
-    ensures fails { TryFailsLaw }
-    ensures alone { TryAloneLaw }
+    ensures loads { LoadsKeepLaw }
+    ensures unlock { LastUnlockLaw }
 {}
 
-/// Under its locks a try looks at what its plan asks for.
+/// Under its locks a try looks at marks, plain links, tags, keys and values, and at the newest entries of bundles. What
+/// it has found stays found.
 pub fn tries_look()
-    ensures start { LookStartLaw }
-    ensures mark { MarkLookLaw }
-    ensures head { HeadLookLaw }
-    ensures number { NumberLookLaw }
-    ensures may_number { MayNumberLaw }
-    ensures key { KeyLookLaw }
-    ensures val { ValLookLaw }
-    ensures end { LookEndLaw }
+    ensures look { LookLaw }
+    ensures number { NumberLaw }
+    ensures heads { HeadsStayLaw }
+    ensures steps { StepsKeepLooksLaw }
+    ensures keeps { KeepsLooksLaw }
 {}
 
-/// Behind its last look a try fills its own free slots.
+/// Behind its last look a try fills its own free slots, which are above 0.
 pub fn tries_fill()
-    ensures start { FillStartLaw }
-    ensures step { FillStepLaw }
-    ensures end { FillEndLaw }
+    ensures slots { SlotsSomeLaw }
+    ensures on { MayFillOnLaw }
+    ensures fill { FillLaw }
 {}
 
 /// With all its slots filled a try puts its entries in front of bundles. Behind the last one the seat is ready for its

@@ -94,6 +94,10 @@ fn seat_of(alloc: Global, number: u32) -> Seat {
         at: 0,
         steps: Vec::new(alloc),
         update: None,
+        left: None,
+        right: None,
+        removed: None,
+        checks: false,
         plan: None,
         slots: NO_SLOTS,
     }

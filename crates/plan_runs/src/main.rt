@@ -6,7 +6,9 @@
 mod input;
 mod machine;
 mod plain;
+mod planned;
 mod prune;
+mod search;
 mod seat;
 mod turn;
 mod update;

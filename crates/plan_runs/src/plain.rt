@@ -40,7 +40,7 @@ fn set_link(
     seat: &mut Seat,
     place: usize,
 ) -> Result<(), Stop> {
-    let Some(front) = seat.plan.and_then(|plan| plan.front(&seat.slots, place)) else {
+    let Some(front) = seat.front(place) else {
         return Ok(());
     };
     if is_last(machine, seat.number, front.at) {
@@ -67,7 +67,7 @@ fn load_tag(
     let Some(plan) = seat.plan else {
         return Ok(());
     };
-    let Some(front) = plan.front(&seat.slots, place) else {
+    let Some(front) = seat.front(place) else {
         return Ok(());
     };
     let more = Step::Plain(PlainStep::Tag(place.saturating_add(1)));

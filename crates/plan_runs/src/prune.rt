@@ -36,7 +36,7 @@ fn look(alloc: Global, machine: &mut Machine, seat: &mut Seat, pass: u32) -> Res
 }
 
 fn bundle(alloc: Global, machine: &mut Machine, seat: &mut Seat, place: usize) -> Result<(), Stop> {
-    let Some(front) = seat.plan.and_then(|plan| plan.front(&seat.slots, place)) else {
+    let Some(front) = seat.front(place) else {
         return Ok(());
     };
     let word = Word::Node(Field::Head(front.at.side), front.at.node);

@@ -1,8 +1,8 @@
 // What a pass is asked for, and the steps by which it does it.
 use crate::machine::Stop;
 use core_trees::Link;
-use core_updates::{Plan, PlanSlots};
-use index_words::{Counts, Side, Update, Word};
+use core_updates::{Front, Plan, PlanSlots};
+use index_words::{Counts, Side, Turn, Update, Word};
 
 #[derive(Clone, Copy)]
 pub(crate) enum Request {
@@ -29,8 +29,7 @@ pub(crate) enum Step {
     Announce,
     /// Takes the announcement back.
     TakeBack,
-    /// Makes the plan of the update.
-    Plan,
+    Search(SearchStep),
     Walk(WalkStep),
     Update(UpdateStep),
     Prune(PruneStep),
@@ -52,18 +51,40 @@ pub(crate) enum WalkStep {
     Val { node: u32, key: u64 },
 }
 
-/// A step of an update, at a place of a list of its plan.
+/// A step of a search on plain links, for the key of the update or for the successor of its node.
+#[derive(Clone, Copy)]
+pub(crate) enum SearchStep {
+    /// Goes on by the link, where the search stands.
+    Link(Link),
+    /// Looks at the key of the node to which the link has led.
+    Key { at: Link, node: u32 },
+    /// The search has ended at the link, which is null.
+    Tag(Link),
+    /// Steps to the right of the node of a removal.
+    Right { at: Link, node: u32 },
+    /// The key of the node does not lie beyond the turn: one of the two was taken out.
+    Odd { node: u32, turn: u32 },
+    OddLock { node: u32, turn: u32 },
+    OddMark { node: u32, turn: u32 },
+}
+
+/// A step of an update, under its locks or on the way to them.
 #[derive(Clone, Copy)]
 pub(crate) enum UpdateStep {
-    /// Walks along the bundle of each link that the plan looks at.
-    Remember(usize),
-    Remembered { at: Link, child: u32 },
-    Lock(usize),
-    Look(usize),
-    LookMark(u32),
-    LookHead(Link),
-    LookNumber,
-    LookPair { word: Word, value: u64 },
+    Lock(u32),
+    /// Looks whether the locked node is unmarked.
+    Unmarked(u32),
+    /// Looks whether the link still leads to the child that the search has found.
+    Leads { at: Link, child: u32 },
+    /// Looks whether the null link still has the tag that the search has found.
+    SameTag(Gap),
+    /// Loads a word of a locked node's pair, or one of its links.
+    Learn(Word),
+    /// Makes the plan from what is known.
+    Plan(Aim),
+    /// Loads the newest entry of each bundle in front of which the plan puts one.
+    Head(usize),
+    Number,
     FillNode(usize),
     FillFresh { side: Side, place: usize },
     FillFront { front: usize, place: usize },
@@ -72,6 +93,30 @@ pub(crate) enum UpdateStep {
     Finalise,
     Mark(usize),
     Unlock,
+}
+
+/// A null link at which a search has ended, with its tag.
+#[derive(Clone, Copy)]
+pub(crate) struct Gap {
+    pub(crate) at: Link,
+    pub(crate) tag: u64,
+}
+
+/// A node that a search has found, and the link to it.
+#[derive(Clone, Copy)]
+pub(crate) struct Found {
+    pub(crate) at: Link,
+    pub(crate) node: u32,
+}
+
+/// What a try is to do, as its searches have found it.
+#[derive(Clone, Copy)]
+pub(crate) enum Aim {
+    Grow(Link),
+    Replace(Found),
+    Remove(Found),
+    /// A removal of a node with two children, and its successor.
+    Join { removed: Found, next: Found },
 }
 
 /// A step of an update that has written its numbers: it cuts the bundles of the links that it changed.
@@ -114,10 +159,10 @@ pub(crate) enum Outcome {
     Absent,
     /// A lock was held by another pass.
     Busy,
-    /// A node was marked, or a head was another one.
+    /// A node was marked, or a link or its tag was another one.
     Moved,
-    /// An entry had no number yet.
-    Pending,
+    /// The search has not found the key of a removal, and a snapshot has it.
+    Late,
     /// Too few slots are free.
     NoSlot,
 }
@@ -159,6 +204,13 @@ pub(crate) struct Seat {
     /// The steps that are left, the next one last.
     pub(crate) steps: Vec<Step>,
     pub(crate) update: Option<Update>,
+    /// The last turns of its search.
+    pub(crate) left: Option<Turn>,
+    pub(crate) right: Option<Turn>,
+    /// The node that it is to remove, as long as it searches for the successor.
+    pub(crate) removed: Option<Found>,
+    /// It looks in a snapshot whether the key of a removal is absent.
+    pub(crate) checks: bool,
     pub(crate) plan: Option<Plan>,
     pub(crate) slots: PlanSlots,
 }
@@ -170,6 +222,16 @@ impl Seat {
             self.steps.push(*step)?;
         }
         Ok(())
+    }
+
+    /// The entries that the plan puts in front of bundles, one after another.
+    pub(crate) fn front(&self, place: usize) -> Option<Front> {
+        let plan = self.plan?;
+        match place {
+            0 => Some(plan.front(&self.slots)),
+            1 => plan.next_front(&self.slots),
+            _ => None,
+        }
     }
 
     /// Gives up: what is locked is given back, and the section is left.

@@ -2,8 +2,9 @@
 use crate::machine::{Machine, Stop};
 use crate::plain::plain_step;
 use crate::prune::prune_step;
-use crate::seat::{Outcome, Report, Request, Seat, Step, UpdateStep, WalkStep};
-use crate::update::{make_plan, update_step};
+use crate::search::{begin_search, search_step};
+use crate::seat::{Outcome, Report, Request, Seat, Step, WalkStep};
+use crate::update::update_step;
 use crate::walk::walk_step;
 use core_rule::Kind;
 use core_trees::{Link, ROOT};
@@ -89,12 +90,12 @@ fn begin_try(machine: &Machine, seat: &mut Seat) -> Result<(), Stop> {
     if let Some(slots) = slots(machine, seat.number) {
         seat.slots = slots;
     }
-    seat.then(&[Step::Plan])?;
+    begin_search(seat)?;
     begin_section(seat, false)
 }
 
 // Enters, and reads at what the load behind the announcement finds.
-fn begin_section(seat: &mut Seat, fix: bool) -> Result<(), Stop> {
+pub(crate) fn begin_section(seat: &mut Seat, fix: bool) -> Result<(), Stop> {
     seat.then(&[
         Step::Enter,
         Step::LoadStamp { fix: false },
@@ -137,7 +138,7 @@ fn one_step(
         }
         Step::Announce => announce(alloc, machine, number),
         Step::TakeBack => machine.step(alloc, number, Kind::Announce, Word::Announced(number), 0),
-        Step::Plan => make_plan(machine, seat),
+        Step::Search(step) => search_step(alloc, machine, seat, step),
         Step::Walk(step) => return walk_step(alloc, machine, seat, step),
         Step::Update(step) => return update_step(alloc, machine, seat, step),
         Step::Plain(step) => plain_step(alloc, machine, seat, step),

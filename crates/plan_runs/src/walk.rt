@@ -6,25 +6,15 @@ use core_trees::Link;
 use index_words::{Field, LinkSource, Part, Place, Side, View, Word};
 use std::alloc::Global;
 
-/// A link as a view remembers it: the entry that selected it, and the child.
-#[derive(Clone, Copy)]
-pub(crate) struct Known {
-    pub(crate) entry: u64,
-    pub(crate) child: u64,
-}
-
-/// What the view remembers of a link that it found through its bundle.
-pub(crate) fn remembered_link(view: &View, at: Link) -> Option<Known> {
+/// The child to which a link leads that the view has found through its bundle.
+fn remembered_child(view: &View, at: Link) -> Option<u64> {
     let mut found = None;
     for link in view.reading.links.as_slice() {
-        if let LinkSource::Bundle { entry } = link.source
+        if let LinkSource::Bundle { .. } = link.source
             && link.node == at.node
             && link.side == at.side
         {
-            found = Some(Known {
-                entry,
-                child: link.child,
-            });
+            found = Some(link.child);
         }
     }
     found
@@ -57,7 +47,7 @@ pub(crate) fn walk_step(
     };
     machine.step(alloc, number, kind, word, 0)?;
     if let WalkStep::Val { key, .. } = step {
-        return Ok(found(machine, seat, key, Some(machine.word(word))));
+        return found(machine, seat, key, Some(machine.word(word)));
     }
     loaded(machine, seat, step, machine.word(word))?;
     Ok(None)
@@ -81,18 +71,14 @@ fn go_on(machine: &Machine, seat: &mut Seat) -> Result<(), Stop> {
     seat.then(&[Step::Walk(WalkStep::Number)])
 }
 
-// A reader waits for a number that is not written yet, an update gives up.
+// A reader waits for a number that is not written yet.
 fn compare(machine: &Machine, seat: &mut Seat, stamp: u64) -> Result<(), Stop> {
     let Some(view) = machine.view(seat.number) else {
         return Ok(());
     };
     if stamp == 0 {
-        if view.reading.opened.is_some() {
-            return seat.then(&[Step::Walk(WalkStep::Number)]);
-        }
-        return seat.give_up(Outcome::Pending);
-    }
-    if stamp <= view.reading.section.unwrap_or(0) {
+        seat.then(&[Step::Walk(WalkStep::Number)])
+    } else if stamp <= view.reading.section.unwrap_or(0) {
         seat.then(&[Step::Walk(WalkStep::Child)])
     } else {
         seat.then(&[Step::Walk(WalkStep::Next)])
@@ -102,11 +88,11 @@ fn compare(machine: &Machine, seat: &mut Seat, stamp: u64) -> Result<(), Stop> {
 fn arrive(machine: &Machine, seat: &mut Seat, at: Link, key: u64) -> Result<Option<Report>, Stop> {
     let child = machine
         .view(seat.number)
-        .and_then(|view| remembered_link(view, at))
-        .map_or(0, |link| link.child);
+        .and_then(|view| remembered_child(view, at))
+        .unwrap_or(0);
     let node = u32::try_from(child).unwrap_or(0);
     if node == 0 {
-        return Ok(found(machine, seat, key, None));
+        return found(machine, seat, key, None);
     }
     seat.then(&[Step::Walk(WalkStep::Key { node, key })])?;
     Ok(None)
@@ -124,12 +110,33 @@ fn descend(seat: &mut Seat, node: u32, key: u64, found: u64) -> Result<(), Stop>
     ])
 }
 
-fn found(machine: &Machine, seat: &Seat, key: u64, val: Option<u64>) -> Option<Report> {
-    let view = machine.view(seat.number)?;
-    Some(Report::Found {
-        at: view.reading.section?,
+// A look-up tells what it has found. One for a removal whose search has not found its key ends the try.
+fn found(
+    machine: &Machine,
+    seat: &mut Seat,
+    key: u64,
+    val: Option<u64>,
+) -> Result<Option<Report>, Stop> {
+    if seat.checks {
+        seat.checks = false;
+        let outcome = if val.is_none() {
+            Outcome::Absent
+        } else {
+            Outcome::Late
+        };
+        seat.then(&[Step::Tell(outcome), Step::Leave, Step::TakeBack])?;
+        return Ok(None);
+    }
+    let Some(view) = machine.view(seat.number) else {
+        return Ok(None);
+    };
+    let Some(at) = view.reading.section else {
+        return Ok(None);
+    };
+    Ok(Some(Report::Found {
+        at,
         key,
         val,
         counts: view.counts,
-    })
+    }))
 }

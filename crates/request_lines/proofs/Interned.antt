@@ -3,7 +3,7 @@ use Rattle.std.proofs.Common.{◌≡◌, ◌≢◌, ℕ, ◌+◌, ◌<◌, ◌�
 use Rattle.std.specs.Prelude.{All, Contains, Option, None, Some, slice_index}
 use Rattle.std.specs.List.{range_with_len}
 use Rattle.std.specs.List.Sorted.{IsPermutation}
-use Rattle.std.proofs.lemmas.List.{get_or-map, length-map, length_push, get_or_append_left, get_or_default, get_or_push, take_more, get_or-replicate, length-replicate, map-append, map-id}
+use Rattle.std.proofs.lemmas.List.{get_or-map, length-map, length_push, get_or_append_left, get_or_default, take_more, get_or-replicate, length-replicate, map-append, map-id}
 use Rattle.std.proofs.lemmas.List.FromFn.{get_or-range_with_len, length-range_with_len, map-range_with_len_more}
 use Rattle.std.proofs.lemmas.List.Elements.{All-head, All-tail, All-push, All-weaker, All-map, Contains-get_or, Contains-push, Contains-push_cases, Contains-append_left}
 use Rattle.std.proofs.lemmas.List.Sorted.{All-permutation, Contains-permutation, IsPermutation-map, length_permutation}
@@ -57,18 +57,6 @@ interned_more ks new order name number interned is_known = record {
     ]
 
 -- ---- the group of a name
-
--- the last of the distinct names
-pub last_group : (keys : List (List ℕ)) (name : List ℕ) (place : ℕ) → place < length keys → name_at keys place ≡ name → IsKnownAs keys keys name place
-last_group keys name place within is = record { known = inl refl; below = within; is = is }
-
--- a name that joins them
-pub new_group : (keys new : List (List ℕ)) (text name : List ℕ) → new ≡ keys ++ text ∷ [] → text ≡ name → IsKnownAs keys new name (length keys)
-new_group keys new text name longer same = record {
-  known = inr (longer ∙ ap (λ (n : List ℕ). keys ++ n ∷ []) same);
-  below = omega (arith, ap length longer, length_push keys text);
-  is = ap (λ (ns : List (List ℕ)). name_at ns (length keys)) longer ∙ get_or_push keys text [] (length keys) refl ∙ same;
-}
 
 -- ---- the names of the list
 
@@ -140,13 +128,6 @@ have_numbers ks entries are = record {
 
 abbrev none : Numbered
 none = record { lead = 0; number = 0 }
-
--- the groups of no entries
-pub no_groups : (ks : List (List ℕ)) → AreGroups ks [] [] []
-no_groups ks = record {
-  interned = record { below = λ k d within. absurd (omega (arith, within)); used = λ name has. has };
-  are = refl;
-}
 
 -- one entry more
 pub one_group_more : (ks : List (List ℕ)) (entries : List Numbered) (distinct new : List (List ℕ)) (groups : List ℕ) (place group : ℕ) → AreGroups ks (take place entries) distinct groups

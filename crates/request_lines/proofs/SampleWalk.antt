@@ -257,10 +257,6 @@ client_within n client p few most at =
     let each = entries_bound n in
     within_limits (counted p.counts says.Client) says.Client (omega (arith, at.clients)) (omega (arith, at.clients)) (omega (arith, at.requests)) (omega (arith, at.entries))
 
--- the line that begins the next client
-client_cut : (more : List ℕ) → codes "CLIENT\n" ++ more ≡ codes "CLIENT" ++ 10 ∷ more
-client_cut more = refl
-
 client_reading : reading_of (codes "CLIENT") ≡ Ok says.Client
 unfolding read_line read_fields
 client_reading = read_by_fields (codes "CLIENT") (codes "CLIENT" ∷ []) refl refl

@@ -1,5 +1,5 @@
 -- Pieces that are cut from the front of what is left.
-use Rattle.std.proofs.Common.{◌≡◌, ℕ, ◌+◌, ◌<◌, ◌≤◌, ◌^◌, length, take, drop, List, [], ◌∷◌, ◌++◌, All, refl, sym, ap, ap₂, ◌∙◌, subst, arith, append_assoc, append-nil, length-take-le, length-drop}
+use Rattle.std.proofs.Common.{◌≡◌, ℕ, ◌+◌, ◌<◌, ◌≤◌, ◌^◌, length, take, drop, List, [], ◌∷◌, ◌++◌, All, sym, ap, ap₂, ◌∙◌, subst, arith, append_assoc, append-nil, length-take-le, length-drop}
 use Rattle.std.proofs.lemmas.List.{take-append-drop}
 use Rattle.std.proofs.lemmas.List.Elements.{All-push, All-take, All-drop}
 use Rattle.std.proofs.lemmas.Grind.{flat_map-append}
@@ -10,7 +10,7 @@ use Rattle.answer_text.specs.Lines.{line_of, reply_data, journal_data, journal_l
 use Rattle.answer_text.specs.Shown.{reply_lines}
 use Rattle.answer_text.specs.InRange.{IsReplyOf}
 use Rattle.run_text.specs.declared.pieces.Piece.{Piece}
-use Rattle.run_text.specs.Pieces.{pieces_text, part_text, IsPieceOf, AreUpdatesOf, AddsReplies, AddsJournal}
+use Rattle.run_text.specs.Pieces.{pieces_text, part_text, IsPieceOf, AreUpdatesOf}
 
 -- the journal of two parts
 pub journal-both : (dir : List (List ℕ)) (place : ℕ) (us vs : List Update)
@@ -34,15 +34,6 @@ pub record LeavesReplies (old : List Piece) (replies : List Placed) (now : List 
   pub text : (dir : List (List ℕ)) (records : List Record) → pieces_text dir records now ++ reply_lines dir records left ≡ pieces_text dir records old ++ reply_lines dir records replies
   pub in_range : (dir : List (List ℕ)) (records : List Record) → All (IsPieceOf dir records) old
       → All (λ (p : Placed). IsReplyOf dir records p.reply) replies → All (IsPieceOf dir records) now × All (λ (p : Placed). IsReplyOf dir records p.reply) left
-
-pub all_replies_left : (old : List Piece) (replies : List Placed) → LeavesReplies old replies old replies
-all_replies_left old replies = record { text = λ dir records. refl; in_range = λ dir records fine all. (fine, all) }
-
-pub no_replies_left : (old : List Piece) (replies : List Placed) (now : List Piece) (left : List Placed) → LeavesReplies old replies now left → left ≡ [] → AddsReplies old replies now
-no_replies_left old replies now left leaves none = record {
-  text = λ dir records. sym (append-nil (pieces_text dir records now)) ∙ ap (λ (l : List Placed). pieces_text dir records now ++ reply_lines dir records l) (sym none) ∙ leaves.text dir records;
-  in_range = λ dir records fine all. (leaves.in_range dir records fine all).0;
-}
 
 -- a piece of the first replies that were left
 pub one_cut : (old : List Piece) (replies : List Placed) (now : List Piece) (left front rest : List Placed) (n : ℕ) (piece : Piece)
@@ -75,16 +66,6 @@ pub record LeavesJournal (old : List Piece) (updates : List Update) (now : List 
   pub text : (dir : List (List ℕ)) (records : List Record) → pieces_text dir records now ++ journal_lines dir (before + 1) left ≡ pieces_text dir records old ++ journal_lines dir 1 updates
   pub in_range : (dir : List (List ℕ)) (records : List Record) → All (IsPieceOf dir records) old
       → All (λ (u : Update). u.key < length dir) updates → All (IsPieceOf dir records) now × All (λ (u : Update). u.key < length dir) left
-
-pub all_updates_left : (old : List Piece) (updates : List Update) → LeavesJournal old updates old 0 updates
-all_updates_left old updates = record { counted = omega arith; text = λ dir records. refl; in_range = λ dir records fine all. (fine, all) }
-
-pub no_updates_left : (old : List Piece) (updates : List Update) (now : List Piece) (before : ℕ) (left : List Update) → LeavesJournal old updates now before left → left ≡ []
-    → AddsJournal old updates now
-no_updates_left old updates now before left leaves none = record {
-  text = λ dir records. sym (append-nil (pieces_text dir records now)) ∙ ap (λ (l : List Update). pieces_text dir records now ++ journal_lines dir (before + 1) l) (sym none) ∙ leaves.text dir records;
-  in_range = λ dir records fine all. (leaves.in_range dir records fine all).0;
-}
 
 -- a piece of the first updates that were left
 pub one_journal_cut : (old : List Piece) (updates : List Update) (now : List Piece) (before : ℕ) (left front rest : List Update) (n : ℕ) (piece : Piece)

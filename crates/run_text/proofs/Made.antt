@@ -5,27 +5,13 @@ use Rattle.std.proofs.lemmas.Grind.{flat_map-append}
 use Rattle.outside_io.specs.Streams.{IsTaken, TakesStart}
 use Rattle.key_map.specs.declared.update.Update.{Update}
 use Rattle.bucket_terms.specs.declared.record.Record.{Record}
-use Rattle.bucket_terms.specs.declared.reply.Placed.{Placed}
-use Rattle.answer_text.specs.Lines.{line_of, reply_data, journal_data, journal_lines}
-use Rattle.answer_text.specs.Shown.{reply_lines}
+use Rattle.answer_text.specs.Lines.{line_of, journal_data, journal_lines}
 use Rattle.run_text.specs.declared.pieces.Piece.{Piece}
 use Rattle.run_text.specs.declared.sheets.Sheet.{Sheet}
 use Rattle.run_text.specs.Pieces.{pieces_text, part_text}
 use Rattle.run_text.specs.Sheets.{AreFilled, IsFilledAt}
 use Rattle.run_text.proofs.Starts.{first_started, next_taken, next_started}
 use Rattle.run_text.proofs.Cuts.{journal-both}
-
--- the line of one reply more
-pub reply_pushed : (dir : List (List ℕ)) (records : List Record) (replies : List Placed) (i : ℕ) (p : Placed) (front now next : List ℕ)
-    → i < length replies → p ≡ get_or replies i p → now ≡ front ++ reply_lines dir records (take i replies) → next ≡ now ++ line_of (reply_data dir records p)
-    → next ≡ front ++ reply_lines dir records (take (i + 1) replies)
-reply_pushed dir records replies i p front now next lt here so_far pushed =
-    let each = λ (q : Placed). line_of (reply_data dir records q) in
-    let more : reply_lines dir records (take (i + 1) replies) ≡ reply_lines dir records (take i replies) ++ each p =
-    ap (reply_lines dir records) (take_more replies i p lt)
-    ∙ flat_map-append each (take i replies) (get_or replies i p ∷ [])
-    ∙ ap (λ (l : List ℕ). reply_lines dir records (take i replies) ++ l) (append-nil (each (get_or replies i p)) ∙ ap each (sym here)) in
-    pushed ∙ ap (λ (l : List ℕ). l ++ each p) so_far ∙ append_assoc front (reply_lines dir records (take i replies)) (each p) ∙ ap (λ (l : List ℕ). front ++ l) (sym more)
 
 -- the line of one update more
 pub update_pushed : (dir : List (List ℕ)) (first : ℕ) (updates : List Update) (i place : ℕ) (d u : Update) (front now next : List ℕ)

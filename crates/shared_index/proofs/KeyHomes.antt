@@ -1,5 +1,5 @@
 -- The numbers of an index tell it from each other one, so the keys and the notes of its table are its own.
-use Rattle.std.proofs.Common.{◌≡◌, ℕ, ◌+◌, List, [], ◌∷◌, length, map, min, drop, get_or, arith, refl, ap, ◌∙◌}
+use Rattle.std.proofs.Common.{◌≡◌, ℕ, ◌+◌, List, [], ◌∷◌, length, map, min, drop, get_or, arith, ap, ◌∙◌}
 use Rattle.index_words.specs.declared.layout.Layout.{Layout}
 use Rattle.index_words.specs.declared.view.View.{View}
 use Rattle.key_map.specs.declared.pass.PassSize.{PassSize}
@@ -60,9 +60,6 @@ pub note_of_table : (p : Pass) (note : Sat) → home_of_note note ≡ home_of_pa
 note_of_table p note of =
     let same = same_home note.id p.id note.view.layout p.view.layout of in
     record { id = same.0; layout = same.1 }
-
-pub all_of_index : (index : Home) (keys : List Pass) → AreAllTableKeys index keys → AreAllKeys index keys
-all_of_index index keys all = record { of = every_weaker (IsPassOf index) (IsKeyOf index) keys (of_index index) all.of; each = all.each }
 
 pub all_of_table : (index : Home) (keys : List Pass) → AreAllKeys index keys → AreAllTableKeys index keys
 all_of_table index keys all = record { of = every_weaker (IsKeyOf index) (IsPassOf index) keys (of_table index) all.of; each = all.each }

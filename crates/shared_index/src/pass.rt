@@ -9,7 +9,7 @@ ghost use Rattle.shared_index.specs.Keys.{home_of_pass, home_of_note};
 ghost use Rattle.shared_index.specs.Notes.{told_by, Hears};
 ghost use Rattle.shared_index.specs.Shown.{shown};
 ghost use Rattle.shared_index.specs.Tries.{SeesOn};
-ghost use Rattle.update_try.specs.Outcomes.{HasRisen};
+ghost use Rattle.update_search.specs.Outcomes.{HasRisen};
 ghost use Rattle.tree_update.specs.Calls.{IsPlaceOfPut};
 ghost use Rattle.tree_update.specs.Settles.{HasTried};
 ghost use Rattle.tree_update.specs.Trying.{IsOutOfFreeSlots, IfDone, IfBusy, IfMoved, IfPending, UnlessDone, IsMade};
@@ -102,7 +102,8 @@ impl<'t> IndexPass<'t> {
         ensures place { IfOk result (λ tried. IfDone tried (λ done. IsPlaceOfPut self.old line key val done self.new.view)) }
         ensures busy { IfOk result (λ tried. IfBusy tried (HasRisen self.old.view.counts.busy self.new.view.counts.busy)) }
         ensures moved { IfOk result (λ tried. IfMoved tried (HasRisen self.old.view.counts.moves self.new.view.counts.moves)) }
-        ensures pending { IfOk result (λ tried. IfPending tried (HasRisen self.old.view.counts.waits self.new.view.counts.waits)) }
+        ensures never_pending { IfOk result (λ tried. IfPending tried ⊥) }
+        ensures waits { self.new.view.counts.waits ≡ self.old.view.counts.waits }
         ensures alone { IsAlone self.old.view → IfOk result IsMade }
         ensures kept { IfOk result (λ tried. UnlessDone tried (SeesOn (shown self.old) (shown self.new))) }
         ensures spent { IsErrOf result PassError.Spent ↔ ((shown self.old).left ≡ 0) }

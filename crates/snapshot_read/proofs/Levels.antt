@@ -5,6 +5,7 @@ use Rattle.key_map.specs.declared.pair.Pair.{Pair}
 use Rattle.core_grace.specs.Holds.{tree_slots}
 use Rattle.key_map.specs.Lists.{count, IsItem}
 use Rattle.key_map.specs.Map.{pair}
+use Rattle.index_words.specs.declared.layout.Layout.{Layout}
 use Rattle.index_words.specs.declared.side.Side.TheVariants.{Left, Right}
 use Rattle.index_words.specs.declared.view.View.{View}
 use Rattle.index_words.specs.declared.view.reading.TreeNode.{TreeNode}
@@ -17,13 +18,14 @@ use Rattle.core_trees.specs.NamedTree.{NamedTree}
 use Rattle.table_rule.specs.Running.{Happened}
 use Rattle.table_rule.proofs.Happens.{happened_word}
 use Rattle.table_steps.specs.Loads.{IsTreeLink}
-use Rattle.table_steps.specs.Passes.{Pass, IsSamePass}
 use Rattle.core_updates.specs.Plans.{link_of}
 use Rattle.bundle_reads.specs.Links.{LeadsThere}
 use Rattle.bundle_reads.specs.Reads.{HasRead}
+use Rattle.bundle_reads.proofs.ReadMoves.{layout_same, tree_same}
 use Rattle.snapshot_read.specs.Snapshots.{ReadsAt, IsSnapshotTree}
 use Rattle.snapshot_read.specs.Ways.{keys_left, OnWay, IsOnWay, right_of}
 use Rattle.snapshot_read.specs.declared.kept_way.Search.{Search}
+use Rattle.snapshot_read.proofs.SnapshotMoves.{reads_on}
 use Rattle.snapshot_read.proofs.SnapshotTrees.{finds}
 use Rattle.snapshot_read.proofs.Ways.{left_of, node, here, in_tree, right_way, right_closer, left_way, left_closer, HasTop, top_at}
 
@@ -33,13 +35,8 @@ way_link v w t s tree is read way =
     subst (λ (u : View). IsTreeLink u s.at.node s.at.side) (sym read.view)
     (subst (λ (ns : List TreeNode). ((s.at.node ≡ 0) × (s.at.side ≡ Right)) ⊎ (0 < count s.at.node (tree_slots ns))) (sym is.nodes_are) way.link)
 
--- the same pass with the same view
-pub pass_same : (p q : Pass) → IsSamePass p q → q.view ≡ p.view → q ≡ p
-pass_same p q same is =
-    ap (λ x. record q { id = x }) same.id
-    ∙ ap (λ x. record q { id = p.id; seat = x }) same.seat
-    ∙ ap (λ x. record q { id = p.id; seat = p.seat; number = x }) same.number
-    ∙ ap (λ x. record p { view = x }) is
+low_true : (a b : ℕ) → a ≤ b → leb a b ≡ true
+low_true a b low = grind (arith, nat_tests)
 
 module _ (v : View) (t child : ℕ) (s : Search) (reads : ReadsAt v t) (some : 0 < child) (leads : LeadsThere v s.at child) (on : IsOnWay v t s) (tree : NamedTree) (is : IsSnapshotTree v t tree) where
   way : OnWay tree s
@@ -62,9 +59,14 @@ module _ (v : View) (t child : ℕ) (s : Search) (reads : ReadsAt v t) (some : 0
 
   there : leb child v.layout.nodes ≡ true
   there = low_true child v.layout.nodes child_high
-    where
-      low_true : (a b : ℕ) → a ≤ b → leb a b ≡ true
-      low_true a b low = grind (arith, nat_tests)
+
+  -- the same behind other loads
+  module _ (v' : View) (read : HasRead v v') where
+    low_too : child ≤ v'.layout.nodes
+    low_too = subst (λ (z : Layout). child ≤ z.nodes) (sym (layout_same v v' read)) child_high
+
+    pub pair_too : MayReadPair v' child
+    pair_too = record { inside = (reads_on v v' t read reads).inside.odd; there = low_too }
 
   -- the key
   module _ (seat x : ℕ) (w : View) (h : Happened v.layout (event_at v.layout seat LoadKeyOrVal (Node Key child) 0) v x w) where
@@ -83,12 +85,13 @@ module _ (v : View) (t child : ℕ) (s : Search) (reads : ReadsAt v t) (some : 0
         subst (λ k. keys_left (right_of child k s.best) < keys_left s) (sym key_is)
         (right_closer tree s way child top.key top.val top.left top.right top.is)
 
-    -- and the value
-    module _ (seat' y : ℕ) (u : View) (g : Happened v.layout (event_at v.layout seat' LoadKeyOrVal (Node Val child) 0) v y u) where
+    -- and the value, behind other loads
+    module _ (v' : View) (read : HasRead v v') (seat' y : ℕ) (u : View) (g : Happened v'.layout (event_at v'.layout seat' LoadKeyOrVal (Node Val child) 0) v' y u) where
       val_is : y ≡ top.val
       val_is =
-          sym (happened_word v.layout (event_at v.layout seat' LoadKeyOrVal (Node Val child) 0) v u y (Node Val child) there refl tt g)
-          ∙ ((finds v.layout g.words g.views g.rule seat' v g.seat t reads).pairs (length (way.front ++ tree_nodes top.left)) n item).val
+          sym (happened_word v'.layout (event_at v'.layout seat' LoadKeyOrVal (Node Val child) 0) v' u y (Node Val child) (low_true child v'.layout.nodes (low_too v' read)) refl tt g)
+          ∙ ((finds v'.layout g.words g.views g.rule seat' v' g.seat t (reads_on v v' t read reads)).pairs (length (way.front ++ tree_nodes top.left)) n
+          (subst (λ ns. IsItem ns (length (way.front ++ tree_nodes top.left)) n) (sym (tree_same v v' read)) item)).val
 
       pair_is : pair x y ≡ pair top.key top.val
       pair_is = ap (λ k. pair k y) key_is ∙ ap (pair top.key) val_is

@@ -20,10 +20,10 @@ use Rattle.core_trees.proofs.Updates.{search_from-left, search_from-right}
 use Rattle.core_updates.specs.Plans.{link_of}
 use Rattle.bundle_reads.specs.Links.{LeadsThere}
 use Rattle.bundle_reads.specs.Reads.{HasRead}
-use Rattle.snapshot_read.specs.Snapshots.{ReadsAt, IsSnapshotTree}
-use Rattle.snapshot_read.specs.Ways.{high_of, keys_left, Covers, OnWay, IsOnWay, root, right_of, IsKeptWay}
+use Rattle.snapshot_read.specs.Snapshots.{IsSnapshotTree}
+use Rattle.snapshot_read.specs.Ways.{high_of, keys_left, Covers, OnWay, IsOnWay, root, right_of}
 use Rattle.snapshot_read.specs.declared.kept_way.Search.{Search}
-use Rattle.snapshot_read.proofs.SnapshotMoves.{tree_before, tree_after, reads_on}
+use Rattle.snapshot_read.proofs.SnapshotMoves.{tree_before, tree_after}
 
 -- where a search goes on to the left of a node with this slot and pair
 abbrev pub left_of : ℕ → ℕ → ℕ → ℕ → Search
@@ -183,9 +183,3 @@ some_same a b is = ap (λ (o : Option ℕ). some_or o a) is
 
 pub every_before : (v w : View) (t : ℕ) (kept : List Search) → HasRead v w → Every (IsOnWay w t) kept → Every (IsOnWay v t) kept
 every_before v w t kept read = every_weaker (IsOnWay w t) (IsOnWay v t) kept (λ s on. λ tree is. on tree (tree_after v w t tree read is))
-
--- after loads of the snapshot what is kept is on the way still
-pub kept_on : (v w : View) (t : ℕ) (kept : List Search) → HasRead v w → ReadsAt v t → Every (IsOnWay v t) kept → IsKeptWay w kept
-kept_on v w t kept read reads all = λ u opened.
-    let same : t ≡ u = some_same t u (sym (reads_on v w t read reads).opened ∙ opened) in
-    subst (λ n. Every (IsOnWay w n) kept) same (every_on v w t kept read all)

@@ -33,7 +33,9 @@ fn go_on(
     requires leads { LeadsThere pass.old.view search.at child }
     requires way { IsOnWay pass.old.view at search }
     requires covers { Covers key search }
-    ensures same { pass.new ≡ pass.old }
+    ensures same { IsSamePass pass.old pass.new }
+    ensures read { HasRead pass.old.view pass.new.view }
+    ensures waits { pass.new.view.counts.waits ≡ pass.old.view.counts.waits }
     ensures way { IsOnWay pass.old.view at result }
     ensures covers { Covers key result }
     ensures closer { keys_left result < keys_left search }
@@ -71,15 +73,15 @@ pub(crate) fn look_on(pass: &mut TablePass<'_>, at: u64, key: u64, way: &mut Way
     pass.facts();
     let mut search = way.take(key);
     'down: loop {
-        let Some(seen) = child_at(pass, at, search.at) else {
+        let Some(child) = child_at(pass, at, search.at) else {
             return Look::Pending;
         };
-        if seen.child == 0 {
+        if child == 0 {
             return match search.best {
                 Some(pair) => Look::Found(pair),
                 None => Look::Nothing,
             };
         }
-        search = go_on(pass, at, key, seen.child, search, way);
+        search = go_on(pass, at, key, child, search, way);
     }
 }

@@ -1,5 +1,5 @@
 -- The whole history, put together from the updates that the keys keep.
-use Rattle.std.proofs.Common.{◌≡◌, ◌≢◌, ℕ, zero, suc, ◌+◌, ◌-◌, ◌<◌, ◌≤◌, List, [], ◌∷◌, ◌++◌, length, map, set, cond, eqb, ltb, Bool, true, false, arith, refl, ap, ◌∙◌, sym, subst, Some, None, append-nil, append_assoc, inl, inr, get_or, take, drop}
+use Rattle.std.proofs.Common.{◌≡◌, ◌≢◌, ℕ, zero, suc, ◌+◌, ◌-◌, ◌<◌, ◌≤◌, List, [], ◌∷◌, ◌++◌, length, map, set, cond, eqb, ltb, Bool, true, false, arith, refl, ap, ◌∙◌, sym, subst, Some, append-nil, append_assoc, inl, inr, get_or, take, drop}
 use Rattle.std.specs.Prelude.{IfSome}
 use Rattle.std.specs.List.{slice_get}
 use Rattle.std.proofs.lemmas.Bool.{eqb-true, eq-eqb, cases_lt}
@@ -19,7 +19,6 @@ use Rattle.core_events.specs.Moves.{joined_with, split_right, longer}
 use Rattle.core_invariant.specs.Histories.{update_at}
 use Rattle.core_invariant.specs.OwnPlaces.{KnowsPlaces}
 use Rattle.core_invariant.proofs.Joins.{at_suc, every_append}
-use Rattle.core_laws.specs.ViewNeeds.{MayJoin}
 use Rattle.table_rule.specs.Homes.{Home, Sat, IsLiveView}
 use Rattle.table_rule.proofs.Lists.{item_at, get_within}
 use Rattle.table_steps.specs.Closes.{number_of, AreAllKeys, AreMadeBy, StandAtOwnPlaces, EachPlace, IsLastPlace, IsRightAt, StaysRight}
@@ -140,9 +139,6 @@ pub own_known : (v u w : View) (n : ℕ) → w ≡ joined_with (joined_with v u)
 own_known v u w n is live number more =
     let own : w.history.mine ≡ own_places n w.history.seen = own_stand w n live (ap (λ (y : View). y.number) is ∙ number) in
     sym (ap (λ (y : View). y.history.mine) is) ∙ own ∙ ap (own_places n) (told_is v u w is more)
-
-pub may_hear : (v u : View) → IsLiveView v → IsLiveView u → u.number ≡ None → MayJoin v u
-may_hear v u live other none = record { live = live.live; other_live = other.live; apart = inl none }
 
 -- each place of the history is one of a key
 at_each : (R : ℕ → Type 0) (all : List Update) (n : ℕ) (keys : List Pass) → StandAtOwnPlaces keys all → EachPlace R keys → 0 < count n (map number_of keys) → Every R (own_places n all)
@@ -301,9 +297,6 @@ each_last P keys rest key is front last = subst (Every P) (sym is) (every_append
 every_parts : {X : Type 0} (P : X → Type 0) (xs : List X) (x : X) → Every P (xs ++ x ∷ []) → Every P xs × P x
 every_parts P [] x all = (tt, all.0)
 every_parts P (y ∷ ys) x all = let rest = every_parts P ys x all.1 in ((all.0, rest.0), rest.1)
-
-pub each_front : (P : Pass → Type 0) (keys rest : List Pass) (key : Pass) → keys ≡ rest ++ key ∷ [] → Every P keys → Every P rest
-each_front P keys rest key is all = (every_parts P rest key (subst (Every P) is all)).0
 
 pub last_has : (P : Pass → Type 0) (keys rest : List Pass) (key : Pass) → keys ≡ rest ++ key ∷ [] → Every P keys → P key
 last_has P keys rest key is all = (every_parts P rest key (subst (Every P) is all)).1

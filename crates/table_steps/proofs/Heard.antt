@@ -102,4 +102,4 @@ module _ (v u w : View) (seen : List Update) (z : Layout) (note : u ≡ note_vie
       }
 
 pub note_may : (v u : View) (seen : List Update) (z : Layout) → u ≡ note_view z seen → IsLiveView v → IsLiveView u → MayJoin v u
-note_may v u seen z note live other = record { live = live.live; other_live = other.live; apart = inl (ap (λ (y : View). y.number) note) }
+note_may v u seen z note live other = record { live = live.live; other_live = other.live; apart = inl (ap (λ (y : View). y.number) note, (ap (λ (y : View). y.retired) note, ap (λ (y : View). y.batch) note)) }

@@ -1,6 +1,6 @@
 -- Each step on a plain link and on its tag: that it may be made, what it leaves in the view, and that what is kept at run time
 -- still is what the view says.
-use Rattle.std.proofs.Common.{◌≡◌, ℕ, ◌+◌, ◌<◌, ◌≤◌, ◌^◌, cond, Bool, true, false, eqb, leb, arith, refl, ap, ◌∙◌, sym, subst, map, List, Option, Some}
+use Rattle.std.proofs.Common.{◌≡◌, ℕ, ◌+◌, ◌<◌, ◌≤◌, ◌^◌, cond, Bool, true, false, eqb, leb, arith, refl, ap, ◌∙◌, sym, subst, inl, inr, map, List, Option, Some}
 use Rattle.std.specs.Prelude.{IfSome}
 use Rattle.std.specs.List.{slice_get}
 use Rattle.std.proofs.lemmas.Bool.Decides.{nat_tests}
@@ -17,6 +17,7 @@ use Rattle.index_words.specs.Words.{Memory, memory, is_there}
 use Rattle.core_events.specs.declared.event.Event.{Event}
 use Rattle.core_events.specs.declared.event.Kind.TheVariants.{LoadLink, SetLink, LoadTag, SetTag}
 use Rattle.core_events.specs.PlainMoves.{link_known, tag_known, link_known_at, tag_known_at, link_loaded, tag_loaded, link_set, tag_set}
+use Rattle.core_events.specs.Searches.{searches_at}
 use Rattle.core_events.specs.UpdateNeeds.{side_of}
 use Rattle.core_invariant.specs.Locks.{IsNodeAt}
 use Rattle.core_invariant.specs.Readers.{IsLocked}
@@ -24,12 +25,15 @@ use Rattle.core_invariant.specs.Rule.{InRule}
 use Rattle.core_invariant.proofs.Frames.{every_mapped}
 use Rattle.core_invariant.proofs.Needed.{found_held}
 use Rattle.core_invariant.proofs.OneView.{seat_at}
-use Rattle.core_laws.specs.PlainNeeds.{MayReadLink, MaySetLink, MaySetTag}
-use Rattle.core_laws.specs.ViewNeeds.{event_at}
+use Rattle.core_invariant.proofs.SearchNodes.{search_count}
+use Rattle.core_laws.specs.PlainNeeds.{MayReadLink, MayReadTag, MaySetLink, MaySetTag}
+use Rattle.core_laws.specs.ViewNeeds.{event_at, IsSearched}
 use Rattle.core_laws.proofs.PlainTrees.{tag_room_law}
 use Rattle.core_laws.proofs.PlainNeeds.{may_read_link_law, may_set_link_law, may_read_tag_law, may_set_tag_law}
+use Rattle.core_laws.proofs.Searching.{link_found}
+use Rattle.core_laws.proofs.ViewTests.{stands_searched}
 use Rattle.table_rule.specs.Homes.{Home, Sat, IsOf, Asks, IsLiveView}
-use Rattle.table_rule.specs.Running.{Happened, Stored}
+use Rattle.table_rule.specs.Running.{Happened, Stored, table}
 use Rattle.table_rule.proofs.Happens.{happened_view, happened_word}
 use Rattle.table_rule.proofs.Lists.{item_at}
 use Rattle.table_steps.specs.HeldWords.{Held, KeepsNode, KeepsHeld}
@@ -37,8 +41,16 @@ use Rattle.table_steps.specs.Kept.{Keeps}
 use Rattle.table_steps.specs.declared.kept.Kept.{Kept}
 use Rattle.table_steps.proofs.HeldSteps.{none_mapped}
 use Rattle.table_steps.proofs.LoadSteps.{own_part, keeps_same}
-use Rattle.table_steps.proofs.There.{locked_high}
+use Rattle.table_steps.proofs.There.{locked_high, searched_high}
 use Rattle.table_steps.proofs.UpdateSteps.{found_locked}
+
+-- where a search stands it has searched
+stands_at : (v : View) (k : ℕ) (side : Side) → searches_at v.reading v.reading.place k side ≡ true → IsSearched v k
+stands_at v k side stands =
+    elim (stands_searched v.reading v.reading.place k side stands) as (λ _. IsSearched v k) [
+      | inl root ↦ inl root
+      | inr here ↦ inr (omega (arith, here, search_count k 0 v.reading))
+    ]
 
 -- what is kept of the heads stays where something else of a node is known
 known_held : (z : Layout) (v : ViewHeld) (h : Held) (f : HeldNode → HeldNode) → ((n : HeldNode) → KeepsNode h n → KeepsNode h (f n)) → KeepsHeld z v h
@@ -88,8 +100,19 @@ module _ (home : Home) (s : Sat) (of : IsOf home s) (live : IsLiveView s.view) w
   abbrev z : Layout
   z = home.layout
 
+  high_there : (f : Field) (node : ℕ) → node ≤ v.layout.nodes → is_there z (Node f node) ≡ true
+  high_there f node high = high_true node z.nodes (subst (λ (y : Layout). node ≤ y.nodes) of.layout high)
+
   node_there : (f : Field) (node : ℕ) → IsLocked v node → is_there z (Node f node) ≡ true
-  node_there f node locked = high_true node z.nodes (subst (λ (y : Layout). node ≤ y.nodes) of.layout (locked_high v live node locked))
+  node_there f node locked = high_there f node (locked_high v live node locked)
+
+  -- the node of a link that may be loaded: it is locked, or a search stands there
+  link_there : (f : Field) (node : ℕ) (side : Side) → MayReadLink v node side → is_there z (Node f node) ≡ true
+  link_there f node side may =
+      elim may.on as (λ _. is_there z (Node f node) ≡ true) [
+        | inl firm ↦ node_there f node firm.locked
+        | inr stands ↦ high_there f node (searched_high v live may.inside node (stands_at v node side stands))
+      ]
 
   -- a view that differs in what is known of links is kept with the same
   link_kept : (w : View) (k : Kept) (node x : ℕ) (side : Side) → own_part w ≡ own_part v → w.held ≡ (link_loaded v node side x).held → Keeps v k → Keeps w k
@@ -103,33 +126,47 @@ module _ (home : Home) (s : Sat) (of : IsOf home s) (live : IsLiveView s.view) w
       (subst (λ (h : ViewHeld). KeepsHeld v.layout h k.held) (sym held) (known_held v.layout v.held k.held (tag_known_at node side x) (tag_node k.held node x side) keeps.held)) keeps
 
   module _ (node : ℕ) (side : Side) where
-    -- loads of a link and of a tag
-    module _ (may : MayReadLink v node) where
+    -- load of a link: what it holds is 0 or a node of the table
+    module _ (may : MayReadLink v node side) where
       abbrev link_event : Event
       link_event = event_at z s.seat LoadLink (Node (Link side) node) 0
 
-      abbrev tag_event : Event
-      tag_event = event_at z s.seat LoadTag (Node (Tag side) node) 0
+      link_is : is_there z (Node (Link side) node) ≡ true
+      link_is = link_there (Link side) node side may
 
       pub link_asks : Asks home s (Node (Link side) node) link_event
-      link_asks = record { of = of; there = node_there (Link side) node may.locked; seat = refl; word = refl; may = may_read_link_law z v s.seat node side may }
-
-      pub tag_asks : Asks home s (Node (Tag side) node) tag_event
-      tag_asks = record { of = of; there = node_there (Tag side) node may.locked; seat = refl; word = refl; may = may_read_tag_law z v s.seat node side may }
+      link_asks = record { of = of; there = link_is; seat = refl; word = refl; may = may_read_link_law z v s.seat node side may }
 
       module _ (w : View) (n : ℕ) where
         pub link_gives : Happened z link_event v n w → w ≡ link_loaded v node side n
         link_gives h =
-            happened_view z link_event v w n (Node (Link side) node) (node_there (Link side) node may.locked) refl tt h
-            ∙ ap (link_loaded v node side) (happened_word z link_event v w n (Node (Link side) node) (node_there (Link side) node may.locked) refl tt h)
+            happened_view z link_event v w n (Node (Link side) node) link_is refl tt h
+            ∙ ap (link_loaded v node side) (happened_word z link_event v w n (Node (Link side) node) link_is refl tt h)
 
         pub link_keeps : Happened z link_event v n w → (k : Kept) → Keeps v k → Keeps w k
         link_keeps h k keeps = link_kept w k node n side (ap own_part (link_gives h)) (ap (λ (u : View). u.held) (link_gives h)) keeps
 
+        pub link_high : Happened z link_event v n w → n ≤ z.nodes
+        link_high h =
+            subst (λ x. x ≤ z.nodes) (happened_word z link_event v w n (Node (Link side) node) link_is refl tt h)
+            (link_found (table z h.words h.views) s.seat v node side h.rule (item_at h.views s.seat v h.seat) may)
+
+    -- load of a tag
+    module _ (may : MayReadTag v node) where
+      abbrev tag_event : Event
+      tag_event = event_at z s.seat LoadTag (Node (Tag side) node) 0
+
+      tag_is : is_there z (Node (Tag side) node) ≡ true
+      tag_is = high_there (Tag side) node may.there
+
+      pub tag_asks : Asks home s (Node (Tag side) node) tag_event
+      tag_asks = record { of = of; there = tag_is; seat = refl; word = refl; may = may_read_tag_law z v s.seat node side may }
+
+      module _ (w : View) (n : ℕ) where
         pub tag_gives : Happened z tag_event v n w → w ≡ tag_loaded v node side n
         tag_gives h =
-            happened_view z tag_event v w n (Node (Tag side) node) (node_there (Tag side) node may.locked) refl tt h
-            ∙ ap (tag_loaded v node side) (happened_word z tag_event v w n (Node (Tag side) node) (node_there (Tag side) node may.locked) refl tt h)
+            happened_view z tag_event v w n (Node (Tag side) node) tag_is refl tt h
+            ∙ ap (tag_loaded v node side) (happened_word z tag_event v w n (Node (Tag side) node) tag_is refl tt h)
 
         pub tag_keeps : Happened z tag_event v n w → (k : Kept) → Keeps v k → Keeps w k
         tag_keeps h k keeps = tag_kept w k node n side (ap own_part (tag_gives h)) (ap (λ (u : View). u.held) (tag_gives h)) keeps

@@ -13,7 +13,7 @@ use Rattle.core_events.specs.LoadMoves.{risen, raised_if}
 use Rattle.core_events.specs.LockMoves.{tried, locked_view, met_lock, names_other}
 use Rattle.core_invariant.specs.Locks.{lock_count}
 use Rattle.core_invariant.specs.Readers.{IsLocked}
-use Rattle.core_laws.specs.ViewNeeds.{event_at, IsInside, IsInReach, MayLock}
+use Rattle.core_laws.specs.ViewNeeds.{event_at, IsInside, IsSearched, MayLock}
 use Rattle.core_laws.proofs.HeldLocks.{counted_busy}
 use Rattle.core_laws.proofs.ViewNeeds.{may_lock_law}
 use Rattle.table_rule.specs.Homes.{Home, Sat, IsOf, Asks, IsLiveView}
@@ -25,7 +25,8 @@ use Rattle.table_steps.specs.Kept.{Keeps}
 use Rattle.table_steps.specs.Loads.{HasLocked, HasMetLock}
 use Rattle.table_steps.specs.declared.kept.Kept.{Kept}
 use Rattle.table_steps.proofs.HeldLoads.{tried_held as kept_where}
-use Rattle.table_steps.proofs.LoadSteps.{own_part, keeps_same, pass_of, reach_there, asks_of}
+use Rattle.table_steps.proofs.LoadSteps.{own_part, keeps_same, pass_of, asks_of, high_there}
+use Rattle.table_steps.proofs.There.{searched_high}
 
 -- a view after a try of a lock has the own parts as they were
 tried_own : (b : Bool) (v : View) (node own found : ℕ) → own_part (cond b (locked_view v node) (met_lock v own found)) ≡ own_part v
@@ -38,7 +39,7 @@ tried_free v node own found is = ap (λ b. cond b (locked_view v node) (met_lock
 tried_held : (v : View) (node own found : ℕ) → (found ≡ 0 → ⊥) → tried v node own found ≡ met_lock v own found
 tried_held v node own found held = ap (λ b. cond b (locked_view v node) (met_lock v own found)) (ne_eqb found 0 held)
 
-module _ (home : Home) (s : Sat) (k : Kept) (keeps : Keeps s.view k) (of : IsOf home s) (node : ℕ) (live : IsLiveView s.view) (inside : IsInside s.view) (reach : IsInReach s.view node) (unlocked : ¬ IsLocked s.view node) where
+module _ (home : Home) (s : Sat) (k : Kept) (keeps : Keeps s.view k) (of : IsOf home s) (node : ℕ) (live : IsLiveView s.view) (inside : IsInside s.view) (searched : IsSearched s.view node) (unlocked : ¬ IsLocked s.view node) where
   abbrev v : View
   v = s.view
 
@@ -49,10 +50,10 @@ module _ (home : Home) (s : Sat) (k : Kept) (keeps : Keeps s.view k) (of : IsOf 
   lock_event = event_at home.layout s.seat TryLock (Node Lock node) own
 
   lock_there : is_there home.layout (Node Lock node) ≡ true
-  lock_there = reach_there home s of Lock node live reach
+  lock_there = high_there home s of Lock node (searched_high s.view live inside node searched)
 
   may : MayLock v k.number node
-  may = record { own = keeps.number; inside = inside; reach = reach; unlocked = unlocked }
+  may = record { own = keeps.number; inside = inside; searched = searched; unlocked = unlocked }
 
   pub lock_asks : Asks home s (Node Lock node) lock_event
   lock_asks = asks_of home s of (Node Lock node) TryLock own lock_there (may_lock_law home.layout v s.seat k.number node may)

@@ -216,7 +216,7 @@ module _ (v u w : View) (k : Kept) (node : ℕ) (seen : List Update) (z : Layout
         subst (λ (s : KeptSlots). Keeps w (kept_with k s)) (sym are) kept
 
 pub parcel_may : (v u : View) (seen : List Update) (z : Layout) (node : ℕ) → u ≡ parcel_view z seen node → IsLiveView v → IsLiveView u → MayJoin v u
-parcel_may v u seen z node parcel live other = record { live = live.live; other_live = other.live; apart = inl (ap (λ (y : View). y.number) parcel) }
+parcel_may v u seen z node parcel live other = record { live = live.live; other_live = other.live; apart = inl (ap (λ (y : View). y.number) parcel, (ap (λ (y : View). y.retired) parcel, ap (λ (y : View). y.batch) parcel)) }
 
 pub parcel_split : (v : View) (k : Kept) (node : ℕ) → Keeps v k → slice_get k.slots.free.nodes 0 ≡ Some node → IsLiveView v → (u : View) → u ≡ split_right v 1 → u ≡ parcel_view u.layout u.history.seen node
 parcel_split v k node keeps first live u is = subst (λ (y : View). y ≡ parcel_view y.layout y.history.seen node) (sym is) (parcel_is v k node keeps first live)

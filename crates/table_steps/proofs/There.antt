@@ -1,5 +1,6 @@
 -- What the slots and the locked nodes of a live view are: slots of its table, each once, and no more than there are.
 use Rattle.std.proofs.Common.{◌≡◌, ℕ, zero, suc, ◌+◌, ◌<◌, ◌≤◌, List, [], ◌∷◌, ◌++◌, length, cond, not, Bool, true, false, eqb, arith, refl, subst, inl, inr}
+use Rattle.std.proofs.lemmas.Bool.{cases_lt}
 use Rattle.std.proofs.lemmas.Bool.Decides.{nat_tests, eqb_tells}
 use Rattle.std.proofs.lemmas.List.{length-append}
 use Rattle.index_words.specs.declared.layout.Layout.{Layout}
@@ -9,21 +10,25 @@ use Rattle.index_words.specs.declared.word.Field.TheVariants.{Head}
 use Rattle.index_words.specs.declared.word.Part.TheVariants.{Stamp as Number, Next}
 use Rattle.index_words.specs.declared.word.Word.TheVariants.{Node, Entry}
 use Rattle.index_words.specs.Words.{Memory, memory}
-use Rattle.index_words.proofs.Seats.{one_term}
+use Rattle.index_words.proofs.Seats.{at_item, one_term}
 use Rattle.key_map.specs.Lists.{count, IsItem}
-use Rattle.key_map.proofs.Counting.{count-append}
+use Rattle.key_map.proofs.Counting.{count-append, count-has}
 use Rattle.core_grace.specs.Slots.{own, nodes_of, entries_in, is_slot}
+use Rattle.core_events.specs.Searches.{search_nodes}
 use Rattle.core_events.specs.UpdateMoves.{without}
 use Rattle.core_invariant.specs.BundleRule.{IsPending}
 use Rattle.core_invariant.specs.Meanings.{Meaning}
+use Rattle.core_invariant.specs.Reached.{plain_graph, ReachesRight}
 use Rattle.core_invariant.specs.Readers.{IsLocked}
 use Rattle.core_invariant.specs.SeatRule.{SeatRight}
 use Rattle.core_invariant.proofs.Frames.{every_at, one_counted}
 use Rattle.core_invariant.proofs.HeldFacts.{work_holds}
 use Rattle.core_invariant.proofs.LiveHeads.{chain_head}
+use Rattle.core_invariant.proofs.LockReach.{searched}
 use Rattle.core_invariant.proofs.OneView.{seat_at}
 use Rattle.core_invariant.proofs.Owned.{entry_there, free_entry_some, held_live, in_entries, once_node, once_entry, slot_high}
 use Rattle.core_invariant.proofs.Without.{count-without_same, count-without-le}
+use Rattle.core_laws.specs.ViewNeeds.{IsInside, IsSearched}
 use Rattle.table_rule.specs.Homes.{IsLiveView}
 use Rattle.table_rule.specs.Running.{Stands}
 use Rattle.table_rule.proofs.Lists.{item_at}
@@ -96,6 +101,18 @@ module _ (v : View) (live : IsLiveView v) where
 
   seat : SeatRight z m g v
   seat = seat_at z m stands.views g stands.seat v at stands.rule.rule
+
+  reach : ReachesRight z (plain_graph m) stands.views v
+  reach = at_item (ReachesRight z (plain_graph m) stands.views) stands.views stands.seat v at stands.rule.reach
+
+  -- a node at which its search stands, has turned, or found a link
+  pub searched_high : IsInside v → (k : ℕ) → IsSearched v k → k ≤ z.nodes
+  searched_high inside k (inl root) = omega (arith, root)
+  searched_high inside k (inr here) =
+      elim (cases_lt 0 k) as (λ _. k ≤ z.nodes) [
+        | inl some ↦ reach.there k (searched z m stands.views g stands.rule.rule stands.seat v at (plain_graph m) reach inside k some (count-has k (search_nodes 0 v.reading) here))
+        | inr root ↦ omega (arith, root)
+      ]
 
   pub locked_high : (k : ℕ) → IsLocked v k → k ≤ z.nodes
   locked_high k locked = (seat.locks k locked).0

@@ -1,6 +1,5 @@
 -- What the moves of sections leave of a view, and what a live view is known to have.
-use Rattle.std.proofs.Common.{◌≡◌, ℕ, ◌+◌, ◌-◌, ◌%◌, ◌<◌, ◌^◌, cond, Bool, true, false, arith, refl, ap, ◌∙◌, sym, List}
-use Rattle.std.proofs.lemmas.Bool.{eqb-true}
+use Rattle.std.proofs.Common.{◌≡◌, ℕ, ◌+◌, ◌-◌, ◌%◌, ◌<◌, ◌^◌, cond, Bool, true, false, refl, ap, ◌∙◌, List}
 use Rattle.index_words.specs.declared.layout.Layout.{Layout}
 use Rattle.index_words.specs.declared.view.View.{View}
 use Rattle.index_words.specs.declared.view.update.Held.{Held}
@@ -82,10 +81,6 @@ filled_still v w value = by_test (is_even v.section_word)
     by_test : (b : Bool) → IsStill v (cond b (used_view v w) (with_filled (used_view v w) (filled_with (known_before v w) w value)))
     by_test true = record { held = refl; raised = refl }
     by_test false = record { held = refl; raised = refl }
-
--- an even word of 64 bits has a next one
-pub even_small : (x : ℕ) → x < 2 ^ 64 → is_even x ≡ true → x + 1 < 2 ^ 64
-even_small x small even = let zero' : x % 2 ≡ 0 = eqb-true (x % 2) 0 even in omega (arith, small)
 
 -- a live view's seat meets the rule on one seat
 pub record RightSeat (v : View) : Type 0 where

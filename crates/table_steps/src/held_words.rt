@@ -50,13 +50,6 @@ impl HeldWords {
         })
     }
 
-    /// Whether a lock may be held.
-    pub fn has_any(&self) -> bool
-        ensures { result ≡ self.now.any }
-    {
-        self.any
-    }
-
     /// The lock of a node was tried, and won or not.
     pub fn add_lock(&mut self, won: bool)
         ensures { self.new ≡ record self.old { any = self.old.any || won } }

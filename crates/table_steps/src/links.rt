@@ -1,7 +1,8 @@
-//! The steps on the plain links of locked nodes and on their tags. Each is one move of one word.
-ghost use Rattle.std.specs.Prelude.{◌≡◌, ◌+◌};
+//! The steps on plain links and on their tags. Each is one move of one word. The links of a node are set by the pass
+//! that has locked it; a search loads them without a lock.
+ghost use Rattle.std.specs.Prelude.{◌≡◌, ◌+◌, ◌≤◌};
 ghost use Rattle.core_events.specs.PlainMoves.{link_loaded, tag_loaded, link_set, tag_set};
-ghost use Rattle.core_laws.specs.PlainNeeds.{MayReadLink, MaySetLink, MaySetTag};
+ghost use Rattle.core_laws.specs.PlainNeeds.{MayReadLink, MayReadTag, MaySetLink, MaySetTag};
 ghost use Rattle.table_rule.specs.Running.{Happened, Stored};
 ghost use Rattle.table_steps.specs.Links.{loading_link, loading_tag, setting_link, setting_tag};
 ghost use Rattle.table_steps.specs.Passes.{IsSamePass};
@@ -11,22 +12,29 @@ use index_words::{Field, Side, Word};
 use std::marker::Brand;
 
 impl<'t> TablePass<'t> {
-    /// Loads a plain link of a locked node: the child, or 0 for none.
-    pub fn load_link(&mut self, node: u32, side: Side) -> u64
-        requires may { MayReadLink self.old.view node }
+    /// Loads a plain link: the child, or 0 for none. The pass has locked the node, or its search stands there; then the
+    /// search goes on by the link.
+    pub fn load_link(&mut self, node: u32, side: Side) -> u32
+        requires may { MayReadLink self.old.view node side }
         ensures same { IsSamePass self.old self.new }
         ensures event { Happened self.old.view.layout (loading_link self.old node side) self.old.view result self.new.view }
         ensures view { self.new.view ≡ link_loaded self.old.view node side result }
+        ensures there { result ≤ self.old.view.layout.nodes }
     {
         self.seat.facts();
         let table = self.table;
-        let word = Word::Node(Field::Link(side), node);
-        table.ruled.load::<Brand>(&mut self.seat, word)
+        let word = table
+            .ruled
+            .load::<Brand>(&mut self.seat, Word::Node(Field::Link(side), node));
+        let nodes = table.ruled.layout().nodes;
+        prove!(word <= nodes as u64);
+        word as u32
     }
 
-    /// Loads the tag of a plain link of a locked node: how often the link became null.
+    /// Loads the tag of a plain link: how often the link became null. It is kept with the link where the pass's search
+    /// has found that to be null.
     pub fn load_tag(&mut self, node: u32, side: Side) -> u64
-        requires may { MayReadLink self.old.view node }
+        requires may { MayReadTag self.old.view node }
         ensures same { IsSamePass self.old self.new }
         ensures event { Happened self.old.view.layout (loading_tag self.old node side) self.old.view result self.new.view }
         ensures view { self.new.view ≡ tag_loaded self.old.view node side result }

@@ -1,7 +1,7 @@
 //! The try of a node's lock: one compare-and-exchange of one word.
 ghost use Rattle.std.specs.Prelude.{◌≡◌, true, false};
 ghost use Rattle.core_invariant.specs.Readers.{IsLocked};
-ghost use Rattle.core_laws.specs.ViewNeeds.{IsInside, IsInReach};
+ghost use Rattle.core_laws.specs.ViewNeeds.{IsInside, IsSearched};
 ghost use Rattle.table_steps.specs.Loads.{HasLocked, HasMetLock};
 ghost use Rattle.table_steps.specs.Passes.{IsSamePass};
 
@@ -10,10 +10,11 @@ use index_words::{Field, Word};
 use std::marker::Brand;
 
 impl<'t> TablePass<'t> {
-    /// Tries to lock a node. False comes only where the word was found held, by another pass, and this is counted.
+    /// Tries to lock a node that the pass has searched, or the root. False comes only where the word was found held, by
+    /// another pass, and this is counted.
     pub fn try_lock(&mut self, node: u32) -> bool
         requires inside { IsInside self.old.view }
-        requires reach { IsInReach self.old.view node }
+        requires searched { IsSearched self.old.view node }
         requires unlocked { ¬ IsLocked self.old.view node }
         ensures same { IsSamePass self.old self.new }
         ensures locked { result ≡ true → HasLocked self.old node self.new.view }

@@ -4,11 +4,13 @@ use Rattle.std.specs.List.{slice_get}
 use Rattle.std.proofs.lemmas.List.{length-append}
 use Rattle.index_words.specs.declared.side.Side.TheVariants.{Left, Right}
 use Rattle.index_words.specs.declared.view.View.{View}
+use Rattle.index_words.specs.declared.view.reading.Link.{Link}
+use Rattle.index_words.specs.declared.view.reading.LinkSource.TheVariants.{Plain}
 use Rattle.index_words.specs.declared.view.reading.TreeNode.{TreeNode}
 use Rattle.index_words.specs.declared.view.update.HeldNode.{HeldNode}
 use Rattle.index_words.specs.declared.view.update.LoadedHead.{LoadedHead}
 use Rattle.index_words.specs.declared.view.update.Unlinking.{Unlinking}
-use Rattle.index_words.specs.declared.word.Field.TheVariants.{Key, Val, Mark, Head, Link, Tag}
+use Rattle.index_words.specs.declared.word.Field.TheVariants.{Key, Val, Mark, Head, Link as LinkField, Tag}
 use Rattle.index_words.specs.declared.word.Part.TheVariants.{Child, Stamp as Number, Next}
 use Rattle.index_words.specs.declared.word.Word.{Word}
 use Rattle.index_words.specs.declared.word.Word.TheVariants.{Node, Entry}
@@ -19,13 +21,14 @@ use Rattle.key_map.specs.History.{after}
 use Rattle.key_map.specs.Map.{pair}
 use Rattle.core_invariant.proofs.TreeReads.{after_length}
 use Rattle.core_events.specs.FillMoves.{filled_view}
-use Rattle.core_events.specs.LoadMoves.{bundle_link, head_loaded}
-use Rattle.core_events.specs.LockMoves.{nothing_loaded}
+use Rattle.core_events.specs.LoadMoves.{head_loaded}
+use Rattle.core_events.specs.LockMoves.{locked_view, mark_loaded, nothing_loaded}
 use Rattle.core_events.specs.Moves.{entered}
-use Rattle.core_events.specs.PlainMoves.{link_set, other_links, still_unlinking}
+use Rattle.core_events.specs.PlainMoves.{link_loaded, link_set, other_links, still_unlinking, tag_loaded}
 use Rattle.core_events.specs.PlainNeeds.{sets_others, unlinks_at}
 use Rattle.core_events.specs.UpdateMoves.{finalised, prepared, raised_view}
-use Rattle.core_laws.specs.PlainNeeds.{MaySetLink}
+use Rattle.core_laws.proofs.Searching.{held_link, null_link}
+use Rattle.core_laws.specs.PlainNeeds.{MayReadLink, MayReadTag, MaySetLink}
 use Rattle.core_laws.specs.ViewNeeds.{HasFilled, IsInside, MayFill, MayLoadStamp, MayPrepare, MayReadHead, MayUnlock}
 use Rattle.core_events.specs.Versions.{tree_nodes}
 use Rattle.core_trees.specs.NamedTree.{NamedTree, Null, Branch, contents}
@@ -41,7 +44,7 @@ use Rattle.table_steps.specs.Loads.{HasLoadedHead}
 use Rattle.plan_laws.proofs.PlainLinks.{no-links, sets-first, sets-rest}
 use Rattle.plan_laws.proofs.Releases.{all-done}
 use Rattle.table_steps.specs.Raises.{HasNew, HasRaised}
-use Rattle.table_tests.specs.FirstPut.{at_start, at_seen, at_announced, at_root, at_locked_root}
+use Rattle.table_tests.specs.FirstPut.{at_start, at_seen, at_announced, at_read, at_root, at_pair, at_unmarked_root, at_locked_root}
 
 pub one_above : 0 < 1
 one_above = omega arith
@@ -83,7 +86,7 @@ module _ (a s : View) (n : ℕ) (is : a ≡ at_announced) (seen : HasSeen a n s)
   now : ReadsNow a 0 n s
   now = reads (subst (λ (u : View). 0 < u.announced) (sym is) one_above)
 
-  stamp_is : n ≡ 0 → s ≡ reading_at [] at_announced 0 false []
+  stamp_is : n ≡ 0 → s ≡ at_read
   stamp_is none =
       let us : s.history.seen ≡ [] = no_items s.history.seen (seen.whole ∙ none) in
       let map : contents now.tree ≡ [] = now.contents_are ∙ ap (after s.history.seen) none ∙ none_after s.history.seen in
@@ -92,13 +95,21 @@ module _ (a s : View) (n : ℕ) (is : a ≡ at_announced) (seen : HasSeen a n s)
       ∙ ap (λ k. reading_at [] at_announced k false (tree_nodes now.tree)) none
       ∙ ap (λ (ns : List TreeNode). reading_at [] at_announced 0 false ns) (no_nodes now.tree map)
 
-  pub may_load_root : n ≡ 0 → MayReadHead s 0
-  may_load_root none = subst (λ (u : View). MayReadHead u 0) (sym (stamp_is none)) (record { inside = refl; reach = inl refl })
+  pub may_read_root : n ≡ 0 → MayReadLink s 0 Right
+  may_read_root none = subst (λ (u : View). MayReadLink u 0 Right) (sym (stamp_is none)) (record { inside = refl; on = inr refl })
 
-  pub found_root : (h : View) (head : ℕ) → HasLoadedHead s 0 Right head h → n ≡ 0 → head ≡ 0 → h ≡ at_root
-  found_root h head found none null =
-      found.view ∙ ap (λ (v : View). head_loaded v 0 Right head found.number) (stamp_is none)
-      ∙ ap (λ k. head_loaded (reading_at [] at_announced 0 false []) 0 Right k found.number) null
+  pub found_root : (h : View) → h ≡ tag_loaded (link_loaded s 0 Right 0) 0 Right 0 → n ≡ 0 → h ≡ at_root
+  found_root h found none = found ∙ ap (λ (v : View). tag_loaded (link_loaded v 0 Right 0) 0 Right 0) (stamp_is none)
+
+-- the loads of the root's plain link and of its tag
+pub may_read_tag : (v w : View) (x : ℕ) → IsInside v → w ≡ link_loaded v 0 Right x → MayReadTag w 0
+may_read_tag v w x inside is = subst (λ (u : View). MayReadTag u 0) (sym is) (record { inside = inside; there = omega arith })
+
+pub no_child : (v w t : View) (x tag : ℕ) → w ≡ link_loaded v 0 Right x → t ≡ tag_loaded w 0 Right tag → x ≡ 0 → tag ≡ 0
+    → t ≡ tag_loaded (link_loaded v 0 Right 0) 0 Right 0
+no_child v w t x tag link loaded null never =
+    loaded ∙ ap (λ (u : View). tag_loaded u 0 Right tag) (link ∙ ap (λ k. link_loaded v 0 Right k) null)
+    ∙ ap (λ k. tag_loaded (link_loaded v 0 Right 0) 0 Right k) never
 
 -- with the key filled, and with the value too
 abbrev pub at_key : View
@@ -124,8 +135,33 @@ at_prepared = prepared at_locked_root Right 0 1
 filled_at : (v : View) (place : ℕ) (w : Word) (x : ℕ) → slice_get v.reading.filled place ≡ Some (record { word = w; value = x }) → HasFilled v w x
 filled_at v place w x is = record { place = place; is = item_at v.reading.filled place (record { word = w; value = x }) is }
 
+-- the root is locked, and was found unmarked
+pub unmarked_is : (v l m : View) (x : ℕ) → v ≡ at_pair → l ≡ locked_view v 0 → m ≡ mark_loaded l 0 x → x ≡ 0 → m ≡ at_unmarked_root
+unmarked_is v l m x is locked loaded none =
+    loaded ∙ ap (λ (u : View). mark_loaded u 0 x) (locked ∙ ap (λ (u : View). locked_view u 0) is) ∙ ap (λ k. mark_loaded (locked_view at_pair 0) 0 k) none
+
+pub may_read_again : (m : View) → m ≡ at_unmarked_root → MayReadLink m 0 Right
+may_read_again m is = subst (λ (u : View). MayReadLink u 0 Right) (sym is) (record {
+  inside = refl;
+  on = inl (record { locked = one_above; root = λ _. refl; unmarked = λ some. absurd (omega (arith, some)) });
+})
+
+abbrev at_null_root : View
+at_null_root = tag_loaded (link_loaded at_unmarked_root 0 Right 0) 0 Right 0
+
+pub may_load_head : (m t : View) → m ≡ at_unmarked_root → t ≡ tag_loaded (link_loaded m 0 Right 0) 0 Right 0 → MayReadHead t 0
+may_load_head m t is loaded =
+    subst (λ (u : View). MayReadHead u 0) (sym (loaded ∙ ap (λ (u : View). tag_loaded (link_loaded u 0 Right 0) 0 Right 0) is)) (record { inside = refl; reach = inl refl })
+
+pub locked_root_is : (m t h : View) (head : ℕ) → m ≡ at_unmarked_root → t ≡ tag_loaded (link_loaded m 0 Right 0) 0 Right 0 → HasLoadedHead t 0 Right head h
+    → head ≡ 0 → h ≡ at_locked_root
+locked_root_is m t h head is loaded found null =
+    found.view
+    ∙ ap (λ (u : View). head_loaded u 0 Right head found.number) (loaded ∙ ap (λ (u : View). tag_loaded (link_loaded u 0 Right 0) 0 Right 0) is)
+    ∙ ap (λ k. head_loaded at_null_root 0 Right k found.number) null
+
 abbrev locked_root : LoadedHead → HeldNode
-locked_root head = record { node = 0; key = None; val = None; mark = Some 0; left = nothing_loaded; right = record { head = Some head; link = None; tag = None } }
+locked_root head = record { node = 0; key = None; val = None; mark = Some 0; left = nothing_loaded; right = record { head = Some head; link = Some 0; tag = Some 0 } }
 
 abbrev head_found : LoadedHead
 head_found = record { entry = 0; stamp = None }
@@ -148,6 +184,10 @@ may_prepare = record {
   unnumbered = filled_at at_locked_root 9 (Entry Number 1) 0 refl;
 }
 
+-- the search has found the root's plain link null, with the tag 0, before it has turned
+abbrev root_link : Link
+root_link = record { node = 0; side = Right; child = 0; source = Plain (Some 0) None None }
+
 abbrev holds_head : HoldsHead at_prepared 0 Right 1
 holds_head = record {
   place = 0;
@@ -164,21 +204,23 @@ holds_grow = record {
   node = 0;
   side = Right;
   at = record {
-    root = λ _. refl;
-    link = bundle_link 0 Right 0 0;
-    node_is = refl;
-    side_is = refl;
-    child_is = refl;
-    entry = 0;
-    known = record { unraised = refl; place = 0; link = item_at at_prepared.reading.links 0 (bundle_link 0 Right 0 0) refl; source = refl };
-    now = 1;
-    head = holds_head;
-    unmarked = refl;
-    still = inr (one_above, filled_at at_prepared 10 (Entry Next 1) 0 refl);
+    null = record { root = λ _. refl; held = locked_root head_stored; locked = refl; unmarked = refl; leads = refl };
+    tag = 0;
+    held_tag = refl;
+    found = record {
+      place = 0;
+      link = root_link;
+      is = item_at at_prepared.reading.links 0 root_link refl;
+      node_is = refl;
+      side_is = refl;
+      child_is = refl;
+      above = None;
+      below = None;
+      source = refl;
+      over = tt;
+      under = tt;
+    };
   };
-  tree = Null;
-  read = refl;
-  gap = (refl, refl);
   small = omega arith;
   slot = 1;
   new = record {
@@ -190,8 +232,8 @@ holds_grow = record {
     left_link = (filled_at at_prepared 1 (Node (Head Left) 1) 0 refl, inl (refl, refl));
     right_head = 0;
     right_link = (filled_at at_prepared 2 (Node (Head Right) 1) 0 refl, inl (refl, refl));
-    left_child = filled_at at_prepared 3 (Node (Link Left) 1) 0 refl;
-    right_child = filled_at at_prepared 4 (Node (Link Right) 1) 0 refl;
+    left_child = filled_at at_prepared 3 (Node (LinkField Left) 1) 0 refl;
+    right_child = filled_at at_prepared 4 (Node (LinkField Right) 1) 0 refl;
     left_tag = filled_at at_prepared 5 (Node (Tag Left) 1) 0 refl;
     right_tag = filled_at at_prepared 6 (Node (Tag Right) 1) 0 refl;
     apart = λ _. refl;
@@ -221,7 +263,7 @@ pub may_raise : (v : View) (n : ℕ) → v ≡ at_prepared → v.number ≡ Some
 may_raise v n is own =
     let number : at_prepared.number ≡ Some n = sym (ap (λ (u : View). u.number) is) ∙ own in
     subst (λ (u : View). MayRaise u.layout u (update_of n 2 5 (Put 7)) (Some 1) [] (set_to 0 Right 1 ∷ []) None) (sym is)
-    (grow_from_view at_prepared.layout at_prepared n 2 5 7 (can_raise n number) holds_grow)
+    (grow_from_view held_link null_link at_prepared.layout at_prepared n 2 5 7 (can_raise n number) holds_grow)
 
 -- behind the raise the root's plain link is to be set to the new node
 abbrev root_front : Front

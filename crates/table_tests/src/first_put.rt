@@ -1,15 +1,21 @@
 // The first put of a table by single steps, and what another pass reads at its stages. All numbers were worked by hand.
 ghost use Rattle.std.specs.Prelude.{◌≡◌, true, IfOk};
+ghost use Rattle.index_words.specs.declared.side.Side.TheVariants.{Right};
+ghost use Rattle.core_events.specs.LockMoves.{locked_view};
+ghost use Rattle.core_events.specs.PlainMoves.{link_loaded, tag_loaded};
+ghost use Rattle.core_laws.specs.PlainNeeds.{MayReadLink};
 ghost use Rattle.table_tests.specs.FirstPut.{at_start, at_seen, at_root, at_pair, at_locked_root};
 ghost use Rattle.snapshot_read.specs.Snapshots.{IsReading};
 ghost use Rattle.table_steps.specs.Passes.{AtRest, IsPassOf};
 
 use crate::set_up::both;
 use index_words::{Change, Layout, NoMemory, Pair, PassSize, Side};
+use key_map::PassError;
 use snapshot_read::{Look, begin, end, try_next_from};
 use std::alloc::Global;
 use std::test::Fail;
 use table_steps::{PassKey, SharedTable, TablePass};
+use tree_update::{Try, try_put};
 
 const SIZE: PassSize = PassSize {
     nodes: 1,
@@ -43,6 +49,14 @@ fn sees_nothing(pass: &mut TablePass<'_>) -> bool
     pass.load_stamp() == 0
 }
 
+/// Whether the root's plain link is null, and has never become so.
+fn has_no_child(pass: &mut TablePass<'_>) -> bool
+    requires may { MayReadLink pass.old.view 0 Right }
+    ensures { result ≡ true → pass.new.view ≡ tag_loaded (link_loaded pass.old.view 0 Right 0) 0 Right 0 }
+{
+    pass.load_link(0, Side::Right) == 0 && pass.load_tag(0, Side::Right) == 0
+}
+
 /// Announces that it has seen no update, and tells whether there is none still, and no child at the root.
 fn reads_nothing(pass: &mut TablePass<'_>) -> bool
     requires seen { pass.old.view ≡ at_seen }
@@ -50,7 +64,7 @@ fn reads_nothing(pass: &mut TablePass<'_>) -> bool
 {
     pass.number_fact();
     pass.announce(Some(0));
-    pass.load_stamp() == 0 && pass.load_head(0, Side::Right) == 0
+    pass.load_stamp() == 0 && has_no_child(pass)
 }
 
 /// Fills node 1 with key 5 and value 7, and entry 1, which leads to it. Both were never used, so their other words are
@@ -64,12 +78,27 @@ fn fill_pair(pass: &mut TablePass<'_>)
     pass.fill(35, 1);
 }
 
-/// Locks the root, and tells whether it is unmarked and still without a child.
+/// Whether the locked root is unmarked, still without a child, and without an entry.
+fn is_bare(pass: &mut TablePass<'_>) -> bool
+    requires locked { pass.old.view ≡ locked_view at_pair 0 }
+    ensures { result ≡ true → pass.new.view ≡ at_locked_root }
+{
+    if pass.load_mark(0) {
+        return false;
+    }
+    has_no_child(pass) && pass.load_head(0, Side::Right) == 0
+}
+
+/// Locks the root, and tells whether it is unmarked, still without a child, and without an entry.
 fn locks_root(pass: &mut TablePass<'_>) -> bool
     requires filled { pass.old.view ≡ at_pair }
     ensures { result ≡ true → pass.new.view ≡ at_locked_root }
 {
-    pass.try_lock(0) && !pass.load_mark(0) && pass.load_head(0, Side::Right) == 0
+    if pass.try_lock(0) {
+        is_bare(pass)
+    } else {
+        false
+    }
 }
 
 /// What a pass reads at the stages of another one's put.
@@ -77,6 +106,8 @@ fn locks_root(pass: &mut TablePass<'_>) -> bool
 struct Read {
     prepared: (u64, Look),
     place: u64,
+    /// A try of another put: the root is locked.
+    tried: Result<Try, PassError>,
     raised: (u64, Look),
     ended: [Look; 2],
 }
@@ -100,6 +131,7 @@ fn put_by_steps(pass: &mut TablePass<'_>, other: &mut TablePass<'_>) -> Read
     let prepared = look(other);
     end(other);
     let place = pass.raise(2, 5, Change::Put(7), [1, 0, 0], [0, 0]);
+    let tried = try_put(other, 1, 6, 8);
     let raised = look(other);
     pass.finalise(1);
     pass.set_link(0, Side::Right, 1);
@@ -110,6 +142,7 @@ fn put_by_steps(pass: &mut TablePass<'_>, other: &mut TablePass<'_>) -> Read
     Read {
         prepared,
         place,
+        tried,
         raised,
         ended,
     }
@@ -127,6 +160,7 @@ fn a_reader_waits_at_an_entry_until_it_has_its_number(rt: HostRuntime) -> Result
     let read = Read {
         prepared: (0, Look::Pending),
         place: 1,
+        tried: Ok(Try::Busy),
         raised: (1, Look::Pending),
         ended: [Look::Found(Pair { key: 5, val: 7 }), Look::Nothing],
     };

@@ -10,8 +10,8 @@ use std::sync::Wait;
 use std::test::Fail;
 use table_steps::TablePass;
 use tree_update::put;
-use update_search::{Found, begin_search, find_plan};
-use update_try::{Failed, carry_out, plan_slots};
+use update_search::{Failed, begin_search, find_aim};
+use update_try::{carry_out, plan_slots};
 
 /// A try to put a key, which stops behind its search until another pass has made the row's update. Whether it has then
 /// found that something moved.
@@ -32,14 +32,13 @@ fn is_moved_by<R: Wait>(
     let at = begin_search(pass);
     pass.facts();
     pass.number_fact();
-    let Found::Plan(planned) = find_plan(pass, at, key, Change::Put(1)) else {
+    let Ok(Some(aim)) = find_aim(pass, key, Change::Put(1)) else {
         return false;
     };
     if !has_answer(other, rt, row) {
         return false;
     }
-    let ended = carry_out(pass, at, 1, &planned.plan, slots, &planned.entries);
-    ended == Err(Failed::Moved)
+    carry_out(pass, at, 1, &aim, slots) == Err(Failed::Moved)
 }
 
 /// As `is_moved_by`, with free slots of the pass's own.
@@ -63,7 +62,7 @@ fn moves<R: Wait>(
     }
 }
 
-/// First the head of the link is another one, then the node is marked.
+/// First the link leads to another node, then the node of the link is marked.
 #[test]
 fn a_pass_finds_that_what_it_has_searched_moved(rt: HostRuntime) -> Result<(), Fail> {
     let (table, mut keys) = opened(rt.alloc(), &[ROOMY; 3])?;

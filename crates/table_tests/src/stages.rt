@@ -4,7 +4,7 @@ ghost use Rattle.core_updates.specs.PlanEvents.{HasSlots};
 ghost use Rattle.plan_laws.specs.PlainLinks.{SetsAtOnce};
 ghost use Rattle.plan_laws.specs.Fills.{AreApart};
 ghost use Rattle.plan_laws.specs.Raises.{HasFinalised};
-ghost use Rattle.plan_laws.specs.Tries.{IsSearched};
+ghost use Rattle.update_search.specs.Aims.{IsAim, IsPut};
 ghost use Rattle.table_steps.specs.Passes.{AtRest};
 ghost use Rattle.tree_update.specs.Trying.{OffersSlots};
 
@@ -16,10 +16,10 @@ use snapshot_read::{Look, begin, end, try_next_from};
 use std::test::Fail;
 use table_steps::TablePass;
 use tree_update::{Try, put, try_put};
-use update_search::{Found, begin_search, find_plan};
+use update_search::{Aim, begin_search, find_aim};
 use update_try::{
     finalise_all, leave_section, make_ready, mark_all, plan_slots, prune_all, raise_plan,
-    raise_tags, set_links, unlock_all, validate,
+    raise_tag, set_plain, unlock_all, validate,
 };
 
 /// The answer of one look, in a snapshot of its own, and then that of one try of a put.
@@ -97,10 +97,10 @@ fn end_in_stages(
     let pruned = meet(other);
     mark_all(pass, plan);
     let marked = meet(other);
-    set_links(pass, plan, slots);
-    raise_tags(pass, plan, slots);
+    set_plain(pass, plan, slots);
+    raise_tag(pass, plan, slots);
     let set = meet(other);
-    unlock_all(pass, plan);
+    unlock_all(pass, plan.locks().as_slice());
     leave_section(pass);
     let ended = meet(other);
     Behind {
@@ -112,18 +112,17 @@ fn end_in_stages(
     }
 }
 
-/// Carries a plan out. Another pass meets it with the nodes locked, with the entries in front of their bundles, behind
+/// Carries an aim out. Another pass meets it with the nodes locked, with the entries in front of their bundles, behind
 /// the raise, and at the stages of its end. None where a lock or a look fails.
 fn carry_in_stages(
     pass: &mut TablePass<'_>,
     other: &mut TablePass<'_>,
     number: u64,
-    plan: &Plan,
+    aim: &Aim,
     slots: &PlanSlots,
-    heads: &[u32; 9],
 ) -> Option<(Before, Behind)>
-    requires searched { IsSearched pass.old.view pass.old.number plan.now heads.now }
-    requires near { SetsAtOnce plan.now }
+    requires aim { IsAim pass.old.view aim.now }
+    requires put { IsPut aim.now }
     requires free { HasSlots pass.old.view slots.now }
     requires apart { AreApart slots.now }
     requires node { 0 < slots.now.node }
@@ -131,15 +130,15 @@ fn carry_in_stages(
     requires reads { pass.old.view.reading.section ≡ Some number }
     requires rest { AtRest other.old.view }
 {
-    if let Err(_failed) = validate(pass, plan, heads) {
+    let Ok(plan) = validate(pass, aim) else {
         return None;
-    }
+    };
     let locked = meet(other);
-    make_ready(pass, plan, slots, heads);
+    make_ready(pass, &plan, slots);
     let prepared = meet(other);
-    raise_plan(pass, 1, plan, slots, heads);
+    raise_plan(pass, 1, &plan, slots);
     let raised = meet(other);
-    let behind = end_in_stages(pass, other, number, plan, slots);
+    let behind = end_in_stages(pass, other, number, &plan, slots);
     let before = Before {
         locked,
         prepared,
@@ -162,12 +161,9 @@ fn put_in_stages(
     let at = begin_search(pass);
     pass.facts();
     pass.number_fact();
-    match find_plan(pass, at, 5, Change::Put(51)) {
-        Found::Plan(planned) => {
-            carry_in_stages(pass, other, at, &planned.plan, slots, &planned.entries)
-        }
-        Found::Absent => None,
-        Found::Pending => None,
+    match find_aim(pass, 5, Change::Put(51)) {
+        Ok(Some(aim)) => carry_in_stages(pass, other, at, &aim, slots),
+        Ok(None) | Err(_) => None,
     }
 }
 
@@ -197,7 +193,7 @@ fn a_pass_meets_another_ones_update_at_its_stages(rt: HostRuntime) -> Result<(),
     };
     let pending = Met {
         look: Look::Pending,
-        tried: Ok(Try::Pending),
+        tried: Ok(Try::Busy),
     };
     assert_eq!(rt; before.locked, answers(50, Try::Busy));
     assert_eq!(rt; before.prepared, pending);

@@ -11,6 +11,7 @@ use Rattle.key_map.specs.declared.pass.Done.{Done}
 use Rattle.core_events.specs.Announcing.{ann_loaded}
 use Rattle.core_events.specs.LoadMoves.{risen}
 use Rattle.plan_laws.specs.Answers.{owned_nodes, owned_entries}
+use Rattle.plan_laws.specs.Frames.{KeepsTry}
 use Rattle.table_steps.specs.Passes.{Pass, Extends}
 use Rattle.table_steps.specs.Stamps.{outside_again, HasOpened}
 use Rattle.table_steps.proofs.ReadSections.{opened_extends, within_history}
@@ -134,8 +135,9 @@ opened_stays p w n opened =
     }
 
 -- so does a search
-pub search_stays : (p : Pass) (b w : View) (n : ℕ) → HasOpened p 0 n b → HasRead b w → StaysOn p.view w
-search_stays p b w n opened read = stays_more p.view b w (opened_stays p b n opened) (read_stays b w read)
+pub search_stays : (p : Pass) (b w : View) (n : ℕ) → HasOpened p 0 n b → KeepsTry b w → StaysOn p.view w
+search_stays p b w n opened keeps =
+    stays_more p.view b w (opened_stays p b n opened) (same_stays b w keeps.pass.history keeps.free keeps.pass.batch keeps.pass.retired)
 
 -- and a look at what another pass has announced
 pub announced_stays : (v w : View) (other word : ℕ) → w ≡ ann_loaded v other word → StaysOn v w

@@ -18,67 +18,74 @@ use Rattle.key_map.specs.Map.{map_has, map_get, first_from, value_at}
 use Rattle.key_map.proofs.HistoryLaws.{after-append, IsMap-after}
 use Rattle.key_map.proofs.MapLaws.{map_get-first_from}
 use Rattle.core_events.specs.LoadMoves.{risen}
-use Rattle.core_updates.specs.declared.plan.Plan.{Plan}
-use Rattle.core_updates.specs.declared.plan.Plan.TheVariants.{Grow, Replace, Lift, Join}
-use Rattle.core_updates.specs.Plans.{key_of, change_of}
-use Rattle.plan_laws.specs.Answers.{owned_nodes, owned_entries, was_there, MovesNodes as PlanMovesNodes}
-use Rattle.plan_laws.specs.Raises.{update_by}
+use Rattle.core_updates.specs.Ready.{update_of}
+use Rattle.plan_laws.specs.Answers.{owned_nodes, owned_entries}
 use Rattle.snapshot_read.specs.Snapshots.{HasBegun}
 use Rattle.tree_update.specs.Calls.{GoesOn, FixesNone, StaysOn, MakesChange, MovesNodes, LooksFor, HasMade, Inserts, AnswersPutNew, AnswersRemoval, IsOutOfSlots, IsRefusal}
 use Rattle.tree_update.proofs.CallSteps.{fixes_more, made_more, looked_more}
-use Rattle.update_try.specs.Carried.{HasCarriedOut}
+use Rattle.update_search.specs.declared.search.Aim.{Aim}
+use Rattle.update_search.specs.declared.search.Aim.TheVariants.{Grow, Replace, Remove as RemoveAim}
+use Rattle.update_search.specs.Aims.{change_of, has_found, key_of}
+use Rattle.update_try.specs.Carried.{HasCarriedOut, MovesNodes as TryMovesNodes}
 
--- the nodes of a plan, by its change
-plan_nodes : (plan : Plan) (old new : ℕ) → PlanMovesNodes plan old new → MovesNodes (change_of plan) (was_there plan) old new
-plan_nodes (Grow p) old new moves = moves
-plan_nodes (Replace p) old new moves = omega (arith, moves)
-plan_nodes (Lift p) old new moves = (refl, moves)
-plan_nodes (Join p) old new moves = (refl, moves)
+-- it is a removal
+abbrev is_removal : Change → Bool
+is_removal (Put val) = false
+is_removal Remove = true
 
-module _ (v w : View) (n line : ℕ) (plan : Plan) (place : ℕ) (done : HasCarriedOut v w n line plan place) where
+-- the nodes after an update, in the words of a call
+made_nodes : (change : Change) (was : Bool) (old new : ℕ) → TryMovesNodes change was old new
+    → (is_removal change ≡ true → was ≡ true) → MovesNodes change was old new
+made_nodes (Put val) false old new moves found = moves
+made_nodes (Put val) true old new moves found = omega (arith, moves)
+made_nodes Remove was old new moves found = (found refl, moves)
+
+module _ (v w : View) (n line key : ℕ) (change : Change) (done : Done) (carried : HasCarriedOut v w n line key change done) where
   abbrev u : Update
-  u = update_by n line plan
+  u = update_of n line key change
 
   abbrev old : List Update
   old = v.history.seen
 
   abbrev behind : List Update
-  behind = drop (length old) done.others
+  behind = drop (length old) carried.others
 
-  whole : done.others ≡ old ++ behind
-  whole = sym (take-append-drop (length old) done.others) ∙ ap (λ (xs : List Update). xs ++ behind) (sym done.before)
+  whole : carried.others ≡ old ++ behind
+  whole = sym (take-append-drop (length old) carried.others) ∙ ap (λ (xs : List Update). xs ++ behind) (sym carried.before)
 
-  place_len : place ≡ length done.others + 1
-  place_len = done.place_is ∙ ap (λ (xs : List Update). length xs) done.seen ∙ length_push done.others u
+  place_len : done.at ≡ length carried.others + 1
+  place_len = carried.place_is ∙ ap (λ (xs : List Update). length xs) carried.seen ∙ length_push carried.others u
 
-  map_before : after w.history.seen (place - 1) ≡ after done.others (length done.others)
+  map_before : after w.history.seen (done.at - 1) ≡ after carried.others (length carried.others)
   map_before =
       ap (λ (k : ℕ). after w.history.seen k) (omega (arith, place_len))
-      ∙ ap (λ (xs : List Update). after xs (length done.others)) done.seen
-      ∙ after-append done.others (u ∷ []) (length done.others) (omega arith)
+      ∙ ap (λ (xs : List Update). after xs (length carried.others)) carried.seen
+      ∙ after-append carried.others (u ∷ []) (length carried.others) (omega arith)
 
-  pub carried_made : (answer : Done) → answer.at ≡ place → answer.was ≡ was_there plan → MakesChange v w n line (key_of plan) (change_of plan) answer
-  carried_made answer at was = record {
+  pub carried_made : (is_removal change ≡ true → done.was ≡ true) → MakesChange v w n line key change done
+  carried_made found = record {
     update = record {
-      above = omega (arith, at, place_len, ap (λ (xs : List Update). length xs) whole, length-append old behind);
+      above = omega (arith, place_len, ap (λ (xs : List Update). length xs) whole, length-append old behind);
       others = behind;
-      seen = done.seen ∙ ap (λ (xs : List Update). xs ++ u ∷ []) whole;
-      place = at ∙ done.place_is;
-      mine = done.mine ∙ ap (λ (k : ℕ). v.history.mine ++ k ∷ []) (sym at);
-      left = done.left;
-      entries = done.entries;
-      looks = omega (arith, done.looks);
+      seen = carried.seen ∙ ap (λ (xs : List Update). xs ++ u ∷ []) whole;
+      place = carried.place_is;
+      mine = carried.mine;
+      left = carried.left;
+      entries = carried.entries;
+      looks = omega (arith, carried.looks);
     };
-    was =
-        was ∙ sym done.was ∙ ap (λ (m : List Pair). map_has (key_of plan) m) (sym map_before)
-        ∙ ap (λ (k : ℕ). map_has (key_of plan) (after w.history.seen (k - 1))) (sym at);
-    nodes =
-        subst (λ (b : Bool). MovesNodes (change_of plan) b (owned_nodes v) (owned_nodes w)) (sym was)
-        (plan_nodes plan (owned_nodes v) (owned_nodes w) done.nodes);
+    was = sym carried.was ∙ ap (λ (m : List Pair). map_has key m) (sym map_before);
+    nodes = made_nodes change done.was (owned_nodes v) (owned_nodes w) carried.nodes found;
   }
 
   pub carried_fixes : FixesNone v w
-  carried_fixes = record { looks = done.looks; found = done.found }
+  carried_fixes = record { looks = carried.looks; found = carried.found }
+
+-- an aim of a removal is one whose search has found the key
+pub removal_found : (aim : Aim) → is_removal (change_of aim) ≡ true → has_found aim ≡ true
+removal_found (Grow pair gap) is = cc
+removal_found (Replace pair found) is = refl
+removal_found (RemoveAim key found right) is = refl
 
 -- a key is there exactly where it has a value
 has_value : (key : ℕ) (m : List Pair) → map_has key m ≡ is_some (map_get key m)
@@ -115,12 +122,16 @@ looked_found v b w key at there first begun stays same goes is tells = record {
       ∙ has_first key at b.history.seen ∙ ap (λ (o : Option Pair). is_some (value_at key o)) (sym is) ∙ sym tells;
 }
 
--- an update that was made, by the key and the change of its plan, and from an earlier view on
-pub made_as : (v w : View) (n m line key : ℕ) (change : Change) (plan : Plan) (done : Done) → n ≡ m → key_of plan ≡ key → change_of plan ≡ change
-    → HasMade v w n line (key_of plan) (change_of plan) done → HasMade v w m line key change done
-made_as v w n m line key change plan done number key_is change_is is =
+-- an update that was carried out, by the key and the change of its aim, and from an earlier view on
+pub made_as : (v w : View) (n m line key : ℕ) (change : Change) (aim : Aim) (done : Done) → n ≡ m → key_of aim ≡ key → change_of aim ≡ change
+    → HasCarriedOut v w n line (key_of aim) (change_of aim) done → done.was ≡ has_found aim → HasMade v w m line key change done
+made_as v w n m line key change aim done number key_is change_is is was =
+    let made : HasMade v w n line (key_of aim) (change_of aim) done = (
+      carried_made v w n line (key_of aim) (change_of aim) done is (λ removal. was ∙ removal_found aim removal),
+      carried_fixes v w n line (key_of aim) (change_of aim) done is,
+    ) in
     subst (λ (k : ℕ). HasMade v w k line key change done) number
-    (subst (λ (k : ℕ). HasMade v w n line k change done) key_is (subst (λ (c : Change). HasMade v w n line (key_of plan) c done) change_is is))
+    (subst (λ (k : ℕ). HasMade v w n line k change done) key_is (subst (λ (c : Change). HasMade v w n line (key_of aim) c done) change_is made))
 
 pub has_made_more : (u v w : View) (n line key : ℕ) (change : Change) (done : Done) → StaysOn u v → HasMade v w n line key change done → HasMade u w n line key change done
 has_made_more u v w n line key change done on is = (made_more u v w n line key change done on.goes is.0, fixes_more u v w on.fixes is.1)

@@ -1,40 +1,37 @@
 -- How an update that a try has made ends, with a wait or without one.
-use Rattle.std.proofs.Common.{◌≡◌, ℕ, ◌+◌, ◌-◌, ◌<◌, List, length, true, arith, ap, sym, ◌∙◌, subst, Option, Some, None}
+use Rattle.std.proofs.Common.{◌≡◌, ℕ, ◌+◌, ◌-◌, ◌<◌, List, length, true, arith, ap, sym, ◌∙◌, subst, refl, Option, Some, None}
 use Rattle.index_words.specs.declared.view.View.{View}
 use Rattle.index_words.specs.declared.view.history.SeenHistory.{SeenHistory}
 use Rattle.index_words.specs.declared.view.slots.Looks.{Looks}
 use Rattle.index_words.specs.declared.view.slots.Slots.{Slots}
 use Rattle.key_map.specs.declared.pass.Done.{Done}
 use Rattle.key_map.specs.declared.update.Change.{Change}
+use Rattle.key_map.specs.declared.update.Change.TheVariants.{Put, Remove}
 use Rattle.key_map.specs.declared.update.Update.{Update}
 use Rattle.key_map.specs.History.{after}
 use Rattle.key_map.specs.Map.{map_has}
-use Rattle.core_grace.specs.Batches.{all_passed, looked_at}
+use Rattle.core_grace.specs.Batches.{looked_at}
 use Rattle.core_events.specs.Waits.{looked_waiting}
-use Rattle.core_updates.specs.declared.plan.Plan.{Plan}
-use Rattle.core_updates.specs.declared.plan.Plan.TheVariants.{Grow, Replace, Lift, Join}
-use Rattle.core_updates.specs.Plans.{change_of}
 use Rattle.plan_laws.specs.Answers.{owned_nodes, owned_entries}
 use Rattle.plan_laws.specs.Frames.{KeepsOwned}
-use Rattle.plan_laws.specs.Parting.{HasPassedAll}
 use Rattle.plan_laws.proofs.Parting.{look_parted}
 use Rattle.pass_slots.specs.Owned.{KeepsLooks, Shown}
 use Rattle.table_steps.specs.Passes.{AtRest}
 use Rattle.update_try.specs.declared.parting.Parted.{Parted}
-use Rattle.update_try.specs.Parting.{far_of, parted_plan, EndsAs, HasParted}
+use Rattle.update_search.specs.Aims.{is_put}
+use Rattle.update_try.specs.Parting.{EndsAs, HasParted}
 use Rattle.tree_update.specs.Calls.{MakesChange, MovesNodes}
 use Rattle.tree_update.specs.Trying.{EndsBy}
 
--- an update that is no removal of a node with a far successor has ended
-at_once : (v : View) (n : ℕ) (parted : Option Parted) → parted_plan parted ≡ None → EndsAs v n parted → AtRest v
+-- an update without a wait has ended
+at_once : (v : View) (n : ℕ) (parted : Option Parted) → parted ≡ None → EndsAs v n parted → AtRest v
 at_once v n None is ends = ends
 at_once v n (Some parted) is ends = cc
 
-pub ends_by : (plan : Plan) (v : View) (n : ℕ) (parted : Option Parted) → parted_plan parted ≡ far_of plan → EndsAs v n parted → EndsBy (change_of plan) v n parted
-ends_by (Grow p) v n parted is ends = at_once v n parted is ends
-ends_by (Replace p) v n parted is ends = at_once v n parted is ends
-ends_by (Lift p) v n parted is ends = ends
-ends_by (Join p) v n parted is ends = ends
+pub ends_by : (change : Change) (v : View) (n : ℕ) (parted : Option Parted)
+    → (is_put change ≡ true → parted ≡ None) → EndsAs v n parted → EndsBy change v n parted
+ends_by (Put val) v n parted none ends = at_once v n parted (none refl) ends
+ends_by Remove v n parted none ends = ends
 
 -- a look of the wait
 module _ (v w : View) (other word : ℕ) (is : w ≡ looked_waiting v other word) where
@@ -62,11 +59,6 @@ module _ (v w : View) (other word : ℕ) (is : w ≡ looked_waiting v other word
   pub look_shown : (old new : Shown) → ((g : Looks) → KeepsLooks g old → KeepsLooks (looked_at g other word) new) → KeepsLooks v.update.waiting old
       → KeepsLooks w.update.waiting new
   look_shown old new looks keeps = subst (λ (u : View). KeepsLooks u.update.waiting new) (sym is) (looks v.update.waiting keeps)
-
--- with the number of the pass itself
-pub all_passed_by : (v : View) (n : ℕ) (parted : Parted) → HasParted v n parted → all_passed v.layout.passes (Some n) v.update.waiting.passed ≡ true → HasPassedAll v
-all_passed_by v n parted h passed =
-    subst (λ (o : Option ℕ). all_passed v.layout.passes o v.update.waiting.passed ≡ true) (sym h.parted.parting.own) passed
 
 -- what a wait keeps
 module _ (u w : View) (keeps : KeepsOwned u w) where

@@ -49,21 +49,6 @@ taken_unused v = either (λ u. u.unused) (is_empty v.batch) (taken_of v) v v.unu
 pub taken_waits : (w : View) → is_empty w.batch ≡ false → batch_taken w ≡ w
 taken_waits w waits = ap (λ b. cond b (taken_of w) w) waits
 
--- where slots wait the batch has some
-pub batch_waits : (v : View) → (is_empty v.batch && is_empty v.retired) ≡ false → is_empty (batch_of v) ≡ false
-batch_waits v waits = by (is_empty v.batch) refl waits
-  where
-    by : (b : Bool) → is_empty v.batch ≡ b → (b && is_empty v.retired) ≡ false → is_empty (cond b (taken_of v) v).batch ≡ false
-    by true is some = some
-    by false is some = is
-
-pub waits_still : (v : View) → is_empty (batch_of v) ≡ false → (is_empty v.batch && is_empty v.retired) ≡ false
-waits_still v some = by (is_empty v.batch) some
-  where
-    by : (b : Bool) → is_empty (cond b (taken_of v) v).batch ≡ false → (b && is_empty v.retired) ≡ false
-    by true some = some
-    by false some = refl
-
 -- where no slot waits, nothing is to be freed
 empty_list : {X : Type 0} (xs : List X) → eqb (length xs) 0 ≡ true → xs ≡ []
 empty_list [] none = refl
@@ -99,18 +84,6 @@ rest_settled v none =
       retired = retired ∙ sym (ap (λ (u : View). u.retired) taken);
       unused = sym (ap (λ (s : Slots). apart_from s v.unused) waits ∙ apart_none v.unused);
     }
-
--- the slots with the batch free, and with the batch that waits
-pub freed_apart : (v w : View) → w ≡ batch_freed (batch_taken v) → KeepsAllElse v w
-freed_apart v w is = ap apart_from_slots is ∙ taken_apart v
-
-pub freed_settled : (v w : View) → w ≡ batch_freed (batch_taken v) → HasSettled v w
-freed_settled v w is = record {
-  free = ap (λ (u : View). u.free) is ∙ ap (λ (s : Slots). both s (batch_of v)) (taken_free v);
-  batch = ap (λ (u : View). u.batch) is;
-  retired = ap (λ (u : View). u.retired) is;
-  unused = ap (λ (u : View). u.unused) is ∙ ap (apart_from (batch_of v)) (taken_unused v);
-}
 
 pub batch_apart : (v w : View) → HasBatch v w → KeepsAllElse v w
 batch_apart v w is = ap apart_from_slots is ∙ taken_apart v
@@ -445,13 +418,3 @@ settled_counts v w s = record {
     taken_entries v,
   );
 }
-
-pub batch_counts : (v w : View) → HasBatch v w → KeepsSlotCounts v w
-batch_counts v w is =
-    let free : w.free ≡ v.free = ap (λ (u : View). u.free) is ∙ taken_free v in
-    let batch : w.batch ≡ batch_of v = ap (λ (u : View). u.batch) is in
-    let retired : w.retired ≡ retired_of v = ap (λ (u : View). u.retired) is in
-    record {
-      nodes = omega (arith, ap (λ (t : Slots). length t.nodes) free, ap (λ (t : Slots). length t.nodes) batch, ap (λ (t : Slots). length t.nodes) retired, taken_nodes v);
-      entries = omega (arith, ap (λ (t : Slots). length t.entries) free, ap (λ (t : Slots). length t.entries) batch, ap (λ (t : Slots). length t.entries) retired, taken_entries v);
-    }

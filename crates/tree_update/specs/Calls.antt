@@ -16,7 +16,7 @@ use Rattle.core_updates.specs.Ready.{update_of}
 use Rattle.table_steps.specs.Passes.{Pass, Extends}
 use Rattle.table_steps.specs.Raises.{IsRaisedSince}
 use Rattle.table_steps.specs.Stamps.{IsFoundSince}
-use Rattle.update_try.specs.Outcomes.{HasRisen}
+use Rattle.update_search.specs.Outcomes.{HasRisen}
 
 -- the pass made no update: what it has seen goes on, its own updates, how many it may still make and how many slots it owns
 -- are as before, and no look is forgotten

@@ -1,11 +1,9 @@
 -- What one try of an update comes to.
-use Rattle.std.specs.Prelude.{◌≡◌, ℕ, ◌<◌, ◌≤◌, Bool, true, false, length, Option}
+use Rattle.std.specs.Prelude.{◌≡◌, ℕ, ◌<◌, Bool, true, Option}
 use Rattle.index_words.specs.declared.view.View.{View}
 use Rattle.key_map.specs.declared.pass.Done.{Done}
 use Rattle.key_map.specs.declared.update.Change.{Change}
 use Rattle.key_map.specs.declared.update.Change.TheVariants.{Put, Remove}
-use Rattle.key_map.specs.History.{after}
-use Rattle.key_map.specs.Map.{map_has}
 use Rattle.core_updates.specs.declared.plan.PlanSlots.{PlanSlots}
 use Rattle.core_updates.specs.PlanEvents.{HasSlots}
 use Rattle.plan_laws.specs.Fills.{AreApart}
@@ -16,7 +14,7 @@ use Rattle.tree_update.specs.declared.trying.Try.TheVariants.{Done as Made, Busy
 use Rattle.table_steps.specs.Passes.{AtRest, IsAlone}
 use Rattle.update_try.specs.FreeSlots.{LacksFreeSlots}
 use Rattle.update_try.specs.declared.parting.Parted.{Parted}
-use Rattle.update_try.specs.Outcomes.{IsCounted}
+use Rattle.update_search.specs.Outcomes.{IsCounted}
 use Rattle.update_try.specs.Parting.{EndsAs}
 
 -- calls are left, but not the free slots that an update may take
@@ -34,17 +32,10 @@ abbrev pub EndsBy : Change → View → ℕ → Option Parted → Type 0
 EndsBy (Put val) v n parted = AtRest v
 EndsBy Remove v n parted = EndsAs v n parted
 
--- the key was not in the map after so many updates: all that the pass had seen when it began to read
-pub record WasAbsent (v w : View) (key : ℕ) : Type 0 where
-  pub at : ℕ
-  pub above : length v.history.seen ≤ at
-  pub within : at ≤ length w.history.seen
-  pub absent : map_has key (after w.history.seen at) ≡ false
-
--- why a try of this change was not made: the key of a removal was not there; or the key is there, and the change was to be
--- made only where it is not; or the count of the failure has risen, for what another pass did
+-- why a try of this change was not made: the search has not found the key of a removal; or it has found the key, and the change was
+-- to be made only where it is not there; or the count of the failure has risen, for what another pass did
 abbrev pub IsMissed : Bool → ℕ → Change → View → View → Missed → Type 0
-IsMissed only_new key change v w Absent = (change ≡ Remove) × WasAbsent v w key
+IsMissed only_new key change v w Absent = change ≡ Remove
 IsMissed only_new key change v w There = only_new ≡ true
 IsMissed only_new key change v w (Failed failed) = IsCounted failed v w × ¬ IsAlone w
 

@@ -81,9 +81,9 @@ fn try_removal<R: Wait>(
     ensures goes { result ≡ None → GoesOn pass.old.view pass.new.view }
 {
     match try_update(pass, line, key, Change::Remove, false, slots) {
-        Ok(taken) => {
-            end_removal(pass, rt, taken.parted);
-            Some(taken.done)
+        Ok(carried) => {
+            end_removal(pass, rt, carried.parted);
+            Some(carried.done)
         }
         Err(Missed::Absent) => {
             let found = look_for(pass, rt, key);
@@ -119,7 +119,9 @@ fn try_new<R: Wait>(
     ensures goes { result ≡ None → GoesOn pass.old.view pass.new.view }
 {
     match try_update(pass, line, key, Change::Put(val), true, slots) {
-        Ok(taken) => Some(New::Made { at: taken.done.at }),
+        Ok(carried) => Some(New::Made {
+            at: carried.done.at,
+        }),
         Err(Missed::There) => {
             let found = look_for(pass, rt, key);
             if found.was {
@@ -139,12 +141,13 @@ fn make_put<R: Wait>(pass: &mut TablePass<'_>, rt: &R, line: u32, key: u64, val:
     ensures rest { AtRest pass.new.view }
     ensures made { MakesPut pass.old.view pass.new.view pass.old.number line key val result }
     ensures place { IsPlaceOfPut pass.old line key val result pass.new.view }
+    ensures waits { pass.new.view.counts.waits ≡ pass.old.view.counts.waits }
 {
     wait_for_cuts(pass);
     'tries: for _ in rt.forever() {
         let slots = wait_for_slots(pass, rt);
-        if let Ok(taken) = try_update(pass, line, key, Change::Put(val), false, &slots) {
-            return taken.done;
+        if let Ok(carried) = try_update(pass, line, key, Change::Put(val), false, &slots) {
+            return carried.done;
         }
         pause();
     }
@@ -206,6 +209,7 @@ pub fn put<R: Wait>(
     ensures rest { AtRest pass.new.view }
     ensures made { IfOk result (MakesPut pass.old.view pass.new.view pass.old.number line key val) }
     ensures place { IfOk result (λ done. IsPlaceOfPut pass.old line key val done pass.new.view) }
+    ensures waits { pass.new.view.counts.waits ≡ pass.old.view.counts.waits }
     ensures spent { IsErrOf result PassError.Spent ↔ (pass.old.view.history.left ≡ 0) }
     ensures no_slot { IsErrOf result PassError.NoSlot ↔ IsOutOfSlots pass.old.view }
     ensures unchanged { OnErr result (pass.new ≡ pass.old) }

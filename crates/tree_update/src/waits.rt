@@ -69,6 +69,7 @@ fn look_at_announced(pass: &mut TablePass<'_>, other: u32, least: u64) -> u64
     ensures inside { Inside pass.new.view }
     ensures reads { is_some pass.new.view.reading.section ≡ true }
     ensures stays { StaysOn pass.old.view pass.new.view }
+    ensures waits { pass.new.view.counts.waits ≡ pass.old.view.counts.waits }
     ensures lower { result ≤ least }
 {
     if pass.is_own(other) {
@@ -84,6 +85,7 @@ fn look_around(pass: &mut TablePass<'_>) -> Sight
     ensures same { IsSamePass pass.old pass.new }
     ensures rest { AtRest pass.new.view }
     ensures stays { StaysOn pass.old.view pass.new.view }
+    ensures waits { pass.new.view.counts.waits ≡ pass.old.view.counts.waits }
     ensures lower { result.least ≤ result.own }
 {
     let own = begin_search(pass);
@@ -104,6 +106,7 @@ pub(crate) fn wait_for_cuts(pass: &mut TablePass<'_>)
     ensures same { IsSamePass pass.old pass.new }
     ensures rest { AtRest pass.new.view }
     ensures stays { StaysOn pass.old.view pass.new.view }
+    ensures waits { pass.new.view.counts.waits ≡ pass.old.view.counts.waits }
 {
     if pass.owned_entries() >= ENOUGH {
         return;
@@ -128,6 +131,7 @@ pub(crate) fn wait_for_slots<R: Wait>(pass: &mut TablePass<'_>, rt: &R) -> PlanS
     ensures same { IsSamePass pass.old pass.new }
     ensures rest { AtRest pass.new.view }
     ensures stays { StaysOn pass.old.view pass.new.view }
+    ensures waits { pass.new.view.counts.waits ≡ pass.old.view.counts.waits }
 {
     'tries: for _ in rt.forever() {
         if let Some(slots) = plan_slots(pass) {

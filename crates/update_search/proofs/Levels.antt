@@ -1,142 +1,158 @@
--- One level down the tree that a pass reads: the node at the top of the subtree at hand, its key and its value, and where the search then
--- stands.
-use Rattle.std.proofs.Common.{◌≡◌, ℕ, ◌+◌, ◌^◌, ◌<◌, ◌≤◌, inl, inr, arith, refl, ap, sym, subst}
-use Rattle.key_map.specs.Lists.{IsItem}
+-- One level of a search: it goes on by a link, and comes to a node, whose key it loads, or to a null link.
+use Rattle.std.proofs.Common.{◌≡◌, ℕ, ◌<◌, [], ◌∷◌, ◌++◌, length, cond, true, arith, refl, ap, ◌∙◌, sym, subst, inl, inr, Option, Some, None}
+use Rattle.std.specs.Prelude.{◌&&◌}
+use Rattle.std.proofs.lemmas.Bool.{eq-eqb, ne_eqb}
+use Rattle.index_words.specs.declared.side.Side.{Side}
 use Rattle.index_words.specs.declared.side.Side.TheVariants.{Left, Right}
 use Rattle.index_words.specs.declared.view.View.{View}
+use Rattle.index_words.specs.declared.view.reading.Link.{Link as ViewLink}
+use Rattle.index_words.specs.declared.view.reading.LinkSource.TheVariants.{Plain}
+use Rattle.index_words.specs.declared.view.reading.Place.{Place}
+use Rattle.index_words.specs.declared.view.reading.Place.TheVariants.{Node as AtNode, Gap as AtGap}
+use Rattle.index_words.specs.declared.view.reading.Reading.{Reading}
+use Rattle.index_words.specs.declared.view.reading.Turn.{Turn}
+use Rattle.index_words.specs.declared.word.Field.TheVariants.{Key}
+use Rattle.key_map.specs.Lists.{IsItem}
+use Rattle.core_events.specs.LockMoves.{pair_loaded}
+use Rattle.core_events.specs.PlainMoves.{link_loaded, tag_loaded}
+use Rattle.core_events.specs.Searches.{goes_on_at, key_found, left_turn_after, place_after, plain_link, right_turn_after, searches_at, turn_key, turned, walked, with_tag}
+use Rattle.core_laws.specs.Searching.{IsOver, IsUnder}
 use Rattle.core_trees.specs.declared.link.Link.{Link}
-use Rattle.core_trees.specs.NamedTree.{NamedTree, Null, Branch}
-use Rattle.core_events.specs.Versions.{top_slot}
 use Rattle.core_updates.specs.Plans.{link_of}
-use Rattle.plan_laws.specs.Walks.{StandsAt, IsNodeOf}
-use Rattle.plan_laws.proofs.Walks.{walk_start, walk_child, walk_node, walk_left, walk_right, walk_missing}
-use Rattle.table_steps.specs.Loads.{IsTreeLink}
-use Rattle.bundle_reads.specs.Links.{LeadsThere}
-use Rattle.update_search.specs.declared.descent.Search.{Search}
-use Rattle.update_search.specs.Searching.{IsReadTree, IsInTree, IsKeyThere, IsValThere}
-use Rattle.update_search.specs.Descents.{OnWay, IsOnWay, KeyNode, IsMissingThere}
-use Rattle.update_search.proofs.ReadTrees.{item_in_tree}
+use Rattle.plan_laws.specs.Looks.{RemembersLink, RemembersNull}
+use Rattle.plan_laws.proofs.Items.{item-map, last-item}
+use Rattle.update_search.specs.declared.turns.Turns.{Turns}
+use Rattle.update_search.specs.Searching.{HasCome, HasKeyAt, StandsOdd}
+use Rattle.update_search.specs.Turns.{HasTurns, beyond, turned_at}
+use Rattle.update_search.proofs.TurnKeys.{IsBetween, between_true, crossed}
 
--- the link at which a walk stands is one of the tree
-pub stands_link : (v : View) (tree sub : NamedTree) (at : Link) (low high : ℕ) → IsReadTree v tree → StandsAt tree at sub low high → IsTreeLink v at.node at.side
-stands_link v tree sub at low high is stands =
-    elim stands.link as (λ _. IsTreeLink v at.node at.side) [
-      | inl root ↦ inl (ap (λ (l : Link). l.node) root.0, ap (λ (l : Link). l.side) root.0)
-      | inr hangs ↦ inr (subst (λ k. IsInTree v k) hangs.slot (item_in_tree v.reading.tree hangs.place hangs.node (subst (λ ns. IsItem ns hangs.place hangs.node) (sym is.nodes_are) hangs.item)))
-    ]
+-- a search stands where the link begins, and has these turns once it goes on by it
+pub record GoesOn (v : View) (at : Link) (ts : Turns) : Type 0 where
+  pub stands : searches_at v.reading v.reading.place at.node at.side ≡ true
+  pub left : left_turn_after at.side v.reading ≡ ts.left
+  pub right : right_turn_after at.side v.reading ≡ ts.right
 
--- the subtree at a link that leads to a node has the node at its top, and a node of the tree is there
-pub record Top (v : View) (sub : NamedTree) (child : ℕ) : Type 0 where
-  pub key : ℕ
-  pub val : ℕ
-  pub left : NamedTree
-  pub right : NamedTree
-  pub is : sub ≡ Branch child key val left right
-  pub place : ℕ
-  pub item : IsItem v.reading.tree place (record { slot = child; key = key; val = val; left = top_slot left; right = top_slot right })
+some_child : (k : ℕ) (side : Side) (x : ℕ) → 0 < x → place_after k side x ≡ AtNode x None
+some_child k side x some = ap (λ b. cond b (AtGap k side) (AtNode x None)) (ne_eqb x 0 (λ e. omega (arith, e, some)))
 
-pub top_at : (v : View) (tree sub : NamedTree) (at : Link) (low high child : ℕ) → IsReadTree v tree → StandsAt tree at sub low high → 0 < child → child ≡ top_slot sub → Top v sub child
-top_at v tree sub at low high child is stands some top =
-    elim (walk_node tree sub at low high is.once stands) as (λ _. Top v sub child) [
-      | inl null ↦ absurd (omega (arith, some, top, null.0))
-      | inr node ↦ subst (Top v sub) (sym top) (of node.1)
-    ]
-  where
-    of : IsNodeOf tree sub (top_slot sub) → Top v sub (top_slot sub)
-    of n = record {
-      key = n.key;
-      val = n.val;
-      left = n.left;
-      right = n.right;
-      is = n.is;
-      place = n.place;
-      item = subst (λ ns. IsItem ns n.place (record { slot = top_slot sub; key = n.key; val = n.val; left = top_slot n.left; right = top_slot n.right })) (sym is.nodes_are) n.item;
+no_child : (k : ℕ) (side : Side) (x : ℕ) → x ≡ 0 → place_after k side x ≡ AtGap k side
+no_child k side x none = ap (λ b. cond b (AtGap k side) (AtNode x None)) (eq-eqb x 0 none)
+
+-- it has gone on, and found this
+module _ (v : View) (at : Link) (ts : Turns) (on : GoesOn v at ts) (x : ℕ) (w : View) (view : w ≡ link_loaded v at.node at.side x) where
+  pub went : w.reading ≡ walked true v.reading at.node at.side x
+  went = ap (λ (u : View). u.reading) view ∙ ap (λ b. walked b v.reading at.node at.side x) on.stands
+
+  pub went_turns : HasTurns w ts
+  went_turns = record { left = ap (λ (r : Reading). r.left_turn) went ∙ on.left; right = ap (λ (r : Reading). r.right_turn) went ∙ on.right }
+
+  -- the link is the last one that is remembered
+  abbrev last_link : ViewLink
+  last_link = plain_link at.node at.side x (turn_key (left_turn_after at.side v.reading)) (turn_key (right_turn_after at.side v.reading))
+
+  went_links : w.reading.links ≡ v.reading.links ++ last_link ∷ []
+  went_links = ap (λ (r : Reading). r.links) went
+
+  went_item : IsItem w.reading.links (length v.reading.links) last_link
+  went_item = subst (λ ls. IsItem ls (length v.reading.links) last_link) (sym went_links) (last-item v.reading.links last_link)
+
+  pub went_by : RemembersLink w at x
+  went_by = record { place = length v.reading.links; link = last_link; is = went_item; node_is = refl; side_is = refl; plain = refl; child_is = refl }
+
+  pub came : 0 < x → HasCome w at x ts
+  came some = record { place = ap (λ (r : Reading). r.place) went ∙ some_child at.node at.side x some; turned = went_turns; link = went_by }
+
+  pub ended : x ≡ 0 → w.reading.place ≡ AtGap at.node at.side
+  ended none = ap (λ (r : Reading). r.place) went ∙ no_child at.node at.side x none
+
+  -- its tag was loaded too
+  module _ (none : x ≡ 0) (tag : ℕ) (y : View) (tagged : y ≡ tag_loaded w at.node at.side tag) where
+    tagged_link : with_tag at.node at.side tag last_link ≡ record { node = at.node; side = at.side; child = x; source = Plain (Some tag) (turn_key (left_turn_after at.side v.reading)) (turn_key (right_turn_after at.side v.reading)) }
+    tagged_link = by at.side
+      where
+        by : (side : Side)
+            → with_tag at.node side tag (plain_link at.node side x (turn_key (left_turn_after at.side v.reading)) (turn_key (right_turn_after at.side v.reading)))
+            ≡ record { node = at.node; side = side; child = x; source = Plain (Some tag) (turn_key (left_turn_after at.side v.reading)) (turn_key (right_turn_after at.side v.reading)) }
+        by Left = rw (eq-eqb at.node at.node refl) refl
+        by Right = rw (eq-eqb at.node at.node refl) refl
+
+    pub ended_null : RemembersNull y at tag (turn_key ts.left) (turn_key ts.right)
+    ended_null =
+        let item : IsItem (tag_loaded w at.node at.side tag).reading.links (length v.reading.links) (with_tag at.node at.side tag last_link)
+        = item-map (with_tag at.node at.side tag) w.reading.links (length v.reading.links) last_link went_item in
+        subst (λ (u : View). RemembersNull u at tag (turn_key ts.left) (turn_key ts.right)) (sym tagged)
+        (record {
+          place = length v.reading.links;
+          link = with_tag at.node at.side tag last_link;
+          is = item;
+          node_is = ap (λ (l : ViewLink). l.node) tagged_link;
+          side_is = ap (λ (l : ViewLink). l.side) tagged_link;
+          child_is = ap (λ (l : ViewLink). l.child) tagged_link ∙ none;
+          source =
+              ap (λ (l : ViewLink). l.source) tagged_link
+              ∙ ap (λ (o : Option Turn). Plain (Some tag) (turn_key o) (turn_key (right_turn_after at.side v.reading))) on.left
+              ∙ ap (λ (o : Option Turn). Plain (Some tag) (turn_key ts.left) (turn_key o)) on.right;
+        })
+
+    pub ended_place : y.reading.place ≡ AtGap at.node at.side
+    ended_place = ap (λ (u : View). u.reading.place) tagged ∙ ended none
+
+    pub ended_turns : HasTurns y ts
+    ended_turns = record {
+      left = ap (λ (u : View). u.reading.left_turn) tagged ∙ went_turns.left;
+      right = ap (λ (u : View). u.reading.right_turn) tagged ∙ went_turns.right;
     }
 
--- a null link has no subtree
-pub null_at : (v : View) (tree sub : NamedTree) (at : Link) (low high : ℕ) → IsReadTree v tree → StandsAt tree at sub low high → 0 ≡ top_slot sub → sub ≡ Null
-null_at v tree sub at low high is stands top =
-    elim (walk_node tree sub at low high is.once stands) as (λ _. sub ≡ Null) [
-      | inl null ↦ null.1
-      | inr node ↦ absurd (omega (arith, top, node.0))
-    ]
+-- the key of the node at which it stands was loaded
+module _ (v : View) (at : Link) (node : ℕ) (ts : Turns) (come : HasCome v at node ts) (here : ℕ) (w : View) (view : w ≡ pair_loaded v Key node here) where
+  keyed_place : key_found node here (AtNode node None) ≡ AtNode node (Some here)
+  keyed_place = ap (λ b. cond b (AtNode node (Some here)) (AtNode node None)) (eq-eqb node node refl)
 
-pub top_in_tree : (v : View) (sub : NamedTree) (child : ℕ) → Top v sub child → IsInTree v child
-top_in_tree v sub child top =
-    item_in_tree v.reading.tree top.place (record { slot = child; key = top.key; val = top.val; left = top_slot top.left; right = top_slot top.right }) top.item
+  pub keyed : HasKeyAt w at node here ts
+  keyed =
+      subst (λ (u : View). HasKeyAt u at node here ts) (sym view)
+      (record {
+        place = ap (key_found node here) come.place ∙ keyed_place;
+        turned = record { left = come.turned.left; right = come.turned.right };
+        link = record {
+          place = come.link.place;
+          link = come.link.link;
+          is = come.link.is;
+          node_is = come.link.node_is;
+          side_is = come.link.side_is;
+          plain = come.link.plain;
+          child_is = come.link.child_is;
+        };
+      })
 
-pub top_key : (v : View) (sub : NamedTree) (child key : ℕ) (top : Top v sub child) → IsKeyThere v child key → top.key ≡ key
-top_key v sub child key top is = is top.place (record { slot = child; key = top.key; val = top.val; left = top_slot top.left; right = top_slot top.right }) top.item refl
+-- it goes on at a node whose key is between those of its turns, or the node is an odd one
+module _ (v : View) (at : Link) (node here : ℕ) (ts : Turns) (has : HasKeyAt v at node here ts) where
+  pub goes_on : (side : Side) → IsBetween ts here → GoesOn v (link_of node side) (turned_at side (record { node = node; key = here }) ts)
+  goes_on side is = record { stands = stands; left = left side; right = right side }
+    where
+      over : IsOver (turn_key v.reading.right_turn) here
+      over = subst (λ (o : Option Turn). IsOver (turn_key o) here) (sym has.turned.right) is.over
 
-pub top_val : (v : View) (sub : NamedTree) (child val : ℕ) (top : Top v sub child) → IsValThere v child val → top.val ≡ val
-top_val v sub child val top is = is top.place (record { slot = child; key = top.key; val = top.val; left = top_slot top.left; right = top_slot top.right }) top.item refl
+      under : IsUnder (turn_key v.reading.left_turn) here
+      under = subst (λ (o : Option Turn). IsUnder (turn_key o) here) (sym has.turned.left) is.under
 
--- a search in the tree
-module _ (v : View) (key : ℕ) (s : Search) (on : IsOnWay v key s) (tree : NamedTree) (is : IsReadTree v tree) where
-  pub way_link : IsTreeLink v s.at.node s.at.side
-  way_link = let way = on.way tree is in stands_link v tree way.sub s.at s.low (s.last + 1) is way.stands
+      stands : searches_at v.reading v.reading.place node side ≡ true
+      stands =
+          ap (λ (p : Place). searches_at v.reading p node side) has.place
+          ∙ ap (λ b. b && goes_on_at v.reading (Some here)) (eq-eqb node node refl)
+          ∙ between_true (turn_key v.reading.right_turn) (turn_key v.reading.left_turn) here over under
 
-  module _ (child : ℕ) (some : 0 < child) (leads : LeadsThere v s.at child) where
-    pub way_top : Top v (on.way tree is).sub child
-    way_top =
-        let way = on.way tree is in
-        top_at v tree way.sub s.at s.low (s.last + 1) child is way.stands some (walk_child tree way.sub s.at s.low (s.last + 1) child way.stands (leads tree is.nodes_are))
+      left : (side : Side) → left_turn_after side v.reading ≡ (turned_at side (record { node = node; key = here }) ts).left
+      left Left = ap (λ (p : Place). turned p v.reading.left_turn) has.place
+      left Right = has.turned.left
 
-    pub way_in_tree : IsInTree v child
-    way_in_tree = top_in_tree v (on.way tree is).sub child way_top
+      right : (side : Side) → right_turn_after side v.reading ≡ (turned_at side (record { node = node; key = here }) ts).right
+      right Left = has.turned.right
+      right Right = ap (λ (p : Place). turned p v.reading.right_turn) has.place
 
-    module _ (here : ℕ) (is_key : IsKeyThere v child here) where
-      at_node : StandsAt tree s.at (Branch child here way_top.val way_top.left way_top.right) s.low (s.last + 1)
-      at_node =
-          let way = on.way tree is in
-          subst (λ k. StandsAt tree s.at (Branch child k way_top.val way_top.left way_top.right) s.low (s.last + 1)) (top_key v way.sub child here way_top is_key)
-          (subst (λ sub. StandsAt tree s.at sub s.low (s.last + 1)) way_top.is way.stands)
-
-      pub here_low : s.low ≤ here
-      here_low = at_node.within.0
-
-      pub here_high : here < s.last + 1
-      here_high = at_node.within.1
-
-      pub way_here : here ≡ key → KeyNode tree s.at child key
-      way_here equal = record {
-        low = s.low;
-        high = s.last + 1;
-        val = way_top.val;
-        left = way_top.left;
-        right = way_top.right;
-        stands = subst (λ k. StandsAt tree s.at (Branch child k way_top.val way_top.left way_top.right) s.low (s.last + 1)) equal at_node;
-      }
-
-      pub way_left : (last : ℕ) → last + 1 ≡ here → OnWay tree (record { at = link_of child Left; low = s.low; last = last })
-      way_left last is_last = record {
-        sub = way_top.left;
-        stands = subst (λ k. StandsAt tree (link_of child Left) way_top.left s.low k) (sym is_last) (walk_left tree way_top.left way_top.right s.at s.low (s.last + 1) child here way_top.val at_node);
-      }
-
-      pub way_right : OnWay tree (record { at = link_of child Right; low = here + 1; last = s.last })
-      way_right = record {
-        sub = way_top.right;
-        stands = walk_right tree way_top.left way_top.right s.at s.low (s.last + 1) child here way_top.val at_node;
-      }
-
--- the search begins at the root's right link
-pub way_begins : (v : View) (key : ℕ) → key < 2 ^ 64 → IsOnWay v key (record { at = link_of 0 Right; low = 0; last = 18446744073709551615 })
-way_begins v key low = record {
-  from = omega arith;
-  until = omega (arith, low);
-  way = λ tree is. record { sub = tree; stands = walk_start tree (2 ^ 64) is.lawful };
-}
-
--- the node at the link is one of the tree
-pub key_in_tree : (v : View) (tree : NamedTree) (at : Link) (node key : ℕ) → IsReadTree v tree → 0 < node → KeyNode tree at node key → IsInTree v node
-key_in_tree v tree at node key is some n =
-    top_in_tree v (Branch node key n.val n.left n.right) node (top_at v tree (Branch node key n.val n.left n.right) at n.low n.high node is n.stands some refl)
-
--- at a null link the key is missing
-pub way_missing_there : (v : View) (key : ℕ) (s : Search) → IsOnWay v key s → LeadsThere v s.at 0 → IsMissingThere v s.at key
-way_missing_there v key s on leads = λ tree is.
-    let way = on.way tree is in
-    let high : key < s.last + 1 = omega (arith, on.until) in
-    let null : way.sub ≡ Null = null_at v tree way.sub s.at s.low (s.last + 1) is way.stands (walk_child tree way.sub s.at s.low (s.last + 1) 0 way.stands (leads tree is.nodes_are)) in
-    walk_missing tree s.at s.low (s.last + 1) key is.lawful (subst (λ sub. StandsAt tree s.at sub s.low (s.last + 1)) null way.stands) on.from high
+  pub stands_odd : (t : Turn) → beyond ts here ≡ Some t → StandsOdd v node t
+  stands_odd t is =
+      elim (crossed ts.left ts.right here t is) as (λ _. StandsOdd v node t) [
+        | inl left ↦ record { key = here; place = has.place; side = Left; last = has.turned.left ∙ left.0; odd = left.1 }
+        | inr right ↦ record { key = here; place = has.place; side = Right; last = has.turned.right ∙ right.0; odd = right.1 }
+      ]

@@ -1,6 +1,7 @@
+pub mod Turns
+pub mod Laws
+pub mod Outcomes
 pub mod Searching
-pub mod Children
-pub mod Descents
+pub mod Ends
+pub mod Aims
 pub mod Successors
-pub mod Planned
-pub mod Found

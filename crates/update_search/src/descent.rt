@@ -1,127 +1,131 @@
-//! The search for a key, down the tree that a pass reads.
-ghost use Rattle.std.specs.Prelude.{◌≡◌, ◌<◌, IfSome, IfNone, MatchOption};
+//! The search for a key, down the plain links.
+//!
+//! Other passes set these links meanwhile. So a search may come to a node that was taken out, and go on from it; what
+//! it finds is looked at again under locks. Each node at which it goes on has its key strictly between those of the two
+//! turns, so the search ends.
+ghost use Rattle.std.specs.Prelude.{◌≡◌, IfOk, IfErr};
+ghost use Rattle.core_events.specs.PlainMoves.{tag_loaded};
+ghost use Rattle.core_laws.specs.PlainNeeds.{MayReadTag};
 ghost use Rattle.table_steps.specs.Passes.{IsAlone, IsSamePass};
-ghost use Rattle.bundle_reads.specs.Links.{InsideAt, LeadsThere, HasSearched};
-ghost use Rattle.bundle_reads.specs.Children.{waits_after};
-ghost use Rattle.update_search.specs.Searching.{IsInTree, IsKeyThere, IsValThere};
-ghost use Rattle.update_search.specs.Descents.{keys_left, IsOnWay, IsAtKey, IsEnd};
+ghost use Rattle.update_search.specs.Outcomes.{HasRisen, IsCounted, KeepsPlaces};
+ghost use Rattle.update_search.specs.Searching.{HoldsOdd, IsAtTop, KeepsSearch, MeetsOdd};
+ghost use Rattle.update_search.specs.Ends.{IsEnd};
 
-use bundle_reads::{Seen, child_at};
+use crate::laws::search_laws;
+use crate::outcome::Failed;
+use crate::turns::{TOP, Turns, link, side_to};
 use core_trees::Link;
-use index_words::Side;
+use index_words::Turn;
 use table_steps::TablePass;
 
-/// How far a search has come.
-#[derive(Clone, Copy)]
-pub(crate) struct Search {
-    /// The link at which it goes on.
+/// A null link at which a search has ended, with its tag: how often the link became null.
+#[derive(Clone, Copy, Debug, PartialEq, Eq)]
+pub struct Gap {
     pub at: Link,
-    /// The keys of the tree that hangs there are at least `low` and at most `last`.
-    pub low: u64,
-    pub last: u64,
+    pub tag: u64,
 }
 
-/// Where a search ends.
-#[derive(Clone, Copy)]
+/// A node at which a search has ended: it has the key.
+#[derive(Clone, Copy, Debug, PartialEq, Eq)]
+pub struct KeyNode {
+    /// The link by which the search came to it.
+    pub at: Link,
+    pub node: u32,
+    /// The turns up to that link.
+    pub turns: Turns,
+}
+
+/// Where the search for a key ends.
+#[derive(Clone, Copy, Debug, PartialEq, Eq)]
 pub(crate) enum End {
-    /// At a null link, in whose gap the key is.
-    Missing { at: Link, seen: Seen },
-    /// At the link to the key's node.
-    Found { at: Link, seen: Seen },
+    /// At a null link: the key is strictly between the keys of the last turns.
+    Missing(Gap),
+    Found(KeyNode),
 }
 
-/// The key of a node of the tree that the pass reads.
-pub(crate) fn key_at(pass: &mut TablePass<'_>, at: u64, node: u32) -> u64
-    requires reads { InsideAt pass.old.view at }
-    requires node { IsInTree pass.old.view node }
-    ensures same { pass.new ≡ pass.old }
-    ensures key { IsKeyThere pass.old.view node result }
-{
-    pass.facts();
-    pass.load_key(node)
-}
-
-/// The value of a node of the tree that the pass reads.
-pub(crate) fn val_at(pass: &mut TablePass<'_>, at: u64, node: u32) -> u64
-    requires reads { InsideAt pass.old.view at }
-    requires node { IsInTree pass.old.view node }
-    ensures same { pass.new ≡ pass.old }
-    ensures val { IsValThere pass.old.view node result }
-{
-    pass.facts();
-    pass.load_val(node)
-}
-
-/// One level down, at a node of the tree: on to its left or to its right. None where it has the key.
-fn go_on(pass: &mut TablePass<'_>, at: u64, key: u64, child: u32, search: Search) -> Option<Search>
-    requires reads { InsideAt pass.old.view at }
-    requires some { 0 < child }
-    requires leads { LeadsThere pass.old.view search.at child }
-    requires way { IsOnWay pass.old.view key search }
-    ensures same { pass.new ≡ pass.old }
-    ensures way { IfSome result (IsOnWay pass.old.view key) }
-    ensures closer { IfSome result (λ next. keys_left next < keys_left search) }
-    ensures here { MatchOption result (IsAtKey pass.old.view search.at child key) (λ next. Unit {0}) }
-{
-    pass.facts();
-    let here = key_at(pass, at, child);
-    if here == key {
-        return None;
-    }
-    if key < here {
-        return Some(Search {
-            at: Link {
-                node: child,
-                side: Side::Left,
-            },
-            low: search.low,
-            last: here - 1,
-        });
-    }
-    Some(Search {
-        at: Link {
-            node: child,
-            side: Side::Right,
-        },
-        low: here + 1,
-        last: search.last,
-    })
-}
-
-/// Where the search for a key ends, in the tree that the pass reads at `at`. None where an entry had no number yet.
-pub(crate) fn find_end(pass: &mut TablePass<'_>, at: u64, key: u64) -> Option<End>
-    requires reads { InsideAt pass.old.view at }
+/// Finds the mark of one of the two: of the node, which is locked, or of the turn's node.
+fn find_mark(pass: &mut TablePass<'_>, node: u32, turn: Turn)
+    requires odd { HoldsOdd pass.old.view node turn }
     ensures same { IsSamePass pass.old pass.new }
-    ensures searched { HasSearched pass.old.view pass.new.view }
-    ensures end { IfSome result (IsEnd pass.old.view pass.new.view key) }
-    ensures waits { pass.new.view.counts.waits ≡ waits_after result pass.old.view.counts.waits }
-    ensures alone { IfNone result (¬ IsAlone pass.new.view) }
+    ensures places { KeepsPlaces pass.old.view pass.new.view }
+    ensures counted { HasRisen pass.old.view.counts.moves pass.new.view.counts.moves }
+    ensures alone { ¬ IsAlone pass.new.view }
 {
+    search_laws();
     pass.facts();
-    let mut search = Search {
-        at: Link {
-            node: 0,
-            side: Side::Right,
-        },
-        low: 0,
-        last: u64::MAX,
-    };
+    if pass.load_mark(node) {
+        return;
+    }
+    if pass.load_mark(turn.node) {
+        return;
+    }
+    unreachable!()
+}
+
+/// Why a search cannot go on at a node whose key does not lie beyond a turn: one of the two was taken out. The mark of
+/// the turn's node shows it, or the node waits to be unlinked: then it is locked, or is marked by now.
+pub(crate) fn meet_odd(pass: &mut TablePass<'_>, node: u32, turn: Turn) -> Failed
+    requires odd { MeetsOdd pass.old.view node turn }
+    ensures same { IsSamePass pass.old pass.new }
+    ensures given_up { KeepsPlaces pass.old.view pass.new.view }
+    ensures counted { IsCounted result pass.old.view pass.new.view }
+    ensures alone { ¬ IsAlone pass.new.view }
+{
+    search_laws();
+    pass.facts();
+    if pass.load_mark(turn.node) {
+        return Failed::Moved;
+    }
+    if !pass.try_lock(node) {
+        return Failed::Busy;
+    }
+    find_mark(pass, node, turn);
+    pass.unlock(node);
+    Failed::Moved
+}
+
+/// The null link at which the search has ended, with its tag.
+pub(crate) fn end_at(pass: &mut TablePass<'_>, at: Link) -> Gap
+    requires may { MayReadTag pass.old.view at.node }
+    ensures same { IsSamePass pass.old pass.new }
+    ensures at { result.at ≡ at }
+    ensures view { pass.new.view ≡ tag_loaded pass.old.view at.node at.side result.tag }
+{
+    let tag = pass.load_tag(at.node, at.side);
+    Gap { at, tag }
+}
+
+/// Where the search for a key ends.
+///
+/// # Errors
+/// The search has met a node that was taken out, and cannot go on there.
+pub(crate) fn find_end(pass: &mut TablePass<'_>, key: u64) -> Result<End, Failed>
+    requires top { IsAtTop pass.old.view }
+    ensures same { IsSamePass pass.old pass.new }
+    ensures keeps { IfOk result (λ end. KeepsSearch pass.old.view pass.new.view) }
+    ensures end { IfOk result (IsEnd pass.new.view key) }
+    ensures given_up { IfErr result (λ failed. KeepsPlaces pass.old.view pass.new.view) }
+    ensures counted { IfErr result (λ failed. IsCounted failed pass.old.view pass.new.view) }
+    ensures alone { IfErr result (λ failed. ¬ IsAlone pass.new.view) }
+{
+    search_laws();
+    pass.facts();
+    let mut at = TOP;
+    let mut turns = Turns::none();
     'down: loop {
-        let Some(seen) = child_at(pass, at, search.at) else {
-            return None;
-        };
-        if seen.child == 0 {
-            return Some(End::Missing {
-                at: search.at,
-                seen,
-            });
+        let node = pass.load_link(at.node, at.side);
+        if node == 0 {
+            return Ok(End::Missing(end_at(pass, at)));
         }
-        match go_on(pass, at, key, seen.child, search) {
-            None => return Some(End::Found {
-                at: search.at,
-                seen,
-            }),
-            Some(next) => search = next,
+        let here = pass.load_key(node);
+        if let Some(turn) = turns.crossed_by(here) {
+            return Err(meet_odd(pass, node, turn));
         }
+        if here == key {
+            return Ok(End::Found(KeyNode { at, node, turns }));
+        }
+        let side = side_to(key, here);
+        turns = turns.with(side, Turn { node, key: here });
+        at = link(node, side);
     }
 }

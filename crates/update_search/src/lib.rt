@@ -1,15 +1,21 @@
-//! The search for the plan of an update on the running table: down the tree that the pass reads, by loads, to the plan
-//! with the entries with which the pass remembers the plan's links. The layer above uses `begin_search` and
-//! `find_plan`; what is found can be tried (`IsReadyToTry`).
+//! The search of an update on the running table: from the root down the plain links, to what a try is to do
+//! (`find_aim`), and from a node that is to be removed on to its successor (`find_next`). It takes no lock but to tell
+//! whether a node waits to be unlinked, and it waits for nobody. What it finds is looked at again under locks, by the
+//! layer above.
 #![tactic(auto)]
 
-mod children;
 mod descent;
+mod laws;
 mod opening;
-mod plans;
+mod outcome;
 mod search;
 mod successor;
+mod turns;
 
+pub use descent::{Gap, KeyNode};
+pub use laws::search_laws;
 pub use opening::begin_search;
-pub use plans::Planned;
-pub use search::{Found, find_plan};
+pub use outcome::Failed;
+pub use search::{Aim, find_aim};
+pub use successor::{NextFound, Walk, find_next};
+pub use turns::Turns;

@@ -1,16 +1,20 @@
 //! How a pass begins to search.
 ghost use Rattle.table_steps.specs.Passes.{AtRest, IsSamePass};
 ghost use Rattle.table_steps.specs.Stamps.{HasOpened};
-ghost use Rattle.update_search.specs.Searching.{IsFresh};
+ghost use Rattle.update_search.specs.Searching.{IsAtTop};
 
 use table_steps::TablePass;
 
-/// Opens a section, and answers the number at which the pass searches in it: that of all updates that it has seen then.
+/// Opens a section, and answers the number at which the pass reads bundles in it: that of all updates that it has seen
+/// then. A search does not use it; what the update cuts rests on it.
 pub fn begin_search(pass: &mut TablePass<'_>) -> u64
     requires rest { AtRest pass.old.view }
     ensures same { IsSamePass pass.old pass.new }
     ensures opened { HasOpened pass.old 0 result pass.new.view }
-    ensures fresh { IsFresh pass.new.view result }
+    ensures top { IsAtTop pass.new.view }
 {
-    pass.open_section()
+    let number = pass.open_section();
+    pass.facts();
+    pass.number_fact();
+    number
 }

@@ -1,158 +1,72 @@
-//! The walk from a node to its successor: once to the right, and then to the left.
-ghost use Rattle.std.specs.Prelude.{◌≡◌, ◌<◌, IfSome, IfNone};
+//! The walk to the successor of a node that is to be removed: from its right child on to the left.
+//!
+//! The node is locked by then, and was found unmarked. The walk goes on where the search for the node's key has stepped
+//! to the right of it. So the keys where it goes on are above the node's key, and where it ends no key is between.
+ghost use Rattle.std.specs.Prelude.{IfOk, IfErr};
 ghost use Rattle.table_steps.specs.Passes.{IsAlone, IsSamePass};
-ghost use Rattle.index_words.specs.declared.side.Side.TheVariants.{Left, Right};
-ghost use Rattle.core_updates.specs.Plans.{link_of};
-ghost use Rattle.bundle_reads.specs.Links.{InsideAt, LeadsThere, HasSearched};
-ghost use Rattle.bundle_reads.specs.Children.{IsSeen, waits_after};
-ghost use Rattle.update_search.specs.Successors.{HasKey, IsOnWalk, IsNext};
+ghost use Rattle.update_search.specs.Outcomes.{IsCounted, KeepsPlaces};
+ghost use Rattle.update_search.specs.Searching.{KeepsSearch};
+ghost use Rattle.update_search.specs.Successors.{IsOnWalk, IsNext};
 
-use crate::descent::{key_at, val_at};
-use bundle_reads::{Seen, child_at};
+use crate::descent::{Gap, end_at, meet_odd};
+use crate::laws::search_laws;
+use crate::outcome::Failed;
+use crate::turns::{Turns, link};
 use core_trees::Link;
-use core_updates::NextNode;
-use index_words::{Pair, Side};
+use index_words::{Side, Turn};
 use table_steps::TablePass;
 
-/// How far the walk has come: to a link that leads to a node, which has this key.
-#[derive(Clone, Copy)]
-pub(crate) struct Walk {
+/// Where a walk to a successor stands.
+#[derive(Clone, Copy, Debug, PartialEq, Eq)]
+pub struct Walk {
+    /// The link by which it came to the node.
     pub at: Link,
-    pub seen: Seen,
-    pub key: u64,
+    pub node: u32,
+    /// The turns up to that link; the last one to the right is the node that is to be removed.
+    pub turns: Turns,
 }
 
-/// The successor, and the entries with which the pass remembers the links to it, to its left and to its right.
-#[derive(Clone, Copy)]
-pub(crate) struct NextFound {
-    pub next: NextNode,
-    pub entry: u32,
-    pub left: u32,
-    pub right: u32,
+/// A node without a left child, at which a walk to a successor has ended.
+#[derive(Clone, Copy, Debug, PartialEq, Eq)]
+pub struct NextFound {
+    /// The link by which the walk came to it.
+    pub at: Link,
+    pub node: u32,
+    /// Its left link: no key is between that of the node that is to be removed and its own.
+    pub gap: Gap,
 }
 
-/// The walk begins at the right child of the node.
-fn begin_walk(pass: &mut TablePass<'_>, at: u64, node: u32, right: Seen) -> Walk
-    requires reads { InsideAt pass.old.view at }
-    requires node { HasKey pass.old.view node }
-    requires some { 0 < right.child }
-    requires leads { LeadsThere pass.old.view (link_of node Right) right.child }
-    ensures same { pass.new ≡ pass.old }
-    ensures walk { IsOnWalk pass.old.view node result }
-    ensures at { result.at ≡ link_of node Right }
-    ensures seen { result.seen ≡ right }
-{
-    pass.facts();
-    let key = key_at(pass, at, right.child);
-    Walk {
-        at: Link {
-            node,
-            side: Side::Right,
-        },
-        seen: right,
-        key,
-    }
-}
-
-/// The walk goes on to the left child of the node to which it has come.
-fn walk_on(pass: &mut TablePass<'_>, at: u64, node: u32, walk: Walk, left: Seen) -> Walk
-    requires reads { InsideAt pass.old.view at }
-    requires node { HasKey pass.old.view node }
-    requires walk { IsOnWalk pass.old.view node walk }
-    requires some { 0 < left.child }
-    requires leads { LeadsThere pass.old.view (link_of walk.seen.child Left) left.child }
-    ensures same { pass.new ≡ pass.old }
-    ensures walk { IsOnWalk pass.old.view node result }
-    ensures at { result.at ≡ link_of walk.seen.child Left }
-    ensures seen { result.seen ≡ left }
-    ensures closer { result.key < walk.key }
-{
-    pass.facts();
-    let key = key_at(pass, at, left.child);
-    Walk {
-        at: Link {
-            node: walk.seen.child,
-            side: Side::Left,
-        },
-        seen: left,
-        key,
-    }
-}
-
-/// The walk ends at a node without a left child. None where an entry had no number yet.
-fn end_walk(
-    pass: &mut TablePass<'_>,
-    at: u64,
-    node: u32,
-    walk: Walk,
-    left: Seen,
-) -> Option<NextFound>
-    requires reads { InsideAt pass.old.view at }
-    requires node { HasKey pass.old.view node }
-    requires walk { IsOnWalk pass.old.view node walk }
-    requires seen { IsSeen pass.old.view pass.old.view walk.at walk.seen }
-    requires none { left.child ≡ 0 }
-    requires left { IsSeen pass.old.view pass.old.view (link_of walk.seen.child Left) left }
+/// Where a walk to a successor ends.
+///
+/// # Errors
+/// The walk has met a node that was taken out, and cannot go on there.
+pub fn find_next(pass: &mut TablePass<'_>, walk: Walk) -> Result<NextFound, Failed>
+    requires walk { IsOnWalk pass.old.view walk }
     ensures same { IsSamePass pass.old pass.new }
-    ensures searched { HasSearched pass.old.view pass.new.view }
-    ensures next { IfSome result (IsNext pass.old.view pass.new.view node) }
-    ensures waits { pass.new.view.counts.waits ≡ waits_after result pass.old.view.counts.waits }
-    ensures alone { IfNone result (¬ IsAlone pass.new.view) }
+    ensures keeps { IfOk result (λ found. KeepsSearch pass.old.view pass.new.view) }
+    ensures next { IfOk result (IsNext pass.new.view walk) }
+    ensures given_up { IfErr result (λ failed. KeepsPlaces pass.old.view pass.new.view) }
+    ensures counted { IfErr result (λ failed. IsCounted failed pass.old.view pass.new.view) }
+    ensures alone { IfErr result (λ failed. ¬ IsAlone pass.new.view) }
 {
-    pass.facts();
-    let val = val_at(pass, at, walk.seen.child);
-    let right = child_at(
-        pass,
-        at,
-        Link {
-            node: walk.seen.child,
-            side: Side::Right,
-        },
-    )?;
-    Some(NextFound {
-        next: NextNode {
-            at: walk.at,
-            node: walk.seen.child,
-            pair: Pair { key: walk.key, val },
-            right: right.child,
-        },
-        entry: walk.seen.entry,
-        left: left.entry,
-        right: right.entry,
-    })
-}
-
-/// The successor of a node that has a right child, in the tree that the pass reads at `at`. None where an entry had no
-/// number yet.
-pub(crate) fn find_next(
-    pass: &mut TablePass<'_>,
-    at: u64,
-    node: u32,
-    right: Seen,
-) -> Option<NextFound>
-    requires reads { InsideAt pass.old.view at }
-    requires node { HasKey pass.old.view node }
-    requires some { 0 < right.child }
-    requires seen { IsSeen pass.old.view pass.old.view (link_of node Right) right }
-    ensures same { IsSamePass pass.old pass.new }
-    ensures searched { HasSearched pass.old.view pass.new.view }
-    ensures next { IfSome result (IsNext pass.old.view pass.new.view node) }
-    ensures waits { pass.new.view.counts.waits ≡ waits_after result pass.old.view.counts.waits }
-    ensures alone { IfNone result (¬ IsAlone pass.new.view) }
-{
-    pass.facts();
-    let mut walk = begin_walk(pass, at, node, right);
+    search_laws();
+    let mut walk = walk;
     'left: loop {
-        let link = Link {
-            node: walk.seen.child,
-            side: Side::Left,
-        };
-        let Some(left) = child_at(pass, at, link) else {
-            return None;
-        };
-        if left.child == 0 {
-            return end_walk(pass, at, node, walk, left);
+        pass.facts();
+        let here = pass.load_key(walk.node);
+        if let Some(turn) = walk.turns.crossed_by(here) {
+            return Err(meet_odd(pass, walk.node, turn));
         }
-        walk = walk_on(pass, at, node, walk, left);
+        let Walk { at, node, turns } = walk;
+        let left = pass.load_link(node, Side::Left);
+        if left == 0 {
+            let gap = end_at(pass, link(node, Side::Left));
+            return Ok(NextFound { at, node, gap });
+        }
+        walk = Walk {
+            at: link(node, Side::Left),
+            node: left,
+            turns: turns.with(Side::Left, Turn { node, key: here }),
+        };
     }
 }

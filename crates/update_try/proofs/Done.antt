@@ -1,5 +1,5 @@
 -- What a try that came through has done, from its begin to its end.
-use Rattle.std.proofs.Common.{◌≡◌, ℕ, ◌+◌, ◌≤◌, List, [], ◌∷◌, ◌++◌, length, take, ap, sym, ◌∙◌, subst, arith}
+use Rattle.std.proofs.Common.{◌≡◌, ℕ, suc, ◌+◌, ◌≤◌, refl, List, [], ◌∷◌, ◌++◌, length, take, ap, sym, ◌∙◌, subst, arith}
 use Rattle.std.proofs.lemmas.List.{length-append}
 use Rattle.index_words.specs.declared.view.View.{View}
 use Rattle.index_words.specs.declared.view.history.SeenHistory.{SeenHistory}
@@ -12,16 +12,17 @@ use Rattle.core_events.specs.LoadMoves.{longest}
 use Rattle.core_events.specs.Tables.{held_by}
 use Rattle.core_updates.specs.declared.plan.Plan.{Plan}
 use Rattle.core_updates.specs.declared.plan.PlanSlots.{PlanSlots}
-use Rattle.core_updates.specs.Plans.{key_of, fronts_of}
-use Rattle.plan_laws.specs.Answers.{owned_nodes, owned_entries, was_there, MovesNodes}
+use Rattle.core_updates.specs.declared.plan.Front.{Front}
+use Rattle.core_updates.specs.declared.plan.Plan.TheVariants.{Grow, Replace, Lift, Join}
+use Rattle.core_updates.specs.Plans.{change_of, entries_of, key_of, fronts_of}
+use Rattle.plan_laws.specs.Answers.{owned_nodes, owned_entries, was_there, MovesNodes as MovesBy}
 use Rattle.plan_laws.specs.Frames.{KeepsPass}
 use Rattle.plan_laws.specs.Prunes.{KeepsPruned}
 use Rattle.plan_laws.specs.Raises.{update_by}
 use Rattle.plan_laws.proofs.Answered.{four_entries}
 use Rattle.table_steps.specs.Passes.{Pass}
-use Rattle.update_try.specs.Carried.{HasCarriedOut}
+use Rattle.update_try.specs.Carried.{HasCarriedOut, MovesNodes}
 use Rattle.update_try.specs.Preparing.{IsRaisedBy}
-use Rattle.update_try.proofs.Finals.{entries_long}
 
 owned_nodes_same : (v w : View) → w.free.nodes ≡ v.free.nodes → w.batch ≡ v.batch → w.retired ≡ v.retired → owned_nodes w ≡ owned_nodes v
 owned_nodes_same v w free batch retired =
@@ -30,6 +31,18 @@ owned_nodes_same v w free batch retired =
 owned_entries_same : (v w : View) → w.free ≡ v.free → w.batch ≡ v.batch → w.retired ≡ v.retired → owned_entries w ≡ owned_entries v
 owned_entries_same v w free batch retired =
     omega (arith, ap (λ (s : Slots). length s.entries) free, ap (λ (s : Slots). length s.entries) batch, ap (λ (s : Slots). length s.entries) retired)
+
+-- the nodes after an update, by its change and its answer
+moves_by : (plan : Plan) (old new : ℕ) → MovesBy plan old new → MovesNodes (change_of plan) (was_there plan) old new
+moves_by (Grow p) old new is = is
+moves_by (Replace p) old new is = is
+moves_by (Lift p) old new is = is
+moves_by (Join p) old new is = is
+
+-- there is an entry for each front
+entries_long : (fs : List Front) → length (entries_of fs) ≡ length fs
+entries_long [] = refl
+entries_long (f ∷ fs) = ap suc (entries_long fs)
 
 module _ (v w : View) (p q : Pass) (line : ℕ) (plan : Plan) (slots : PlanSlots) (place : ℕ) (before : KeepsPass v p.view) (owned : owned_entries p.view + length (fronts_of plan slots) ≡ owned_entries v)
     (raised : IsRaisedBy p q line plan slots place) (behind : KeepsPruned q.view w) where
@@ -59,7 +72,7 @@ module _ (v w : View) (p q : Pass) (line : ℕ) (plan : Plan) (slots : PlanSlots
   entries_behind : owned_entries q.view ≤ owned_entries w
   entries_behind = omega (arith, ap (λ (s : Slots). length s.entries) behind.free, ap (λ (s : Slots). length s.entries) behind.batch, behind.entries)
 
-  pub has_done : HasCarriedOut v w p.number line plan place
+  pub has_done : HasCarriedOut v w p.number line (key_of plan) (change_of plan) (record { at = place; was = was_there plan })
   has_done = record {
     others = others;
     before = subst (λ (h : SeenHistory). h.seen ≡ take (length h.seen) others) before.history raised.answers.before;
@@ -70,7 +83,8 @@ module _ (v w : View) (p q : Pass) (line : ℕ) (plan : Plan) (slots : PlanSlots
     found = ap (λ (h : SeenHistory). h.found) behind.history ∙ raised.answers.found ∙ ap (λ (h : SeenHistory). h.found) before.history;
     looks = ap (λ (h : SeenHistory). h.looks) behind.history ∙ raised.answers.looks ∙ ap (λ (h : SeenHistory). h.looks) before.history;
     was = subst (λ k. map_has (key_of plan) (after others k) ≡ was_there plan) stamp_len raised.answers.was;
-    nodes = subst (λ k. MovesNodes plan k (owned_nodes w)) nodes_before (subst (λ k. MovesNodes plan (owned_nodes p.view) k) (sym nodes_behind) raised.answers.nodes);
+    nodes = moves_by plan (owned_nodes v) (owned_nodes w)
+        (subst (λ k. MovesBy plan k (owned_nodes w)) nodes_before (subst (λ k. MovesBy plan (owned_nodes p.view) k) (sym nodes_behind) raised.answers.nodes));
     entries = omega (arith, owned, raised.answers.entries, four_entries plan slots, entries_long (fronts_of plan slots), entries_behind);
   }
 

@@ -19,9 +19,10 @@ use Rattle.core_updates.specs.declared.plan.PlanSlots.{PlanSlots}
 use Rattle.core_updates.specs.Plans.{change_of}
 use Rattle.plan_laws.specs.Frames.{KeepsOwned}
 use Rattle.plan_laws.specs.Parting.{IsFar, IsParting, IsParted, HasPassedAll, UnlocksUpper, UnlinksFar, copy_set, far_set, far_unlinking, far_locks, kept_locks}
-use Rattle.plan_laws.specs.PlainLinks.{SetsAtOnce}
+use Rattle.plan_laws.specs.PlainLinks.{HasNotSearched, SetsAtOnce}
 use Rattle.plan_laws.specs.Prunes.{HasNumbered}
 use Rattle.plan_laws.specs.Releases.{IsGivingBack}
+use Rattle.plan_laws.proofs.PlainLinks.{tag-keeps as tag_keeps}
 use Rattle.plan_laws.proofs.Parting.{start_parting, link_copy, load_far_tag, unlock_upper, leave_parted, mark_far, unlink_far}
 use Rattle.plan_laws.proofs.Releases.{all-done, known-marked, unlock_step}
 use Rattle.table_steps.specs.Passes.{AtRest}
@@ -129,10 +130,6 @@ pub to_parted : (v w : View) (n : ℕ) (parted : Parted) → IsParted true v n p
 to_parted v w n parted h now =
     subst (λ (u : View). HasParted u n parted) (sym now) (record { parted = taken_back v n parted.plan parted.tag h; unannounced = refl })
 
--- behind the wait
-pub passed-stays : (v : View) (k : ℕ) → HasPassedAll v → HasPassedAll (with_mark v k 1)
-passed-stays v k h = h
-
 pub far-marked : (v w : View) (n : ℕ) (p : JoinPlan) (tag : ℕ) → IsParted true v n p tag (kept_locks p) → HasPassedAll v → w ≡ with_mark v p.next.node 1
     → UnlinksFar w n p tag (link_set w p.next.at.node p.next.at.side p.next.right)
 far-marked v w n p tag h passed now =
@@ -158,8 +155,8 @@ at-rest v n h none = record { outside = record { even = h.word; unlocked = no_no
 pub link-keeps : (v w : View) (k : ℕ) (side : Side) (child : ℕ) → w ≡ link_set v k side child → KeepsOwned v w
 link-keeps v w k side child now = subst (λ (u : View). KeepsOwned v u) (sym now) (record { layout = refl; joined = refl; number = refl; history = refl; counts = refl; free = refl; retired = refl; batch = refl })
 
-pub tag-keeps : (v w : View) (k : ℕ) (side : Side) (tag : ℕ) → w ≡ tag_loaded v k side tag → KeepsOwned v w
-tag-keeps v w k side tag now = subst (λ (u : View). KeepsOwned v u) (sym now) (record { layout = refl; joined = refl; number = refl; history = refl; counts = refl; free = refl; retired = refl; batch = refl })
+pub tag-keeps : (v w : View) (k : ℕ) (side : Side) (tag : ℕ) → HasNotSearched v → w ≡ tag_loaded v k side tag → KeepsOwned v w
+tag-keeps v w k side tag none now = subst (λ (u : View). KeepsOwned v u) (sym now) (tag_keeps v k side tag none)
 
 pub raised-keeps : (v w : View) (k : ℕ) (side : Side) (tag : ℕ) → w ≡ tag_set v k side tag → KeepsOwned v w
 raised-keeps v w k side tag now = subst (λ (u : View). KeepsOwned v u) (sym now) (record { layout = refl; joined = refl; number = refl; history = refl; counts = refl; free = refl; retired = refl; batch = refl })

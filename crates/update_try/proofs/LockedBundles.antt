@@ -1,5 +1,5 @@
 -- A walk along a bundle of a locked node.
-use Rattle.std.proofs.Common.{◌≡◌, ℕ, suc, ◌<◌, ◌≤◌, ◌&&◌, inl, List, [], ◌∷◌, ◌++◌, length, refl, ap, sym, ◌∙◌, subst, arith, Option, Some, None}
+use Rattle.std.proofs.Common.{◌≡◌, ℕ, suc, ◌<◌, ◌≤◌, ◌⊎◌, ◌&&◌, inl, inr, List, [], ◌∷◌, ◌++◌, length, refl, ap, sym, ◌∙◌, subst, arith, Option, Some, None}
 use Rattle.std.specs.Prelude.{◌==◌, IfSome}
 use Rattle.std.proofs.lemmas.List.{length-append}
 use Rattle.index_words.specs.declared.side.Side.{Side}
@@ -15,44 +15,41 @@ use Rattle.index_words.specs.declared.word.Field.TheVariants.{Head}
 use Rattle.index_words.specs.declared.word.Part.TheVariants.{Stamp as Number, Next}
 use Rattle.index_words.specs.declared.word.Word.TheVariants.{Node, Entry}
 use Rattle.index_words.specs.Words.{Memory, memory}
-use Rattle.key_map.specs.Lists.{IsItem}
+use Rattle.key_map.specs.Lists.{Every, IsItem}
 use Rattle.core_links.specs.Bundle.{IsChain}
 use Rattle.core_trees.specs.declared.link.Link.{Link}
 use Rattle.core_events.specs.LoadMoves.{bundle_link, is_above, kept_if, next_at, next_loaded, remembered_if, with_held, with_place}
-use Rattle.core_events.specs.UpdateNeeds.{side_of}
-use Rattle.core_invariant.specs.BundleRule.{IsLive}
+use Rattle.core_events.specs.UpdateNeeds.{held_at, side_of}
+use Rattle.core_invariant.specs.BundleRule.{IsLive, TailWritten}
 use Rattle.core_invariant.specs.Locks.{HeadRight, IsNodeAt, IsNextAt}
 use Rattle.core_invariant.specs.Meanings.{Meaning}
+use Rattle.core_invariant.specs.Readers.{IsLocked}
 use Rattle.core_invariant.specs.SeatRule.{SeatRight}
 use Rattle.core_invariant.proofs.HeldFacts.{held_holds, count-locks}
 use Rattle.core_invariant.proofs.OneView.{seat_at}
 use Rattle.core_invariant.proofs.Owned.{held_live}
 use Rattle.core_laws.specs.ViewNeeds.{MayReadNext}
+use Rattle.core_laws.specs.PlainNeeds.{IsHeldUnmarked}
 use Rattle.core_laws.proofs.Found.{bundle_length_law}
 use Rattle.core_laws.proofs.Remembered.{every_item}
+use Rattle.core_laws.proofs.Searching.{head_numbered_law}
 use Rattle.core_updates.specs.Held.{HoldsHead}
-use Rattle.core_updates.specs.declared.plan.Look.{Look}
-use Rattle.core_updates.specs.declared.plan.Look.TheVariants.{Link as LinkLook, Key as KeyLook, Val as ValLook}
-use Rattle.core_updates.specs.Plans.{locks_of}
+use Rattle.core_updates.specs.PlanEvents.{HoldsEntry}
+use Rattle.core_updates.proofs.HeldOnce.{held_once}
 use Rattle.plan_laws.specs.Frames.{KeepsPass, KeepsTry}
-use Rattle.plan_laws.specs.Looks.{HasLooked}
-use Rattle.plan_laws.proofs.Fills.{same-held}
+use Rattle.plan_laws.specs.Looks.{KeepsLooks}
+use Rattle.plan_laws.specs.Tries.{IsTrying, KeepsTrying}
 use Rattle.plan_laws.proofs.Frames.{same-counts}
-use Rattle.plan_laws.proofs.HeldMaps.{as-it-was}
 use Rattle.plan_laws.proofs.Items.{item-longer, last-item}
-use Rattle.plan_laws.proofs.Kept.{KeepsLook, more-links, trying-kept, looked-kept}
+use Rattle.plan_laws.proofs.Looks.{steps_keep_looks}
+use Rattle.plan_laws.proofs.Tries.{loads_keep}
 use Rattle.table_rule.specs.Homes.{IsLiveView}
 use Rattle.table_rule.specs.Running.{Stands, table}
 use Rattle.table_rule.proofs.Lists.{item_at}
 use Rattle.table_steps.specs.Raises.{HoldsNext, HoldsChain}
 use Rattle.plan_laws.proofs.Prunes.{prune_step}
 use Rattle.update_try.specs.Pruning.{KeepsUpdate, KeepsLeast}
-use Rattle.update_try.specs.Walked.{StandsOn, HoldsPart, KeepsNexts, KeepsLooks}
-
-id_keeps : (look : Look) → KeepsLook (λ (h : HeldNode). h) look
-id_keeps (LinkLook at child) = record { mark = λ h here is. is; head = λ h l here is. as-it-was l (side_of at.side h) (side_of at.side h) refl is }
-id_keeps (KeyLook node key) = λ h here is. is
-id_keeps (ValLook node val) = λ h here is. is
+use Rattle.update_try.specs.Walked.{StandsOn, HoldsPart, KeepsNexts}
 
 -- a part that ends at 0 is the whole chain
 pub part_ends : (v : View) (node head : ℕ) (es : List ℕ) → HoldsPart v node head es 0 → HoldsChain v node head es
@@ -99,7 +96,7 @@ module _ (v : View) (live : IsLiveView v) where
       subst (λ k. m (Node (Head Right) k) ≡ entry) same
       ((subst (λ (o : Option LoadedHead). IfSome o (HeadRight (m (Node (Head Right) n.node)) (λ e. m (Entry Number e)))) is known.right.head).0 ∙ entry_is)
 
-  head_known : (node : ℕ) (side : Side) (entry : ℕ) → HoldsHead v node side entry → m (Node (Head side) node) ≡ entry
+  pub head_known : (node : ℕ) (side : Side) (entry : ℕ) → HoldsHead v node side entry → m (Node (Head side) node) ≡ entry
   head_known node side entry h = loaded_by node entry side h.held h.loaded (every_item (IsNodeAt m) v.held.nodes h.place h.held h.at seat.loaded.nodes) h.head h.node_is h.entry_is
 
   -- a part that does not end yet is shorter than the bundle
@@ -111,6 +108,42 @@ module _ (v : View) (live : IsLiveView v) where
       let same : b ≡ e = sym chain.0 ∙ part.0 in
       let below : IsChain (λ d. m (Entry Next d)) part.2.0 bs = subst (λ k. IsChain (λ d. m (Entry Next d)) k bs) (ap (λ d. m (Entry Next d)) same ∙ next_known node e part.2.0 part.2.1) chain.2 in
       omega (arith, part_short node part.2.0 entry es bs part.2.2 some below)
+
+  -- what holds of each entry of the bundle holds of the one at which a part ends
+  part_every : (P : ℕ → Type 0) (node head entry : ℕ) (es bundle : List ℕ) → HoldsPart v node head es entry → 0 < entry → IsChain (λ e. m (Entry Next e)) head bundle → Every P bundle → P entry
+  part_every P node head entry [] [] part some chain all = absurd (omega (arith, part, some, chain))
+  part_every P node head entry [] (b ∷ bs) part some chain all = subst P (sym chain.0 ∙ part) all.0
+  part_every P node head entry (e ∷ es) [] part some chain all = absurd (omega (arith, part.0, part.1, chain))
+  part_every P node head entry (e ∷ es) (b ∷ bs) part some chain all =
+      let same : b ≡ e = sym chain.0 ∙ part.0 in
+      let below : IsChain (λ d. m (Entry Next d)) part.2.0 bs = subst (λ k. IsChain (λ d. m (Entry Next d)) k bs) (ap (λ d. m (Entry Next d)) same ∙ next_known node e part.2.0 part.2.1) chain.2 in
+      part_every P node part.2.0 entry es bs part.2.2 some below all.1
+
+  -- the entries of a locked node's bundle have numbers, where the node was found unmarked and the pass has none pending: the head, and
+  -- all behind it
+  behind_numbered : (node head entry : ℕ) (es bundle : List ℕ) → HoldsPart v node head es entry → 0 < entry → IsChain (λ e. m (Entry Next e)) head bundle
+      → TailWritten (λ e. m (Entry Number e)) bundle → (head ≡ 0) ⊎ (0 < m (Entry Number head)) → 0 < m (Entry Number entry)
+  behind_numbered node head entry [] bundle part some chain tail first =
+      elim first as (λ _. 0 < m (Entry Number entry)) [ inl none ↦ absurd (omega (arith, none, part, some)) | inr written ↦ subst (λ e. 0 < m (Entry Number e)) part written ]
+  behind_numbered node head entry (e ∷ es) [] part some chain tail first = absurd (omega (arith, part.0, part.1, chain))
+  behind_numbered node head entry (e ∷ es) (b ∷ bs) part some chain tail first =
+      let same : b ≡ e = sym chain.0 ∙ part.0 in
+      let below : IsChain (λ d. m (Entry Next d)) part.2.0 bs = subst (λ k. IsChain (λ d. m (Entry Next d)) k bs) (ap (λ d. m (Entry Next d)) same ∙ next_known node e part.2.0 part.2.1) chain.2 in
+      part_every (λ d. 0 < m (Entry Number d)) node part.2.0 entry es bs part.2.2 some below tail
+
+  pub part_numbered : (at : Link) (head entry : ℕ) (es : List ℕ) → v.update.pending ≡ [] → IsLocked v at.node → HoldsEntry v at head → 0 < entry → HoldsPart v at.node head es entry
+      → 0 < m (Entry Number entry)
+  part_numbered at head entry es idle locked holds some part =
+      let here : IsLive v.layout s.views at.node = held_live v.layout s.views g s.rule.rule.slots s.seat at.node v at_seat (held_holds v at.node locked) (seat.locks at.node locked).0 in
+      let bundle = s.rule.rule.bundles at.node here at.side in
+      let is : m (Node (Head at.side) at.node) ≡ head = head_known at.node at.side head holds.head in
+      let unmarked : IsHeldUnmarked v at.node = record {
+        held = holds.head.held;
+        locked = subst (λ k. held_at k v.held.nodes ≡ Some holds.head.held) holds.head.node_is (held_once v.layout s.words s.views s.seat holds.head.place v holds.head.held s.rule s.at holds.head.at);
+        unmarked = holds.unmarked;
+      } in
+      behind_numbered at.node head entry es (g.bundles.bundle at.side at.node) part some (subst (λ k. IsChain (λ e. m (Entry Next e)) k (g.bundles.bundle at.side at.node)) is bundle.chain) bundle.tail
+      (subst (λ k. (k ≡ 0) ⊎ (0 < m (Entry Number k))) is (head_numbered_law (table v.layout s.words s.views) s.seat v at.node at.side s.rule at_seat idle unmarked))
 
   pub part_few : (at : Link) (head entry : ℕ) (es : List ℕ) → StandsOn v at head entry → 0 < entry → HoldsPart v at.node head es entry → length es < v.layout.entries
   part_few at head entry es on some part =
@@ -150,15 +183,17 @@ module _ (v : View) (at : Link) (head entry : ℕ) (on : StandsOn v at head entr
     pub walked_try : KeepsTry v w
     walked_try = subst (KeepsTry v) (sym view_is) (record { pass = keeps_then; free = refl; grown = same-counts v then refl })
 
-    links_then : (place : ℕ) (l : ViewLink) → IsItem v.reading.links place l → IsItem links place l
-    links_then place l is = more-links (next == 0 && is_above v entry on.found) v.reading.links (bundle_link at.node at.side 0 0) place l is
-
     pub walked_looks : KeepsLooks v w
-    walked_looks n plan entries done h =
-        subst (λ (u : View). HasLooked u n plan entries done) (sym view_is)
-        (looked-kept (λ (x : HeldNode). x) v then n plan entries done h
-        (trying-kept (λ (x : HeldNode). x) v then n plan entries (locks_of plan) keeps_then refl links_then (same-held v then refl) h.trying)
-        (same-held v then refl) (λ place look below is. id_keeps look))
+    walked_looks = subst (KeepsLooks v) (sym gives) ((steps_keep_looks v).next entry next)
+
+    pub walked_trying : KeepsTrying v w
+    walked_trying n nodes t = subst (λ (u : View). IsTrying u n nodes) (sym gives) ((loads_keep v).next entry next n nodes t)
+
+    pub walked_counts : w.counts ≡ v.counts
+    walked_counts = ap (λ (u : View). u.counts) view_is
+
+    pub walked_update_same : w.update ≡ v.update
+    walked_update_same = ap (λ (u : View). u.update) view_is
 
     pub walked_nexts : KeepsNexts v w
     walked_nexts place i is = subst (λ (u : View). IsItem u.held.nexts place i) (sym view_is) (item-longer v.held.nexts (item ∷ []) place i is)

@@ -1,7 +1,7 @@
 -- A walk along a bundle that an update changed, the looks at the other passes, and the cut: what each asks, and what it
 -- leaves.
-use Rattle.std.proofs.Common.{◌≡◌, ℕ, zero, suc, ◌+◌, ◌<◌, ◌≤◌, ◌⊎◌, List, [], ◌∷◌, ◌++◌, length, Bool, true, false, eqb, refl, ap, sym, ◌∙◌, subst, arith, inl, inr, Some, None}
-use Rattle.std.specs.Prelude.{is_some}
+use Rattle.std.proofs.Common.{◌≡◌, ℕ, zero, suc, ◌+◌, ◌<◌, ◌≤◌, ◌⊎◌, List, [], ◌∷◌, ◌++◌, length, map, cond, Bool, true, false, eqb, refl, ap, sym, ◌∙◌, subst, arith, inl, inr, Some, None}
+use Rattle.std.specs.Prelude.{◌==◌, is_some}
 use Rattle.std.specs.List.{slice_get}
 use Rattle.std.proofs.lemmas.Bool.{cases_lt}
 use Rattle.std.proofs.lemmas.Bool.Decides.{nat_tests}
@@ -12,6 +12,9 @@ use Rattle.index_words.specs.declared.view.reading.Place.TheVariants.{Nowhere, E
 use Rattle.index_words.specs.declared.view.update.Held.{Held}
 use Rattle.index_words.specs.declared.view.update.HeldNode.{HeldNode}
 use Rattle.index_words.specs.declared.view.update.HeldNext.{HeldNext}
+use Rattle.index_words.specs.declared.view.update.Updating.{Updating}
+use Rattle.index_words.specs.declared.word.Part.TheVariants.{Stamp as Number}
+use Rattle.index_words.specs.declared.word.Word.TheVariants.{Entry}
 use Rattle.key_map.specs.Lists.{count, has, IsItem}
 use Rattle.key_map.proofs.Counting.{count-append, count-has, has-count}
 use Rattle.core_grace.specs.Batches.{all_passed, is_number}
@@ -26,25 +29,34 @@ use Rattle.core_laws.specs.ViewNeeds.{MayLookAnn, MayReadHead, MayReadNumber, Ma
 use Rattle.core_laws.specs.Cuts.{HasWalkedAt, HasWalkedTo, MayCut}
 use Rattle.core_trees.specs.declared.link.Link.{Link}
 use Rattle.core_updates.specs.declared.plan.Front.{Front}
-use Rattle.core_updates.specs.declared.plan.Look.TheVariants.{Link as LinkLook}
 use Rattle.core_updates.specs.declared.plan.Plan.{Plan}
 use Rattle.core_updates.specs.declared.plan.PlanSlots.{PlanSlots}
-use Rattle.core_updates.specs.Plans.{fronts_of}
-use Rattle.plan_laws.specs.Looks.{HoldsEntry, IsUnmarked}
+use Rattle.core_updates.specs.declared.plan.Plan.TheVariants.{Grow, Replace, Lift, Join}
+use Rattle.core_updates.specs.Plans.{front_of, fronts_of, link_at, next_front_of, next_link_of}
+use Rattle.core_updates.specs.PlanEvents.{HoldsEntry}
+use Rattle.plan_laws.specs.Looks.{IsUnmarked}
 use Rattle.plan_laws.specs.Prunes.{HasNumbered, KeepsPruned}
-use Rattle.plan_laws.proofs.HeldMaps.{number-keeps}
+use Rattle.plan_laws.proofs.HeldMaps.{number-at}
 use Rattle.plan_laws.proofs.Items.{last-item}
-use Rattle.plan_laws.proofs.Kept.{MapsHeld, entry-kept, slots-kept}
+use Rattle.plan_laws.proofs.Kept.{entry-kept, mapped, slots-kept}
 use Rattle.plan_laws.proofs.Looks.{head-found}
+use Rattle.plan_laws.proofs.PlanFronts.{front_link}
 use Rattle.plan_laws.proofs.Prunes.{prune_step, keeps_pruned}
+use Rattle.table_rule.specs.Homes.{IsLiveView}
+use Rattle.table_rule.specs.Running.{Happened}
+use Rattle.table_rule.proofs.Happens.{happened_word}
 use Rattle.table_steps.specs.Cuts.{CanCut}
+use Rattle.table_steps.specs.Loads.{loading_number}
+use Rattle.table_steps.specs.Passes.{Pass}
 use Rattle.table_steps.specs.Raises.{HoldsChain}
 use Rattle.update_try.specs.Pruning.{KeepsUpdate, KeepsLeast, KeepsPlace, HasLookedAt, IsLeast, IsChanged, HasGonePast, HasStopped}
 use Rattle.update_try.specs.Walked.{StandsOn, KeepsNexts}
 use Rattle.update_try.specs.declared.pruning.Least.{Least}
 use Rattle.update_try.specs.declared.pruning.Stop.{Stop}
+use Rattle.update_try.proofs.Fronts.{got_next}
 use Rattle.update_try.proofs.Outs.{front_stays}
-use Rattle.update_try.proofs.LockedBundles.{part_kept, walked_nexts, walked_on, walked_held, walked_list, walked_part}
+use Rattle.update_try.proofs.FilledWords.{entry_there}
+use Rattle.update_try.proofs.LockedBundles.{part_kept, part_numbered, walked_update_same, walked_nexts, walked_on, walked_held, walked_list, walked_part}
 
 pub pruned_same : (v : View) → KeepsPruned v v
 pruned_same v = record {
@@ -57,6 +69,7 @@ pruned_same v = record {
   nodes = refl;
   entries = omega arith;
   grown = record { busy = omega arith; waits = omega arith; moves = omega arith };
+  waits = refl;
 }
 
 pub update_same : (v : View) → KeepsUpdate v v
@@ -89,7 +102,7 @@ has_last : (p : ℕ) (xs : List ℕ) → has p (xs ++ p ∷ []) ≡ true
 has_last p xs = count-has p (xs ++ p ∷ []) (omega (arith, count-append p xs (p ∷ []), one_counted p 0))
 
 pub place_same : (v : View) → KeepsPlace v v
-place_same v = record { held = refl; place = refl; layout = refl; taken = refl }
+place_same v = record { held = refl; place = refl; layout = refl; taken = refl; pending = refl }
 
 pub place_more : (u v w : View) → KeepsPlace u v → KeepsPlace v w → KeepsPlace u w
 place_more u v w first second = record {
@@ -97,6 +110,7 @@ place_more u v w first second = record {
   place = second.place ∙ first.place;
   layout = second.layout ∙ first.layout;
   taken = second.taken ∙ first.taken;
+  pending = second.pending ∙ first.pending;
 }
 
 -- at itself a pass does not look
@@ -128,7 +142,7 @@ module _ (v w : View) (other word number : ℕ) (is : w ≡ ann_loaded v other w
     own = refl;
     looked = λ apart. has_last other v.reading.looked;
     before = λ n before. has_before n other v.reading.looked before;
-    place = record { held = refl; place = refl; layout = refl; taken = refl };
+    place = record { held = refl; place = refl; layout = refl; taken = refl; pending = refl };
   })
 
 -- so it has looked at one more of the others
@@ -191,7 +205,7 @@ walk_lower v node least low from last (e ∷ es) le walk =
     (walk.0, record { number = past.number; next = past.next; walked = past.walked; above = omega (arith, le, past.above) }, walk_lower v node least low past.next last es le walk.2)
 
 -- a node of which something was loaded under its lock is locked
-unmarked_locked : (v : View) (k : ℕ) → IsUnmarked v k → IsLocked v k
+pub unmarked_locked : (v : View) (k : ℕ) → IsUnmarked v k → IsLocked v k
 unmarked_locked v k u = subst (λ n. 0 < count n (held_slots v.held.nodes)) u.node_is (counted v.held.nodes u.place u.held u.at)
   where
     counted : (hs : List HeldNode) (i : ℕ) (h : HeldNode) → IsItem hs i h → 0 < count h.node (held_slots hs)
@@ -203,10 +217,10 @@ pub may_head : (v : View) (at : Link) → IsChanged v at → MayReadHead v at.no
 may_head v at changed = record { inside = changed.inside; reach = inr (inr (unmarked_locked v at.node changed.unmarked)) }
 
 -- the head of a bundle at which the walk begins
-pub begins : (v w : View) (at : Link) (head number least : ℕ) → IsUnmarked v at.node → w ≡ head_loaded v at.node at.side head number → head ≤ v.layout.entries
+pub begins : (v w : View) (at : Link) (head number least : ℕ) → IsUnmarked v at.node → v.update.pending ≡ [] → w ≡ head_loaded v at.node at.side head number → head ≤ v.layout.entries
     → HasGonePast w at least head [] head
-begins v w at head number least unmarked is there =
-    let holds : HoldsEntry w at head = subst (λ (u : View). HoldsEntry u at head) (sym is) (head-found v at head number unmarked) in
+begins v w at head number least unmarked idle is there =
+    let holds : HoldsEntry w at head = subst (λ (u : View). HoldsEntry u at head) (sym is) (head-found v at.node head number at.side unmarked) in
     record {
       holds = holds;
       walked = refl;
@@ -218,6 +232,7 @@ begins v w at head number least unmarked is there =
         place = ap (λ (u : View). u.reading.place) is;
         there = subst (λ (u : View). head ≤ u.layout.entries) (sym is) there;
       };
+      idle = ap (λ (u : View). u.update.pending) is ∙ idle;
     }
 
 pub head_update : (v w : View) (at : Link) (head number : ℕ) → w ≡ head_loaded v at.node at.side head number → KeepsUpdate v w
@@ -227,8 +242,8 @@ pub head_least : (v w : View) (at : Link) (head number : ℕ) → w ≡ head_loa
 head_least v w at head number is = subst (λ (u : View). KeepsLeast v u) (sym is) (record { section = refl; least = refl; looked = refl; number = refl; layout = refl; taken = refl })
 
 -- loads of a number and of a next, whatever they find
-pub number_update : (v w : View) (entry number : ℕ) → w ≡ ts_loaded v entry number → KeepsUpdate v w
-number_update v w entry number is = subst (λ (u : View). KeepsUpdate v u) (sym is) (λ n plan slots h. (prune_step v n plan slots h).number entry number)
+pub number_update : (v w : View) (entry number : ℕ) → 0 < number → w ≡ ts_loaded v entry number → KeepsUpdate v w
+number_update v w entry number some is = subst (λ (u : View). KeepsUpdate v u) (sym is) (λ n plan slots h. (prune_step v n plan slots h).number entry number some)
 
 pub number_least : (v w : View) (entry number : ℕ) → w ≡ ts_loaded v entry number → KeepsLeast v w
 number_least v w entry number is = subst (λ (u : View). KeepsLeast v u) (sym is) (record { section = refl; least = refl; looked = refl; number = refl; layout = refl; taken = refl })
@@ -250,7 +265,7 @@ may_number v at head entry on some = record { at = record { node = at.node; side
 
 pub may_next : (v u : View) (at : Link) (head entry number : ℕ) → StandsOn v at head entry → 0 < entry → u ≡ ts_loaded v entry number → MayReadNext u entry
 may_next v u at head entry number on some is =
-    let maps : MapsHeld (node_known entry number) v u = record { maps = ap (λ (x : View). x.held.nodes) is; node = λ h. refl } in
+    let maps : u.held.nodes ≡ map (node_known entry number) v.held.nodes = ap (λ (x : View). x.held.nodes) is in
     record {
       at = record {
         node = at.node;
@@ -260,21 +275,34 @@ may_next v u at head entry number on some is =
         some = some;
         there = subst (λ (x : View). entry ≤ x.layout.entries) (sym is) on.there;
       };
-      on = inl (subst (λ ks. 0 < count at.node ks) (sym (slots-kept (node_known entry number) v u maps)) on.locked);
+      on = inl (subst (λ ks. 0 < count at.node ks) (sym (slots-kept (node_known entry number) v u maps (λ h. refl))) on.locked);
     }
+
+-- the number of an entry of such a bundle is not 0, since nobody has it pending
+module _ (p : Pass) (u : View) (at : Link) (least head entry number : ℕ) (front : List ℕ) (live : IsLiveView p.view) (past : HasGonePast p.view at least head front entry) (some : 0 < entry)
+    (event : Happened p.view.layout (loading_number p entry) p.view number u) where
+  then : IsLiveView p.view
+  then = record { live = live.live; stands = record { words = event.words; views = event.views; rule = event.rule; seat = p.seat; at = event.seat } }
+
+  pub number_some : 0 < number
+  unfolding then
+  number_some =
+      subst (λ x. 0 < x)
+      (happened_word p.view.layout (loading_number p entry) p.view u number (Entry Number entry) (entry_there p.view.layout entry some past.stands.there) refl tt event)
+      (part_numbered p.view then at head entry front past.idle past.stands.locked past.holds some past.part)
 
 -- the number and the next of an entry
 module _ (v u w : View) (at : Link) (least head entry number next : ℕ) (front : List ℕ) (past : HasGonePast v at least head front entry) (some : 0 < entry) (written : 0 < number)
     (numbered : u ≡ ts_loaded v entry number) (gives : w ≡ next_loaded u entry next) (low : next ≤ u.layout.entries) where
-  maps : MapsHeld (node_known entry number) v u
-  maps = record { maps = ap (λ (x : View). x.held.nodes) numbered; node = λ h. refl }
+  maps : u.held.nodes ≡ map (node_known entry number) v.held.nodes
+  maps = ap (λ (x : View). x.held.nodes) numbered
 
   holds : HoldsEntry u at head
-  holds = entry-kept (node_known entry number) v u at head maps (number-keeps entry number written (LinkLook at 0)) past.holds
+  holds = entry-kept (node_known entry number) v u at head (mapped (node_known entry number) v u maps (λ h. refl)) (number-at entry number written at) past.holds
 
   abbrev on : StandsOn u at head entry
   on = record {
-    locked = subst (λ ks. 0 < count at.node ks) (sym (slots-kept (node_known entry number) v u maps)) past.stands.locked;
+    locked = subst (λ ks. 0 < count at.node ks) (sym (slots-kept (node_known entry number) v u maps (λ h. refl))) past.stands.locked;
     head_is = holds.head;
     found = Some number;
     place = ap (λ (x : View). x.reading.place) numbered ∙ ap (place_known number) past.stands.place;
@@ -304,6 +332,7 @@ module _ (v u w : View) (at : Link) (least head entry number next : ℕ) (front 
         walked_part u at head entry on some w next gives low head front
         (part_kept v u at.node head entry front (λ place item is. subst (λ (x : View). IsItem x.held.nexts place item) (sym numbered) is) past.part);
     stands = walked_on u at head entry on some w next gives low;
+    idle = ap (λ (x : Updating). x.pending) (walked_update_same u at head entry on some w next gives low) ∙ ap (λ (x : View). x.update.pending) numbered ∙ past.idle;
   }
 
 -- a pass that has looked at the others stands as it did, with a smaller least number
@@ -330,6 +359,7 @@ module _ (v w : View) (same : KeepsPlace v w) where
         some = s.some;
         part = part_kept v w at.node head stop.next (front ++ stop.entry ∷ []) nexts_still s.part;
         stands = stands_still at head stop.next holds s.stands;
+        idle = same.pending ∙ s.idle;
       }
 
 -- it goes on behind an entry whose number is above
@@ -340,6 +370,7 @@ goes_on v at least head front stop above s = record {
   walked = walk_more v at.node least head stop.entry stop.number stop.next front s.walked s.here above;
   part = s.part;
   stands = s.stands;
+  idle = s.idle;
 }
 
 -- a cut
@@ -409,4 +440,28 @@ front_changed v n plan slots place f h is = record {
   inside = h.inside;
   unmarked = h.unmarked place f is;
   stays = ap (count f.at.node) h.taken ∙ front_stays plan slots place f h.once is;
+  idle = h.idle;
 }
+
+pub first_changed : (v : View) (n : ℕ) (plan : Plan) (slots : PlanSlots) → HasNumbered v n plan slots → IsChanged v (link_at plan)
+first_changed v n plan slots h = subst (IsChanged v) (front_link plan slots) (front_changed v n plan slots 0 (front_of plan slots) h refl)
+
+-- the entry in front of the second one
+next_front_at : (plan : Plan) (slots : PlanSlots) (at : Link) → next_link_of plan ≡ Some at → (f : Front) × (next_front_of plan slots ≡ Some f) × (f.at ≡ at)
+next_front_at (Grow p) slots at is = cc
+next_front_at (Replace p) slots at is = cc
+next_front_at (Lift p) slots at is = cc
+next_front_at (Join p) slots at is = by (p.next.at.node == p.node) is
+  where
+    second : Front
+    second = record { at = p.next.at; entry = slots.next; child = p.next.right }
+
+    by : (near : Bool) → cond near None (Some p.next.at) ≡ Some at → (f : Front) × (cond near None (Some second) ≡ Some f) × (f.at ≡ at)
+    by true e = cc
+    by false e = let same : p.next.at ≡ at = cc in (second, refl, same)
+
+pub next_changed : (v : View) (n : ℕ) (plan : Plan) (slots : PlanSlots) (at : Link) → HasNumbered v n plan slots → next_link_of plan ≡ Some at → IsChanged v at
+next_changed v n plan slots at h is =
+    let found = next_front_at plan slots at is in
+    let there : slice_get (fronts_of plan slots) 1 ≡ Some found.0 = got_next (next_front_of plan slots) ∙ found.1 in
+    subst (IsChanged v) found.2 (front_changed v n plan slots 1 found.0 h there)

@@ -1,8 +1,9 @@
 pub mod FreeSlots
-pub mod Holding
 pub mod Outcomes
-pub mod Preparing
+pub mod Looking
+pub mod Planning
 pub mod Walked
+pub mod Preparing
 pub mod Pruning
 pub mod Carried
 pub mod Parting

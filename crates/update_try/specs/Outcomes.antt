@@ -1,23 +1,11 @@
--- How the calls of a try end: they keep what the pass knows and owns, and where a try fails a count has risen.
-use Rattle.std.specs.Prelude.{◌≡◌, ℕ, ◌≤◌, []}
+-- How the calls of a try end: where it fails it keeps what the pass knows and owns.
+use Rattle.std.specs.Prelude.{◌≡◌, ℕ, []}
 use Rattle.index_words.specs.declared.view.View.{View}
-use Rattle.core_events.specs.LoadMoves.{risen}
 use Rattle.plan_laws.specs.Frames.{CountsGrow}
 use Rattle.plan_laws.specs.Releases.{IsReleasing}
-use Rattle.update_try.specs.declared.outcome.Failed.{Failed}
-use Rattle.update_try.specs.declared.outcome.Failed.TheVariants.{Busy, Moved, Pending}
 
--- the count has risen by at least one, or stands at its end
-abbrev pub HasRisen : ℕ → ℕ → Type 0
-HasRisen old new = risen old ≤ new
-
--- the count of this failure has risen
-abbrev pub IsCounted : Failed → View → View → Type 0
-IsCounted Busy v w = HasRisen v.counts.busy w.counts.busy
-IsCounted Moved v w = HasRisen v.counts.moves w.counts.moves
-IsCounted Pending v w = HasRisen v.counts.waits w.counts.waits
-
--- what a try that fails leaves as it was: what the pass knows of the history, and its slots. No count falls
+-- what a try that fails leaves as it was: what the pass knows of the history, and its slots. No count falls, and that of entries
+-- without a number is as it was
 pub record KeepsAll (v w : View) : Type 0 where
   pub layout : w.layout ≡ v.layout
   pub joined : w.joined ≡ v.joined
@@ -27,6 +15,7 @@ pub record KeepsAll (v w : View) : Type 0 where
   pub retired : w.retired ≡ v.retired
   pub batch : w.batch ≡ v.batch
   pub grown : CountsGrow v w
+  pub waits : w.counts.waits ≡ v.counts.waits
 
 -- a try was given up: no node is locked, and the section may be left
 pub record HasGivenUp (v : View) (n : ℕ) (w : View) : Type 0 where

@@ -5,16 +5,24 @@ use Rattle.core_events.specs.Tables.{Table, held_by}
 use Rattle.index_words.specs.declared.word.Word.TheVariants.{Stamp}
 use Rattle.core_updates.specs.declared.plan.Plan.{Plan}
 use Rattle.core_updates.specs.declared.plan.Plan.TheVariants.{Grow, Replace, Lift, Join}
+use Rattle.core_updates.specs.declared.plan.Heads.{Heads}
 use Rattle.core_updates.specs.declared.plan.PlanSlots.{PlanSlots}
 use Rattle.core_updates.specs.declared.plan.NewNode.{NewNode}
 use Rattle.core_updates.specs.Plans.{fronts_of, head_of}
 use Rattle.plan_laws.specs.Answers.{AnswersRaise}
 use Rattle.plan_laws.specs.Fronts.{HasPrepared}
 use Rattle.table_steps.specs.Passes.{Pass}
+use Rattle.update_try.specs.Walked.{HasWalkedAll}
 
 -- all entries of the plan are in front of their bundles
-abbrev pub HasPreparedAll : View → ℕ → Plan → PlanSlots → List ℕ → Type 0
-HasPreparedAll v n plan slots entries = HasPrepared v n plan slots entries (length (fronts_of plan slots))
+abbrev pub HasPreparedAll : View → ℕ → Plan → PlanSlots → Heads → Type 0
+HasPreparedAll v n plan slots heads = HasPrepared v n plan slots heads (length (fronts_of plan slots))
+
+-- and of each node that goes out both bundles were found
+pub record IsPrepared (v : View) (n : ℕ) (plan : Plan) (slots : PlanSlots) : Type 0 where
+  pub heads : Heads
+  pub prepared : HasPreparedAll v n plan slots heads
+  pub walked : HasWalkedAll v plan
 
 -- the slot of the new node and the heads of its bundles, 0 for each that there is not
 abbrev pub new_slots_of : Option NewNode → List ℕ

@@ -8,7 +8,8 @@ use Rattle.core_laws.specs.ViewNeeds.{IsInside}
 use Rattle.core_trees.specs.declared.link.Link.{Link}
 use Rattle.core_updates.specs.declared.plan.Plan.{Plan}
 use Rattle.core_updates.specs.declared.plan.PlanSlots.{PlanSlots}
-use Rattle.plan_laws.specs.Looks.{HoldsEntry, IsUnmarked}
+use Rattle.core_updates.specs.PlanEvents.{HoldsEntry}
+use Rattle.plan_laws.specs.Looks.{IsUnmarked}
 use Rattle.plan_laws.specs.Prunes.{HasNumbered, StaysNumbered}
 use Rattle.update_try.specs.Walked.{StandsOn, HoldsPart}
 use Rattle.update_try.specs.declared.pruning.Least.{Least}
@@ -34,6 +35,7 @@ pub record KeepsPlace (v w : View) : Type 0 where
   pub place : w.reading.place ≡ v.reading.place
   pub layout : w.layout ≡ v.layout
   pub taken : w.update.taken ≡ v.update.taken
+  pub pending : w.update.pending ≡ v.update.pending
 
 -- this is the least number of a pass that has a section number; where it has looked, it has looked at every other pass
 -- for it
@@ -52,18 +54,21 @@ pub record HasLookedAt (v : View) (other number low : ℕ) (w : View) : Type 0 w
   pub before : (n : ℕ) → has n v.reading.looked ≡ true → has n w.reading.looked ≡ true
   pub place : KeepsPlace v w
 
--- inside a section, the node of the link stays in the tree, and was found unmarked under its lock
+-- inside a section, with nothing pending, the node of the link stays in the tree, and was found unmarked under its lock
 pub record IsChanged (v : View) (at : Link) : Type 0 where
   pub inside : IsInside v
   pub unmarked : IsUnmarked v at.node
   pub stays : count at.node v.update.taken ≡ 0
+  pub idle : v.update.pending ≡ []
 
--- from the head on the pass went past these entries, whose numbers are above the least one, and stands behind them
+-- from the head on the pass went past these entries, whose numbers are above the least one, and stands behind them, with nothing
+-- pending
 pub record HasGonePast (v : View) (at : Link) (least head : ℕ) (front : List ℕ) (entry : ℕ) : Type 0 where
   pub holds : HoldsEntry v at head
   pub walked : HasWalkedTo v at.node least head front entry
   pub part : HoldsPart v at.node head front entry
   pub stands : StandsOn v at head entry
+  pub idle : v.update.pending ≡ []
 
 abbrev pub GoesPast : View → Link → ℕ → ℕ → Type 0
 GoesPast v at least entry = (head : ℕ) × (front : List ℕ) × HasGonePast v at least head front entry
@@ -76,6 +81,7 @@ pub record HasStopped (v : View) (at : Link) (least head : ℕ) (front : List �
   pub some : 0 < stop.entry
   pub part : HoldsPart v at.node head (front ++ stop.entry ∷ []) stop.next
   pub stands : StandsOn v at head stop.next
+  pub idle : v.update.pending ≡ []
 
 abbrev pub StopsAt : View → Link → ℕ → Stop → Type 0
 StopsAt v at least stop = (head : ℕ) × (front : List ℕ) × HasStopped v at least head front stop

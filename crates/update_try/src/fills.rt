@@ -1,116 +1,117 @@
 //! What a try fills into its free slots, and the entries that it puts in front of bundles.
-ghost use Rattle.std.specs.Prelude.{◌≡◌, ◌+◌, Some, length};
-ghost use Rattle.std.specs.List.{slice_get};
+ghost use Rattle.std.specs.Prelude.{◌≡◌, ◌+◌, length};
+ghost use Rattle.core_events.specs.UpdateMoves.{prepared};
+ghost use Rattle.core_laws.specs.ViewNeeds.{IsInside, MayFill, MayPrepare};
 ghost use Rattle.core_updates.specs.PlanEvents.{HasSlots};
 ghost use Rattle.core_updates.specs.Plans.{fronts_of};
+ghost use Rattle.index_words.specs.declared.view.reading.Filled.{Filled as Fill};
+ghost use Rattle.key_map.specs.Lists.{Every};
 ghost use Rattle.plan_laws.specs.Answers.{owned_entries};
-ghost use Rattle.plan_laws.specs.Fills.{AreApart, HasFilledAll, HasLookedAll, fills_of, fresh_fills, front_fills, new_fills};
+ghost use Rattle.plan_laws.specs.Fills.{AreApart, HasFilledAll, HasHeads, filled_all, fresh_fills, new_fills_of, next_fills};
 ghost use Rattle.plan_laws.specs.Frames.{KeepsPass, KeepsTry};
 ghost use Rattle.table_steps.specs.Passes.{IsSamePass};
 ghost use Rattle.update_try.specs.Preparing.{HasPreparedAll};
-ghost use Rattle.update_try.specs.Walked.{HoldsOutHeads, KeepsNexts};
+ghost use Rattle.update_try.specs.Walked.{HasWalkedAll};
 
-use core_updates::{Fresh, NewNode, Plan, PlanSlots};
+use core_updates::{Fresh, Front, Heads, NewNode, Plan, PlanSlots};
 use index_words::Filled;
 use table_steps::TablePass;
 
-/// What is filled at this place of an entry of a new node's link. None behind the last one.
-fn fresh_fill(fresh: Option<Fresh>, place: usize) -> Option<Filled>
-    ensures { result ≡ slice_get (fresh_fills fresh) place }
+/// Fills these words of free slots.
+fn fill_words(pass: &mut TablePass<'_>, fills: &[Filled])
+    requires inside { IsInside pass.old.view }
+    requires free { Every (λ (f : Fill). MayFill pass.old.view f.word) fills.now }
+    ensures same { IsSamePass pass.old pass.new }
+    ensures filled { pass.new.view ≡ filled_all pass.old.view fills.now }
 {
-    fresh?.fill(place)
-}
-
-/// How many words of an entry of a new node's link are filled.
-fn fresh_count(fresh: Option<Fresh>) -> usize
-    ensures { result ≡ length (fresh_fills fresh) }
-{
-    match fresh {
-        None => 0,
-        Some(_) => 3,
+    'words: for fill in fills {
+        pass.facts();
+        pass.fill_word(fill.word, fill.value);
     }
 }
 
-/// What is filled at this place of a new node: first its own words, then the entry of its left link, then that of its
-/// right link. None behind the last one.
-fn new_fill(node: &NewNode, place: usize) -> Option<Filled>
-    ensures { result ≡ slice_get (new_fills (Some node.now)) place }
+/// Fills the entry of a new node's link, where there is one.
+fn fill_fresh(pass: &mut TablePass<'_>, fresh: Option<Fresh>)
+    requires inside { IsInside pass.old.view }
+    requires free { Every (λ (f : Fill). MayFill pass.old.view f.word) (fresh_fills fresh) }
+    ensures same { IsSamePass pass.old pass.new }
+    ensures filled { pass.new.view ≡ filled_all pass.old.view (fresh_fills fresh) }
 {
-    if let Some(fill) = node.fill(place) {
-        return Some(fill);
+    if let Some(fresh) = fresh {
+        fill_words(pass, &fresh.fills());
     }
-    let place = place - 9;
-    if let Some(fill) = fresh_fill(node.left, place) {
-        return Some(fill);
-    }
-    fresh_fill(node.right, place - fresh_count(node.left))
 }
 
-/// What is filled at this place of the entries in front of bundles. None behind the last one.
-fn front_fill(plan: &Plan, slots: &PlanSlots, heads: &[u32; 9], place: usize) -> Option<Filled>
-    ensures { result ≡ slice_get (front_fills 0 (fronts_of plan.now slots.now) heads.now) place }
+/// Fills a new node, where there is one, and the entries of its links.
+fn fill_new(pass: &mut TablePass<'_>, node: Option<NewNode>)
+    requires inside { IsInside pass.old.view }
+    requires free { Every (λ (f : Fill). MayFill pass.old.view f.word) (new_fills_of node) }
+    ensures same { IsSamePass pass.old pass.new }
+    ensures filled { pass.new.view ≡ filled_all pass.old.view (new_fills_of node) }
 {
-    let first = plan.front(slots, 0)?;
-    if let Some(fill) = first.fill(u64::from(heads[0]), place) {
-        return Some(fill);
-    }
-    let second = plan.front(slots, 1)?;
-    second.fill(u64::from(heads[8]), place - 3)
-}
-
-/// What a try fills at this place: the new node first, then the entries in front of bundles. None behind the last one.
-fn fill_at(plan: &Plan, slots: &PlanSlots, heads: &[u32; 9], place: usize) -> Option<Filled>
-    ensures { result ≡ slice_get (fills_of plan.now slots.now heads.now) place }
-{
-    let Some(node) = plan.new_node(slots) else {
-        return front_fill(plan, slots, heads, place);
+    let Some(node) = node else {
+        return;
     };
-    if let Some(fill) = new_fill(&node, place) {
-        return Some(fill);
-    }
-    let count = 9 + fresh_count(node.left) + fresh_count(node.right);
-    front_fill(plan, slots, heads, place - count)
+    fill_words(pass, &node.fills());
+    fill_fresh(pass, node.left);
+    fill_fresh(pass, node.right);
 }
 
-/// Fills the free slots of which a plan takes its own. No other pass reads them yet.
-pub(crate) fn fill_all(pass: &mut TablePass<'_>, plan: &Plan, slots: &PlanSlots, heads: &[u32; 9])
-    requires looked { HasLookedAll pass.old.view pass.old.number plan.now heads.now }
+/// Fills an entry that is to be put in front of a bundle, where there is one. `behind` is the entry behind it.
+fn fill_front(pass: &mut TablePass<'_>, front: Option<Front>, behind: u32)
+    requires inside { IsInside pass.old.view }
+    requires free { Every (λ (f : Fill). MayFill pass.old.view f.word) (next_fills behind front) }
+    ensures same { IsSamePass pass.old pass.new }
+    ensures filled { pass.new.view ≡ filled_all pass.old.view (next_fills behind front) }
+{
+    if let Some(front) = front {
+        fill_words(pass, &front.fills(behind));
+    }
+}
+
+/// Fills the free slots of which a plan takes its own: the new node first, then the entries in front of bundles. No
+/// other pass reads them yet.
+pub(crate) fn fill_all(pass: &mut TablePass<'_>, plan: &Plan, slots: &PlanSlots, heads: Heads)
+    requires heads { HasHeads pass.old.view pass.old.number plan.now heads }
     requires free { HasSlots pass.old.view slots.now }
     requires apart { AreApart slots.now }
     ensures same { IsSamePass pass.old pass.new }
-    ensures filled { HasFilledAll pass.new.view pass.new.number plan.now slots.now heads.now }
+    ensures filled { HasFilledAll pass.new.view pass.new.number plan.now slots.now heads }
     ensures keeps { KeepsTry pass.old.view pass.new.view }
-    ensures nexts { KeepsNexts pass.old.view pass.new.view }
+    ensures held { pass.new.view.held ≡ pass.old.view.held }
+    ensures counts { pass.new.view.counts ≡ pass.old.view.counts }
 {
-    let mut place = 0;
-    'words: while let Some(fill) = fill_at(plan, slots, heads, place) {
-        pass.facts();
-        pass.fill_word(fill.word, fill.value);
-        place += 1;
-    }
+    fill_new(pass, plan.new_node(slots));
+    fill_front(pass, Some(plan.front(slots)), heads.at);
+    fill_front(pass, plan.next_front(slots), heads.next);
+}
+
+/// Puts an entry in front of its bundle.
+fn prepare_front(pass: &mut TablePass<'_>, front: &Front)
+    requires may { MayPrepare pass.old.view front.now.at.node front.now.at.side front.now.entry }
+    ensures same { IsSamePass pass.old pass.new }
+    ensures view { pass.new.view ≡ prepared pass.old.view front.now.at.side front.now.at.node front.now.entry }
+{
+    pass.prepare(front.at.node, front.at.side, front.entry);
 }
 
 /// Puts the entries of a plan in front of their bundles, in the plan's order. Readers wait at them until they have
 /// numbers.
-pub(crate) fn prepare_all(
-    pass: &mut TablePass<'_>,
-    plan: &Plan,
-    slots: &PlanSlots,
-    heads: &[u32; 9],
-)
-    requires filled { HasFilledAll pass.old.view pass.old.number plan.now slots.now heads.now }
+pub(crate) fn prepare_all(pass: &mut TablePass<'_>, plan: &Plan, slots: &PlanSlots, heads: Heads)
+    requires filled { HasFilledAll pass.old.view pass.old.number plan.now slots.now heads }
+    requires walked { HasWalkedAll pass.old.view plan.now }
     requires apart { AreApart slots.now }
     ensures same { IsSamePass pass.old pass.new }
-    ensures prepared { HasPreparedAll pass.new.view pass.new.number plan.now slots.now heads.now }
+    ensures prepared { HasPreparedAll pass.new.view pass.new.number plan.now slots.now heads }
+    ensures walked { HasWalkedAll pass.new.view plan.now }
     ensures keeps { KeepsPass pass.old.view pass.new.view }
-    ensures nexts { KeepsNexts pass.old.view pass.new.view }
+    ensures counts { pass.new.view.counts ≡ pass.old.view.counts }
     ensures entries { owned_entries pass.new.view + length (fronts_of plan.now slots.now) ≡ owned_entries pass.old.view }
-    ensures heads { HoldsOutHeads pass.old.view plan.now heads.now → HoldsOutHeads pass.new.view plan.now heads.now }
 {
-    let mut place = 0;
-    'fronts: while let Some(front) = plan.front(slots, place) {
+    pass.facts();
+    prepare_front(pass, &plan.front(slots));
+    if let Some(next) = plan.next_front(slots) {
         pass.facts();
-        pass.prepare(front.at.node, front.at.side, front.entry);
-        place += 1;
+        prepare_front(pass, &next);
     }
 }

@@ -1,161 +1,133 @@
-//! What a try looks at under its locks.
-ghost use Rattle.std.specs.Prelude.{◌≡◌, ◌+◌, ℕ, IfOk, IfErr, Some, false, slice_index};
-ghost use Rattle.std.specs.List.{slice_get};
-ghost use Rattle.core_trees.specs.declared.link.Link.{Link as TreeLink};
-ghost use Rattle.core_updates.specs.declared.plan.Look.TheVariants.{Link as LinkLook};
-ghost use Rattle.core_updates.specs.Plans.{looks_of, out_of};
-ghost use Rattle.key_map.specs.Lists.{has};
-ghost use Rattle.plan_laws.specs.Fills.{HasLookedAll};
-ghost use Rattle.plan_laws.specs.Frames.{KeepsTry};
-ghost use Rattle.plan_laws.specs.Looks.{HasLooked};
-ghost use Rattle.plan_laws.specs.Tries.{HasLockedAll};
+//! What a try looks at under its locks. Each look is one load, or a few of one node; what it finds stays so until the
+//! lock is given back.
+ghost use Rattle.std.specs.Prelude.{◌≡◌, ℕ, ◌<◌, false, Option, IfOk, IfErr};
+ghost use Rattle.index_words.specs.declared.side.Side.TheVariants.{Right};
+ghost use Rattle.index_words.specs.declared.view.update.HeldNode.{HeldNode};
+ghost use Rattle.key_map.specs.Lists.{count};
+ghost use Rattle.core_events.specs.Searches.{key_found, search_nodes, searches_at};
+ghost use Rattle.core_updates.specs.Held.{HasLoaded, HoldsGap, HoldsLink, RemembersGap};
+ghost use Rattle.core_updates.specs.PlanEvents.{KnowsLink, KnowsTag};
+ghost use Rattle.plan_laws.specs.Looks.{IsUnmarked, RemembersLink, RemembersNull};
 ghost use Rattle.table_steps.specs.Passes.{IsAlone, IsSamePass};
-ghost use Rattle.update_try.specs.Outcomes.{HasGivenUp, IsCounted};
-ghost use Rattle.update_try.specs.Walked.{HasWalkedAll, IsWalkedAt, KeepsNexts, StandsOn};
+ghost use Rattle.update_search.specs.Outcomes.{IsCounted};
+ghost use Rattle.update_search.specs.Searching.{KeepsSearch};
+ghost use Rattle.update_try.specs.Looking.{IsLockedBy, KnowsKey, LearnsAt, LearnsNothing};
 
-use crate::outcome::Failed;
-use crate::release::unlock_all;
-use crate::walking::walk_along;
 use core_trees::Link;
-use core_updates::{Look, Plan};
 use table_steps::TablePass;
+use update_search::{Failed, Gap, search_laws};
 
-/// Looks at a link: at the mark of its node, at the head of its bundle, which must be the remembered entry, and at the
-/// number of that entry.
-fn look_at_link(
-    pass: &mut TablePass<'_>,
-    plan: &Plan,
-    heads: &[u32; 9],
-    place: usize,
-) -> Result<(), Failed>
-    requires looked { HasLooked pass.old.view pass.old.number plan.now heads.now place }
-    requires link { (at : TreeLink) × (child : ℕ) × (slice_get (looks_of plan.now) place ≡ Some (LinkLook at child)) }
+/// Looks whether a node is still in the tree.
+pub(crate) fn look_unmarked(pass: &mut TablePass<'_>, node: u32) -> Result<(), Failed>
+    requires locked { IsLockedBy pass.old.view node }
+    requires searched { 0 < count node (search_nodes 0 pass.old.view.reading) }
     ensures same { IsSamePass pass.old pass.new }
-    ensures looked { IfOk result (λ done. HasLooked pass.new.view pass.new.number plan.now heads.now (place + 1)) }
-    ensures locked { HasLockedAll pass.new.view pass.new.number plan.now heads.now }
-    ensures counted { IfErr result (λ failed. IsCounted failed pass.old.view pass.new.view) }
+    ensures keeps { KeepsSearch pass.old.view pass.new.view }
+    ensures reading { pass.new.view.reading ≡ pass.old.view.reading }
+    ensures learns { LearnsNothing pass.old.view pass.new.view }
+    ensures unmarked { IfOk result (λ done. IsUnmarked pass.new.view node) }
+    ensures moved { IfErr result (λ failed. IsCounted failed pass.old.view pass.new.view) }
     ensures alone { IfErr result (λ failed. ¬ IsAlone pass.new.view) }
-    ensures keeps { KeepsTry pass.old.view pass.new.view }
-    ensures nexts { KeepsNexts pass.old.view pass.new.view }
-    ensures stands { IfOk result (λ done. (at : TreeLink) → (child : ℕ) → slice_get (looks_of plan.now) place ≡ Some (LinkLook at child) → StandsOn pass.new.view at (slice_index heads.now place) (slice_index heads.now place)) }
 {
-    let Some(Look::Link { at, child: _ }) = plan.look(place) else {
-        unreachable!()
-    };
+    search_laws();
     pass.facts();
-    if pass.load_mark(at.node) {
+    if pass.load_mark(node) {
         return Err(Failed::Moved);
     }
+    Ok(())
+}
+
+/// Looks whether a link still leads to the child to which the search has found it to lead, 0 for none.
+pub(crate) fn look_leads(pass: &mut TablePass<'_>, at: Link, child: u32) -> Result<(), Failed>
+    requires locked { IsLockedBy pass.old.view at.node }
+    requires unmarked { IsUnmarked pass.old.view at.node }
+    requires root { at.node ≡ 0 → at.side ≡ Right }
+    requires found { RemembersLink pass.old.view at child }
+    requires first { ¬ KnowsLink pass.old.view at.node at.side }
+    requires stays { searches_at pass.old.view.reading pass.old.view.reading.place at.node at.side ≡ false }
+    ensures same { IsSamePass pass.old pass.new }
+    ensures keeps { KeepsSearch pass.old.view pass.new.view }
+    ensures reading { pass.new.view.reading ≡ pass.old.view.reading }
+    ensures learns { LearnsAt at pass.old.view pass.new.view }
+    ensures leads { IfOk result (λ done. HoldsLink pass.new.view at.node at.side child) }
+    ensures moved { IfErr result (λ failed. IsCounted failed pass.old.view pass.new.view) }
+    ensures alone { IfErr result (λ failed. ¬ IsAlone pass.new.view) }
+{
+    search_laws();
     pass.facts();
-    let head = pass.load_head(at.node, at.side);
-    if head != heads[place] {
+    if pass.load_link(at.node, at.side) != child {
         return Err(Failed::Moved);
     }
-    if head == 0 {
-        return Ok(());
-    }
-    if pass.load_ts(head) == 0 {
-        return Err(Failed::Pending);
-    }
     Ok(())
 }
 
-/// Whether a node goes out.
-fn is_out(plan: &Plan, node: u32) -> bool
-    ensures { result ≡ has node (out_of plan.now) }
-{
-    match plan {
-        Plan::Grow(_) => false,
-        Plan::Replace(plan) => plan.node == node,
-        Plan::Lift(plan) => plan.node == node,
-        Plan::Join(plan) => plan.node == node || plan.next.node == node,
-    }
-}
-
-/// Looks at a link, and where its node goes out, walks along its bundle.
-fn look_along_link(
-    pass: &mut TablePass<'_>,
-    plan: &Plan,
-    heads: &[u32; 9],
-    place: usize,
-    at: Link,
-) -> Result<(), Failed>
-    requires looked { HasLooked pass.old.view pass.old.number plan.now heads.now place }
-    requires link { (child : ℕ) × (slice_get (looks_of plan.now) place ≡ Some (LinkLook at child)) }
+/// Looks whether a link is still null, and has not become null anew since the search has found it so.
+pub(crate) fn look_at_gap(pass: &mut TablePass<'_>, gap: Gap) -> Result<(), Failed>
+    requires locked { IsLockedBy pass.old.view gap.at.node }
+    requires unmarked { IsUnmarked pass.old.view gap.at.node }
+    requires root { gap.at.node ≡ 0 → gap.at.side ≡ Right }
+    requires found { (above : Option ℕ) × (below : Option ℕ) × RemembersNull pass.old.view gap.at gap.tag above below }
+    requires first_link { ¬ KnowsLink pass.old.view gap.at.node gap.at.side }
+    requires first_tag { ¬ KnowsTag pass.old.view gap.at.node gap.at.side }
+    requires stays { searches_at pass.old.view.reading pass.old.view.reading.place gap.at.node gap.at.side ≡ false }
     ensures same { IsSamePass pass.old pass.new }
-    ensures looked { IfOk result (λ done. HasLooked pass.new.view pass.new.number plan.now heads.now (place + 1)) }
-    ensures locked { HasLockedAll pass.new.view pass.new.number plan.now heads.now }
-    ensures counted { IfErr result (λ failed. IsCounted failed pass.old.view pass.new.view) }
+    ensures keeps { KeepsSearch pass.old.view pass.new.view }
+    ensures null { IfOk result (λ done. HoldsLink pass.new.view gap.at.node gap.at.side 0) }
+    ensures gap { IfOk result (λ done. (key : ℕ) → RemembersGap pass.old.view gap.at.node gap.at.side gap.tag key → HoldsGap pass.new.view gap.at.node gap.at.side key) }
+    ensures moved { IfErr result (λ failed. IsCounted failed pass.old.view pass.new.view) }
     ensures alone { IfErr result (λ failed. ¬ IsAlone pass.new.view) }
-    ensures keeps { KeepsTry pass.old.view pass.new.view }
-    ensures nexts { KeepsNexts pass.old.view pass.new.view }
-    ensures walked { IfOk result (λ done. IsWalkedAt pass.new.view plan.now heads.now place) }
 {
-    look_at_link(pass, plan, heads, place)?;
-    if !is_out(plan, at.node) {
-        return Ok(());
-    }
-    walk_along(pass, at, heads[place]);
-    Ok(())
-}
-
-/// Looks at what stands at this place of a plan. The keys and values there are those of the tree that the pass reads,
-/// so they are found to be the plan's.
-fn look_at(
-    pass: &mut TablePass<'_>,
-    plan: &Plan,
-    heads: &[u32; 9],
-    place: usize,
-    look: Look,
-) -> Result<(), Failed>
-    requires looked { HasLooked pass.old.view pass.old.number plan.now heads.now place }
-    requires here { slice_get (looks_of plan.now) place ≡ Some look }
-    ensures same { IsSamePass pass.old pass.new }
-    ensures looked { IfOk result (λ done. HasLooked pass.new.view pass.new.number plan.now heads.now (place + 1)) }
-    ensures locked { HasLockedAll pass.new.view pass.new.number plan.now heads.now }
-    ensures counted { IfErr result (λ failed. IsCounted failed pass.old.view pass.new.view) }
-    ensures alone { IfErr result (λ failed. ¬ IsAlone pass.new.view) }
-    ensures keeps { KeepsTry pass.old.view pass.new.view }
-    ensures nexts { KeepsNexts pass.old.view pass.new.view }
-    ensures walked { IfOk result (λ done. IsWalkedAt pass.new.view plan.now heads.now place) }
-{
+    search_laws();
+    let Gap { at, tag } = gap;
+    look_leads(pass, at, 0)?;
     pass.facts();
-    match look {
-        Look::Link { at, child: _ } => look_along_link(pass, plan, heads, place, at),
-        Look::Key { node, key: _ } => {
-            pass.load_key(node);
-            Ok(())
-        }
-        Look::Val { node, val: _ } => {
-            pass.load_val(node);
-            Ok(())
-        }
-    }
-}
-
-/// Looks at all that a plan asks for, under the locks of all its nodes, and walks along the bundles of the nodes that
-/// go out. Where a look fails the locks are given back.
-pub(crate) fn look_all(
-    pass: &mut TablePass<'_>,
-    plan: &Plan,
-    heads: &[u32; 9],
-) -> Result<(), Failed>
-    requires locked { HasLockedAll pass.old.view pass.old.number plan.now heads.now }
-    ensures same { IsSamePass pass.old pass.new }
-    ensures walked { IfOk result (λ done. HasWalkedAll pass.new.view plan.now heads.now) }
-    ensures looked { IfOk result (λ done. HasLookedAll pass.new.view pass.new.number plan.now heads.now) }
-    ensures keeps { IfOk result (λ done. KeepsTry pass.old.view pass.new.view) }
-    ensures given_up { IfErr result (λ failed. HasGivenUp pass.old.view pass.old.number pass.new.view) }
-    ensures counted { IfErr result (λ failed. IsCounted failed pass.old.view pass.new.view) }
-    ensures alone { IfErr result (λ failed. ¬ IsAlone pass.new.view) }
-{
-    let mut place = 0;
-    'looks: while let Some(look) = plan.look(place) {
-        if let Err(failed) = look_at(pass, plan, heads, place, look) {
-            unlock_all(pass, plan);
-            return Err(failed);
-        }
-        place += 1;
+    if pass.load_tag(at.node, at.side) != tag {
+        return Err(Failed::Moved);
     }
     Ok(())
+}
+
+/// The key of a locked node.
+pub(crate) fn look_key(pass: &mut TablePass<'_>, node: u32) -> u64
+    requires locked { IsLockedBy pass.old.view node }
+    ensures same { IsSamePass pass.old pass.new }
+    ensures keeps { KeepsSearch pass.old.view pass.new.view }
+    ensures reading { pass.new.view.reading ≡ record pass.old.view.reading { place = key_found node result pass.old.view.reading.place } }
+    ensures learns { LearnsNothing pass.old.view pass.new.view }
+    ensures key { HasLoaded pass.new.view node (λ (h : HeldNode). h.key) result }
+    ensures known { (key : ℕ) → KnowsKey pass.old.view node key → result ≡ key }
+{
+    search_laws();
+    pass.facts();
+    pass.load_key(node)
+}
+
+/// The value of a locked node.
+pub(crate) fn look_val(pass: &mut TablePass<'_>, node: u32) -> u64
+    requires locked { IsLockedBy pass.old.view node }
+    ensures same { IsSamePass pass.old pass.new }
+    ensures keeps { KeepsSearch pass.old.view pass.new.view }
+    ensures reading { pass.new.view.reading ≡ pass.old.view.reading }
+    ensures learns { LearnsNothing pass.old.view pass.new.view }
+    ensures val { HasLoaded pass.new.view node (λ (h : HeldNode). h.val) result }
+{
+    search_laws();
+    pass.facts();
+    pass.load_val(node)
+}
+
+/// Where a plain link of a locked node leads, 0 for none. A search that stands at the node goes on by the link.
+pub(crate) fn look_link(pass: &mut TablePass<'_>, at: Link) -> u32
+    requires locked { IsLockedBy pass.old.view at.node }
+    requires unmarked { IsUnmarked pass.old.view at.node }
+    requires root { at.node ≡ 0 → at.side ≡ Right }
+    ensures same { IsSamePass pass.old pass.new }
+    ensures keeps { KeepsSearch pass.old.view pass.new.view }
+    ensures reading { searches_at pass.old.view.reading pass.old.view.reading.place at.node at.side ≡ false → pass.new.view.reading ≡ pass.old.view.reading }
+    ensures learns { LearnsAt at pass.old.view pass.new.view }
+    ensures leads { HoldsLink pass.new.view at.node at.side result }
+{
+    search_laws();
+    pass.facts();
+    pass.load_link(at.node, at.side)
 }

@@ -54,6 +54,7 @@ pub(crate) fn part(pass: &mut TablePass<'_>, plan: &JoinPlan, slots: &PlanSlots)
     let next = plan.next;
     pass.mark(plan.node);
     pass.set_link(plan.at.node, plan.at.side, slots.node);
+    pass.facts();
     let tag = pass.load_tag(next.at.node, next.at.side);
     pass.unlock(plan.at.node);
     pass.unlock(plan.node);

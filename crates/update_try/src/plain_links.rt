@@ -1,11 +1,10 @@
-//! The plain links of an update without a far successor, behind its marks. The links come first, and then the tags of
-//! those that a removal has made null. Both come before the first lock is given back: with the lock another update may
-//! change the link again.
-ghost use Rattle.std.specs.Prelude.{◌≡◌, ℕ, ◌+◌, [], drop};
-ghost use Rattle.core_updates.specs.declared.plan.PlanSlots.{PlanSlots as UpdateSlots};
+//! The plain link of an update without a far successor, behind its marks. The link comes first, and then its tag, where
+//! a removal has made it null. Both come before the first lock is given back: with the lock another update may change
+//! the link again.
+ghost use Rattle.std.specs.Prelude.{◌≡◌, []};
 ghost use Rattle.core_updates.specs.Plans.{locks_of, sets_of};
 ghost use Rattle.plan_laws.specs.Frames.{KeepsOwned};
-ghost use Rattle.plan_laws.specs.PlainLinks.{IsSetting, IsTagNext, SetsAtOnce, owes_tag};
+ghost use Rattle.plan_laws.specs.PlainLinks.{IsSetting, SetsAtOnce, owes_tag};
 ghost use Rattle.plan_laws.specs.Releases.{IsReleasing};
 ghost use Rattle.table_steps.specs.Passes.{IsSamePass};
 
@@ -22,45 +21,30 @@ fn is_owed(plan: &Plan, front: &Front) -> bool
     }
 }
 
-/// Sets the plain links in front of whose bundles the plan has put entries, to the children of these.
-pub fn set_links(pass: &mut TablePass<'_>, plan: &Plan, slots: &PlanSlots)
+/// Sets the plain link at which the tree has changed, to the child that it has since the raise.
+pub fn set_plain(pass: &mut TablePass<'_>, plan: &Plan, slots: &PlanSlots)
     requires near { SetsAtOnce plan.now }
     requires marked { IsSetting pass.old.view pass.old.number plan.now (sets_of plan.now slots.now) (sets_of plan.now slots.now) }
     ensures same { IsSamePass pass.old pass.new }
     ensures set { IsSetting pass.new.view pass.new.number plan.now [] (sets_of plan.now slots.now) }
     ensures keeps { KeepsOwned pass.old.view pass.new.view }
 {
-    let mut place = 0;
-    'links: while let Some(front) = plan.front(slots, place) {
-        pass.set_link(front.at.node, front.at.side, front.child);
-        place += 1;
-    }
+    let front = plan.front(slots);
+    pass.set_link(front.at.node, front.at.side, front.child);
 }
 
-/// Raises the tag of the link in front of whose bundle the plan has put this entry, where a removal has made it null.
-fn raise_tag(pass: &mut TablePass<'_>, plan: &Plan, front: &Front)
-    requires set { (slots : UpdateSlots) × (done : ℕ) × IsTagNext pass.old.view pass.old.number plan.now slots done front.now }
-    ensures same { IsSamePass pass.old pass.new }
-    ensures raised { (slots : UpdateSlots) (done : ℕ) → IsTagNext pass.old.view pass.old.number plan.now slots done front.now → IsSetting pass.new.view pass.new.number plan.now [] (drop (done + 1) (sets_of plan.now slots)) }
-    ensures keeps { KeepsOwned pass.old.view pass.new.view }
-{
-    if is_owed(plan, front) {
-        let tag = pass.load_tag(front.at.node, front.at.side);
-        pass.set_tag(front.at.node, front.at.side, tag);
-    }
-}
-
-/// Raises the tags of the links that a removal has made null. Then the locks may be given back.
-pub fn raise_tags(pass: &mut TablePass<'_>, plan: &Plan, slots: &PlanSlots)
+/// Raises the tag of the link, where a removal has made it null. Then the locks may be given back.
+pub fn raise_tag(pass: &mut TablePass<'_>, plan: &Plan, slots: &PlanSlots)
     requires near { SetsAtOnce plan.now }
     requires set { IsSetting pass.old.view pass.old.number plan.now [] (sets_of plan.now slots.now) }
     ensures same { IsSamePass pass.old pass.new }
     ensures raised { IsReleasing pass.new.view pass.new.number (locks_of plan.now) }
     ensures keeps { KeepsOwned pass.old.view pass.new.view }
 {
-    let mut place = 0;
-    'links: while let Some(front) = plan.front(slots, place) {
-        raise_tag(pass, plan, &front);
-        place += 1;
+    let front = plan.front(slots);
+    if is_owed(plan, &front) {
+        pass.facts();
+        let tag = pass.load_tag(front.at.node, front.at.side);
+        pass.set_tag(front.at.node, front.at.side, tag);
     }
 }

@@ -89,15 +89,17 @@ fn look_at_others(pass: &mut TablePass<'_>, own: u64) -> Least
     }
 }
 
-/// Loads the number and the next of the entry at which the pass stands in a bundle of a locked node.
+/// Loads the number and the next of the entry at which the pass stands in a bundle of a locked node. It has a number:
+/// an entry without one is pending, and the pass that has put it there holds the lock of the node.
 fn load_entry(pass: &mut TablePass<'_>, at: Link, entry: u32) -> Stop
     requires past { (least : ℕ) × GoesPast pass.old.view at least entry }
     requires some { 0 < entry }
     ensures same { IsSamePass pass.old pass.new }
-    ensures stops { (least : ℕ) → GoesPast pass.old.view at least entry → 0 < result.number → StopsAt pass.new.view at least result }
+    ensures stops { (least : ℕ) → GoesPast pass.old.view at least entry → StopsAt pass.new.view at least result }
     ensures update { KeepsUpdate pass.old.view pass.new.view }
     ensures least { KeepsLeast pass.old.view pass.new.view }
 {
+    pass.facts();
     let number = pass.load_ts(entry);
     let next = pass.load_next(entry);
     Stop {
@@ -133,9 +135,6 @@ fn go_past(pass: &mut TablePass<'_>, at: Link, least: u64, first: u32) -> Option
             return None;
         }
         let here = load_entry(pass, at, entry);
-        if here.number == 0 {
-            return None;
-        }
         if here.next == 0 {
             return None;
         }
@@ -225,13 +224,12 @@ pub fn prune_all(pass: &mut TablePass<'_>, plan: &Plan, slots: &PlanSlots, numbe
     ensures numbered { HasNumbered pass.new.view pass.new.number plan.now slots.now }
     ensures keeps { KeepsPruned pass.old.view pass.new.view }
 {
-    let mut least = Least {
+    let own = Least {
         number,
         looked: false,
     };
-    let mut place = 0;
-    'fronts: while let Some(front) = plan.front(slots, place) {
-        least = prune_link(pass, front.at, least);
-        place += 1;
+    let least = prune_link(pass, plan.at(), own);
+    if let Some(next) = plan.next_at() {
+        prune_link(pass, next, least);
     }
 }

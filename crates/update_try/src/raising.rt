@@ -1,14 +1,14 @@
 //! The raise of a plan, at which its update takes effect.
-ghost use Rattle.std.specs.Prelude.{◌≡◌, ◌<◌, ◌^◌, ℕ, List};
+ghost use Rattle.std.specs.Prelude.{◌≡◌, ◌<◌, ◌^◌};
 ghost use Rattle.core_events.specs.Moves.{nowhere};
-ghost use Rattle.core_updates.specs.Plans.{head_of, key_of as plan_key, out_of};
+ghost use Rattle.core_updates.specs.Plans.{head_of, key_of as plan_key};
 ghost use Rattle.plan_laws.specs.Fills.{AreApart};
 ghost use Rattle.plan_laws.specs.Raises.{HasFinalised, update_by};
 ghost use Rattle.table_steps.specs.Passes.{IsSamePass};
-ghost use Rattle.table_steps.specs.Raises.{HoldsEntries, IsRaisedSince};
-ghost use Rattle.update_try.specs.Preparing.{HasPreparedAll, new_slots_of, out_slots_of, IsRaisedBy};
+ghost use Rattle.table_steps.specs.Raises.{IsRaisedSince};
+ghost use Rattle.update_try.specs.Preparing.{IsPrepared, new_slots_of, out_slots_of, IsRaisedBy};
 
-use core_updates::{Fresh, NewNode, Plan, PlanSlots};
+use core_updates::{Fresh, NewNode, Plan, PlanSlots, ready_plans_may_raise};
 use table_steps::TablePass;
 
 /// The entry of a new node's link, 0 for none.
@@ -53,24 +53,19 @@ fn key_of(plan: &Plan) -> u64
 
 /// Raises the update of a plan, with all its entries in front of their bundles, and answers its place. Of each node
 /// that goes out the pass has found both bundles since it locked it.
-pub fn raise_plan(
-    pass: &mut TablePass<'_>,
-    line: u32,
-    plan: &Plan,
-    slots: &PlanSlots,
-    heads: &[u32; 9],
-) -> u64
-    requires prepared { HasPreparedAll pass.old.view pass.old.number plan.now slots.now heads.now }
+pub fn raise_plan(pass: &mut TablePass<'_>, line: u32, plan: &Plan, slots: &PlanSlots) -> u64
+    requires prepared { IsPrepared pass.old.view pass.old.number plan.now slots.now }
     requires apart { AreApart slots.now }
     requires node { 0 < slots.now.node }
     requires left { 0 < pass.old.view.history.left }
-    requires known { (es : List ℕ) × HoldsEntries pass.old.view (out_of plan.now) es }
     ensures same { IsSamePass pass.old pass.new }
     ensures raised { HasFinalised pass.new.view pass.new.number plan.now slots.now result 0 }
     ensures answers { IsRaisedBy pass.old pass.new line plan.now slots.now result }
     ensures raise { IsRaisedSince pass.old (update_by pass.old.number line plan.now) result pass.new.view }
     ensures reading { pass.new.view.reading ≡ nowhere pass.old.view.reading }
+    ensures counts { pass.new.view.counts ≡ pass.old.view.counts }
 {
+    ready_plans_may_raise();
     let new = new_slots(plan.new_node(slots));
     let out = out_slots(plan);
     pass.raise(line, key_of(plan), plan.change(), new, out)

@@ -1,8 +1,7 @@
 use Rattle.std.proofs.Common.{◌∙◌}
-use Rattle.bundle_reads.specs.Children.{nothing}
-use Rattle.bundle_reads.proofs.ReadMoves.{same_more, searched_more, seen_before}
+use Rattle.bundle_reads.proofs.ReadMoves.{same_more, read_more, leads_before}
 use Rattle.bundle_reads.proofs.ReadTrees.{section_reader}
-use Rattle.bundle_reads.proofs.Bundles.{at_head, head_searched}
+use Rattle.bundle_reads.proofs.Bundles.{at_head, head_reads}
 use Rattle.bundle_reads.proofs.child.child_at.Goals as goal
 
 pub along-init : goal.along-init
@@ -13,15 +12,15 @@ along-init c =
     let found = c.load_head-entry.ensures.view in
     let w = c.load_head-entry.new.self.view in (
       at_head v c.args.at c.requires.reads known c.args.link c.requires.link p.seat c.load_head-entry.result found.number w c.load_head-entry.ensures.event found.view c.load_head-entry.ensures.there,
-      head_searched v c.args.at c.requires.reads known c.args.link c.requires.link p.seat c.load_head-entry.result found.number w c.load_head-entry.ensures.event found.view c.load_head-entry.ensures.there,
+      head_reads v c.args.at c.requires.reads known c.args.link c.requires.link p.seat c.load_head-entry.result found.number w c.load_head-entry.ensures.event found.view c.load_head-entry.ensures.there,
       c.load_head-entry.ensures.same,
     )
 
-pub returns-in-Found-clause-searched : goal.returns-in-Found-clause-searched
-returns-in-Found-clause-searched c = searched_more c.args.pass.now.view c.along.pass.view c.look_along.new.pass.view c.along.invariant.1 c.look_along.ensures.searched
+pub returns-in-Found-clause-read : goal.returns-in-Found-clause-read
+returns-in-Found-clause-read c = read_more c.args.pass.now.view c.along.pass.view c.look_along.new.pass.view c.along.invariant.1 c.look_along.ensures.read
 
-pub returns-in-Found-clause-seen : goal.returns-in-Found-clause-seen
-returns-in-Found-clause-seen c = seen_before c.args.pass.now.view c.along.pass.view c.look_along.new.pass.view c.args.link c.in-Found.seen c.along.invariant.1.read c.in-Found.ensures.goes.0
+pub returns-in-Found-clause-leads : goal.returns-in-Found-clause-leads
+returns-in-Found-clause-leads c = leads_before c.args.pass.now.view c.along.pass.view c.args.link c.in-Found.child c.along.invariant.1 c.in-Found.ensures.goes.0
 
 pub along-preserved : goal.along-preserved
 along-preserved c =
@@ -29,8 +28,8 @@ along-preserved c =
     let w = c.along.pass.view in
     let u = c.look_along.new.pass.view in
     let goes = c.in-Next.ensures.goes.0 in (
-      record { stands = goes.stands; null = λ none. seen_before v w u c.args.link nothing c.along.invariant.1.read (goes.null none); waits = goes.waits ∙ c.along.invariant.0.waits },
-      searched_more v w u c.along.invariant.1 c.look_along.ensures.searched,
+      record { stands = goes.stands; null = λ none. leads_before v w c.args.link 0 c.along.invariant.1 (goes.null none); waits = goes.waits ∙ c.along.invariant.0.waits },
+      read_more v w u c.along.invariant.1 c.look_along.ensures.read,
       same_more c.args.pass.now c.along.pass c.look_along.new.pass c.along.invariant.2 c.look_along.ensures.same,
     )
 

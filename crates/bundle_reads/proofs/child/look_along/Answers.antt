@@ -1,14 +1,14 @@
 use Rattle.std.proofs.Common.{◌≡◌, ◌<◌, ◌≤◌, arith}
 use Rattle.table_steps.specs.Loads.{FoundChild}
 use Rattle.bundle_reads.proofs.ReadTrees.{section_reader}
-use Rattle.bundle_reads.proofs.Bundles.{number_searched, pending_waits, pending_elsewhere, may_child, at_selected, child_seen, child_searched, child_waits, may_next, next_searched, at_next, next_closer}
+use Rattle.bundle_reads.proofs.Bundles.{number_reads, pending_waits, pending_elsewhere, may_child, at_selected, child_leads, child_reads, child_waits, may_next, next_reads, at_next, next_closer}
 use Rattle.bundle_reads.proofs.child.look_along.Goals as goal
 
-pub returns-then-number-eq0-clause-searched : goal.returns-then-number-eq0-clause-searched
-returns-then-number-eq0-clause-searched c =
+pub returns-then-number-eq0-clause-read : goal.returns-then-number-eq0-clause-read
+returns-then-number-eq0-clause-read c =
     let v = c.args.pass.now.view in
     let known = section_reader v c.args.at c.facts.ensures c.requires.reads in
-    number_searched v c.args.at c.requires.reads known c.args.link c.requires.link c.args.entry c.requires.stands c.requires.some c.load_ts-number.result c.load_ts-number.new.self.view c.load_ts-number.ensures.view
+    number_reads v c.args.at c.requires.reads known c.args.link c.requires.link c.args.entry c.requires.stands c.requires.some c.load_ts-number.result c.load_ts-number.new.self.view c.load_ts-number.ensures.view
 
 pub returns-then-number-eq0-clause-goes : goal.returns-then-number-eq0-clause-goes
 returns-then-number-eq0-clause-goes c =
@@ -19,14 +19,14 @@ returns-then-number-eq0-clause-goes c =
       pending_elsewhere v c.args.at c.requires.reads known c.args.link c.requires.link c.args.entry c.requires.stands c.requires.some c.load_ts-number.result c.load_ts-number.new.self.view c.load_ts-number.ensures.view c.args.pass.now.seat c.load_ts-number.ensures.event none,
     )
 
-pub load_ptr-child-requires : goal.load_ptr-child-requires
-load_ptr-child-requires c =
+pub load_ptr-requires : goal.load_ptr-requires
+load_ptr-requires c =
     let v = c.args.pass.now.view in
     let known = section_reader v c.args.at c.facts.ensures c.requires.reads in
     record { may = may_child v c.args.at c.requires.reads known c.args.link c.requires.link c.args.entry c.requires.stands c.requires.some c.load_ts-number.result c.load_ts-number.new.self.view c.load_ts-number.ensures.view }
 
-pub returns-then-number-at-clause-searched : goal.returns-then-number-at-clause-searched
-returns-then-number-at-clause-searched c =
+pub returns-then-number-at-clause-read : goal.returns-then-number-at-clause-read
+returns-then-number-at-clause-read c =
     let v = c.args.pass.now.view in
     let known = section_reader v c.args.at c.facts.ensures c.requires.reads in
     let x = c.load_ts-number.result in
@@ -34,8 +34,8 @@ returns-then-number-at-clause-searched c =
     let above : 0 < x = omega arith in
     let past : x ≤ c.args.at = omega arith in
     let selected = at_selected v c.args.at c.requires.reads known c.args.link c.requires.link c.args.entry c.requires.stands c.requires.some x y.view c.load_ts-number.ensures.view above past in
-    let found : FoundChild y c.args.entry c.load_ptr-child.result c.load_ptr-child.new.self.view = c.load_ptr-child.ensures.selected selected in
-    child_searched v c.args.at c.requires.reads known c.args.link c.requires.link c.args.entry c.requires.stands c.requires.some x y.view c.load_ts-number.ensures.view above past y.seat c.load_ptr-child.result c.load_ptr-child.new.self.view found.event found.view
+    let found : FoundChild y c.args.entry c.load_ptr.result c.load_ptr.new.self.view = c.load_ptr.ensures.selected selected in
+    child_reads v c.args.at c.requires.reads known c.args.link c.requires.link c.args.entry c.requires.stands c.requires.some x y.view c.load_ts-number.ensures.view above past y.seat c.load_ptr.result c.load_ptr.new.self.view found.event found.view
 
 pub returns-then-number-at-clause-goes : goal.returns-then-number-at-clause-goes
 returns-then-number-at-clause-goes c =
@@ -46,9 +46,9 @@ returns-then-number-at-clause-goes c =
     let above : 0 < x = omega arith in
     let past : x ≤ c.args.at = omega arith in
     let selected = at_selected v c.args.at c.requires.reads known c.args.link c.requires.link c.args.entry c.requires.stands c.requires.some x y.view c.load_ts-number.ensures.view above past in
-    let found : FoundChild y c.args.entry c.load_ptr-child.result c.load_ptr-child.new.self.view = c.load_ptr-child.ensures.selected selected in (
-      child_seen v c.args.at c.requires.reads known c.args.link c.requires.link c.args.entry c.requires.stands c.requires.some x y.view c.load_ts-number.ensures.view above past y.seat c.load_ptr-child.result c.load_ptr-child.new.self.view found.event found.view,
-      child_waits v c.args.at c.requires.reads known c.args.link c.requires.link c.args.entry c.requires.stands c.requires.some x y.view c.load_ts-number.ensures.view above past y.seat c.load_ptr-child.result c.load_ptr-child.new.self.view found.event found.view,
+    let found : FoundChild y c.args.entry c.load_ptr.result c.load_ptr.new.self.view = c.load_ptr.ensures.selected selected in (
+      child_leads v c.args.at c.requires.reads known c.args.link c.requires.link c.args.entry c.requires.stands c.requires.some x y.view c.load_ts-number.ensures.view above past y.seat c.load_ptr.result c.load_ptr.new.self.view found.event found.view,
+      child_waits v c.args.at c.requires.reads known c.args.link c.requires.link c.args.entry c.requires.stands c.requires.some x y.view c.load_ts-number.ensures.view above past y.seat c.load_ptr.result c.load_ptr.new.self.view found.event found.view,
     )
 
 pub load_next-next-requires : goal.load_next-next-requires
@@ -58,14 +58,14 @@ load_next-next-requires c =
     let over : c.args.at < c.load_ts-number.result = omega arith in
     record { may = may_next v c.args.at c.requires.reads known c.args.link c.requires.link c.args.entry c.requires.stands c.requires.some c.load_ts-number.result c.load_ts-number.new.self.view c.load_ts-number.ensures.view over }
 
-pub returns-clause-searched : goal.returns-clause-searched
-returns-clause-searched c =
+pub returns-clause-read : goal.returns-clause-read
+returns-clause-read c =
     let v = c.args.pass.now.view in
     let known = section_reader v c.args.at c.facts.ensures c.requires.reads in
     let y = c.load_ts-number.new.self in
     let n = c.load_next-next.new.self in
     let over : c.args.at < c.load_ts-number.result = omega arith in
-    next_searched v c.args.at c.requires.reads known c.args.link c.requires.link c.args.entry c.requires.stands c.requires.some c.load_ts-number.result y.view c.load_ts-number.ensures.view over y.seat c.load_next-next.result n.view c.load_next-next.ensures.event c.load_next-next.ensures.view c.load_next-next.ensures.there
+    next_reads v c.args.at c.requires.reads known c.args.link c.requires.link c.args.entry c.requires.stands c.requires.some c.load_ts-number.result y.view c.load_ts-number.ensures.view over y.seat c.load_next-next.result n.view c.load_next-next.ensures.event c.load_next-next.ensures.view c.load_next-next.ensures.there
 
 pub returns-clause-goes : goal.returns-clause-goes
 returns-clause-goes c =

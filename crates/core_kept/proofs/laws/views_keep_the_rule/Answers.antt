@@ -1,4 +1,5 @@
 use Rattle.core_invariant.proofs.SpentViews.{spent_after}
+use Rattle.core_kept.proofs.LinkedLast.{linking_after}
 use Rattle.core_kept.proofs.OwnPlaces.{places_after}
 use Rattle.core_kept.proofs.WaitingSlots.{waits_after}
 use Rattle.core_kept.proofs.UnusedSlots.{unused_after}
@@ -14,6 +15,7 @@ returns c = record {
   places = λ z words vs right i v at w value kind o own met. places_after z words vs right i v at w value kind o own met;
   waits = λ z words vs right i v at n w found value kind o own met. waits_after z words vs right i v at n w found value kind o own met;
   unused = λ z words vs right i v at n w found value kind o met. unused_after z words vs right i v at n w found value kind o met;
+  linking = λ z words vs right i v at w value kind o met. linking_after z words vs right i v at value kind w o met;
   seen = keeps_seen;
   sections = moves_sections;
 }

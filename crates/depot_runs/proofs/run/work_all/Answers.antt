@@ -1,4 +1,4 @@
-use Rattle.depot_runs.proofs.Seats.{all_back, each_of}
+use Rattle.depot_runs.proofs.Seats.{all_back}
 use Rattle.depot_runs.proofs.run.work_all.Goals as goal
 
 pub returns : goal.returns

@@ -8,5 +8,5 @@ prune_all-requires-clause-least c = ap (λ (r : Reading). r.least) c.finalise_al
 pub mark_all-requires : goal.mark_all-requires
 mark_all-requires c = record { numbered = (c.args.slots.now, c.prune_all.ensures.numbered) }
 
-pub set_links-requires : goal.set_links-requires
-set_links-requires c = record { near = c.requires.near; marked = c.mark_all.ensures.marked c.args.slots.now c.prune_all.ensures.numbered }
+pub set_plain-requires : goal.set_plain-requires
+set_plain-requires c = record { near = c.requires.near; marked = c.mark_all.ensures.marked c.args.slots.now c.prune_all.ensures.numbered }

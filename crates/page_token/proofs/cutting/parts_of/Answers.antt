@@ -1,5 +1,4 @@
 use Rattle.std.proofs.Common.{◌++◌, refl, sym, ◌∙◌}
-use Rattle.key_names.specs.Names.{most_name_bytes}
 use Rattle.bucket_terms.specs.Listing.{sized}
 use Rattle.page_token.proofs.Sized.{sized_once}
 use Rattle.page_token.proofs.cutting.parts_of.Goals as goal

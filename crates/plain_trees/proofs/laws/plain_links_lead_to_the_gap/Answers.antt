@@ -6,6 +6,7 @@ use Rattle.plain_trees.proofs.NullLinks.{null_link}
 use Rattle.plain_trees.proofs.Stores.{store}
 use Rattle.plain_trees.proofs.Turns.{turn_law}
 use Rattle.plain_trees.proofs.Belows.{below_law}
+use Rattle.plain_trees.proofs.TurnPaths.{turns_here, turn_stays, store_turn}
 use Rattle.plain_trees.proofs.Ahead.{ahead_law}
 use Rattle.plain_trees.proofs.Inserts.{insert}
 use Rattle.plain_trees.proofs.Raises.{replace, remove}
@@ -20,6 +21,9 @@ returns c = record {
   store = store;
   turn = turn_law;
   below = below_law;
+  turns_here = turns_here;
+  turn_stays = turn_stays;
+  store_turn = store_turn;
   ahead = ahead_law;
   insert = insert;
   replace = replace;

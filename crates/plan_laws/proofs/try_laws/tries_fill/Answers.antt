@@ -1,5 +1,5 @@
-use Rattle.plan_laws.proofs.Fills.{fill_start, fill_step, fill_end}
+use Rattle.plan_laws.proofs.Fills.{fill, may_fill_on, slots_some}
 use Rattle.plan_laws.proofs.try_laws.tries_fill.Goals as goal
 
 pub returns : goal.returns
-returns c = record { start = fill_start; step = fill_step; end = fill_end }
+returns c = record { slots = slots_some; on = may_fill_on; fill = fill }

@@ -1,6 +1,5 @@
-use Rattle.plan_laws.proofs.Looks.{look_start, mark_look, head_look, number_look, may_number, key_look, val_look}
-use Rattle.plan_laws.proofs.Fills.{look_end}
+use Rattle.plan_laws.proofs.Looks.{look, number_look, heads_stay, steps_keep_looks, keeps_looks}
 use Rattle.plan_laws.proofs.try_laws.tries_look.Goals as goal
 
 pub returns : goal.returns
-returns c = record { start = look_start; mark = mark_look; head = head_look; number = number_look; may_number = may_number; key = key_look; val = val_look; end = look_end }
+returns c = record { look = look; number = number_look; heads = heads_stay; steps = steps_keep_looks; keeps = keeps_looks }

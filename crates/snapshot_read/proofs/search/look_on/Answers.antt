@@ -1,7 +1,5 @@
-use Rattle.std.proofs.Common.{refl, ap, sym, ◌∙◌, subst}
-use Rattle.table_steps.specs.Passes.{Pass, IsSamePass}
+use Rattle.std.proofs.Common.{refl, sym, ◌∙◌, subst}
 use Rattle.bundle_reads.specs.Links.{LeadsThere}
-use Rattle.bundle_reads.specs.Reads.{HasRead}
 use Rattle.snapshot_read.proofs.SnapshotMoves.{tree_after}
 use Rattle.bundle_reads.proofs.ReadMoves.{read_nothing, read_more, inside_on, same_pass, same_more, leads_before}
 use Rattle.snapshot_read.proofs.SnapshotTrees.{reader}
@@ -19,11 +17,11 @@ down-preserved c =
     let v = c.args.pass.now.view in
     let p = c.child_at.new.pass in
     let t = c.args.at in
-    let read = read_more v c.down.pass.view p.view c.down.invariant.0 c.child_at.ensures.searched.read in
-    let again = c.go_on-search.ensures.same in (
-      subst (λ (q : Pass). HasRead v q.view) (sym again) read,
-      ap (λ (q : Pass). q.view.counts.waits) again ∙ c.in-Some.ensures.waits ∙ c.down.invariant.1,
-      subst (IsSamePass c.args.pass.now) (sym again) (same_more c.args.pass.now c.down.pass p c.down.invariant.2 c.child_at.ensures.same),
+    let q = c.go_on-search.new.pass in
+    let read = read_more v c.down.pass.view p.view c.down.invariant.0 c.child_at.ensures.read in (
+      read_more v p.view q.view read c.go_on-search.ensures.read,
+      c.go_on-search.ensures.waits ∙ c.in-Some.ensures.waits ∙ c.down.invariant.1,
+      same_more c.args.pass.now p q (same_more c.args.pass.now c.down.pass p c.down.invariant.2 c.child_at.ensures.same) c.go_on-search.ensures.same,
       λ tree is. c.go_on-search.ensures.way tree (tree_after v p.view t tree read is),
       c.go_on-search.ensures.covers,
       every_before v p.view t c.go_on-search.new.way read (c.go_on-search.ensures.kept (every_on v p.view t c.down.way read c.down.invariant.5)),
@@ -46,7 +44,7 @@ returns-in-Some-best-clause-first c =
     let v = c.args.pass.now.view in
     let s = c.down.search in
     let known = reader v c.args.at c.facts.ensures c.requires.reads in
-    let null : LeadsThere c.down.pass.view s.at 0 = subst (LeadsThere c.down.pass.view s.at) c.if-seen-eq0.true c.in-Some.ensures.seen.leads in
+    let null : LeadsThere c.down.pass.view s.at 0 = subst (LeadsThere c.down.pass.view s.at) c.if-child-eq0.true c.in-Some.ensures.leads in
     sym c.in-Some-best.is ∙ way_ends v c.args.at c.args.key s known.tree known.is c.down.invariant.3 c.down.invariant.4 (leads_before v c.down.pass.view s.at 0 c.down.invariant.0 null)
 
 pub returns-in-None-clause-first : goal.returns-in-None-clause-first
@@ -54,5 +52,5 @@ returns-in-None-clause-first c =
     let v = c.args.pass.now.view in
     let s = c.down.search in
     let known = reader v c.args.at c.facts.ensures c.requires.reads in
-    let null : LeadsThere c.down.pass.view s.at 0 = subst (LeadsThere c.down.pass.view s.at) c.if-seen-eq0.true c.in-Some.ensures.seen.leads in
+    let null : LeadsThere c.down.pass.view s.at 0 = subst (LeadsThere c.down.pass.view s.at) c.if-child-eq0.true c.in-Some.ensures.leads in
     sym c.in-None.is ∙ way_ends v c.args.at c.args.key s known.tree known.is c.down.invariant.3 c.down.invariant.4 (leads_before v c.down.pass.view s.at 0 c.down.invariant.0 null)

@@ -9,7 +9,7 @@ use Rattle.table_steps.proofs.Places.{raised_later}
 use Rattle.tree_update.proofs.calls.make_put.Goals as goal
 
 pub tries-init : goal.tries-init
-tries-init g c = (c.wait_for_cuts.ensures.rest, c.wait_for_cuts.ensures.stays, c.wait_for_cuts.ensures.same)
+tries-init g c = (c.wait_for_cuts.ensures.rest, c.wait_for_cuts.ensures.stays, c.wait_for_cuts.ensures.same, c.wait_for_cuts.ensures.waits)
 
 pub try_update-requires-clause-left : goal.try_update-requires-clause-left
 try_update-requires-clause-left g c =
@@ -24,7 +24,7 @@ returns-in-Ok-clause-made g c =
     let stays = stays_more p.view q.view x.view c.tries.invariant.1 c.wait_for_slots-slots.ensures.stays in
     let number = c.wait_for_slots-slots.ensures.same.number ∙ c.tries.invariant.2.number in
     let made = c.in-Ok.ensures.made in
-    let done = c.in-Ok.taken.done in
+    let done = c.in-Ok.carried.done in
     record {
       made =
           subst (λ (n : ℕ). MakesChange p.view w.view n c.args.line c.args.key (Put c.args.val) done) number
@@ -42,6 +42,7 @@ tries-preserved g c =
       c.in_default.ensures.rest,
       stays_more p.view x.view w.view stays c.in_default.ensures.stays,
       same_more p x w (same_more p q x c.tries.invariant.2 c.wait_for_slots-slots.ensures.same) c.try_update.ensures.same,
+      c.try_update.ensures.waits ∙ c.wait_for_slots-slots.ensures.waits ∙ c.tries.invariant.3,
     )
 
 pub returns-in-Ok-clause-place : goal.returns-in-Ok-clause-place
@@ -52,5 +53,8 @@ returns-in-Ok-clause-place g c =
     let w = c.try_update.new.pass.view in
     let stays = stays_more p.view q.view x.view c.tries.invariant.1 c.wait_for_slots-slots.ensures.stays in
     let same = same_more p q x c.tries.invariant.2 c.wait_for_slots-slots.ensures.same in
-    raised_later p x (update_of p.number c.args.line c.args.key (Put c.args.val)) c.in-Ok.taken.done.at w same stays.goes.mine
-    (subst (λ (n : ℕ). IsRaisedSince x (update_of n c.args.line c.args.key (Put c.args.val)) c.in-Ok.taken.done.at w) same.number c.in-Ok.ensures.raise)
+    raised_later p x (update_of p.number c.args.line c.args.key (Put c.args.val)) c.in-Ok.carried.done.at w same stays.goes.mine
+    (subst (λ (n : ℕ). IsRaisedSince x (update_of n c.args.line c.args.key (Put c.args.val)) c.in-Ok.carried.done.at w) same.number c.in-Ok.ensures.raise)
+
+pub returns-in-Ok-clause-waits : goal.returns-in-Ok-clause-waits
+returns-in-Ok-clause-waits g c = c.try_update.ensures.waits ∙ c.wait_for_slots-slots.ensures.waits ∙ c.tries.invariant.3

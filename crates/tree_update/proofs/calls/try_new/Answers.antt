@@ -7,7 +7,7 @@ use Rattle.tree_update.proofs.calls.try_new.Goals as goal
 
 pub returns-in-Ok-clause-answered : goal.returns-in-Ok-clause-answered
 returns-in-Ok-clause-answered g c =
-    inserts c.args.pass.now.view c.try_update.new.pass.view c.args.pass.now.number c.args.line c.args.key c.args.val c.in-Ok.taken.done c.in-Ok.ensures.made.0
+    inserts c.args.pass.now.view c.try_update.new.pass.view c.args.pass.now.number c.args.line c.args.key c.args.val c.in-Ok.carried.done c.in-Ok.ensures.made.0
     (c.in-Ok.ensures.absent refl)
 
 pub returns-then-found-clause-answered : goal.returns-then-found-clause-answered

@@ -16,7 +16,7 @@ returns-in-Ok-clause-answered g c =
     let n = c.args.pass.now.number in
     let u = c.try_update.new.pass.view in
     let w = c.end_removal.new.pass.view in
-    let done = c.in-Ok.taken.done in
+    let done = c.in-Ok.carried.done in
     removal_answers v w n c.args.line c.args.key done (made_kept u w c.end_removal.ensures.keeps v n c.args.line c.args.key Remove done c.in-Ok.ensures.made.0)
 
 pub returns-else-found-clause-answered : goal.returns-else-found-clause-answered
@@ -37,7 +37,7 @@ returns-in-Ok-clause-place g c =
     let p = c.args.pass.now in
     let u = c.try_update.new.pass.view in
     let w = c.end_removal.new.pass.view in
-    let done = c.in-Ok.taken.done in
+    let done = c.in-Ok.carried.done in
     removal_raised p c.args.line c.args.key done p.view w p.number
     (made_kept u w c.end_removal.ensures.keeps p.view p.number c.args.line c.args.key Remove done c.in-Ok.ensures.made.0)
     (raised_before p (update_of p.number c.args.line c.args.key Remove) done.at u w (ap (λ (h : SeenHistory). h.mine) c.end_removal.ensures.keeps.history) c.in-Ok.ensures.raise)

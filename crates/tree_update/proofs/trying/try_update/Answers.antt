@@ -1,140 +1,132 @@
-use Rattle.std.proofs.Common.{◌≡◌, ◌∙◌, ◌&&◌, ℕ, Bool, true, false, arith, refl, sym, subst}
-use Rattle.plan_laws.specs.Answers.{was_there}
-use Rattle.plan_laws.specs.Tries.{IsSearched}
-use Rattle.tree_update.proofs.CallSteps.{search_stays, stays_more}
-use Rattle.tree_update.proofs.CallsMade.{made_as, has_made_more}
-use Rattle.bundle_reads.proofs.ReadMoves.{inside_on, same_more}
-use Rattle.core_updates.specs.Plans.{key_of}
+use Rattle.std.proofs.Common.{◌≡◌, ◌∙◌, ◌&&◌, ℕ, Bool, true, false, arith, refl, ap, sym, subst, Option, Some, IfSome}
+use Rattle.bundle_reads.proofs.ReadMoves.{same_more}
 use Rattle.core_updates.specs.Ready.{update_of}
+use Rattle.index_words.specs.declared.view.history.Counts.{Counts}
 use Rattle.key_map.specs.declared.update.Change.{Change}
 use Rattle.table_steps.proofs.Places.{raised_later}
 use Rattle.table_steps.specs.Raises.{IsRaisedSince}
-use Rattle.tree_update.proofs.TryMade.{offers_still, try_counted, search_waited, was_absent}
+use Rattle.update_search.specs.declared.search.Aim.{Aim}
+use Rattle.update_search.specs.Aims.{IsAimOf, change_of, has_found, key_of}
 use Rattle.tree_update.specs.Trying.{EndsBy}
-use Rattle.update_search.proofs.ReadTrees.{reader, absent_there}
-use Rattle.update_try.proofs.Alone.{others_stay}
+use Rattle.tree_update.proofs.Alone.{others_stay}
+use Rattle.tree_update.proofs.CallSteps.{kept_stays, search_stays, stays_more}
+use Rattle.tree_update.proofs.CallsMade.{made_as, has_made_more}
+use Rattle.tree_update.proofs.Ends.{ends_by}
+use Rattle.tree_update.proofs.TryMade.{counted_still, offers_still, opened_counted, searched_inside, searched_waits, try_counted}
 use Rattle.tree_update.proofs.trying.try_update.Goals as goal
 
-pub carry_found-requires-clause-searched : goal.carry_found-requires-clause-searched
-carry_found-requires-clause-searched c =
-    let p = c.in-Plan.planned in
-    subst (λ (n : ℕ). IsSearched c.find_plan.new.pass.view n p.plan p.entries) (sym c.find_plan.ensures.same.number)
-    (c.in-Plan.ensures.ready c.begin_search-at.ensures.fresh c.number_fact.ensures)
+-- what the search has found
+aim_of : (key : ℕ) (change : Change) (o : Option Aim) (aim : Aim) → o ≡ Some aim → IfSome o (IsAimOf key change) → IsAimOf key change aim
+aim_of key change o aim is of = subst (λ (x : Option Aim). IfSome x (IsAimOf key change)) is of
 
-pub carry_found-requires-clause-slots : goal.carry_found-requires-clause-slots
-carry_found-requires-clause-slots c =
-    offers_still c.args.pass.now c.begin_search-at.new.pass.view c.find_plan.new.pass.view c.begin_search-at.result c.begin_search-at.ensures.opened
-    c.find_plan.ensures.searched.read c.args.slots.now c.requires.slots
+pub give_up-requires : goal.give_up-requires
+give_up-requires c = record {
+  reads = searched_inside c.args.pass.now c.begin_search-at.new.pass.view c.find_aim.new.pass.view c.begin_search-at.result c.begin_search-at.ensures.opened
+      c.begin_search-at.ensures.top c.in-Ok-Some.ensures.keeps.places;
+}
 
-pub carry_found-requires-clause-left : goal.carry_found-requires-clause-left
-carry_found-requires-clause-left c =
-    let b = c.begin_search-at.new.pass.view in
-    let x = c.find_plan.new.pass.view in
-    let stays = search_stays c.args.pass.now b x c.begin_search-at.result c.begin_search-at.ensures.opened c.find_plan.ensures.searched.read in
+pub give_up-requires-in-Ok-None : goal.give_up-requires-in-Ok-None
+give_up-requires-in-Ok-None c = record {
+  reads = searched_inside c.args.pass.now c.begin_search-at.new.pass.view c.find_aim.new.pass.view c.begin_search-at.result c.begin_search-at.ensures.opened
+      c.begin_search-at.ensures.top c.in-Ok-None.ensures.keeps.places;
+}
+
+pub give_up-requires-in-Err : goal.give_up-requires-in-Err
+give_up-requires-in-Err c = record {
+  reads = searched_inside c.args.pass.now c.begin_search-at.new.pass.view c.find_aim.new.pass.view c.begin_search-at.result c.begin_search-at.ensures.opened
+      c.begin_search-at.ensures.top c.in-Err.ensures.given_up;
+}
+
+pub carry_out-requires-clause-reads : goal.carry_out-requires-clause-reads
+carry_out-requires-clause-reads c =
+    (searched_inside c.args.pass.now c.begin_search-at.new.pass.view c.find_aim.new.pass.view c.begin_search-at.result c.begin_search-at.ensures.opened
+    c.begin_search-at.ensures.top c.in-Ok-Some.ensures.keeps.places).section
+
+pub carry_out-requires-clause-free : goal.carry_out-requires-clause-free
+carry_out-requires-clause-free c =
+    (offers_still c.args.pass.now c.begin_search-at.new.pass.view c.find_aim.new.pass.view c.begin_search-at.result c.begin_search-at.ensures.opened
+    c.in-Ok-Some.ensures.keeps.places.keeps c.args.slots.now c.requires.slots).free
+
+pub carry_out-requires-clause-left : goal.carry_out-requires-clause-left
+carry_out-requires-clause-left c =
+    let stays = search_stays c.args.pass.now c.begin_search-at.new.pass.view c.find_aim.new.pass.view c.begin_search-at.result c.begin_search-at.ensures.opened
+    c.in-Ok-Some.ensures.keeps.places.keeps in
     omega (arith, c.requires.left, stays.goes.left)
 
-pub carry_found-requires-clause-reads : goal.carry_found-requires-clause-reads
-carry_found-requires-clause-reads c =
-    (inside_on c.begin_search-at.new.pass.view c.find_plan.new.pass.view c.begin_search-at.result c.find_plan.ensures.searched.read c.begin_search-at.ensures.fresh.reads).section
+-- the update is made
+pub returns-in-Ok-clause-ends : goal.returns-in-Ok-clause-ends
+returns-in-Ok-clause-ends c =
+    let q = c.carry_out.new.pass in
+    let aim = c.in-Ok-Some.aim in
+    let of : IsAimOf c.args.key c.args.change c.in-Ok-Some.aim
+    = aim_of c.args.key c.args.change c.in-Ok-Some.field-0 c.in-Ok-Some.aim c.in-Ok-Some.field-0-is c.in-Ok-Some.ensures.of in
+    subst (λ (d : Change). EndsBy d q.view q.number c.in-Ok.carried.parted) of.change_is
+    (ends_by (change_of aim) q.view q.number c.in-Ok.carried.parted c.in-Ok.ensures.put c.in-Ok.ensures.ends)
 
 pub returns-in-Ok-clause-made : goal.returns-in-Ok-clause-made
 returns-in-Ok-clause-made c =
     let v = c.args.pass.now.view in
     let b = c.begin_search-at.new.pass.view in
-    let x = c.find_plan.new.pass in
-    let stays = search_stays c.args.pass.now b x.view c.begin_search-at.result c.begin_search-at.ensures.opened c.find_plan.ensures.searched.read in
-    let w = c.carry_found.new.pass.view in
-    let known = reader b c.begin_search-at.result c.facts.ensures c.begin_search-at.ensures.fresh.reads in
-    let planned = c.in-Plan.ensures.found.plan known.tree known.is in
-    let number = c.find_plan.ensures.same.number ∙ c.begin_search-at.ensures.same.number in
-    has_made_more v x.view w c.args.pass.now.number c.args.line c.args.key c.args.change c.in-Ok.taken.done stays
-    (made_as x.view w x.number c.args.pass.now.number c.args.line c.args.key c.args.change c.in-Plan.planned.plan c.in-Ok.taken.done number planned.key_is planned.change_is c.in-Ok.ensures.made)
-
-pub returns-in-Err-clause-missed : goal.returns-in-Err-clause-missed
-returns-in-Err-clause-missed c = (
-  try_counted c.args.pass.now c.begin_search-at.new.pass.view c.find_plan.new.pass.view c.begin_search-at.result c.begin_search-at.ensures.opened
-      c.find_plan.ensures.searched.read c.in-Err.failed c.carry_found.new.pass.view c.in-Err.ensures.counted,
-  c.in-Err.ensures.alone,
-)
-
-pub returns-in-Err-clause-stays : goal.returns-in-Err-clause-stays
-returns-in-Err-clause-stays c =
-    let v = c.args.pass.now.view in
-    let b = c.begin_search-at.new.pass.view in
-    let x = c.find_plan.new.pass in
-    let stays = search_stays c.args.pass.now b x.view c.begin_search-at.result c.begin_search-at.ensures.opened c.find_plan.ensures.searched.read in
-    stays_more v x.view c.carry_found.new.pass.view stays c.in-Err.ensures.stays
-
-pub give_up-requires : goal.give_up-requires
-give_up-requires c =
-    record { reads = inside_on c.begin_search-at.new.pass.view c.find_plan.new.pass.view c.begin_search-at.result c.find_plan.ensures.searched.read c.begin_search-at.ensures.fresh.reads }
-
-pub returns-in-Absent-clause-missed : goal.returns-in-Absent-clause-missed
-returns-in-Absent-clause-missed c =
-    let b = c.begin_search-at.new.pass.view in
-    let at = c.begin_search-at.result in
-    let opened = c.begin_search-at.ensures.opened in
-    let known = reader b at c.facts.ensures c.begin_search-at.ensures.fresh.reads in
-    let none = c.in-Absent.ensures.found known.tree known.is in (
-      none.0,
-      was_absent c.args.pass.now b c.find_plan.new.pass.view at opened c.find_plan.ensures.searched.read c.args.key c.give_up-in-Absent.new.pass.view c.give_up-in-Absent.ensures.stays.goes.seen
-          (absent_there b at c.args.key c.args.change known (omega (arith, opened.seen.whole)) none),
-    )
-
-pub returns-in-Absent-clause-stays : goal.returns-in-Absent-clause-stays
-returns-in-Absent-clause-stays c =
-    let v = c.args.pass.now.view in
-    let b = c.begin_search-at.new.pass.view in
-    let x = c.find_plan.new.pass in
-    let stays = search_stays c.args.pass.now b x.view c.begin_search-at.result c.begin_search-at.ensures.opened c.find_plan.ensures.searched.read in
-    stays_more v x.view c.give_up-in-Absent.new.pass.view stays c.give_up-in-Absent.ensures.stays
-
-pub returns-in-Pending-clause-missed : goal.returns-in-Pending-clause-missed
-returns-in-Pending-clause-missed c = (
-  search_waited c.args.pass.now c.begin_search-at.new.pass.view c.find_plan.new.pass.view c.begin_search-at.result c.begin_search-at.ensures.opened
-      c.find_plan.ensures.searched.read c.give_up-in-Pending.new.pass.view c.in-Pending.ensures.waits c.give_up-in-Pending.ensures.counts,
-  others_stay c.find_plan.new.pass c.give_up-in-Pending.new.pass c.give_up-in-Pending.ensures.same c.in-Pending.ensures.alone,
-)
-
-pub returns-in-Pending-clause-stays : goal.returns-in-Pending-clause-stays
-returns-in-Pending-clause-stays c =
-    let v = c.args.pass.now.view in
-    let b = c.begin_search-at.new.pass.view in
-    let x = c.find_plan.new.pass in
-    let stays = search_stays c.args.pass.now b x.view c.begin_search-at.result c.begin_search-at.ensures.opened c.find_plan.ensures.searched.read in
-    stays_more v x.view c.give_up-in-Pending.new.pass.view stays c.give_up-in-Pending.ensures.stays
+    let x = c.find_aim.new.pass in
+    let w = c.carry_out.new.pass.view in
+    let stays = search_stays c.args.pass.now b x.view c.begin_search-at.result c.begin_search-at.ensures.opened c.in-Ok-Some.ensures.keeps.places.keeps in
+    let of : IsAimOf c.args.key c.args.change c.in-Ok-Some.aim
+    = aim_of c.args.key c.args.change c.in-Ok-Some.field-0 c.in-Ok-Some.aim c.in-Ok-Some.field-0-is c.in-Ok-Some.ensures.of in
+    let number = c.find_aim.ensures.same.number ∙ c.begin_search-at.ensures.same.number in
+    has_made_more v x.view w c.args.pass.now.number c.args.line c.args.key c.args.change c.in-Ok.carried.done stays
+    (made_as x.view w x.number c.args.pass.now.number c.args.line c.args.key c.args.change c.in-Ok-Some.aim c.in-Ok.carried.done number of.key_is of.change_is
+    c.in-Ok.ensures.done c.in-Ok.ensures.was)
 
 pub returns-in-Ok-clause-raise : goal.returns-in-Ok-clause-raise
 returns-in-Ok-clause-raise c =
     let p = c.args.pass.now in
     let b = c.begin_search-at.new.pass in
-    let x = c.find_plan.new.pass in
-    let w = c.carry_found.new.pass.view in
-    let plan = c.in-Plan.planned.plan in
-    let at = c.in-Ok.taken.done.at in
-    let stays = search_stays p b.view x.view c.begin_search-at.result c.begin_search-at.ensures.opened c.find_plan.ensures.searched.read in
-    let known = reader b.view c.begin_search-at.result c.facts.ensures c.begin_search-at.ensures.fresh.reads in
-    let planned = c.in-Plan.ensures.found.plan known.tree known.is in
-    let same = same_more p b x c.begin_search-at.ensures.same c.find_plan.ensures.same in
+    let x = c.find_aim.new.pass in
+    let w = c.carry_out.new.pass.view in
+    let aim = c.in-Ok-Some.aim in
+    let of : IsAimOf c.args.key c.args.change c.in-Ok-Some.aim
+    = aim_of c.args.key c.args.change c.in-Ok-Some.field-0 c.in-Ok-Some.aim c.in-Ok-Some.field-0-is c.in-Ok-Some.ensures.of in
+    let at = c.in-Ok.carried.done.at in
+    let stays = search_stays p b.view x.view c.begin_search-at.result c.begin_search-at.ensures.opened c.in-Ok-Some.ensures.keeps.places.keeps in
+    let same = same_more p b x c.begin_search-at.ensures.same c.find_aim.ensures.same in
     let raised : IsRaisedSince x (update_of p.number c.args.line c.args.key c.args.change) at w
     = subst (λ (n : ℕ). IsRaisedSince x (update_of n c.args.line c.args.key c.args.change) at w) same.number
-    (subst (λ (k : ℕ). IsRaisedSince x (update_of x.number c.args.line k c.args.change) at w) planned.key_is
-    (subst (λ (d : Change). IsRaisedSince x (update_of x.number c.args.line (key_of plan) d) at w) planned.change_is c.in-Ok.ensures.raise)) in
+    (subst (λ (k : ℕ). IsRaisedSince x (update_of x.number c.args.line k c.args.change) at w) of.key_is
+    (subst (λ (d : Change). IsRaisedSince x (update_of x.number c.args.line (key_of aim) d) at w) of.change_is c.in-Ok.ensures.raise)) in
     raised_later p x (update_of p.number c.args.line c.args.key c.args.change) at w same stays.goes.mine raised
 
 pub returns-in-Ok-clause-absent : goal.returns-in-Ok-clause-absent
 returns-in-Ok-clause-absent c = λ only.
-    let had = was_there c.in-Plan.planned.plan in
+    let had = has_found c.in-Ok-Some.aim in
     let out : (c.args.only_new && had) ≡ false = sym c.is_kept_out.ensures ∙ c.if-is_kept_out.false in
     c.in-Ok.ensures.was ∙ subst (λ (b : Bool). (b && had) ≡ false) only out
 
-pub returns-in-Ok-clause-ends : goal.returns-in-Ok-clause-ends
-returns-in-Ok-clause-ends c =
+pub returns-in-Ok-clause-waits : goal.returns-in-Ok-clause-waits
+returns-in-Ok-clause-waits c =
+    searched_waits c.args.pass.now c.begin_search-at.new.pass.view c.find_aim.new.pass.view c.carry_out.new.pass.view c.begin_search-at.result
+    c.begin_search-at.ensures.opened c.in-Ok-Some.ensures.keeps.places c.carry_out.ensures.waits
+
+-- it was tried, and not made
+pub returns-in-Err-carry_out-clause-missed : goal.returns-in-Err-carry_out-clause-missed
+returns-in-Err-carry_out-clause-missed c = (
+  try_counted c.args.pass.now c.begin_search-at.new.pass.view c.find_aim.new.pass.view c.begin_search-at.result c.begin_search-at.ensures.opened
+      c.in-Ok-Some.ensures.keeps.places.keeps c.in-Err-carry_out.failed c.carry_out.new.pass.view c.in-Err-carry_out.ensures.counted,
+  c.in-Err-carry_out.ensures.alone,
+)
+
+pub returns-in-Err-carry_out-clause-stays : goal.returns-in-Err-carry_out-clause-stays
+returns-in-Err-carry_out-clause-stays c =
+    let v = c.args.pass.now.view in
     let b = c.begin_search-at.new.pass.view in
-    let q = c.carry_found.new.pass in
-    let known = reader b c.begin_search-at.result c.facts.ensures c.begin_search-at.ensures.fresh.reads in
-    let planned = c.in-Plan.ensures.found.plan known.tree known.is in
-    subst (λ (d : Change). EndsBy d q.view q.number c.in-Ok.taken.parted) planned.change_is c.in-Ok.ensures.ends
+    let x = c.find_aim.new.pass.view in
+    let w = c.carry_out.new.pass.view in
+    stays_more v x w (search_stays c.args.pass.now b x c.begin_search-at.result c.begin_search-at.ensures.opened c.in-Ok-Some.ensures.keeps.places.keeps)
+    (kept_stays x w c.in-Err-carry_out.ensures.kept)
+
+pub returns-in-Err-carry_out-clause-waits : goal.returns-in-Err-carry_out-clause-waits
+returns-in-Err-carry_out-clause-waits c =
+    searched_waits c.args.pass.now c.begin_search-at.new.pass.view c.find_aim.new.pass.view c.carry_out.new.pass.view c.begin_search-at.result
+    c.begin_search-at.ensures.opened c.in-Ok-Some.ensures.keeps.places c.carry_out.ensures.waits
 
 -- of two that hold together the first holds
 first_true : (a b : Bool) → (a && b) ≡ true → a ≡ true
@@ -143,12 +135,59 @@ first_true false b both = both
 
 pub returns-then-is_kept_out-clause-missed : goal.returns-then-is_kept_out-clause-missed
 returns-then-is_kept_out-clause-missed c =
-    first_true c.args.only_new (was_there c.in-Plan.planned.plan) (sym c.is_kept_out.ensures ∙ c.if-is_kept_out.true)
+    first_true c.args.only_new (has_found c.in-Ok-Some.aim) (sym c.is_kept_out.ensures ∙ c.if-is_kept_out.true)
 
 pub returns-then-is_kept_out-clause-stays : goal.returns-then-is_kept_out-clause-stays
 returns-then-is_kept_out-clause-stays c =
     let v = c.args.pass.now.view in
     let b = c.begin_search-at.new.pass.view in
-    let x = c.find_plan.new.pass in
-    let stays = search_stays c.args.pass.now b x.view c.begin_search-at.result c.begin_search-at.ensures.opened c.find_plan.ensures.searched.read in
-    stays_more v x.view c.give_up.new.pass.view stays c.give_up.ensures.stays
+    let x = c.find_aim.new.pass.view in
+    stays_more v x c.give_up.new.pass.view
+    (search_stays c.args.pass.now b x c.begin_search-at.result c.begin_search-at.ensures.opened c.in-Ok-Some.ensures.keeps.places.keeps) c.give_up.ensures.stays
+
+pub returns-then-is_kept_out-clause-waits : goal.returns-then-is_kept_out-clause-waits
+returns-then-is_kept_out-clause-waits c =
+    searched_waits c.args.pass.now c.begin_search-at.new.pass.view c.find_aim.new.pass.view c.give_up.new.pass.view c.begin_search-at.result
+    c.begin_search-at.ensures.opened c.in-Ok-Some.ensures.keeps.places (ap (λ (n : Counts). n.waits) c.give_up.ensures.counts)
+
+-- the search has not found the key of a removal
+pub returns-in-Ok-None-clause-stays : goal.returns-in-Ok-None-clause-stays
+returns-in-Ok-None-clause-stays c =
+    let v = c.args.pass.now.view in
+    let b = c.begin_search-at.new.pass.view in
+    let x = c.find_aim.new.pass.view in
+    stays_more v x c.give_up-in-Ok-None.new.pass.view
+    (search_stays c.args.pass.now b x c.begin_search-at.result c.begin_search-at.ensures.opened c.in-Ok-None.ensures.keeps.places.keeps)
+    c.give_up-in-Ok-None.ensures.stays
+
+pub returns-in-Ok-None-clause-waits : goal.returns-in-Ok-None-clause-waits
+returns-in-Ok-None-clause-waits c =
+    searched_waits c.args.pass.now c.begin_search-at.new.pass.view c.find_aim.new.pass.view c.give_up-in-Ok-None.new.pass.view c.begin_search-at.result
+    c.begin_search-at.ensures.opened c.in-Ok-None.ensures.keeps.places (ap (λ (n : Counts). n.waits) c.give_up-in-Ok-None.ensures.counts)
+
+-- the search has failed
+pub returns-in-Err-clause-missed : goal.returns-in-Err-clause-missed
+returns-in-Err-clause-missed c =
+    let p = c.args.pass.now in
+    let b = c.begin_search-at.new.pass in
+    let x = c.find_aim.new.pass in
+    let w = c.give_up-in-Err.new.pass in
+    let failed = c.in-Err.failed in
+    let opened = c.begin_search-at.ensures.opened in (
+      counted_still failed p.view x.view w.view
+          (opened_counted p b.view x.view c.begin_search-at.result opened failed c.in-Err.ensures.counted) c.give_up-in-Err.ensures.counts,
+      others_stay x w c.give_up-in-Err.ensures.same c.in-Err.ensures.alone,
+    )
+
+pub returns-in-Err-clause-stays : goal.returns-in-Err-clause-stays
+returns-in-Err-clause-stays c =
+    let v = c.args.pass.now.view in
+    let b = c.begin_search-at.new.pass.view in
+    let x = c.find_aim.new.pass.view in
+    stays_more v x c.give_up-in-Err.new.pass.view
+    (search_stays c.args.pass.now b x c.begin_search-at.result c.begin_search-at.ensures.opened c.in-Err.ensures.given_up.keeps) c.give_up-in-Err.ensures.stays
+
+pub returns-in-Err-clause-waits : goal.returns-in-Err-clause-waits
+returns-in-Err-clause-waits c =
+    searched_waits c.args.pass.now c.begin_search-at.new.pass.view c.find_aim.new.pass.view c.give_up-in-Err.new.pass.view c.begin_search-at.result
+    c.begin_search-at.ensures.opened c.in-Err.ensures.given_up (ap (λ (n : Counts). n.waits) c.give_up-in-Err.ensures.counts)

@@ -7,3 +7,4 @@ use Rattle.tree_update.proofs.waits.look_around.Given as goal
 abbrev pub invariant-others : goal.invariant-others
 invariant-others l =
     Inside l.pass.view × (is_some l.pass.view.reading.section ≡ true) × StaysOn l.fn.pass.view l.pass.view × IsSamePass l.fn.pass l.pass × (l.least ≤ l.own)
+    × (l.pass.view.counts.waits ≡ l.fn.pass.view.counts.waits)

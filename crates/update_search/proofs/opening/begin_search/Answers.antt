@@ -1,6 +1,8 @@
-use Rattle.update_search.proofs.Ready.{opened_fresh}
+use Rattle.update_search.proofs.There.{opened_at_top}
 use Rattle.update_search.proofs.opening.begin_search.Goals as goal
 
-pub returns-clause-fresh : goal.returns-clause-fresh
-returns-clause-fresh c =
-    opened_fresh c.args.pass.now c.open_section.result c.open_section.new.self.view c.open_section.ensures.gives c.open_section.ensures.inside
+pub returns-clause-top : goal.returns-clause-top
+returns-clause-top c =
+    let q = c.open_section-number.new.self in
+    let e = c.open_section-number.ensures in
+    opened_at_top c.args.pass.now c.open_section-number.result q.view q.number e.gives e.inside c.facts.ensures c.number_fact.ensures

@@ -1,108 +1,67 @@
-use Rattle.std.proofs.Common.{ap, ◌∙◌, inr, sym, subst}
-use Rattle.index_words.specs.declared.side.Side.TheVariants.{Left, Right}
-use Rattle.core_updates.specs.Plans.{link_of}
-use Rattle.table_steps.specs.Loads.{IsTreeLink}
-use Rattle.table_steps.specs.Passes.{Pass, IsSamePass}
-use Rattle.bundle_reads.specs.Links.{HasSearched}
-use Rattle.bundle_reads.specs.Children.{IsSeen}
-use Rattle.bundle_reads.proofs.ReadMoves.{same_pass, same_more, searched_nothing, searched_more, seen_before, seen_later, leads_after, link_after}
-use Rattle.update_search.proofs.ReadTrees.{reader}
-use Rattle.update_search.proofs.Walks.{walk_in_tree}
-use Rattle.update_search.proofs.Later.{seen_now, key_later, walk_later, walk_before, next_before}
+use Rattle.std.proofs.Common.{◌<◌, ◌≤◌, arith, refl, ap, ◌∙◌, sym, subst, inr}
+use Rattle.index_words.specs.declared.layout.Layout.{Layout}
+use Rattle.core_events.specs.PlainMoves.{tag_loaded}
+use Rattle.core_trees.specs.declared.link.Link.{Link}
+use Rattle.update_search.proofs.Keeps.{places_more, same_more}
+use Rattle.update_search.proofs.TurnNodes.{other_node}
+use Rattle.update_search.proofs.Walks.{node_low, trying, walk_between, walk_ended, walk_further, walk_keyed, walk_next, walk_odd, walk_on, walk_trying, walk_went, went_trying}
 use Rattle.update_search.proofs.successor.find_next.Goals as goal
 
-pub left-init : goal.left-init
-left-init c =
-    let p = c.args.pass.now in
-    let v = p.view in
-    let e = c.begin_walk-walk.ensures in
-    let walk = c.begin_walk-walk.result in
-    let seen : IsSeen v v walk.at walk.seen = subst (λ at. IsSeen v v at walk.seen) (sym e.at) (subst (IsSeen v v (link_of c.args.node Right)) (sym e.seen) c.requires.seen) in (
-      subst (λ (q : Pass). HasSearched v q.view) (sym e.same) (searched_nothing v),
-      ap (λ (q : Pass). q.view.counts.waits) e.same,
-      subst (λ (q : Pass). IsSamePass p q) (sym e.same) (same_pass p),
-      e.walk,
-      subst (λ (q : Pass). IsSeen v q.view walk.at walk.seen) (sym e.same) seen,
-    )
+pub load_key-here-requires : goal.load_key-here-requires
+load_key-here-requires c =
+    let now = trying c.search_laws.ensures c.args.pass.now.view c.args.walk c.requires.walk c.left.pass.view c.left.invariant.1 c.left.walk (c.left.invariant.2 c.requires.walk) c.facts.ensures in
+    record { may = record { inside = now.working.inside; there = node_low c.search_laws.ensures c.args.pass.now.view c.args.walk c.requires.walk c.left.pass.view c.left.invariant.1 c.left.walk (c.left.invariant.2 c.requires.walk) c.facts.ensures } }
 
-pub child_at-requires-clause-link : goal.child_at-requires-clause-link
-child_at-requires-clause-link c =
-    let v = c.args.pass.now.view in
-    let known = reader v c.args.at c.facts.ensures c.requires.reads in
-    let node = c.requires.node in
-    let n = node.at known.tree known.is in
-    let inv = c.left.invariant in
-    let there = walk_in_tree v known.tree known.is c.args.node node.key node.top n c.left.walk (inv.3.walk known.tree known.is node.top node.key n) inv.3.some in
-    let link : IsTreeLink v c.left.walk.seen.child Left = inr there in
-    link_after v c.left.pass.view c.left.walk.seen.child Left inv.0.read link
+pub meet_odd-requires : goal.meet_odd-requires
+meet_odd-requires c =
+    record { odd = walk_odd c.search_laws.ensures c.args.pass.now.view c.args.walk c.requires.walk c.left.pass.view c.left.invariant.1 c.left.walk (c.left.invariant.2 c.requires.walk) c.facts.ensures c.load_key-here.result c.load_key-here.new.self.view c.load_key-here.ensures.view c.in-Some.turn (sym c.crossed_by.ensures ∙ c.in-Some.is) }
 
-pub returns-in_default-clause-searched : goal.returns-in_default-clause-searched
-returns-in_default-clause-searched c = searched_more c.args.pass.now.view c.left.pass.view c.child_at.new.pass.view c.left.invariant.0 c.child_at.ensures.searched
+pub returns-in-Some-clause-given_up : goal.returns-in-Some-clause-given_up
+returns-in-Some-clause-given_up c =
+    let keeps = walk_keyed c.search_laws.ensures c.args.pass.now.view c.args.walk c.requires.walk c.left.pass.view c.left.invariant.1 c.left.walk (c.left.invariant.2 c.requires.walk) c.facts.ensures c.load_key-here.result c.load_key-here.new.self.view c.load_key-here.ensures.view in
+    places_more c.search_laws.ensures c.args.pass.now.view c.load_key-here.new.self.view c.meet_odd.new.pass.view keeps.places c.meet_odd.ensures.given_up
 
-pub end_walk-requires-clause-node : goal.end_walk-requires-clause-node
-end_walk-requires-clause-node c =
-    let more = searched_more c.args.pass.now.view c.left.pass.view c.child_at.new.pass.view c.left.invariant.0 c.child_at.ensures.searched in
-    key_later c.args.pass.now.view c.child_at.new.pass.view more.read c.args.node c.requires.node
+pub load_link-left-requires : goal.load_link-left-requires
+load_link-left-requires c =
+    let none = sym c.crossed_by.ensures ∙ c.in_default.is in
+    let now = walk_trying c.search_laws.ensures c.args.pass.now.view c.args.walk c.requires.walk c.left.pass.view c.left.invariant.1 c.left.walk (c.left.invariant.2 c.requires.walk) c.facts.ensures c.load_key-here.result c.load_key-here.new.self.view c.load_key-here.ensures.view in
+    let on = walk_on c.search_laws.ensures c.args.pass.now.view c.args.walk c.requires.walk c.left.pass.view c.left.invariant.1 c.left.walk (c.left.invariant.2 c.requires.walk) c.facts.ensures c.load_key-here.result c.load_key-here.new.self.view c.load_key-here.ensures.view none in
+    record { may = record { inside = now.working.inside; on = inr on.stands } }
 
-pub end_walk-requires-clause-walk : goal.end_walk-requires-clause-walk
-end_walk-requires-clause-walk c =
-    let more = searched_more c.args.pass.now.view c.left.pass.view c.child_at.new.pass.view c.left.invariant.0 c.child_at.ensures.searched in
-    walk_later c.args.pass.now.view c.child_at.new.pass.view more.read c.args.node c.left.walk c.left.invariant.3
+pub end_at-gap-requires : goal.end_at-gap-requires
+end_at-gap-requires c =
+    let none = sym c.crossed_by.ensures ∙ c.in_default.is in
+    let now = went_trying c.search_laws.ensures c.args.pass.now.view c.args.walk c.requires.walk c.left.pass.view c.left.invariant.1 c.left.walk (c.left.invariant.2 c.requires.walk) c.facts.ensures c.load_key-here.result c.load_key-here.new.self.view c.load_key-here.ensures.view none c.load_link-left.result c.load_link-left.new.self.view c.load_link-left.ensures.view in
+    let low = node_low c.search_laws.ensures c.args.pass.now.view c.args.walk c.requires.walk c.left.pass.view c.left.invariant.1 c.left.walk (c.left.invariant.2 c.requires.walk) c.facts.ensures in
+    let same = same_more c.left.pass c.load_key-here.new.self c.load_link-left.new.self c.load_key-here.ensures.same c.load_link-left.ensures.same in
+    let there : c.left.walk.node ≤ c.load_link-left.new.self.view.layout.nodes = subst (λ (z : Layout). c.left.walk.node ≤ z.nodes) (sym same.layout) low in
+    record { may = record { inside = now.working.inside; there = subst (λ (l : Link). l.node ≤ c.load_link-left.new.self.view.layout.nodes) (sym c.link.ensures) there } }
 
-pub end_walk-requires-clause-seen : goal.end_walk-requires-clause-seen
-end_walk-requires-clause-seen c =
-    let v = c.args.pass.now.view in
-    let w = c.left.pass.view in
-    let x = c.child_at.new.pass.view in
-    let more = searched_more v w x c.left.invariant.0 c.child_at.ensures.searched in
-    seen_now v x more.read c.left.walk.at c.left.walk.seen (seen_later v w x c.left.walk.at c.left.walk.seen c.child_at.ensures.searched c.left.invariant.4)
-
-pub end_walk-requires-clause-left : goal.end_walk-requires-clause-left
-end_walk-requires-clause-left c = seen_now c.left.pass.view c.child_at.new.pass.view c.child_at.ensures.searched.read (link_of c.left.walk.seen.child Left) c.in-Some.left c.in-Some.ensures.seen
-
-pub returns-then-left-eq0-clause-searched : goal.returns-then-left-eq0-clause-searched
-returns-then-left-eq0-clause-searched c =
-    let v = c.args.pass.now.view in
-    let x = c.child_at.new.pass.view in
-    searched_more v x c.end_walk.new.pass.view (searched_more v c.left.pass.view x c.left.invariant.0 c.child_at.ensures.searched) c.end_walk.ensures.searched
+pub returns-then-left-eq0-clause-keeps : goal.returns-then-left-eq0-clause-keeps
+returns-then-left-eq0-clause-keeps c =
+    let none = sym c.crossed_by.ensures ∙ c.in_default.is in
+    let tagged = c.end_at-gap.ensures.view ∙ ap (λ (l : Link). tag_loaded c.load_link-left.new.self.view l.node l.side c.end_at-gap.result.tag) c.link.ensures in
+    walk_ended c.search_laws.ensures c.args.pass.now.view c.args.walk c.requires.walk c.left.pass.view c.left.invariant.1 c.left.walk (c.left.invariant.2 c.requires.walk) c.facts.ensures c.load_key-here.result c.load_key-here.new.self.view c.load_key-here.ensures.view none c.load_link-left.result c.load_link-left.new.self.view c.load_link-left.ensures.view c.if-left-eq0.true c.end_at-gap.result.tag c.end_at-gap.new.pass.view tagged
 
 pub returns-then-left-eq0-clause-next : goal.returns-then-left-eq0-clause-next
 returns-then-left-eq0-clause-next c =
-    let v = c.args.pass.now.view in
-    let x = c.child_at.new.pass.view in
-    let more = searched_more v c.left.pass.view x c.left.invariant.0 c.child_at.ensures.searched in
-    next_before v x more.read c.end_walk.new.pass.view c.args.node c.end_walk.result c.end_walk.ensures.next
-
-pub walk_on-walk-requires-clause-node : goal.walk_on-walk-requires-clause-node
-walk_on-walk-requires-clause-node c =
-    let more = searched_more c.args.pass.now.view c.left.pass.view c.child_at.new.pass.view c.left.invariant.0 c.child_at.ensures.searched in
-    key_later c.args.pass.now.view c.child_at.new.pass.view more.read c.args.node c.requires.node
-
-pub walk_on-walk-requires-clause-walk : goal.walk_on-walk-requires-clause-walk
-walk_on-walk-requires-clause-walk c =
-    let more = searched_more c.args.pass.now.view c.left.pass.view c.child_at.new.pass.view c.left.invariant.0 c.child_at.ensures.searched in
-    walk_later c.args.pass.now.view c.child_at.new.pass.view more.read c.args.node c.left.walk c.left.invariant.3
-
-pub walk_on-walk-requires-clause-leads : goal.walk_on-walk-requires-clause-leads
-walk_on-walk-requires-clause-leads c =
-    leads_after c.left.pass.view c.child_at.new.pass.view (link_of c.left.walk.seen.child Left) c.in-Some.left.child c.child_at.ensures.searched.read c.in-Some.ensures.seen.leads
+    let none = sym c.crossed_by.ensures ∙ c.in_default.is in
+    let tagged = c.end_at-gap.ensures.view ∙ ap (λ (l : Link). tag_loaded c.load_link-left.new.self.view l.node l.side c.end_at-gap.result.tag) c.link.ensures in
+    let way = c.left.invariant.2 c.requires.walk in
+    let now = trying c.search_laws.ensures c.args.pass.now.view c.args.walk c.requires.walk c.left.pass.view c.left.invariant.1 c.left.walk (c.left.invariant.2 c.requires.walk) c.facts.ensures in
+    let apart = other_node c.search_laws.ensures c.left.pass c.requires.walk.number c.requires.walk.nodes now c.left.walk.turns way.come.turned c.left.walk.at.node way.turned c.left.walk.node c.load_key-here.result (node_low c.search_laws.ensures c.args.pass.now.view c.args.walk c.requires.walk c.left.pass.view c.left.invariant.1 c.left.walk (c.left.invariant.2 c.requires.walk) c.facts.ensures) c.load_key-here.new.self.view
+    c.load_key-here.ensures.event (walk_between c.search_laws.ensures c.args.pass.now.view c.args.walk c.requires.walk c.left.pass.view c.left.invariant.1 c.left.walk (c.left.invariant.2 c.requires.walk) c.facts.ensures c.load_key-here.result c.load_key-here.new.self.view c.load_key-here.ensures.view none) in
+    walk_next c.search_laws.ensures c.args.pass.now.view c.args.walk c.requires.walk c.left.pass.view c.left.invariant.1 c.left.walk (c.left.invariant.2 c.requires.walk) c.facts.ensures c.load_key-here.result c.load_key-here.new.self.view c.load_key-here.ensures.view none c.load_link-left.result c.load_link-left.new.self.view c.load_link-left.ensures.view c.if-left-eq0.true c.end_at-gap.result.tag c.end_at-gap.new.pass.view tagged apart
+    (record { at = c.left.walk.at; node = c.left.walk.node; gap = c.end_at-gap.result }) refl refl (c.end_at-gap.ensures.at ∙ c.link.ensures) refl
 
 pub left-preserved : goal.left-preserved
 left-preserved c =
-    let p = c.args.pass.now in
-    let v = p.view in
-    let w = c.left.pass.view in
-    let x = c.child_at.new.pass.view in
-    let inv = c.left.invariant in
-    let e = c.walk_on-walk.ensures in
-    let walk = c.walk_on-walk.result in
-    let link = link_of c.left.walk.seen.child Left in
-    let more = searched_more v w x inv.0 c.child_at.ensures.searched in
-    let seen : IsSeen v x walk.at walk.seen
-    = subst (λ at. IsSeen v x at walk.seen) (sym e.at) (subst (IsSeen v x link) (sym e.seen) (seen_before v w x link c.in-Some.left inv.0.read c.in-Some.ensures.seen)) in (
-      subst (λ (q : Pass). HasSearched v q.view) (sym e.same) more,
-      ap (λ (q : Pass). q.view.counts.waits) e.same ∙ c.in-Some.ensures.waits ∙ inv.1,
-      subst (λ (q : Pass). IsSamePass p q) (sym e.same) (same_more p c.left.pass c.child_at.new.pass inv.2 c.child_at.ensures.same),
-      walk_before v x more.read c.args.node walk e.walk,
-      subst (λ (q : Pass). IsSeen v q.view walk.at walk.seen) (sym e.same) seen,
+    let none = sym c.crossed_by.ensures ∙ c.in_default.is in
+    let some : 0 < c.load_link-left.result = omega arith in
+    let same = same_more c.left.pass c.load_key-here.new.self c.load_link-left.new.self c.load_key-here.ensures.same c.load_link-left.ensures.same in (
+      same_more c.args.pass.now c.left.pass c.load_link-left.new.self c.left.invariant.0 same,
+      walk_went c.search_laws.ensures c.args.pass.now.view c.args.walk c.requires.walk c.left.pass.view c.left.invariant.1 c.left.walk (c.left.invariant.2 c.requires.walk) c.facts.ensures c.load_key-here.result c.load_key-here.new.self.view c.load_key-here.ensures.view none c.load_link-left.result c.load_link-left.new.self.view c.load_link-left.ensures.view,
+      λ on.
+          walk_further c.search_laws.ensures c.args.pass.now.view c.args.walk on c.left.pass.view c.left.invariant.1 c.left.walk (c.left.invariant.2 on) c.facts.ensures c.load_key-here.result c.load_key-here.new.self.view c.load_key-here.ensures.view none c.load_link-left.result c.load_link-left.new.self.view c.load_link-left.ensures.view some
+          (record { at = c.link-in-left.result; node = c.load_link-left.result; turns = c.with.result }) c.link-in-left.ensures refl c.with.ensures,
     )

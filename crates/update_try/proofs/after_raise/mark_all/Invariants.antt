@@ -1,5 +1,3 @@
-use Rattle.std.proofs.Common.{◌-◌, length}
-use Rattle.core_updates.specs.Plans.{out_of}
 use Rattle.plan_laws.specs.Frames.{KeepsOwned}
 use Rattle.core_updates.specs.declared.plan.PlanSlots.{PlanSlots}
 use Rattle.plan_laws.specs.Prunes.{HasNumbered}
@@ -9,7 +7,5 @@ use Rattle.update_try.proofs.after_raise.mark_all.Given as goal
 
 abbrev pub invariant-nodes : goal.invariant-nodes
 invariant-nodes l =
-    ((slots : PlanSlots) → HasNumbered l.fn.pass.view l.fn.pass.number l.plan slots → HasMarked l.pass.view l.fn.pass.number l.plan slots l.place) × KeepsOwned l.fn.pass.view l.pass.view × IsSamePass l.fn.pass l.pass
-
-abbrev pub decreases-nodes : goal.decreases-nodes
-decreases-nodes l = length (out_of l.plan) - l.place
+    ((slots : PlanSlots) → HasNumbered l.fn.pass.view l.fn.pass.number l.plan slots → HasMarked l.pass.view l.fn.pass.number l.plan slots l.node-index)
+    × KeepsOwned l.fn.pass.view l.pass.view × IsSamePass l.fn.pass l.pass

@@ -1,84 +1,181 @@
-use Rattle.std.proofs.Common.{◌≡◌, ◌∙◌, sym, subst, arith, Some, None}
+use Rattle.std.proofs.Common.{◌≡◌, ◌∙◌, ap, sym, subst, arith, Some, None}
 use Rattle.std.specs.List.{slice_get}
-use Rattle.core_updates.specs.Plans.{fronts_of}
-use Rattle.plan_laws.proofs.Fills.{got-none}
+use Rattle.index_words.specs.declared.view.View.{View}
+use Rattle.core_updates.specs.Plans.{fronts_of, next_front_of}
+use Rattle.plan_laws.specs.Fronts.{HasPrepared}
+use Rattle.update_try.specs.Preparing.{HasPreparedAll}
 use Rattle.plan_laws.proofs.Frames.{keeps_pass}
 use Rattle.plan_laws.proofs.Fronts.{prepare_start}
-use Rattle.update_try.specs.Preparing.{HasPreparedAll}
-use Rattle.update_try.proofs.Fronts.{may_prepare, prepared_next, prepared_nexts, prepared_entries, few_fronts, front_within, prepared_end}
-use Rattle.update_try.proofs.Outs.{out_heads_prepared}
-use Rattle.update_try.proofs.Steps.{same_pass, same_more, try_same}
+use Rattle.update_try.proofs.Fronts.{got_next, may_prepare, one-front, prepared_next, two-fronts}
 use Rattle.update_try.proofs.fills.prepare_all.Goals as goal
 
-pub fronts-init : goal.fronts-init
-fronts-init c =
+pub prepare_front-requires : goal.prepare_front-requires
+prepare_front-requires c =
     let p = c.args.pass.now in
-    (prepare_start p.view p.number c.args.plan.now c.args.slots.now c.args.heads.now c.requires.filled, (try_same p.view).pass, same_pass p, omega arith, (λ i item is. is), (λ h. h), omega arith)
-
-pub prepare-requires : goal.prepare-requires
-prepare-requires c =
-    let n = c.args.pass.now.number in
+    let n = p.number in
     let plan = c.args.plan.now in
     let slots = c.args.slots.now in
-    let es = c.args.heads.now in
-    let place = c.fronts.place in
-    let v = c.fronts.pass.view in
-    let f = c.in-Some.front in
-    let is : slice_get (fronts_of plan slots) place ≡ Some f = sym c.front.ensures ∙ c.in-Some.is in
-    record { may = may_prepare v n plan slots es place f c.facts.ensures c.fronts.invariant.0 c.requires.apart is }
+    let heads = c.args.heads in
+    let start = prepare_start p.view n plan slots heads c.requires.filled in
+    let f = c.front.result in
+    let is : slice_get (fronts_of plan slots) 0 ≡ Some f = ap Some (sym c.front.ensures) in
+    record { may = may_prepare p.view n plan slots heads 0 f c.facts.ensures start c.requires.apart is }
 
-pub overflow_add-place : goal.overflow_add-place
-overflow_add-place c =
-    let n = c.args.pass.now.number in
+pub prepare_front-requires-in-Some : goal.prepare_front-requires-in-Some
+prepare_front-requires-in-Some c =
+    let p = c.args.pass.now in
+    let n = p.number in
     let plan = c.args.plan.now in
     let slots = c.args.slots.now in
-    let es = c.args.heads.now in
-    let place = c.fronts.place in
-    let v = c.fronts.pass.view in
-    let f = c.in-Some.front in
-    let is : slice_get (fronts_of plan slots) place ≡ Some f = sym c.front.ensures ∙ c.in-Some.is in
-    omega (arith, front_within plan slots place f is, few_fronts plan slots)
+    let heads = c.args.heads in
+    let start = prepare_start p.view n plan slots heads c.requires.filled in
+    let f = c.front.result in
+    let is : slice_get (fronts_of plan slots) 0 ≡ Some f = ap Some (sym c.front.ensures) in
+    let q = c.prepare_front.new.pass in
+    let first = prepared_next p.view q.view n plan slots heads 0 f c.facts.ensures start c.requires.apart is c.prepare_front.ensures.view in
+    let g = c.in-Some.next in
+    let there : next_front_of plan slots ≡ Some g = sym c.next_front.ensures ∙ c.in-Some.is in
+    let second_is : slice_get (fronts_of plan slots) 1 ≡ Some g = got_next (next_front_of plan slots) ∙ there in
+    record { may = may_prepare q.view n plan slots heads 1 g c.facts-in-Some.ensures first.prepared c.requires.apart second_is }
 
-pub fronts-smaller : goal.fronts-smaller
-fronts-smaller c =
-    let n = c.args.pass.now.number in
+pub returns-in-Some-clause-prepared : goal.returns-in-Some-clause-prepared
+returns-in-Some-clause-prepared c =
+    let p = c.args.pass.now in
+    let n = p.number in
     let plan = c.args.plan.now in
     let slots = c.args.slots.now in
-    let es = c.args.heads.now in
-    let place = c.fronts.place in
-    let v = c.fronts.pass.view in
-    let f = c.in-Some.front in
-    let is : slice_get (fronts_of plan slots) place ≡ Some f = sym c.front.ensures ∙ c.in-Some.is in
-    omega (arith, front_within plan slots place f is)
+    let heads = c.args.heads in
+    let start = prepare_start p.view n plan slots heads c.requires.filled in
+    let f = c.front.result in
+    let is : slice_get (fronts_of plan slots) 0 ≡ Some f = ap Some (sym c.front.ensures) in
+    let q = c.prepare_front.new.pass in
+    let first = prepared_next p.view q.view n plan slots heads 0 f c.facts.ensures start c.requires.apart is c.prepare_front.ensures.view in
+    let g = c.in-Some.next in
+    let there : next_front_of plan slots ≡ Some g = sym c.next_front.ensures ∙ c.in-Some.is in
+    let second_is : slice_get (fronts_of plan slots) 1 ≡ Some g = got_next (next_front_of plan slots) ∙ there in
+    let w = c.prepare_front-in-Some.new.pass in
+    let second = prepared_next q.view w.view n plan slots heads 1 g c.facts-in-Some.ensures first.prepared c.requires.apart second_is c.prepare_front-in-Some.ensures.view in
+    subst (λ k. HasPreparedAll w.view k plan slots heads) (sym (c.prepare_front-in-Some.ensures.same.number ∙ c.prepare_front.ensures.same.number))
+    (subst (HasPrepared w.view n plan slots heads) (sym (two-fronts plan slots g there)) second.prepared)
 
-pub fronts-preserved : goal.fronts-preserved
-fronts-preserved c =
-    let n = c.args.pass.now.number in
+pub returns-in-Some-clause-walked : goal.returns-in-Some-clause-walked
+returns-in-Some-clause-walked c =
+    let p = c.args.pass.now in
+    let n = p.number in
     let plan = c.args.plan.now in
     let slots = c.args.slots.now in
-    let es = c.args.heads.now in
-    let place = c.fronts.place in
-    let v = c.fronts.pass.view in
-    let f = c.in-Some.front in
-    let is : slice_get (fronts_of plan slots) place ≡ Some f = sym c.front.ensures ∙ c.in-Some.is in
-    let w = c.prepare.new.self in
-    let next = prepared_next v w.view n plan slots es place f c.fronts.invariant.0 c.requires.apart is c.prepare.ensures.view in (
-      next.0,
-      keeps_pass c.args.pass.now.view v w.view c.fronts.invariant.1 next.1,
-      same_more c.args.pass.now c.fronts.pass w c.fronts.invariant.2 c.prepare.ensures.same,
-      omega (arith, front_within plan slots place f is),
-      (λ i item at_item. prepared_nexts v w.view f c.prepare.ensures.view i item (c.fronts.invariant.4 i item at_item)),
-      (λ h. out_heads_prepared v w.view plan slots es place f c.fronts.invariant.0.making.once is c.prepare.ensures.view (c.fronts.invariant.5 h)),
-      omega (arith, c.fronts.invariant.6, prepared_entries v w.view f c.facts.ensures (c.fronts.invariant.0.due place f (omega arith) is).free c.prepare.ensures.view),
-    )
+    let heads = c.args.heads in
+    let start = prepare_start p.view n plan slots heads c.requires.filled in
+    let f = c.front.result in
+    let is : slice_get (fronts_of plan slots) 0 ≡ Some f = ap Some (sym c.front.ensures) in
+    let q = c.prepare_front.new.pass in
+    let first = prepared_next p.view q.view n plan slots heads 0 f c.facts.ensures start c.requires.apart is c.prepare_front.ensures.view in
+    let g = c.in-Some.next in
+    let there : next_front_of plan slots ≡ Some g = sym c.next_front.ensures ∙ c.in-Some.is in
+    let second_is : slice_get (fronts_of plan slots) 1 ≡ Some g = got_next (next_front_of plan slots) ∙ there in
+    let w = c.prepare_front-in-Some.new.pass in
+    let second = prepared_next q.view w.view n plan slots heads 1 g c.facts-in-Some.ensures first.prepared c.requires.apart second_is c.prepare_front-in-Some.ensures.view in
+    second.walked (first.walked c.requires.walked)
 
-pub returns-clause-prepared : goal.returns-clause-prepared
-returns-clause-prepared c =
-    let none : slice_get (fronts_of c.args.plan.now c.args.slots.now) c.fronts.place ≡ None = sym c.front.ensures ∙ c.in_default.is in
-    subst (λ k. HasPreparedAll c.fronts.pass.view k c.args.plan.now c.args.slots.now c.args.heads.now) (sym c.fronts.invariant.2.number)
-    (prepared_end c.fronts.pass.view c.args.pass.now.number c.args.plan.now c.args.slots.now c.args.heads.now c.fronts.place c.fronts.invariant.3 c.fronts.invariant.0 none)
+pub returns-in-Some-clause-keeps : goal.returns-in-Some-clause-keeps
+returns-in-Some-clause-keeps c =
+    let p = c.args.pass.now in
+    let n = p.number in
+    let plan = c.args.plan.now in
+    let slots = c.args.slots.now in
+    let heads = c.args.heads in
+    let start = prepare_start p.view n plan slots heads c.requires.filled in
+    let f = c.front.result in
+    let is : slice_get (fronts_of plan slots) 0 ≡ Some f = ap Some (sym c.front.ensures) in
+    let q = c.prepare_front.new.pass in
+    let first = prepared_next p.view q.view n plan slots heads 0 f c.facts.ensures start c.requires.apart is c.prepare_front.ensures.view in
+    let g = c.in-Some.next in
+    let there : next_front_of plan slots ≡ Some g = sym c.next_front.ensures ∙ c.in-Some.is in
+    let second_is : slice_get (fronts_of plan slots) 1 ≡ Some g = got_next (next_front_of plan slots) ∙ there in
+    let w = c.prepare_front-in-Some.new.pass in
+    let second = prepared_next q.view w.view n plan slots heads 1 g c.facts-in-Some.ensures first.prepared c.requires.apart second_is c.prepare_front-in-Some.ensures.view in
+    keeps_pass p.view q.view w.view first.keeps second.keeps
 
-pub returns-clause-entries : goal.returns-clause-entries
-returns-clause-entries c =
-    let none : slice_get (fronts_of c.args.plan.now c.args.slots.now) c.fronts.place ≡ None = sym c.front.ensures ∙ c.in_default.is in
-    omega (arith, c.fronts.invariant.6, c.fronts.invariant.3, got-none (fronts_of c.args.plan.now c.args.slots.now) c.fronts.place none)
+pub returns-in-Some-clause-entries : goal.returns-in-Some-clause-entries
+returns-in-Some-clause-entries c =
+    let p = c.args.pass.now in
+    let n = p.number in
+    let plan = c.args.plan.now in
+    let slots = c.args.slots.now in
+    let heads = c.args.heads in
+    let start = prepare_start p.view n plan slots heads c.requires.filled in
+    let f = c.front.result in
+    let is : slice_get (fronts_of plan slots) 0 ≡ Some f = ap Some (sym c.front.ensures) in
+    let q = c.prepare_front.new.pass in
+    let first = prepared_next p.view q.view n plan slots heads 0 f c.facts.ensures start c.requires.apart is c.prepare_front.ensures.view in
+    let g = c.in-Some.next in
+    let there : next_front_of plan slots ≡ Some g = sym c.next_front.ensures ∙ c.in-Some.is in
+    let second_is : slice_get (fronts_of plan slots) 1 ≡ Some g = got_next (next_front_of plan slots) ∙ there in
+    let w = c.prepare_front-in-Some.new.pass in
+    let second = prepared_next q.view w.view n plan slots heads 1 g c.facts-in-Some.ensures first.prepared c.requires.apart second_is c.prepare_front-in-Some.ensures.view in
+    omega (arith, first.entries, second.entries, two-fronts plan slots g there)
+
+pub returns-in_default-clause-prepared : goal.returns-in_default-clause-prepared
+returns-in_default-clause-prepared c =
+    let p = c.args.pass.now in
+    let n = p.number in
+    let plan = c.args.plan.now in
+    let slots = c.args.slots.now in
+    let heads = c.args.heads in
+    let start = prepare_start p.view n plan slots heads c.requires.filled in
+    let f = c.front.result in
+    let is : slice_get (fronts_of plan slots) 0 ≡ Some f = ap Some (sym c.front.ensures) in
+    let q = c.prepare_front.new.pass in
+    let first = prepared_next p.view q.view n plan slots heads 0 f c.facts.ensures start c.requires.apart is c.prepare_front.ensures.view in
+    let none : next_front_of plan slots ≡ None = sym c.next_front.ensures ∙ c.in_default.is in
+    subst (λ k. HasPreparedAll q.view k plan slots heads) (sym c.prepare_front.ensures.same.number)
+    (subst (HasPrepared q.view n plan slots heads) (sym (one-front plan slots none)) first.prepared)
+
+pub returns-in_default-clause-walked : goal.returns-in_default-clause-walked
+returns-in_default-clause-walked c =
+    let p = c.args.pass.now in
+    let n = p.number in
+    let plan = c.args.plan.now in
+    let slots = c.args.slots.now in
+    let heads = c.args.heads in
+    let start = prepare_start p.view n plan slots heads c.requires.filled in
+    let f = c.front.result in
+    let is : slice_get (fronts_of plan slots) 0 ≡ Some f = ap Some (sym c.front.ensures) in
+    let q = c.prepare_front.new.pass in
+    let first = prepared_next p.view q.view n plan slots heads 0 f c.facts.ensures start c.requires.apart is c.prepare_front.ensures.view in
+    first.walked c.requires.walked
+
+pub returns-in_default-clause-keeps : goal.returns-in_default-clause-keeps
+returns-in_default-clause-keeps c =
+    let p = c.args.pass.now in
+    let n = p.number in
+    let plan = c.args.plan.now in
+    let slots = c.args.slots.now in
+    let heads = c.args.heads in
+    let start = prepare_start p.view n plan slots heads c.requires.filled in
+    let f = c.front.result in
+    let is : slice_get (fronts_of plan slots) 0 ≡ Some f = ap Some (sym c.front.ensures) in
+    let q = c.prepare_front.new.pass in
+    let first = prepared_next p.view q.view n plan slots heads 0 f c.facts.ensures start c.requires.apart is c.prepare_front.ensures.view in
+    first.keeps
+
+pub returns-in_default-clause-entries : goal.returns-in_default-clause-entries
+returns-in_default-clause-entries c =
+    let p = c.args.pass.now in
+    let n = p.number in
+    let plan = c.args.plan.now in
+    let slots = c.args.slots.now in
+    let heads = c.args.heads in
+    let start = prepare_start p.view n plan slots heads c.requires.filled in
+    let f = c.front.result in
+    let is : slice_get (fronts_of plan slots) 0 ≡ Some f = ap Some (sym c.front.ensures) in
+    let q = c.prepare_front.new.pass in
+    let first = prepared_next p.view q.view n plan slots heads 0 f c.facts.ensures start c.requires.apart is c.prepare_front.ensures.view in
+    let none : next_front_of plan slots ≡ None = sym c.next_front.ensures ∙ c.in_default.is in
+    omega (arith, first.entries, one-front plan slots none)
+
+pub returns-in-Some-clause-counts : goal.returns-in-Some-clause-counts
+returns-in-Some-clause-counts c = ap (λ (u : View). u.counts) c.prepare_front-in-Some.ensures.view ∙ ap (λ (u : View). u.counts) c.prepare_front.ensures.view
+
+pub returns-in_default-clause-counts : goal.returns-in_default-clause-counts
+returns-in_default-clause-counts c = ap (λ (u : View). u.counts) c.prepare_front.ensures.view

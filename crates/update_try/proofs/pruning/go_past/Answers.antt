@@ -18,9 +18,8 @@ along-preserved c =
     let q = c.load_entry-here.new.pass in
     let here = c.load_entry-here.result in
     let e = c.load_entry-here.ensures in
-    let written : 0 < here.number = omega (arith, c.if-here-eq0.false) in
     let above : c.args.least < here.number = omega (arith, c.if-here-least.false) in
-    let stops = e.stops c.args.least c.along.invariant.0 written in (
+    let stops = e.stops c.args.least c.along.invariant.0 in (
       (stops.0, stops.1 ++ here.entry ∷ [], goes_on q.view c.args.at c.args.least stops.0 stops.1 here above stops.2),
       update_more p.view v q.view c.along.invariant.1 e.update,
       least_more p.view v q.view c.along.invariant.2 e.least,
@@ -28,9 +27,7 @@ along-preserved c =
     )
 
 pub returns-then-here-least-clause-stops : goal.returns-then-here-least-clause-stops
-returns-then-here-least-clause-stops c =
-    let written : 0 < c.load_entry-here.result.number = omega (arith, c.if-here-eq0.false) in
-    c.load_entry-here.ensures.stops c.args.least c.along.invariant.0 written
+returns-then-here-least-clause-stops c = c.load_entry-here.ensures.stops c.args.least c.along.invariant.0
 
 pub returns-then-entry-eq0-clause-update : goal.returns-then-entry-eq0-clause-update
 returns-then-entry-eq0-clause-update c = c.along.invariant.1
@@ -43,12 +40,6 @@ returns-then-here-eq0-clause-update c = update_more c.args.pass.now.view c.along
 
 pub returns-then-here-eq0-clause-least : goal.returns-then-here-eq0-clause-least
 returns-then-here-eq0-clause-least c = least_more c.args.pass.now.view c.along.pass.view c.load_entry-here.new.pass.view c.along.invariant.2 c.load_entry-here.ensures.least
-
-pub returns-then-here-eq0-2-clause-update : goal.returns-then-here-eq0-2-clause-update
-returns-then-here-eq0-2-clause-update c = update_more c.args.pass.now.view c.along.pass.view c.load_entry-here.new.pass.view c.along.invariant.1 c.load_entry-here.ensures.update
-
-pub returns-then-here-eq0-2-clause-least : goal.returns-then-here-eq0-2-clause-least
-returns-then-here-eq0-2-clause-least c = least_more c.args.pass.now.view c.along.pass.view c.load_entry-here.new.pass.view c.along.invariant.2 c.load_entry-here.ensures.least
 
 pub returns-then-here-least-clause-update : goal.returns-then-here-least-clause-update
 returns-then-here-least-clause-update c = update_more c.args.pass.now.view c.along.pass.view c.load_entry-here.new.pass.view c.along.invariant.1 c.load_entry-here.ensures.update

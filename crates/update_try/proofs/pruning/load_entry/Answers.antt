@@ -1,4 +1,4 @@
-use Rattle.update_try.proofs.Pruned.{least_more, may_next, may_number, next_least, next_update, number_least, number_update, stops_here, update_more}
+use Rattle.update_try.proofs.Pruned.{least_more, may_next, may_number, next_least, next_update, number_least, number_some, number_update, stops_here, update_more}
 use Rattle.update_try.proofs.pruning.load_entry.Goals as goal
 
 pub load_ts-number-requires : goal.load_ts-number-requires
@@ -14,11 +14,13 @@ load_next-next-requires c =
     }
 
 pub returns-clause-stops : goal.returns-clause-stops
-returns-clause-stops c least past written = (
+returns-clause-stops c least past = (
   past.0,
   past.1,
   stops_here c.args.pass.now.view c.load_ts-number.new.self.view c.load_next-next.new.self.view c.args.at least past.0 c.args.entry c.load_ts-number.result c.load_next-next.result past.1 past.2
-      c.requires.some written c.load_ts-number.ensures.view c.load_next-next.ensures.view c.load_next-next.ensures.there,
+      c.requires.some
+      (number_some c.args.pass.now c.load_ts-number.new.self.view c.args.at least past.0 c.args.entry c.load_ts-number.result past.1 c.facts.ensures past.2 c.requires.some c.load_ts-number.ensures.event)
+      c.load_ts-number.ensures.view c.load_next-next.ensures.view c.load_next-next.ensures.there,
 )
 
 pub returns-clause-update : goal.returns-clause-update
@@ -26,7 +28,10 @@ returns-clause-update c =
     let v = c.args.pass.now.view in
     let u = c.load_ts-number.new.self.view in
     let w = c.load_next-next.new.self.view in
-    update_more v u w (number_update v u c.args.entry c.load_ts-number.result c.load_ts-number.ensures.view) (next_update u w c.args.entry c.load_next-next.result c.load_next-next.ensures.view)
+    update_more v u w (number_update v u c.args.entry c.load_ts-number.result
+    (number_some c.args.pass.now u c.args.at c.requires.past.0 c.requires.past.1.0 c.args.entry c.load_ts-number.result c.requires.past.1.1 c.facts.ensures c.requires.past.1.2 c.requires.some
+    c.load_ts-number.ensures.event)
+    c.load_ts-number.ensures.view) (next_update u w c.args.entry c.load_next-next.result c.load_next-next.ensures.view)
 
 pub returns-clause-least : goal.returns-clause-least
 returns-clause-least c =

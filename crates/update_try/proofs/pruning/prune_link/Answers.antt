@@ -12,7 +12,7 @@ go_past-requires c =
     let w = c.load_head-head.new.self.view in
     let head = c.load_head-head.result in
     let loads = c.load_head-head.ensures in
-    record { past = (head, [], begins v w c.args.at head loads.view.number c.args.own.number c.requires.changed.unmarked loads.view.view loads.there) }
+    record { past = (head, [], begins v w c.args.at head loads.view.number c.args.own.number c.requires.changed.unmarked c.requires.changed.idle loads.view.view loads.there) }
 
 pub returns-in_default-clause-least : goal.returns-in_default-clause-least
 returns-in_default-clause-least c =

@@ -3,9 +3,10 @@ use Rattle.std.proofs.lemmas.List.{length-append}
 use Rattle.index_words.specs.declared.layout.Layout.{Layout}
 use Rattle.plan_laws.proofs.Frames.{keeps_try}
 use Rattle.update_try.specs.Walked.{HoldsPart}
-use Rattle.update_try.proofs.LockedBundles.{part_ends, part_few, may_walk, walked_try, walked_looks, walked_nexts, walked_long, walked_on, walked_part, walked_update, walked_least, walked_held}
+use Rattle.update_try.proofs.LockedBundles.{part_ends, part_few, may_walk, walked_try, walked_looks, walked_nexts, walked_long, walked_on, walked_part, walked_trying, walked_counts, walked_update, walked_least, walked_held}
 use Rattle.update_try.proofs.Pruned.{update_same, update_more, least_same, least_more}
-use Rattle.update_try.proofs.Steps.{same_pass, same_more, try_same}
+use Rattle.plan_laws.proofs.Looks.{keeps_looks}
+use Rattle.update_try.proofs.Steps.{looks_same, same_pass, same_more, try_same}
 use Rattle.update_try.proofs.walking.walk_along.Goals as goal
 
 pub along-init : goal.along-init
@@ -14,12 +15,14 @@ along-init c =
     let start = c.requires.stands in (
       ([], refl),
       (start.0, start.1, start.2, start.3, omega arith),
-      (λ n plan entries done h. h),
+      looks_same p.view,
       (λ place item is. is),
       try_same p.view,
       same_pass p,
       update_same p.view,
       least_same p.view,
+      refl,
+      (λ n nodes t. t),
       refl,
     )
 
@@ -64,13 +67,15 @@ along-preserved c =
         walked_part v at head entry on some w next e.view e.there head whole.1 whole.3,
         omega (arith, long, whole.4, length-append whole.1 (entry ∷ [])),
       ),
-      (λ n plan entries done h. walked_looks v at head entry on some w next e.view e.there n plan entries done (c.along.invariant.2 n plan entries done h)),
+      keeps_looks p.view v w c.along.invariant.2 (walked_looks v at head entry on some w next e.view e.there),
       (λ place item is. walked_nexts v at head entry on some w next e.view e.there place item (c.along.invariant.3 place item is)),
       keeps_try p.view v w c.along.invariant.4 (walked_try v at head entry on some w next e.view e.there),
       same_more p c.along.pass q c.along.invariant.5 e.same,
       update_more p.view v w c.along.invariant.6 (walked_update v at head entry on some w next e.view e.there),
       least_more p.view v w c.along.invariant.7 (walked_least v at head entry on some w next e.view e.there),
       walked_held v at head entry on some w next e.view e.there ∙ c.along.invariant.8,
+      (λ n nodes t. walked_trying v at head entry on some w next e.view e.there n nodes (c.along.invariant.9 n nodes t)),
+      walked_counts v at head entry on some w next e.view e.there ∙ c.along.invariant.10,
     )
 
 pub returns-clause-chain : goal.returns-clause-chain

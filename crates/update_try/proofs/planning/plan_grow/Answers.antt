@@ -1,0 +1,26 @@
+use Rattle.update_try.proofs.Found.{root_link}
+use Rattle.update_try.proofs.Holding.{gap_link, gap_null, last_in, locked_in, no_link, no_tag}
+use Rattle.update_try.proofs.LooksUnder.{gap_locked}
+use Rattle.update_try.proofs.planning.plan_grow.Goals as goal
+
+pub look_at_gap-requires-clause-locked : goal.look_at_gap-requires-clause-locked
+look_at_gap-requires-clause-locked c =
+    gap_locked c.lock.new.pass.view c.look_unmarked.new.pass.view c.args.gap.at.node c.look_unmarked.ensures.keeps
+    (locked_in c.lock.new.pass.view c.lock.new.pass.number c.lock.new.locks.items c.args.gap.at.node c.lock.ensures.trying (last_in c.args.locks.now.items c.lock.new.locks.items c.args.gap.at.node c.in_ok-lock.ensures.one_more))
+
+pub look_at_gap-requires-clause-root : goal.look_at_gap-requires-clause-root
+look_at_gap-requires-clause-root c =
+    root_link c.args.pass.now.view c.facts.ensures c.args.gap.at 0 (gap_link c.args.pass.now.view c.args.gap.at c.args.gap.tag c.args.pair.key c.requires.found.found)
+
+pub look_at_gap-requires-clause-found : goal.look_at_gap-requires-clause-found
+look_at_gap-requires-clause-found c =
+    let gap = (c.look_unmarked.ensures.keeps.looks.gap c.args.gap.at.node c.args.gap.tag c.args.pair.key c.args.gap.at.side (c.lock.ensures.looks.gap c.args.gap.at.node c.args.gap.tag c.args.pair.key c.args.gap.at.side c.requires.found.found)) in
+    (gap.above, gap.below, gap_null c.look_unmarked.new.pass.view c.args.gap.at c.args.gap.tag c.args.pair.key gap)
+
+pub look_at_gap-requires-clause-first_link : goal.look_at_gap-requires-clause-first_link
+look_at_gap-requires-clause-first_link c = λ known.
+    no_link c.args.pass.now.view c.args.pass.now.number c.args.locks.now.items c.requires.trying c.requires.none c.args.gap.at.node c.args.gap.at.side (c.lock.ensures.learns.link c.args.gap.at.node c.args.gap.at.side (c.look_unmarked.ensures.learns.link c.args.gap.at.node c.args.gap.at.side known))
+
+pub look_at_gap-requires-clause-first_tag : goal.look_at_gap-requires-clause-first_tag
+look_at_gap-requires-clause-first_tag c = λ known.
+    no_tag c.args.pass.now.view c.args.pass.now.number c.args.locks.now.items c.requires.trying c.requires.none c.args.gap.at.node c.args.gap.at.side (c.lock.ensures.learns.tag c.args.gap.at.node c.args.gap.at.side (c.look_unmarked.ensures.learns.tag c.args.gap.at.node c.args.gap.at.side known))
