@@ -5,6 +5,7 @@ use Rattle.key_names.specs.Names.{name_at}
 use Rattle.key_names.specs.Ranks.{is_before}
 use Rattle.bucket_terms.specs.PageInRange.{IsEntryInRange}
 use Rattle.page_rules.specs.Cursor.{CursorView}
+use Rattle.page_rules.specs.PrefixRanks.{AreListed}
 use Rattle.page_rules.specs.declared.cursor.PageCursor.TheInside.{Inside}
 
 abbrev pub view_of : Inside → CursorView
@@ -23,3 +24,7 @@ pub record IsCursor (v : CursorView) : Type 0 where
   pub in_range : All (IsEntryInRange v.dir) v.entries
   pub some : v.truncated ≡ true → 0 < length v.entries
   pub unsettled : MatchOption v.next ⊤ (IsOpenAt v)
+
+-- what is kept of the ranks of the listed names is right
+abbrev pub HasRanks : Inside → Type 0
+HasRanks c = AreListed c.dir.now c.query.now c.ranks

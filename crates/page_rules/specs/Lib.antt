@@ -1,3 +1,4 @@
 pub mod PageLaw
+pub mod PrefixRanks
 pub mod Cursor
 pub mod CursorInside

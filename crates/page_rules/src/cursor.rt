@@ -1,7 +1,9 @@
 // The page made from look-ups. A group is left by one jump to the rank past its prefix, so a page costs as
 // many look-ups as it has entries, and one more, however many keys its groups hide.
 ghost use Rattle.std.specs.Prelude.{◌≡◌, ◌++◌, ◌∷◌, [], OnOk, OnErr};
+ghost use Rattle.page_rules.specs.PrefixRanks.{AreListed};
 
+use crate::prefix_ranks::PrefixRanks;
 use crate::resume::{first_rank, rank_behind};
 use crate::rules::{entry_of, is_under};
 use bucket_terms::{ListQuery, Page, PageEntry, TokenPoint};
@@ -31,18 +33,24 @@ pub struct PageCursor<'a> {
     entries: Vec<PageEntry>,
     next: Option<u64>,
     truncated: bool,
+    // Where the listed names stand, once the page has so many entries that two searches for it cost less than a
+    // comparison of each name with the prefix.
+    ranks: Option<PrefixRanks>,
 }
+
+/// From so many entries on a page looks for the ranks of the names that it may list.
+const MANY: usize = 32;
 
 impl<'a> Model for PageCursor<'a> {
     ghost use Rattle.page_rules.specs.Cursor.{CursorView};
 
     ghost Value = { CursorView };
 
-    ghost use Rattle.page_rules.specs.CursorInside.{view_of, IsCursor};
+    ghost use Rattle.page_rules.specs.CursorInside.{view_of, IsCursor, HasRanks};
 
     ghost view = { view_of };
 
-    ghost invariant = { λ c. IsCursor (view_of c) };
+    ghost invariant = { λ c. IsCursor (view_of c) × HasRanks c };
 }
 
 impl<'a> PageCursor<'a> {
@@ -51,7 +59,7 @@ impl<'a> PageCursor<'a> {
     ghost use Rattle.key_map.specs.Map.{IsMap};
     ghost use Rattle.key_map.specs.declared.pair.Pair.{Pair};
     ghost use Rattle.bucket_terms.specs.declared.token_point.TokenPoint.{TokenPoint};
-    ghost use Rattle.bucket_terms.specs.Listing.{page_of};
+    ghost use Rattle.bucket_terms.specs.Listing.{is_under, page_of};
     ghost use Rattle.bucket_terms.specs.PageInRange.{IsInRange};
     ghost use Rattle.page_rules.specs.Cursor.{IsNew, IsOnWay, IsOver, Took, page_so_far};
 
@@ -76,6 +84,7 @@ impl<'a> PageCursor<'a> {
             entries: Vec::new(alloc),
             next,
             truncated: false,
+            ranks: None,
         }
     }
 
@@ -90,6 +99,7 @@ impl<'a> PageCursor<'a> {
     /// Takes the first pair from `next_rank` on: adds its entry, or settles that the page is truncated or
     /// ended. A pair whose key is no rank ends the page. The entries grow with the allocator that `new` was
     /// given: the one here is not used.
+    #[inline(always)]
     pub fn take(&mut self, _alloc: Global, pair: Pair) -> Result<(), NoMemory>
         requires { IsSome self.old.next }
         ensures took { OnOk result (Took self.old self.new pair) }
@@ -97,18 +107,30 @@ impl<'a> PageCursor<'a> {
     {
         // the call's clauses tell the proof that the names rise and are UTF-8
         let _names = self.dir.len();
-        if !is_under(self.dir, self.query, &pair) {
+        if !self.lists(&pair) {
             self.next = None;
         } else if self.entries.len() < self.query.max_keys as usize {
             let entry = entry_of(self.dir, self.query, &pair);
             let most = self.query.max_keys as usize;
             push_entry(&mut self.entries, entry, most.min(self.dir.len() as usize))?;
             self.next = Some(rank_behind(self.dir, self.query, &entry));
+            self.ranks = later_ranks(self.dir, self.query, self.ranks, self.entries.len());
         } else {
             self.truncated = true;
             self.next = None;
         }
         Ok(())
+    }
+
+    // Whether the pair is listed.
+    #[inline(always)]
+    fn lists(&self, pair: &Pair) -> bool
+        ensures { result ≡ is_under self.now.dir self.now.query pair.now }
+    {
+        match &self.ranks {
+            Some(ranks) => pair.key < self.dir.len() && ranks.has(pair.key),
+            None => is_under(self.dir, self.query, pair),
+        }
     }
 
     /// The page. It is that of the query on each map to whose page the cursor is on its way, once nothing is
@@ -128,8 +150,26 @@ impl<'a> PageCursor<'a> {
     }
 }
 
+// The ranks of the listed names, which are looked for where the page has come to have so many entries.
+#[inline(always)]
+fn later_ranks(
+    dir: &Directory,
+    query: &ListQuery,
+    ranks: Option<PrefixRanks>,
+    entries: usize,
+) -> Option<PrefixRanks>
+    requires { AreListed dir.now query.now ranks }
+    ensures { AreListed dir.now query.now result }
+{
+    if entries == MANY {
+        return Some(PrefixRanks::of(dir, query.prefix.bytes()));
+    }
+    ranks
+}
+
 // Adds an entry. The first one takes room for as many as there will be at most, so that the entries are not moved as they
 // become more; what is left of it is given back with the page.
+#[inline(always)]
 fn push_entry(entries: &mut Vec<PageEntry>, entry: PageEntry, most: usize) -> Result<(), NoMemory>
     ensures ok { OnOk result (entries.new.items ≡ entries.old.items ++ entry ∷ []) }
     ensures err { OnErr result (entries.new.items ≡ entries.old.items) }

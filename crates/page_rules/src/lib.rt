@@ -7,6 +7,7 @@
 mod cursor;
 mod list_page;
 mod look_ups;
+mod prefix_ranks;
 mod resume;
 mod rules;
 

@@ -20,6 +20,7 @@ pub(crate) fn first_rank(dir: &Directory, query: &ListQuery, point: Option<&Toke
 }
 
 /// The rank at which a listing goes on behind an entry: past its key, or past all keys of its common prefix.
+#[inline(always)]
 pub(crate) fn rank_behind(dir: &Directory, query: &ListQuery, entry: &PageEntry) -> u64
     requires in_range { IsEntryInRange dir.now entry.now }
     requires listed { is_before (entry_text dir.now entry.now) query.now.prefix ≡ false }

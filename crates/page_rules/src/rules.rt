@@ -43,13 +43,19 @@ pub(crate) fn is_under(dir: &Directory, query: &ListQuery, pair: &Pair) -> bool
 }
 
 /// The entry of a pair: the common prefix into which its name is rolled up, or else its key.
+#[inline(always)]
 pub(crate) fn entry_of(dir: &Directory, query: &ListQuery, pair: &Pair) -> PageEntry
     ensures entry { result ≡ entry_of dir.now query.now pair.now }
     ensures in_range { pair.now.key < length dir.now → IsEntryInRange dir.now result }
 {
     // the calls' clauses tell the proof that names and delimiter are UTF-8, so a group ends a character
     let _names = dir.len();
-    let _delimiter = query.delimiter.bytes();
+    if query.delimiter.bytes().is_empty() {
+        return PageEntry::Key {
+            rank: pair.key,
+            val: pair.val,
+        };
+    }
     match group_len(query, name_at(dir, pair.key)) {
         Some(len) => PageEntry::Group {
             rank: pair.key,

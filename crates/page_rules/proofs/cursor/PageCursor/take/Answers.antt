@@ -11,14 +11,14 @@ pub rank_behind-requires-clause-listed : goal.rank_behind-requires-clause-listed
 rank_behind-requires-clause-listed c =
     let v = view_of c.self.inside in
     subst (λ e. is_before (entry_text v.dir e) v.query.prefix ≡ false) (sym c.entry_of-entry.ensures.entry)
-    (text_not_below v.dir v.query c.args.pair (sym c.is_under.ensures ∙ c.if-not-is_under.false))
+    (text_not_below v.dir v.query c.args.pair (sym (rw (← c.self.view_is) at c.lists.ensures) ∙ c.if-not-lists.false))
 
-pub returns-then-not-is_under-clause-took : goal.returns-then-not-is_under-clause-took
-returns-then-not-is_under-clause-took c =
+pub returns-then-not-lists-clause-took : goal.returns-then-not-lists-clause-took
+returns-then-not-lists-clause-took c =
     let v = view_of c.self.inside in
     let next = next_rank v (rw (← c.self.view_is) at c.requires) in
-    rw (← c.self.view_is) (took_ended v next.0 c.args.pair c.len-names.ensures.rising c.self.invariant.room next.1 (unsettled_at v next.0 c.self.invariant next.1)
-    (sym c.is_under.ensures ∙ c.if-not-is_under.true))
+    rw (← c.self.view_is) (took_ended v next.0 c.args.pair c.len-names.ensures.rising c.self.invariant.0.room next.1 (unsettled_at v next.0 c.self.invariant.0 next.1)
+    (sym (rw (← c.self.view_is) at c.lists.ensures) ∙ c.if-not-lists.true))
 
 pub returns-in_ok-push_entry-clause-took : goal.returns-in_ok-push_entry-clause-took
 returns-in_ok-push_entry-clause-took c =
@@ -29,12 +29,12 @@ returns-in_ok-push_entry-clause-took c =
     let goes = subst (λ e. GoesOnAt v.dir v.query (Some (entry_point v.dir e)) c.rank_behind.result) entry c.rank_behind.ensures in
     let items = c.in_ok-push_entry.ensures.ok ∙ ap (λ e. v.entries ++ e ∷ []) entry in
     rw (← c.self.view_is) (took_added v next.0 c.args.pair c.push_entry.new.entries.items c.rank_behind.result c.len-names.ensures.rising room next.1
-    (unsettled_at v next.0 c.self.invariant next.1) (sym c.is_under.ensures ∙ c.if-not-is_under.false) goes items)
+    (unsettled_at v next.0 c.self.invariant.0 next.1) (sym (rw (← c.self.view_is) at c.lists.ensures) ∙ c.if-not-lists.false) goes items)
 
 pub returns-else-len-self-clause-took : goal.returns-else-len-self-clause-took
 returns-else-len-self-clause-took c =
     let v = view_of c.self.inside in
     let next = next_rank v (rw (← c.self.view_is) at c.requires) in
-    let full : length v.entries ≡ v.query.max_keys = omega (arith, c.len.ensures, c.if-len-self.false, c.self.invariant.room) in
-    rw (← c.self.view_is) (took_full v next.0 c.args.pair c.len-names.ensures.rising full next.1 (unsettled_at v next.0 c.self.invariant next.1)
-    (sym c.is_under.ensures ∙ c.if-not-is_under.false))
+    let full : length v.entries ≡ v.query.max_keys = omega (arith, c.len.ensures, c.if-len-self.false, c.self.invariant.0.room) in
+    rw (← c.self.view_is) (took_full v next.0 c.args.pair c.len-names.ensures.rising full next.1 (unsettled_at v next.0 c.self.invariant.0 next.1)
+    (sym (rw (← c.self.view_is) at c.lists.ensures) ∙ c.if-not-lists.false))
