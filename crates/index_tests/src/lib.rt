@@ -6,6 +6,12 @@ mod passes;
 #[cfg(test)]
 mod rows;
 #[cfg(test)]
+mod scenes;
+#[cfg(test)]
 mod set_up;
+#[cfg(test)]
+mod stories;
+#[cfg(test)]
+mod tested_pass;
 #[cfg(test)]
 mod trades;

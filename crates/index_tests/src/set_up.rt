@@ -1,9 +1,9 @@
-// Indexes of two passes for the tests, and the calls that both files make.
+// Indexes of two passes for the tests, how they end, and the updates that several tests make.
 ghost use Rattle.std.specs.Prelude.{◌≡◌, ◌∷◌, [], None, IfSome};
 ghost use Rattle.shared_index.specs.Keys.{AreAllKeys};
 
 use bucket_terms::KeyPass;
-use index_words::PassSize;
+use index_words::{PassSize, Update};
 use key_map::{Done, PassError};
 use shared_index::{PassKey, SharedIndex};
 use std::alloc::Global;
@@ -15,10 +15,6 @@ pub(crate) const fn size(nodes: u32, entries: u32, calls: u32) -> PassSize {
         entries,
         calls,
     }
-}
-
-pub(crate) const fn done(at: u64, was: bool) -> Result<Done, PassError> {
-    Ok(Done { at, was })
 }
 
 /// The items of a list of two, as the keys of an index of two passes.
@@ -48,6 +44,21 @@ pub(crate) fn opened(
     }
 }
 
+/// The whole history of an index with these keys.
+pub(crate) fn ended(
+    alloc: Global,
+    index: SharedIndex,
+    first: PassKey,
+    second: PassKey,
+) -> Option<Vec<Update>>
+    requires { AreAllKeys index (first ∷ second ∷ []) }
+{
+    let Ok(keys) = vec![in alloc; first, second] else {
+        return None;
+    };
+    index.finish(alloc, keys).ok()
+}
+
 /// A put, which leaves no snapshot open.
 pub(crate) fn put<P: KeyPass, R: Wait>(
     rt: &R,
@@ -62,6 +73,25 @@ pub(crate) fn put<P: KeyPass, R: Wait>(
     ensures home { P.home pass.new ≡ P.home pass.old }
 {
     match pass.put(rt, line, key, val) {
+        Ok(done) => Ok(done),
+        Err(error) => Err(error),
+    }
+}
+
+/// A removal, which leaves no snapshot open. What it leaves is told by whether the key was there.
+pub(crate) fn remove<P: KeyPass, R: Wait>(
+    rt: &R,
+    pass: &mut P,
+    line: u32,
+    key: u64,
+) -> Result<Done, PassError>
+    requires closed { (P.view pass.old).opened ≡ None }
+    ensures closed { (P.view pass.new).opened ≡ None }
+    ensures number { (P.view pass.new).number ≡ (P.view pass.old).number }
+    ensures home { P.home pass.new ≡ P.home pass.old }
+{
+    match pass.remove(rt, line, key) {
+        Ok(done) if done.was => Ok(done),
         Ok(done) => Ok(done),
         Err(error) => Err(error),
     }
