@@ -1,13 +1,21 @@
 // Several clients, each on a thread of its own, over one bucket, through the top call.
-use crate::gates::{Holds, watched};
+use crate::gates::{Holds, Seen, all_right, watched};
+use crate::sessions::one_client;
 use bucket_terms::Summary;
-use serve_session::{Status, summary_line};
-use std::sync::atomic::Ordering;
+use serve_session::summary_line;
+use std::alloc::Global;
+use std::sync::Wait;
 use std::test::Fail;
+use std::thread::Threads;
 
 const CLIENTS: u32 = 32;
 
-// The one text of the two clients. No contract tells it to the test, so that it is not computed when that is checked.
+// Two clients, and their one text. No contract tells these to the tests, so that they are not computed when those are
+// checked.
+fn two_clients() -> &'static str {
+    "CLIENT\nHEAD b\nCLIENT\nPUT b 2 e2 20\n"
+}
+
 fn behind_the_second() -> &'static str {
     "{\"At\":1,\"Client\":0,\"ETag\":\"e2\",\"LastModified\":20,\"Line\":2,\"Size\":2,\"Status\":200}\n\
         {\"At\":1,\"Client\":1,\"Line\":4,\"Replaced\":false,\"Status\":200}\n\
@@ -20,47 +28,45 @@ fn behind_the_second() -> &'static str {
 // another line, or of an answer that is not made, client 0 may look too early.
 #[test]
 fn clients_run_at_once(rt: HostRuntime) -> Result<(), Fail> {
-    let alloc = rt.alloc();
-    let input = b"CLIENT\nHEAD b\nCLIENT\nPUT b 2 e2 20\n".to_vec(alloc)?;
+    let input = two_clients().as_bytes();
     let holds = Holds::FirstClient { until: 4 };
-    let (ended, gate) = watched(&rt, alloc, &["run"], input, 2, holds)?;
-    assert_eq!(rt; ended.status, Status::Done);
-    assert_eq!(rt; gate.given_up.load(Ordering::SeqCst), false);
-    assert_eq!(rt; gate.astray.load(Ordering::SeqCst), false);
-    assert_eq!(rt; gate.answered.load(Ordering::SeqCst), 2);
-    assert!(rt; ended.sink.taken() == behind_the_second().as_bytes());
+    let text = Some(behind_the_second());
+    let seen = watched(&rt, rt.alloc(), &["run"], input, 2, holds, text)?;
+    assert_eq!(rt; seen, all_right(2));
     Ok(())
+}
+
+// What the gate sees of so many clients with one request each, where none begins before all have come.
+fn all_at_once<Rt: Threads + Wait + Sync>(
+    rt: &Rt,
+    alloc: Global,
+    clients: u32,
+) -> Result<Seen, Fail> {
+    let input = one_client().as_bytes().repeat(alloc, clients as usize)?;
+    let holds = Holds::UntilCome(clients);
+    watched(rt, alloc, &["run"], &input, clients as usize, holds, None)
 }
 
 // As many clients as a session may have. A runner that has fewer of them at work at once lets none of them begin, and
 // one that does not tell the gate lets none come.
 #[test]
 fn all_clients_are_at_work_at_once(rt: HostRuntime) -> Result<(), Fail> {
-    let alloc = rt.alloc();
-    let input = b"CLIENT\nHEAD a\n".repeat(alloc, CLIENTS as usize)?;
-    let holds = Holds::UntilCome(CLIENTS);
-    let (ended, gate) = watched(&rt, alloc, &["run"], input, CLIENTS as usize, holds)?;
-    assert_eq!(rt; ended.status, Status::Done);
-    assert_eq!(rt; gate.given_up.load(Ordering::SeqCst), false);
-    assert_eq!(rt; gate.astray.load(Ordering::SeqCst), false);
-    assert_eq!(rt; gate.come.load(Ordering::SeqCst), CLIENTS);
+    let seen = all_at_once(&rt, rt.alloc(), CLIENTS)?;
+    assert_eq!(rt; seen, all_right(CLIENTS));
     Ok(())
+}
+
+fn summary_of_seven() -> &'static str {
+    "{\"Keys\":16,\"Listed\":8,\"Requests\":28,\"Updates\":16}\n"
 }
 
 // The gate is told of each request of each client once before and once after it is answered, with the same line.
 #[test]
 fn the_gate_is_told_of_each_request(rt: HostRuntime) -> Result<(), Fail> {
-    let alloc = rt.alloc();
-    let input = Vec::new(alloc);
-    let (ended, gate) = watched(&rt, alloc, &["sample", "7"], input, 4, Holds::Nothing)?;
-    assert_eq!(rt; ended.status, Status::Done);
-    assert_eq!(rt; gate.astray.load(Ordering::SeqCst), false);
-    assert_eq!(rt; gate.come.load(Ordering::SeqCst), 28);
-    assert_eq!(rt; gate.answered.load(Ordering::SeqCst), 28);
-    assert_eq!(rt;
-        ended.sink.taken(),
-        b"{\"Keys\":16,\"Listed\":8,\"Requests\":28,\"Updates\":16}\n".as_slice()
-    );
+    let words = ["sample", "7"];
+    let text = Some(summary_of_seven());
+    let seen = watched(&rt, rt.alloc(), &words, &[], 4, Holds::Nothing, text)?;
+    assert_eq!(rt; seen, all_right(28));
     Ok(())
 }
 

@@ -2,11 +2,11 @@
 // same session.
 ghost use Rattle.std.specs.Prelude.{◌<◌};
 
-use crate::gates::texts;
+use crate::served::served;
 use client_run::OpenGate;
 use client_threads::Threaded;
-use outside_io::{FailingSink, FailingSource};
-use serve_session::{Status, serve};
+use outside_io::{FailingSink, FailingSource, Sink};
+use serve_session::Status;
 use std::alloc::Global;
 use std::sync::Wait;
 use std::test::Fail;
@@ -30,42 +30,77 @@ fn whole_text() -> &'static str {
     {\"Updates\":3}\n"
 }
 
+// So many bytes of the text.
+fn start_of_text(length: usize) -> Result<&'static [u8], Fail> {
+    Ok(whole_text().as_bytes().get(..length).ok_or("a short text")?)
+}
+
 const ROOM: usize = 4096;
 
 // How the session ends whose reads, of at most 10 bytes, fail at these calls; it is written into this sink.
-fn served<Rt: Threads + Wait + Sync>(
+fn ended<K: Sink, Rt: Threads + Wait + Sync>(
     rt: &Rt,
     alloc: Global,
     reads: &[u64],
-    sink: &mut FailingSink,
+    sink: &mut K,
 ) -> Result<Status, Fail> {
-    let words = texts(alloc, &["run"])?;
     let input = session().as_bytes().to_vec(alloc)?;
     let mut source = FailingSource::new(input, 10, reads.to_vec(alloc)?);
-    Ok(serve(
+    let mut runner = Threaded::new();
+    served(
         rt,
         alloc,
-        &words,
+        &["run"],
         &mut source,
         sink,
         &OpenGate,
-        &mut Threaded::new(),
-    ))
+        &mut runner,
+    )
 }
 
-// Whether the session ends with a read fault and nothing is taken, where this read fails.
-fn stops_at_read<Rt: Threads + Wait + Sync>(
+// Whether the session ends so and just so many bytes of its text are taken, where this read fails.
+fn ends_at_read<Rt: Threads + Wait + Sync>(
     rt: &Rt,
     alloc: Global,
     call: u64,
+    wanted: Status,
+    taken: usize,
 ) -> Result<bool, Fail> {
     let mut sink = FailingSink::with_room(alloc, ROOM, Vec::new(alloc))?;
-    let status = served(rt, alloc, &[call], &mut sink)?;
-    Ok(status == Status::ReadFault && sink.taken().is_empty())
+    let status = ended(rt, alloc, &[call], &mut sink)?;
+    Ok(status == wanted && sink.taken() == start_of_text(taken)?)
 }
 
-// Whether it ends with a write fault and just so many bytes of its text are taken, where this write fails, of a whole
-// line or of at most 7 bytes.
+// The first read whose fault does not end the session with nothing taken. The 54 bytes of the session are given by six
+// reads, the seventh finds the end, and there is no eighth.
+fn first_wrong_read<Rt: Threads + Wait + Sync>(
+    rt: &Rt,
+    alloc: Global,
+) -> Result<Option<u64>, Fail> {
+    for call in 1..=8 {
+        let (wanted, taken) = if call < 8 {
+            (Status::ReadFault, 0)
+        } else {
+            (Status::Done, whole_text().len())
+        };
+        if !ends_at_read(rt, alloc, call, wanted, taken)? {
+            return Ok(Some(call));
+        }
+    }
+    Ok(None)
+}
+
+// A sink with a fault at this write, of a whole line or of at most 7 bytes.
+fn failing_sink(alloc: Global, in_steps: bool, call: u64) -> Result<FailingSink, Fail> {
+    let fails = [call].to_vec(alloc)?;
+    if in_steps {
+        Ok(FailingSink::with_step(alloc, ROOM, 7, fails)?)
+    } else {
+        Ok(FailingSink::with_room(alloc, ROOM, fails)?)
+    }
+}
+
+// Whether it ends with a write fault and just so many bytes of its text are taken, where this write fails.
 fn stops_at_write<Rt: Threads + Wait + Sync>(
     rt: &Rt,
     alloc: Global,
@@ -73,56 +108,48 @@ fn stops_at_write<Rt: Threads + Wait + Sync>(
     call: u64,
     taken: usize,
 ) -> Result<bool, Fail> {
-    let fails = [call].to_vec(alloc)?;
-    let mut sink = if in_steps {
-        FailingSink::with_step(alloc, ROOM, 7, fails)?
-    } else {
-        FailingSink::with_room(alloc, ROOM, fails)?
-    };
-    let status = served(rt, alloc, &[], &mut sink)?;
-    let wanted = whole_text().as_bytes().get(..taken).ok_or("a short text")?;
-    Ok(status == Status::WriteFault && sink.taken() == wanted)
+    let mut sink = failing_sink(alloc, in_steps, call)?;
+    let status = ended(rt, alloc, &[], &mut sink)?;
+    Ok(status == Status::WriteFault && sink.taken() == start_of_text(taken)?)
 }
 
-// The 54 bytes of the session are given by six reads, and the seventh finds the end.
+// The first write whose fault does not end the session with just what stands in front of it taken.
+fn first_wrong_write<Rt: Threads + Wait + Sync>(
+    rt: &Rt,
+    alloc: Global,
+    in_steps: bool,
+) -> Result<Option<u64>, Fail> {
+    let most = if in_steps { 7 } else { ROOM };
+    let mut taken = 0;
+    let mut call = 1;
+    for line in whole_text().split_inclusive('\n') {
+        for piece in line.as_bytes().chunks(most) {
+            if !stops_at_write(rt, alloc, in_steps, call, taken)? {
+                return Ok(Some(call));
+            }
+            taken = taken.saturating_add(piece.len());
+            call = call.saturating_add(1);
+        }
+    }
+    Ok(None)
+}
+
 #[test]
 fn a_read_that_fails_is_a_read_fault(rt: HostRuntime) -> Result<(), Fail> {
-    let alloc = rt.alloc();
-    for call in 1..=7 {
-        assert!(rt; stops_at_read(&rt, alloc, call)?);
-    }
-    let mut sink = FailingSink::with_room(alloc, ROOM, Vec::new(alloc))?;
-    assert_eq!(rt; served(&rt, alloc, &[8], &mut sink)?, Status::Done);
-    assert!(rt; sink.taken() == whole_text().as_bytes());
+    assert_eq!(rt; first_wrong_read(&rt, rt.alloc())?, None);
     Ok(())
 }
 
 // Each line is offered whole, so a sink without a step has taken the lines in front of the write that fails.
 #[test]
 fn a_line_that_fails_is_a_write_fault(rt: HostRuntime) -> Result<(), Fail> {
-    let alloc = rt.alloc();
-    let mut taken = 0;
-    let mut call = 1;
-    for line in whole_text().split_inclusive('\n') {
-        assert!(rt; stops_at_write(&rt, alloc, false, call, taken)?);
-        taken = taken.saturating_add(line.len());
-        call = call.saturating_add(1);
-    }
+    assert_eq!(rt; first_wrong_write(&rt, rt.alloc(), false)?, None);
     Ok(())
 }
 
 // A sink that takes 7 bytes at a time has taken the steps in front of the write that fails.
 #[test]
 fn a_step_that_fails_is_a_write_fault(rt: HostRuntime) -> Result<(), Fail> {
-    let alloc = rt.alloc();
-    let mut taken = 0;
-    let mut call = 1;
-    for line in whole_text().split_inclusive('\n') {
-        for step in line.as_bytes().chunks(7) {
-            assert!(rt; stops_at_write(&rt, alloc, true, call, taken)?);
-            taken = taken.saturating_add(step.len());
-            call = call.saturating_add(1);
-        }
-    }
+    assert_eq!(rt; first_wrong_write(&rt, rt.alloc(), true)?, None);
     Ok(())
 }

@@ -1,11 +1,11 @@
 // A gate that sees the requests of the clients, and can hold them.
+use crate::served::told;
 use bucket_terms::Placed;
 use client_run::Gate;
 use client_threads::{Runner, Threaded};
-use key_names::{Directory, NoMemory, Text};
-use outside_io::{MemSink, MemSource};
+use key_names::{Directory, NoMemory};
 use request_lines::Session;
-use serve_session::{Status, serve};
+use serve_session::Status;
 use shared_index::{PassKey, SharedIndex};
 use std::alloc::Global;
 use std::sync::Wait;
@@ -35,13 +35,13 @@ pub(super) enum Holds {
 
 // Counts the requests that come and those that are answered. A request that is held for too many turns goes on.
 #[derive(Drop)]
-pub(super) struct Watch {
-    pub(super) come: AtomicU32,
-    pub(super) answered: AtomicU32,
-    pub(super) given_up: AtomicBool,
+struct Watch {
+    come: AtomicU32,
+    answered: AtomicU32,
+    given_up: AtomicBool,
     // Whether it was told of an answer to another line than the one that came last from its client, or of a line that
     // came before that was answered, or of a client that the session does not have.
-    pub(super) astray: AtomicBool,
+    astray: AtomicBool,
     // For each client the line that has come and is not answered, or 0.
     at_work: Vec<AtomicU32>,
     // The last lines of clients 0 and 1 that were answered.
@@ -51,9 +51,6 @@ pub(super) struct Watch {
 }
 
 const MOST_TURNS: u32 = 1_000_000;
-
-// Room for all that a session of these tests writes.
-const AMPLE: usize = 100_000;
 
 impl Watch {
     fn new(alloc: Global, clients: usize, holds: Holds) -> Result<Watch, Fail> {
@@ -71,6 +68,17 @@ impl Watch {
             second_at: AtomicU32::new(0),
             holds,
         })
+    }
+
+    fn seen(&self, status: Status, is_wanted: bool) -> Seen {
+        Seen {
+            status,
+            is_wanted,
+            given_up: self.given_up.load(Ordering::SeqCst),
+            astray: self.astray.load(Ordering::SeqCst),
+            come: self.come.load(Ordering::SeqCst),
+            answered: self.answered.load(Ordering::SeqCst),
+        }
     }
 
     fn is_held(&self, client: u32, line: u32) -> bool {
@@ -164,11 +172,28 @@ impl Runner<Watch> for Threaded {
     }
 }
 
-// How serving ended, and what was written.
-#[derive(Drop)]
-pub(super) struct Ended {
-    pub(super) status: Status,
-    pub(super) sink: MemSink,
+// How serving ended, and what the gate saw of it.
+#[derive(Clone, Copy, Debug, PartialEq, Eq)]
+pub(super) struct Seen {
+    status: Status,
+    // Whether the text is the wanted one, where one is wanted.
+    is_wanted: bool,
+    given_up: bool,
+    astray: bool,
+    come: u32,
+    answered: u32,
+}
+
+// What is seen where so many requests are answered and nothing is wrong.
+pub(super) fn all_right(requests: u32) -> Seen {
+    Seen {
+        status: Status::Done,
+        is_wanted: true,
+        given_up: false,
+        astray: false,
+        come: requests,
+        answered: requests,
+    }
 }
 
 // Serves these words over this input, of so many clients, with the program's runner, and with a gate that holds these
@@ -177,30 +202,13 @@ pub(super) fn watched<Rt: Threads + Wait + Sync>(
     rt: &Rt,
     alloc: Global,
     words: &[&str],
-    input: Vec<u8>,
+    input: &[u8],
     clients: usize,
     holds: Holds,
-) -> Result<(Ended, Watch), Fail> {
-    let words = texts(alloc, words)?;
-    let mut source = MemSource::new(input);
-    let mut sink = MemSink::with_room(alloc, AMPLE)?;
+    wanted: Option<&str>,
+) -> Result<Seen, Fail> {
     let gate = Watch::new(alloc, clients, holds)?;
-    let status = serve(
-        rt,
-        alloc,
-        &words,
-        &mut source,
-        &mut sink,
-        &gate,
-        &mut Threaded::new(),
-    );
-    Ok((Ended { status, sink }, gate))
-}
-
-pub(super) fn texts(alloc: Global, words: &[&str]) -> Result<Vec<Text>, Fail> {
-    let mut texts = Vec::new(alloc);
-    for word in words {
-        texts.push(Text::of(alloc, word)?)?;
-    }
-    Ok(texts)
+    let mut runner = Threaded::new();
+    let (status, is_wanted) = told(rt, alloc, words, input, &gate, &mut runner, wanted)?;
+    Ok(gate.seen(status, is_wanted))
 }

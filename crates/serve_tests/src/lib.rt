@@ -14,4 +14,6 @@ mod others;
 #[cfg(test)]
 mod pools;
 #[cfg(test)]
+mod served;
+#[cfg(test)]
 mod sessions;

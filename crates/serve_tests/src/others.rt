@@ -1,11 +1,11 @@
 // A run over an index that was used before, and that another pass uses too.
-ghost use Rattle.std.specs.Prelude.{◌≡◌, ◌∷◌, [], IfOk, IfSome};
+ghost use Rattle.std.specs.Prelude.{◌≡◌, ◌∷◌, [], None, IfOk, IfSome};
 ghost use Rattle.bucket_terms.specs.PlainPass.{fresh};
 ghost use Rattle.shared_index.specs.Keys.{AreFresh, IsKeyOf};
 ghost use Rattle.shared_index.specs.Shown.{shown};
 ghost use Rattle.client_threads.specs.Sizes.{CanServe};
 
-use crate::sessions::session_of;
+use crate::sessions::{one_client, session_of};
 use bucket_terms::{KeyPass, Reply};
 use client_run::OpenGate;
 use client_threads::{Runner, Threaded};
@@ -18,12 +18,12 @@ use std::sync::Wait;
 use std::test::Fail;
 use std::thread::Threads;
 
-// The keys of an index of two passes.
-fn both(keys: Vec<PassKey>) -> Option<(PassKey, PassKey)>
-    ensures { IfSome result (λ two. keys.items ≡ two.0 ∷ two.1 ∷ []) }
+// The items of a list of two.
+fn both<T: Drop>(items: Vec<T>) -> Option<(T, T)>
+    ensures { IfSome result (λ two. items.items ≡ two.0 ∷ two.1 ∷ []) }
 {
-    let mut keys = keys;
-    let (Some(second), Some(first), None) = (keys.pop(), keys.pop(), keys.pop()) else {
+    let mut items = items;
+    let (Some(second), Some(first), None) = (items.pop(), items.pop(), items.pop()) else {
         return None;
     };
     Some((first, second))
@@ -76,22 +76,64 @@ fn found_over<Rt: Threads + Wait + Sync, R: Runner<OpenGate>>(
     Ok((placed.at, val))
 }
 
-// Pass 1 puts a value, and the runner has the key of pass 0 alone. A runner that answers from a replay of its own
-// session's updates finds nothing: no change of one line makes such a runner, so this test stands for the wrong body.
-#[test]
-fn an_index_that_others_use(rt: HostRuntime) -> Result<(), Fail> {
-    let alloc = rt.alloc();
+// The same, where another pass of the index has put a value before and stays.
+fn found_beside<P: KeyPass, Rt: Threads + Wait + Sync, R: Runner<OpenGate>>(
+    rt: &Rt,
+    alloc: Global,
+    runner: &mut R,
+    other: &mut P,
+    index: &SharedIndex,
+    key: PassKey,
+    size: PassSize,
+) -> Result<(Option<u64>, u64), Fail>
+    requires closed { (P.view other.old).opened ≡ None }
+    requires of { IsKeyOf index.now key }
+    requires fresh { shown key ≡ fresh 0 size }
+{
+    if other.put(rt, 1, 0, 7).is_err() {
+        return Err("no put")?;
+    }
+    let (session, dir) = session_of(alloc, one_client().as_bytes())?;
+    found_over(rt, alloc, runner, index, key, size, &session, &dir)
+}
+
+// The same, with the keys of both passes and the runner of the program.
+fn found_by_threads<Rt: Threads + Wait + Sync>(
+    rt: &Rt,
+    alloc: Global,
+    index: &SharedIndex,
+    key: PassKey,
+    other: PassKey,
+    size: PassSize,
+) -> Result<(Option<u64>, u64), Fail>
+    requires of { IsKeyOf index.now key }
+    requires other { IsKeyOf index.now other }
+    requires fresh { shown key ≡ fresh 0 size }
+{
+    let mut pass = index.attach(other);
+    let mut runner = Threaded::new();
+    found_beside(rt, alloc, &mut runner, &mut pass, index, key, size)
+}
+
+// The same, in an index of two passes.
+fn found_in_an_index<Rt: Threads + Wait + Sync>(
+    rt: &Rt,
+    alloc: Global,
+) -> Result<(Option<u64>, u64), Fail> {
     let size = PassSize {
         nodes: 4,
         entries: 16,
         calls: 8,
     };
     let (index, key, other) = two_passes(alloc, size)?;
-    let mut pass = index.attach(other);
-    assert!(rt; pass.put(&rt, 1, 0, 7).is_ok());
-    let (session, dir) = session_of(alloc, b"CLIENT\nHEAD a\n")?;
-    let mut runner = Threaded::new();
-    let found = found_over(&rt, alloc, &mut runner, &index, key, size, &session, &dir)?;
+    found_by_threads(rt, alloc, &index, key, other, size)
+}
+
+// Pass 1 puts a value, and the runner has the key of pass 0 alone. A runner that answers from a replay of its own
+// session's updates finds nothing: no change of one line makes such a runner, so this test stands for the wrong body.
+#[test]
+fn an_index_that_others_use(rt: HostRuntime) -> Result<(), Fail> {
+    let found = found_in_an_index(&rt, rt.alloc())?;
     assert_eq!(rt; found, (Some(1), 7));
     Ok(())
 }

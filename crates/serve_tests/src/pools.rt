@@ -1,13 +1,14 @@
 // Clients that hand node slots to one another, through the top call.
-use crate::gates::{Held, Holds, watched};
-use serve_session::Status;
-use std::sync::atomic::Ordering;
+use crate::gates::{Held, Holds, Seen, all_right, watched};
+use std::alloc::Global;
+use std::sync::Wait;
 use std::test::Fail;
+use std::thread::Threads;
 
 // Client 0 has used up its two slots before line 4, and client 1 has one to spare behind line 6. No contract tells
 // these texts to the tests, so that they are not computed when those are checked.
-fn handed_over() -> &'static [u8] {
-    b"CLIENT\nPUT a 1 e1 1\nPUT b 2 e2 2\nPUT c 3 e3 3\nCLIENT\nDELETE a\n"
+fn handed_over() -> &'static str {
+    "CLIENT\nPUT a 1 e1 1\nPUT b 2 e2 2\nPUT c 3 e3 3\nCLIENT\nDELETE a\n"
 }
 
 fn behind_the_deleted() -> &'static str {
@@ -22,8 +23,8 @@ fn behind_the_deleted() -> &'static str {
         {\"Updates\":4}\n"
 }
 
-fn handed_over_once() -> &'static [u8] {
-    b"CLIENT\nPUT a 1 e1 1\nPUT b 2 e2 2\nPUT c 3 e3 3\nPUT d 4 e4 4\nCLIENT\nDELETE a\n"
+fn handed_over_once() -> &'static str {
+    "CLIENT\nPUT a 1 e1 1\nPUT b 2 e2 2\nPUT c 3 e3 3\nPUT d 4 e4 4\nCLIENT\nDELETE a\n"
 }
 
 fn behind_the_last() -> &'static str {
@@ -39,6 +40,10 @@ fn behind_the_last() -> &'static str {
         {\"Updates\":4}\n"
 }
 
+fn two_of_one_slot() -> &'static str {
+    "CLIENT\nPUT a 1 e1 1\nPUT b 2 e2 2\nDELETE a\nHEAD a\n"
+}
+
 fn of_few_slots() -> &'static str {
     "{\"At\":1,\"Client\":0,\"Line\":2,\"Replaced\":false,\"Status\":200}\n\
         {\"At\":null,\"Client\":0,\"Line\":3,\"Status\":503}\n\
@@ -52,48 +57,45 @@ fn of_few_slots() -> &'static str {
 // the depot: without one it is answered by 503, and no contract of the top call says that there is one.
 #[test]
 fn a_client_uses_the_slot_that_another_frees(rt: HostRuntime) -> Result<(), Fail> {
-    let alloc = rt.alloc();
     let holds = Holds::Both {
         first: Held { line: 4, until: 6 },
         second: Held { line: 6, until: 3 },
     };
-    let input = handed_over().to_vec(alloc)?;
-    let (ended, gate) = watched(&rt, alloc, &["run", "--pool", "2"], input, 2, holds)?;
-    assert_eq!(rt; ended.status, Status::Done);
-    assert_eq!(rt; gate.given_up.load(Ordering::SeqCst), false);
-    assert_eq!(rt; gate.astray.load(Ordering::SeqCst), false);
-    assert!(rt; ended.sink.taken() == behind_the_deleted().as_bytes());
+    let words = ["run", "--pool", "2"];
+    let text = Some(behind_the_deleted());
+    let input = handed_over().as_bytes();
+    let seen = watched(&rt, rt.alloc(), &words, input, 2, holds, text)?;
+    assert_eq!(rt; seen, all_right(4));
     Ok(())
 }
 
 // The same with one PUT more: one slot was handed over, so this one finds none, neither of its own nor in the depot.
 #[test]
 fn a_slot_is_handed_over_once(rt: HostRuntime) -> Result<(), Fail> {
-    let alloc = rt.alloc();
     let holds = Holds::Both {
         first: Held { line: 4, until: 7 },
         second: Held { line: 7, until: 3 },
     };
-    let input = handed_over_once().to_vec(alloc)?;
-    let (ended, gate) = watched(&rt, alloc, &["run", "--pool=2"], input, 2, holds)?;
-    assert_eq!(rt; ended.status, Status::Done);
-    assert_eq!(rt; gate.given_up.load(Ordering::SeqCst), false);
-    assert!(rt; ended.sink.taken() == behind_the_last().as_bytes());
+    let words = ["run", "--pool=2"];
+    let text = Some(behind_the_last());
+    let input = handed_over_once().as_bytes();
+    let seen = watched(&rt, rt.alloc(), &words, input, 2, holds, text)?;
+    assert_eq!(rt; seen, all_right(5));
     Ok(())
+}
+
+// What the gate sees of one client with one slot, which this word gives.
+fn alone<Rt: Threads + Wait + Sync>(rt: &Rt, alloc: Global, slots: &str) -> Result<Seen, Fail> {
+    let input = two_of_one_slot().as_bytes();
+    let text = Some(of_few_slots());
+    watched(rt, alloc, &["run", slots], input, 1, Holds::Nothing, text)
 }
 
 // One client alone finds nothing in the depot, and is answered as without one.
 #[test]
 fn a_client_alone_is_answered_as_without_a_pool(rt: HostRuntime) -> Result<(), Fail> {
     let alloc = rt.alloc();
-    for words in [
-        ["run", "--pool=1"].as_slice(),
-        ["run", "--slots=1"].as_slice(),
-    ] {
-        let input = b"CLIENT\nPUT a 1 e1 1\nPUT b 2 e2 2\nDELETE a\nHEAD a\n".to_vec(alloc)?;
-        let (ended, _gate) = watched(&rt, alloc, words, input, 1, Holds::Nothing)?;
-        assert_eq!(rt; ended.status, Status::Done);
-        assert!(rt; ended.sink.taken() == of_few_slots().as_bytes());
-    }
+    assert_eq!(rt; alone(&rt, alloc, "--pool=1")?, all_right(4));
+    assert_eq!(rt; alone(&rt, alloc, "--slots=1")?, all_right(4));
     Ok(())
 }

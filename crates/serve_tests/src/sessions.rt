@@ -8,6 +8,11 @@ use request_lines::{MAX_INPUT_BYTES, Session, read_session};
 use std::alloc::Global;
 use std::test::Fail;
 
+// A client that asks for one name.
+pub(super) fn one_client() -> &'static str {
+    "CLIENT\nHEAD a\n"
+}
+
 // The session of this text, and the directory that has its names.
 pub(super) fn session_of(alloc: Global, text: &[u8]) -> Result<(Session, Directory), Fail>
     ensures { IfOk result (λ s. CanServe s.1 s.0) }
@@ -29,9 +34,9 @@ fn with_directory(mut session: Session) -> Result<(Session, Directory), Fail>
     requires small { IsSmall session }
     ensures { IfOk result (λ s. CanServe s.1 s.0) }
 {
-    let dir = session.take_directory();
     if session.clients.is_empty() {
         return Err("no client")?;
     }
+    let dir = session.take_directory();
     Ok((session, dir))
 }
