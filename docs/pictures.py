@@ -253,9 +253,11 @@ def session():
     stage(620, 226, "lines", ["of JSON"])
     stage(620, 324, "bytes", ["of the output"], "key")
     p.text(98, 20, "read_all", "t m", 11)
-    for x, y, name in [(98, 92, "read_session"), (98, 190, "take_directory"), (702, 92, ""), (702, 190, ""), (702, 288, "write_all")]:
+    for x, y, name in [(98, 92, "read_session_ on_threads"), (98, 190, "take_directory"), (702, 92, ""), (702, 190, ""), (702, 288, "write_all")]:
         p.arrow(x, y, x, y + 36)
-        p.text(x + 8, y + 21, name, "t m", 11, "start")
+        words = name.split()
+        for at, word in enumerate(words):
+            p.text(x + 8, y + 21 + 13 * at - 6 * (len(words) > 1), word, "t m", 11, "start")
 
     # The index, with a pass for each client: the clients part at the left, and come together at the right.
     p.box(266, 30, 294, 226, "dash")

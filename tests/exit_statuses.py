@@ -42,6 +42,8 @@ ROWS = [
     (["check"], CHECKED, None, 0, "", True),
     (["check", "--slots", "1"], CHECKED, None, 0, "", True),
     (["check", "--slots=1"], CHECKED, None, 0, "", True),
+    (["check", "--slots", "8192"], CHECKED, None, 0, "", True),
+    (["check", "--slots=8192"], CHECKED, None, 0, "", True),
     (["check"], CHECKED.replace(b"404", b"403"), None, 8, "bucketidx: wrong line 1\n", True),
     (["check", "now"], CHECKED, None, 2, "bucketidx: bad words\n", False),
     (["check", "--slots=0"], CHECKED, None, 2, "bucketidx: bad words\n", False),

@@ -234,10 +234,11 @@ SLOTS = [
 
 # A token without a bound is `K` and a key or `P` and a common prefix, in URL-safe base64 without padding. These are of
 # `Pa/`, `Ka`, `Kb`, `Ka?`, `Ka>` and `Ké€𝄞`; and the others: padding, bits left over, a letter alone, another letter, symbols
-# of another alphabet, a space, bytes that are no text. A key has 1,024 bytes at most.
+# of another alphabet, a space, bytes that are no text, `2` alone, `2P00000001/a/` of a listing with a delimiter. A key has
+# 1,024 bytes at most.
 TOKENS = [(token, True) for token in ["UGEv", "S2E", "S2I", "S2E_", "S2E-", "S8Op4oKs8J2Eng"]]
 TOKENS += [(base64url(b"K" + b"k" * 1024), True), (base64url(b"K" + b"k" * 1025), False)]
-TOKENS += [(token, False) for token in ["UGEv=", "S2F", "UA", "Sw", "WGE", "S2E+", "S2E/", "S2E%20", "S_8", "Mg"]]
+TOKENS += [(token, False) for token in ["UGEv=", "S2F", "UA", "Sw", "WGE", "S2E+", "S2E/", "S2E%20", "S_8", "Mg", "MlAwMDAwMDAwMS9hLw"]]
 
 # A token with a bound: `2` and the letter; the prefix and the delimiter of its listing, each behind its length in bytes as
 # four digits; and the key or the common prefix. Here by the prefix and the delimiter of the LIST that has it, whether it

@@ -4,11 +4,20 @@
     tests/sample_inputs.py PROGRAM [--most N]
 
 PROGRAM prints the input for the number of requests that its word says. It is run for each number from 1 to 300 (or to
-N), and for 40,000.
+N), and for 40,000. For 5 requests of each client the lines are also written by hand.
 """
 import argparse
 import subprocess
 import sys
+
+FIVE = """CLIENT
+PUT %s/0000 0 e 0
+PUT %s/0389 1 e 1
+DELETE %s/0778
+LIST prefix=%s/&max-keys=100
+PUT %s/0555 4 e 4
+"""
+BY_HAND = "".join(FIVE.replace("%s", name) for name in ("s0", "s1", "s2", "s3")).encode()
 
 
 def line(client, i):
@@ -29,6 +38,8 @@ def main():
     parser.add_argument("program")
     parser.add_argument("--most", type=int, default=300)
     args = parser.parse_args()
+    if model(5) != BY_HAND:
+        sys.exit("the model differs from the lines written by hand for 5")
     numbers = [*range(1, args.most + 1), 40000]
     for n in numbers:
         ran = subprocess.run([args.program, str(n)], capture_output=True)

@@ -18,7 +18,7 @@ BY_HAND = {
     7: b'{"Keys":16,"Listed":8,"Requests":28,"Updates":16}\n',
     1003: b'{"Keys":2000,"Listed":90200,"Requests":4012,"Updates":2012}\n',
 }
-OTHERS = [2, 3, 4, 5, 8, 100, 403, 2000]
+OTHERS = [2, 3, 4, 5, 8, 100, 403, 2000, 40000]
 BAD_WORDS = [
     "", "sample", "sample 0", "sample 00", "sample 01", "sample 007", "sample 40001", "sample 4294967297", "sample +1",
     "sample -1", "sample 1x", "sample x", "sample 1 1", "sample -- 1", "sample --help", "sample -h", "sample --number 1",
@@ -32,6 +32,8 @@ BAD_WORDS = [
     "run --pool", "run --pool=", "run --pool 0", "run --pool=0", "run --pool 8193", "run --pool=8193", "run --pool=01", "run --pool +1",
     "run --pools=1", "run --poo 1", "run --pool1", "run --pool 1 1", "run --pool 1 --pool 1", "run --pool=1 --", "--pool 1 run",
     "run --slots 1 --pool 1", "run --pool=1 --slots=1", "run --slots --pool 1", "check --pool 1", "check --pool=1", "sample --pool 1",
+    "run --slots=1 --slots=1", "run --pool 1 --slots 1", "run --slots=1 --pool=1", "check --slots", "check --slots 8193", "check run",
+    "sample --slots=1",
 ]
 
 

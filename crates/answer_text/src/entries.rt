@@ -71,7 +71,7 @@ fn push_prefix_of(
     match entry {
         PageEntry::Key { .. } => Ok(later),
         PageEntry::Group { rank, len } => {
-            let name = dir.name(rank).as_str();
+            let name = dir.name(u64::from(rank)).as_str();
             let prefix = shown(*out.allocator(), url, &name[..len as usize])?;
             push_comma(out, later)?;
             push_prefix(out, prefix.as_str())?;
@@ -98,7 +98,7 @@ fn push_content_of(
 {
     match entry {
         PageEntry::Key { rank, val } => {
-            push_key(out, later, dir, records, texts, url, rank, val)?;
+            push_key(out, later, dir, records, texts, url, u64::from(rank), val)?;
             Ok(true)
         }
         PageEntry::Group { .. } => Ok(later),

@@ -88,7 +88,13 @@ impl EntryTexts {
         ensures right { OnOk result (AreRight dir.now records.now self.new) }
     {
         match *entry {
-            PageEntry::Key { rank, val } => self.keep_key(alloc, dir, records, rank, val),
+            PageEntry::Key { rank, val } => self.keep_key(
+                alloc,
+                dir,
+                records,
+                u64::from(rank),
+                val,
+            ),
             PageEntry::Group { .. } => Ok(()),
         }
     }

@@ -4,14 +4,14 @@ use key_map::Items;
 use key_names::{Directory, NoMemory, Text};
 use std::alloc::Global;
 
-/// One return of a listing.
+/// One return of a listing. It takes 16 bytes: a page may have 1,000, and a rank has 32 bits in every directory.
 #[derive(Clone, Copy, Debug, PartialEq, Eq)]
 pub enum PageEntry {
     /// A key, by the rank of its name, with its value.
-    Key { rank: u64, val: u64 },
+    Key { rank: u32, val: u64 },
     /// A common prefix: the first `len` bytes of the name at `rank`, which is the first listed name of
     /// the group.
-    Group { rank: u64, len: u64 },
+    Group { rank: u32, len: u32 },
 }
 
 impl PageEntry {
@@ -29,9 +29,11 @@ impl PageEntry {
         // the call's clauses tell the proof that the names are fine
         let _names = dir.len();
         match *self {
-            PageEntry::Key { rank, .. } => Ok(TokenPoint::Key(dir.name(rank).copy(alloc)?)),
+            PageEntry::Key { rank, .. } => Ok(TokenPoint::Key(
+                dir.name(u64::from(rank)).copy(alloc)?,
+            )),
             PageEntry::Group { rank, len } => {
-                let name = dir.name(rank).as_str();
+                let name = dir.name(u64::from(rank)).as_str();
                 Ok(TokenPoint::Group(Text::of(alloc, &name[..len as usize])?))
             }
         }

@@ -7,3 +7,4 @@ pub mod Threads
 pub mod Sums
 pub mod SlotsSuffice
 pub mod Depots
+pub mod KeySets

@@ -7,3 +7,4 @@ pub mod Threads
 pub mod Pools
 pub mod Depots
 pub mod Behind
+pub mod KeySets

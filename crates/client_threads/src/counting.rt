@@ -1,15 +1,19 @@
 // The numbers of a run's summary.
-ghost use Rattle.std.specs.Prelude.{◌≡◌, ◌<◌, ◌^◌, length, sum_by, IfOk};
-ghost use Rattle.key_map.specs.History.{after};
+ghost use Rattle.std.specs.Prelude.{◌≡◌, ◌<◌, ◌^◌, List, length, sum_by, IfOk, OnOk};
+ghost use Rattle.key_map.specs.declared.pair.Pair.{Pair};
+ghost use Rattle.key_map.specs.History.{after, updated};
+ghost use Rattle.key_map.specs.Map.{IsMap};
 ghost use Rattle.sample_laws.specs.Totals as spec;
 ghost use Rattle.sample_laws.specs.Totals.{listed_by, listed_in};
+ghost use Rattle.client_threads.specs.KeySets.{HasKeysOf};
 
 use crate::runner::Runner;
 use bucket_terms::{Placed, Reply, Summary};
 use client_run::Gate;
-use key_map::{PlainMap, Update};
+use key_map::{Change, Update};
 use key_names::NoMemory;
 use std::alloc::Global;
+use std::collections::HashSet;
 
 /// The summary of a run: the runner's replies and the updates, which are all of the run.
 pub fn summary_of<G: Gate + Sync, R: Runner<G>>(
@@ -34,13 +38,30 @@ pub fn summary_of<G: Gate + Sync, R: Runner<G>>(
     })
 }
 
-// How many keys the map has after all updates.
+// How many keys the map has after all updates. Their values are not kept.
 fn keys_after(alloc: Global, updates: &[Update]) -> Result<u64, NoMemory>
     ensures { IfOk result (λ keys. keys ≡ length (after updates.now (length updates.now))) }
 {
-    match PlainMap::replayed(alloc, updates) {
-        Ok(map) => Ok(map.pairs().len() as u64),
-        Err(_) => Err(NoMemory),
+    let mut keys = HashSet::new(alloc);
+    for update in updates {
+        change_keys(&mut keys, update)?;
+    }
+    Ok(keys.len() as u64)
+}
+
+// Makes an update's change to the keys of a map.
+fn change_keys(keys: &mut HashSet<u64>, update: &Update) -> Result<(), NoMemory>
+    ensures { OnOk result ((m : List Pair) → IsMap m → HasKeysOf m keys.old → HasKeysOf (updated m update.now) keys.new) }
+{
+    match update.change {
+        Change::Put(_) => match keys.insert(update.key) {
+            Ok(_) => Ok(()),
+            Err(_) => Err(NoMemory),
+        },
+        Change::Remove => {
+            keys.remove(&update.key);
+            Ok(())
+        }
     }
 }
 

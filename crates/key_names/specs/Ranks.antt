@@ -2,12 +2,13 @@
 -- Where names stand in a directory against a text.
 use Rattle.std.specs.Prelude.{◌≡◌, ℕ, ◌<◌, ◌≤◌, ◌↔◌, Bool, ◌||◌, IsTrue, nat_lt, List, length, All}
 use Rattle.std.specs.Ordering.{is_lt, is_le}
-use Rattle.key_names.specs.Names.{byte_order, IsFine, Rises, name_at, begins_with}
+use Rattle.key_names.specs.Names.{byte_order, IsFine, Rises, name_at, begins_with, most_names}
 
--- a directory: fine names that rise strictly
+-- a directory: fine names that rise strictly, not too many
 pub record IsDirectory (names : List (List ℕ)) : Type 0 where
   pub rising : Rises names
   pub fine : All IsFine names
+  pub few : length names ≤ most_names
 
 -- whether the name is below the bytes, and whether it is at most the bytes
 abbrev pub is_before : List ℕ → List ℕ → Bool

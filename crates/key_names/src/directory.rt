@@ -1,6 +1,6 @@
 // The sorted list of a session's names. A name's rank stands for it everywhere above.
-ghost use Rattle.std.specs.Prelude.{◌≡◌, ◌<◌, length, All, Contains, count_by, IfOk, IfErr, OnErr, IsErrOf, MatchOption};
-ghost use Rattle.key_names.specs.Names.{byte_order, IsFine, Rises, HoldsEachOnce, IsRank, name_at};
+ghost use Rattle.std.specs.Prelude.{◌≡◌, ◌<◌, ◌≤◌, length, All, Contains, count_by, IfOk, IfErr, OnErr, IsErrOf, MatchOption};
+ghost use Rattle.key_names.specs.Names.{byte_order, IsFine, Rises, HoldsEachOnce, IsRank, name_at, most_names};
 ghost use Rattle.key_names.specs.Ranks.{is_before, is_upto, is_upto_prefix, StandFirst, StandTogether};
 ghost use Rattle.key_names.specs.Refusal.{IsRefusal};
 
@@ -11,6 +11,9 @@ use std::marker::Model;
 
 /// The most bytes of a name: Amazon S3's limit for an object key.
 pub const MAX_NAME_BYTES: usize = 1024;
+
+/// The most names of a directory, so that a rank has 32 bits.
+pub const MAX_NAMES: usize = 4_294_967_295;
 
 /// Names that rise strictly in byte order. The place of a name, from 0, is its rank.
 #[derive(Debug, Drop)]
@@ -31,7 +34,8 @@ impl Model for Directory {
 
 impl Directory {
     /// The directory of these names, each of which may be given more than once. They are sorted in place, so
-    /// the allocator is not asked for memory, and `NoMemory` does not come.
+    /// the allocator is not asked for memory, and `NoMemory` does not come. The first faulty name is told, and only where
+    /// there is none `TooMany`.
     ///
     /// ```
     /// let names = vec![in alloc; Text::of(alloc, "b")?, Text::of(alloc, "a/1")?, Text::of(alloc, "b")?]?;
@@ -46,9 +50,11 @@ impl Directory {
         ensures in_place { ¬ (IsErrOf result NamesError.NoMemory) }
     {
         check_names(&names)?;
-        Ok(Directory {
-            names: sorted_once(names),
-        })
+        let names = sorted_once(names);
+        if names.len() > MAX_NAMES {
+            return Err(NamesError::TooMany);
+        }
+        Ok(Directory { names })
     }
 
     /// The number of names.
@@ -56,6 +62,7 @@ impl Directory {
         ensures count { result ≡ length self.now }
         ensures rising { Rises self.now }
         ensures fine { All IsFine self.now }
+        ensures few { length self.now ≤ most_names }
     {
         self.names.len() as u64
     }

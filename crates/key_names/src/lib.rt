@@ -8,7 +8,7 @@ mod names_error;
 mod no_memory;
 mod text;
 
-pub use directory::{Directory, MAX_NAME_BYTES};
+pub use directory::{Directory, MAX_NAME_BYTES, MAX_NAMES};
 pub use names_error::NamesError;
 pub use no_memory::NoMemory;
 pub use text::Text;

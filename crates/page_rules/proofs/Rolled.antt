@@ -1,7 +1,9 @@
 -- What is left of a list of entries behind its first one.
-use Rattle.std.proofs.Common.{◌≡◌, Bool, true, false, not, cond, ◌&&◌, List, [], ◌∷◌, map, filter, refl, sym, ◌∙◌, ap, inl, inr}
+use Rattle.std.proofs.Common.{◌≡◌, ℕ, ◌+◌, ◌<◌, Bool, true, false, not, cond, ◌&&◌, List, [], ◌∷◌, ◌++◌, length, get_or, take, map, filter, refl, sym, ◌∙◌, ap, inl, inr}
 use Rattle.std.specs.List.{dedup, dedup_from}
 use Rattle.std.proofs.lemmas.Bool.{cases_Bool}
+use Rattle.std.proofs.lemmas.List.{take_more, map-append}
+use Rattle.std.proofs.lemmas.List.Elements.{filter-append}
 
 module _ {X : Type 0} (under : X → Bool) where
   filter_skip : (x : X) (xs : List X) → under x ≡ false → (b : Bool) → filter under (cond b (x ∷ xs) xs) ≡ filter under xs
@@ -30,6 +32,15 @@ module _ {X : Type 0} (under : X → Bool) where
             ]
         | inr out ↦ filter_skip x (filter p xs) out (p x) ∙ (rest ∙ sym (filter_skip x (filter q xs) out (q x)))
       ]
+
+-- what `f` gives of the items with one more
+pub map-filters-more : {X Y : Type 0} (admitted under : X → Bool) (f : X → Y) (xs : List X) (k : ℕ) (d : X) → k < length xs
+    → map f (filter under (filter admitted (take (k + 1) xs))) ≡ map f (filter under (filter admitted (take k xs))) ++ map f (filter under (filter admitted (get_or xs k d ∷ [])))
+map-filters-more admitted under f xs k d below =
+    ap (λ l. map f (filter under (filter admitted l))) (take_more xs k d below)
+    ∙ ap (λ l. map f (filter under l)) (filter-append admitted (take k xs) (get_or xs k d ∷ []))
+    ∙ ap (map f) (filter-append under (filter admitted (take k xs)) (filter admitted (get_or xs k d ∷ [])))
+    ∙ map-append f (filter under (filter admitted (take k xs))) (filter under (filter admitted (get_or xs k d ∷ [])))
 
 module _ {X : Type 0} (under admitted : X → Bool) where
   -- each listed item is admitted

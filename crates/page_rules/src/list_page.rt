@@ -1,4 +1,4 @@
-ghost use Rattle.std.specs.Prelude.{◌≡◌, IfOk, map, filter};
+ghost use Rattle.std.specs.Prelude.{◌≡◌, [], ◌∷◌, ◌++◌, IfOk, OnOk, map, filter};
 ghost use Rattle.std.specs.Option.{option_copied};
 ghost use Rattle.key_names.specs.Names.{name_at};
 ghost use Rattle.key_map.specs.Map.{IsMap};
@@ -82,11 +82,27 @@ fn listed(
     ensures { IfOk result (λ entries. entries.items ≡ map (entry_of dir.now query.now) (filter (is_under dir.now query.now)
         (filter (λ p. is_admitted query.now (option_copied point.entry) (name_at dir.now p.key)) list.now))) }
 {
-    Ok(
-        list.iter()
-            .filter(|pair| is_admitted(query, point, name_at(dir, pair.key)))
-            .filter(|pair| is_under(dir, query, pair))
-            .map(|pair| entry_of(dir, query, pair))
-            .collect(alloc)?,
-    )
+    let mut entries = Vec::new(alloc);
+    for pair in list {
+        push_listed(&mut entries, dir, query, point, pair)?;
+    }
+    Ok(entries)
+}
+
+// Adds the entry of the pair where it is listed.
+fn push_listed(
+    entries: &mut Vec<PageEntry>,
+    dir: &Directory,
+    query: &ListQuery,
+    point: Option<&TokenPoint>,
+    pair: &Pair,
+) -> Result<(), NoMemory>
+    ensures { OnOk result (entries.new.items ≡ entries.old.items ++ map (entry_of dir.now query.now) (filter (is_under dir.now query.now)
+        (filter (λ p. is_admitted query.now (option_copied point.entry) (name_at dir.now p.key)) (pair.now ∷ [])))) }
+{
+    if !is_admitted(query, point, name_at(dir, pair.key)) || !is_under(dir, query, pair) {
+        return Ok(());
+    }
+    entries.push(entry_of(dir, query, pair))?;
+    Ok(())
 }

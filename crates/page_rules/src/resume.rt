@@ -29,7 +29,7 @@ pub(crate) fn rank_behind(dir: &Directory, query: &ListQuery, entry: &PageEntry)
     // the call's clauses tell the proof that the names rise
     let _names = dir.len();
     match *entry {
-        PageEntry::Key { rank, .. } => rank + 1,
+        PageEntry::Key { rank, .. } => u64::from(rank) + 1,
         PageEntry::Group { rank, len } => dir.past_prefix(group_text(dir, rank, len)),
     }
 }

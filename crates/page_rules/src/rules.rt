@@ -42,27 +42,30 @@ pub(crate) fn is_under(dir: &Directory, query: &ListQuery, pair: &Pair) -> bool
     pair.key < dir.len() && name_at(dir, pair.key).starts_with(query.prefix.bytes())
 }
 
-/// The entry of a pair: the common prefix into which its name is rolled up, or else its key.
+/// The entry of a pair whose key is a rank: the common prefix into which its name is rolled up, or else its key.
 #[inline(always)]
 pub(crate) fn entry_of(dir: &Directory, query: &ListQuery, pair: &Pair) -> PageEntry
+    requires { pair.now.key < length dir.now }
     ensures entry { result ≡ entry_of dir.now query.now pair.now }
-    ensures in_range { pair.now.key < length dir.now → IsEntryInRange dir.now result }
+    ensures in_range { IsEntryInRange dir.now result }
 {
-    // the calls' clauses tell the proof that names and delimiter are UTF-8, so a group ends a character
+    // the calls' clauses tell the proof that ranks have 32 bits, that names are short, and that names and delimiter are
+    // UTF-8, so a group ends a character
     let _names = dir.len();
+    let rank = pair.key as u32;
     if query.delimiter.bytes().is_empty() {
         return PageEntry::Key {
-            rank: pair.key,
+            rank,
             val: pair.val,
         };
     }
     match group_len(query, name_at(dir, pair.key)) {
         Some(len) => PageEntry::Group {
-            rank: pair.key,
-            len,
+            rank,
+            len: len as u32,
         },
         None => PageEntry::Key {
-            rank: pair.key,
+            rank,
             val: pair.val,
         },
     }
@@ -92,10 +95,10 @@ fn is_above(name: &[u8], other: &[u8]) -> bool
 }
 
 // The first `len` bytes of the name at a rank.
-pub(crate) fn group_text(dir: &Directory, rank: u64, len: u64) -> &[u8]
+pub(crate) fn group_text(dir: &Directory, rank: u32, len: u32) -> &[u8]
     ensures { result.now ≡ take len (name_at dir.now rank) }
 {
-    let name = name_at(dir, rank);
+    let name = name_at(dir, u64::from(rank));
     name.get(..len as usize).unwrap_or(name)
 }
 

@@ -7,8 +7,6 @@ mod gates;
 #[cfg(test)]
 mod lines;
 #[cfg(test)]
-mod markers;
-#[cfg(test)]
 mod names;
 #[cfg(test)]
 mod pages;
@@ -20,7 +18,3 @@ mod sessions;
 mod steps;
 #[cfg(test)]
 mod streams;
-#[cfg(test)]
-mod tokens;
-#[cfg(test)]
-mod words;

@@ -15,181 +15,212 @@ enum Row {
     Put(u32, u64, u64, Result<Done, PassError>),
     PutNew(u32, u64, u64, Result<New, PassError>),
     Remove(u32, u64, Result<Done, PassError>),
-    /// The place of a snapshot, and its first pair from a key on.
+    /// A key, the place of a snapshot, and its first pair from the key on.
     First(u64, u64, Option<Pair>),
-}
-
-const fn done(at: u64, was: bool) -> Result<Done, PassError> {
-    Ok(Done { at, was })
-}
-
-const fn pair(key: u64, val: u64) -> Option<Pair> {
-    Some(Pair { key, val })
+    /// The number of the pass.
+    Client(u32),
 }
 
 /// Makes the row's call, and tells whether it has the row's answer.
-fn has_answer<R: Wait>(pass: &mut PlainPass, rt: &R, row: &Row) -> bool
-    requires { pass.old.opened ≡ None }
-    ensures { pass.new.opened ≡ None }
+fn has_answer<P: KeyPass, R: Wait>(rt: &R, pass: &mut P, row: &Row) -> bool
+    requires { (P.view pass.old).opened ≡ None }
+    ensures { (P.view pass.new).opened ≡ None }
 {
     match *row {
         Row::Put(line, key, val, answer) => put(rt, pass, line, key, val) == answer,
         Row::PutNew(line, key, val, answer) => put_new(rt, pass, line, key, val) == answer,
         Row::Remove(line, key, answer) => remove(rt, pass, line, key) == answer,
-        Row::First(key, at, answer) => {
-            let (found, first) = snapshot(rt, pass, key);
-            found == at && first == answer
-        }
+        Row::First(key, at, first) => snapshot(rt, pass, key) == (at, first),
+        Row::Client(number) => pass.client() == number,
     }
 }
 
-/// How many rows, from the first one on, have their answers from a pass of this number with so many node slots, entry
-/// slots and calls.
-fn answered<R: Wait>(
-    rt: &R,
-    alloc: Global,
+/// Whether each of the rows has its answer.
+fn have_answers<P: KeyPass, R: Wait>(rt: &R, pass: &mut P, rows: &[Row]) -> bool
+    requires { (P.view pass.old).opened ≡ None }
+{
+    'rows: for row in rows {
+        if !has_answer(rt, pass, row) {
+            return false;
+        }
+    }
+    true
+}
+
+/// A fact, and the rows that show it, of a pass with so many node slots, entry slots and calls.
+#[derive(Clone, Copy)]
+struct Story {
+    fact: &'static str,
     size: (u32, u32, u32),
-    rows: &[Row],
-) -> Result<usize, Fail> {
-    let (nodes, entries, calls) = size;
-    let size = PassSize {
+    rows: &'static [Row],
+}
+
+fn size_of(story: &Story) -> PassSize {
+    let (nodes, entries, calls) = story.size;
+    PassSize {
         nodes,
         entries,
         calls,
-    };
-    let mut pass = PlainPass::new(alloc, 7, size)?;
-    'rows: for (place, row) in rows.iter().enumerate() {
-        if !has_answer(&mut pass, rt, row) {
-            return Ok(place);
+    }
+}
+
+/// The fact of the first story whose rows do not have their answers.
+fn first_wrong<R: Wait>(rt: &R, alloc: Global) -> Result<Option<&'static str>, Fail> {
+    for story in STORIES {
+        let mut pass = PlainPass::new(alloc, 7, size_of(&story))?;
+        if !have_answers(rt, &mut pass, story.rows) {
+            return Ok(Some(story.fact));
         }
     }
-    Ok(rows.len())
-}
-
-const NO_SLOT: PassError = PassError::NoSlot;
-
-const SPENT: PassError = PassError::Spent;
-
-#[test]
-fn answers_a_story_of_updates_and_snapshots(rt: HostRuntime) -> Result<(), Fail> {
-    let rows = [
-        Row::First(0, 0, None),
-        Row::Put(1, 5, 50, done(1, false)),
-        Row::Put(2, 2, 20, done(2, false)),
-        Row::Put(3, 5, 51, done(3, true)),
-        // a removal of a key that is not there makes no update
-        Row::Remove(4, 7, done(3, false)),
-        Row::First(0, 3, pair(2, 20)),
-        Row::First(3, 3, pair(5, 51)),
-        Row::First(5, 3, pair(5, 51)),
-        Row::First(6, 3, None),
-        Row::Remove(5, 2, done(4, true)),
-        Row::First(0, 4, pair(5, 51)),
-    ];
-    assert_eq!(rt; answered(&rt, rt.alloc(), (3, 4, 10_000), &rows)?, 11);
-    Ok(())
+    Ok(None)
 }
 
 #[test]
-fn wants_a_node_slot_for_every_update(rt: HostRuntime) -> Result<(), Fail> {
-    let rows = [
-        Row::Put(1, 5, 50, done(1, false)),
-        Row::Put(2, 6, 60, Err(NO_SLOT)),
-        Row::Put(3, 5, 51, Err(NO_SLOT)),
-        Row::Remove(4, 5, Err(NO_SLOT)),
-        Row::Remove(5, 6, Err(NO_SLOT)),
-        Row::First(0, 1, pair(5, 50)),
-    ];
-    assert_eq!(rt; answered(&rt, rt.alloc(), (1, 4, 9), &rows)?, 6);
+fn each_story_has_its_answers(rt: HostRuntime) -> Result<(), Fail> {
+    assert_eq!(rt; first_wrong(&rt, rt.alloc())?, None);
     Ok(())
 }
+
+const STORIES: [Story; 8] = [
+    Story {
+        fact: "a story of updates and snapshots",
+        size: (3, 4, 10_000),
+        rows: &UPDATES_AND_SNAPSHOTS,
+    },
+    Story {
+        fact: "every update wants a node slot",
+        size: (1, 4, 9),
+        rows: &ONE_NODE,
+    },
+    Story {
+        fact: "a new key alone is put",
+        size: (2, 4, 3),
+        rows: &NEW_KEYS,
+    },
+    Story {
+        fact: "a put of a new key wants a call",
+        size: (2, 4, 0),
+        rows: &NEW_AND_NO_CALL,
+    },
+    Story {
+        fact: "a removed key is put anew, with the call that is left",
+        size: (2, 4, 3),
+        rows: &REMOVED_KEY,
+    },
+    Story {
+        fact: "an update wants four entry slots",
+        size: (1, 3, 1),
+        rows: &THREE_ENTRIES,
+    },
+    Story {
+        fact: "an update wants a call",
+        size: (0, 0, 0),
+        rows: &NO_CALL,
+    },
+    Story {
+        fact: "the last call is taken by an update alone",
+        size: (2, 4, 1),
+        rows: &LAST_CALL,
+    },
+];
+
+const UPDATES_AND_SNAPSHOTS: [Row; 12] = [
+    Row::Client(7),
+    Row::First(0, 0, None),
+    Row::Put(1, 5, 50, Ok(Done { at: 1, was: false })),
+    Row::Put(2, 2, 20, Ok(Done { at: 2, was: false })),
+    Row::Put(3, 5, 51, Ok(Done { at: 3, was: true })),
+    // a removal of a key that is not there makes no update
+    Row::Remove(4, 7, Ok(Done { at: 3, was: false })),
+    Row::First(0, 3, Some(Pair { key: 2, val: 20 })),
+    Row::First(3, 3, Some(Pair { key: 5, val: 51 })),
+    Row::First(5, 3, Some(Pair { key: 5, val: 51 })),
+    Row::First(6, 3, None),
+    Row::Remove(5, 2, Ok(Done { at: 4, was: true })),
+    Row::First(0, 4, Some(Pair { key: 5, val: 51 })),
+];
+
+const ONE_NODE: [Row; 6] = [
+    Row::Put(1, 5, 50, Ok(Done { at: 1, was: false })),
+    Row::Put(2, 6, 60, Err(PassError::NoSlot)),
+    Row::Put(3, 5, 51, Err(PassError::NoSlot)),
+    Row::Remove(4, 5, Err(PassError::NoSlot)),
+    Row::Remove(5, 6, Err(PassError::NoSlot)),
+    Row::First(0, 1, Some(Pair { key: 5, val: 50 })),
+];
 
 // The slots are looked at before the key is, so a key that is there makes no difference.
-#[test]
-fn puts_a_new_key_alone(rt: HostRuntime) -> Result<(), Fail> {
-    let rows = [
-        Row::PutNew(1, 5, 50, Ok(New::Made { at: 1 })),
-        Row::PutNew(2, 5, 51, Ok(New::Kept { at: 1 })),
-        Row::First(0, 1, pair(5, 50)),
-        Row::PutNew(3, 6, 60, Ok(New::Made { at: 2 })),
-        Row::PutNew(4, 6, 61, Err(NO_SLOT)),
-        Row::PutNew(5, 7, 70, Err(NO_SLOT)),
-        Row::First(6, 2, pair(6, 60)),
-    ];
-    assert_eq!(rt; answered(&rt, rt.alloc(), (2, 4, 3), &rows)?, 7);
-    let spent = [Row::PutNew(1, 5, 50, Err(SPENT))];
-    assert_eq!(rt; answered(&rt, rt.alloc(), (2, 4, 0), &spent)?, 1);
-    Ok(())
-}
+const NEW_KEYS: [Row; 7] = [
+    Row::PutNew(1, 5, 50, Ok(New::Made { at: 1 })),
+    Row::PutNew(2, 5, 51, Ok(New::Kept { at: 1 })),
+    Row::First(0, 1, Some(Pair { key: 5, val: 50 })),
+    Row::PutNew(3, 6, 60, Ok(New::Made { at: 2 })),
+    Row::PutNew(4, 6, 61, Err(PassError::NoSlot)),
+    Row::PutNew(5, 7, 70, Err(PassError::NoSlot)),
+    Row::First(6, 2, Some(Pair { key: 6, val: 60 })),
+];
 
-// A removed key is new again, with the call that is left.
-#[test]
-fn puts_a_removed_key_anew(rt: HostRuntime) -> Result<(), Fail> {
-    let rows = [
-        Row::Put(1, 5, 50, done(1, false)),
-        Row::Remove(2, 5, done(2, true)),
-        Row::PutNew(3, 5, 51, Ok(New::Made { at: 3 })),
-        Row::PutNew(4, 5, 52, Err(SPENT)),
-        Row::First(0, 3, pair(5, 51)),
-    ];
-    assert_eq!(rt; answered(&rt, rt.alloc(), (2, 4, 3), &rows)?, 5);
-    Ok(())
-}
+const NEW_AND_NO_CALL: [Row; 1] = [Row::PutNew(1, 5, 50, Err(PassError::Spent))];
 
-#[test]
-fn wants_four_entry_slots(rt: HostRuntime) -> Result<(), Fail> {
-    let rows = [Row::Put(1, 5, 50, Err(NO_SLOT)), Row::First(0, 0, None)];
-    assert_eq!(rt; answered(&rt, rt.alloc(), (1, 3, 1), &rows)?, 2);
-    Ok(())
-}
+const REMOVED_KEY: [Row; 5] = [
+    Row::Put(1, 5, 50, Ok(Done { at: 1, was: false })),
+    Row::Remove(2, 5, Ok(Done { at: 2, was: true })),
+    Row::PutNew(3, 5, 51, Ok(New::Made { at: 3 })),
+    Row::PutNew(4, 5, 52, Err(PassError::Spent)),
+    Row::First(0, 3, Some(Pair { key: 5, val: 51 })),
+];
 
-#[test]
-fn wants_a_call(rt: HostRuntime) -> Result<(), Fail> {
-    let rows = [
-        Row::Put(1, 5, 50, Err(SPENT)),
-        Row::Remove(2, 5, Err(SPENT)),
-    ];
-    assert_eq!(rt; answered(&rt, rt.alloc(), (0, 0, 0), &rows)?, 2);
-    Ok(())
-}
+const THREE_ENTRIES: [Row; 2] = [
+    Row::Put(1, 5, 50, Err(PassError::NoSlot)),
+    Row::First(0, 0, None),
+];
 
-#[test]
-fn takes_its_last_call_for_an_update(rt: HostRuntime) -> Result<(), Fail> {
-    let rows = [
-        Row::Remove(1, 5, done(0, false)),
-        Row::Put(2, 5, 50, done(1, false)),
-        Row::Remove(3, 5, Err(SPENT)),
-        Row::First(0, 1, pair(5, 50)),
-    ];
-    assert_eq!(rt; answered(&rt, rt.alloc(), (2, 4, 1), &rows)?, 4);
-    Ok(())
-}
+const NO_CALL: [Row; 2] = [
+    Row::Put(1, 5, 50, Err(PassError::Spent)),
+    Row::Remove(2, 5, Err(PassError::Spent)),
+];
 
-#[test]
-fn keeps_its_updates_in_order(rt: HostRuntime) -> Result<(), Fail> {
+const LAST_CALL: [Row; 4] = [
+    Row::Remove(1, 5, Ok(Done { at: 0, was: false })),
+    Row::Put(2, 5, 50, Ok(Done { at: 1, was: false })),
+    Row::Remove(3, 5, Err(PassError::Spent)),
+    Row::First(0, 1, Some(Pair { key: 5, val: 50 })),
+];
+
+const PUT_AND_REMOVED: [Row; 2] = [
+    Row::Put(1, 5, 50, Ok(Done { at: 1, was: false })),
+    Row::Remove(3, 5, Ok(Done { at: 2, was: true })),
+];
+
+const UPDATES: [Update; 2] = [
+    Update {
+        client: 7,
+        line: 1,
+        key: 5,
+        change: Change::Put(50),
+    },
+    Update {
+        client: 7,
+        line: 3,
+        key: 5,
+        change: Change::Remove,
+    },
+];
+
+/// Whether a put and a removal are the updates of their pass.
+fn keeps_updates<R: Wait>(rt: &R, alloc: Global) -> Result<bool, Fail> {
     let size = PassSize {
         nodes: 3,
         entries: 4,
         calls: 9,
     };
-    let mut pass = PlainPass::new(rt.alloc(), 7, size)?;
-    assert_eq!(rt; pass.client(), 7);
-    assert_eq!(rt; put(&rt, &mut pass, 1, 5, 50), done(1, false));
-    assert_eq!(rt; remove(&rt, &mut pass, 3, 5), done(2, true));
-    let made = [
-        Update {
-            client: 7,
-            line: 1,
-            key: 5,
-            change: Change::Put(50),
-        },
-        Update {
-            client: 7,
-            line: 3,
-            key: 5,
-            change: Change::Remove,
-        },
-    ];
-    assert_eq!(rt; pass.updates(), made.as_slice());
+    let mut pass = PlainPass::new(alloc, 7, size)?;
+    let is_right = have_answers(rt, &mut pass, &PUT_AND_REMOVED);
+    Ok(is_right && pass.updates() == UPDATES.as_slice())
+}
+
+#[test]
+fn keeps_its_updates_in_order(rt: HostRuntime) -> Result<(), Fail> {
+    assert!(rt; keeps_updates(&rt, rt.alloc())?);
     Ok(())
 }

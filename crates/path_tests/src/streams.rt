@@ -1,3 +1,4 @@
+// Readings and writings of a whole input and output, by rows; tests/broken_streams.py breaks the program's own streams.
 ghost use Rattle.std.specs.Prelude.{Some, ◌<◌};
 
 use outside_io::{
@@ -8,99 +9,134 @@ use std::alloc::Global;
 use std::io::{Read, Write};
 use std::test::Fail;
 
-/// Takes one byte at a time, up to a length, and fails from there on.
-#[derive(Drop)]
-struct ByteSink {
-    bytes: Vec<u8>,
-    room: usize,
-    faults: u64,
-}
-
-impl Sink for ByteSink {
-    ghost taken = { λ s. Some s.bytes.items };
-
-    ghost faults = { λ s. s.faults };
-
-    fn write(&mut self, bytes: &[u8]) -> Result<usize, Failed> {
-        let Some(first) = bytes.first() else {
-            return Ok(0);
-        };
-        if self.bytes.len() < self.room && self.bytes.push(*first).is_ok() {
-            return Ok(1);
-        }
-        self.faults = self.faults.saturating_add(1);
-        Err(Failed)
+/// Whether reading gives so many of the bytes `bytes`, or this error.
+fn gives<S: Source>(
+    alloc: Global,
+    source: &mut S,
+    limit: usize,
+    wanted: Result<&[u8], ReadError>,
+) -> bool {
+    match (read_all(alloc, source, limit), wanted) {
+        (Ok(bytes), Ok(wanted)) => bytes.as_slice() == wanted,
+        (Err(error), Err(wanted)) => error == wanted,
+        _ => false,
     }
 }
 
-fn read_from_memory(alloc: Global, limit: usize) -> Result<Vec<u8>, ReadError> {
-    let mut source = MemSource::new(b"bytes".to_vec(alloc)?);
-    read_all(alloc, &mut source, limit)
-}
-
-fn read_failing(alloc: Global, step: usize, fails: &[u64]) -> Result<Vec<u8>, ReadError>
-    requires { 0 < step }
-{
-    let mut source = FailingSource::new(b"bytes".to_vec(alloc)?, step, fails.to_vec(alloc)?);
-    read_all(alloc, &mut source, 100)
-}
+/// Bytes in memory, a limit, and what is read.
+const READINGS: [(&[u8], usize, Result<&[u8], ReadError>); 4] = [
+    (b"bytes", 5, Ok(b"bytes")),
+    (b"bytes", 4, Err(ReadError::TooLong)),
+    (b"bytes", 0, Err(ReadError::TooLong)),
+    (b"", 0, Ok(b"")),
+];
 
 #[test]
 fn reads_to_the_end_up_to_the_limit(rt: HostRuntime) -> Result<(), Fail> {
     let alloc = rt.alloc();
-    assert_eq!(rt; read_from_memory(alloc, 5)?.as_slice(), b"bytes".as_slice());
-    assert_eq!(rt; read_from_memory(alloc, 4).err(), Some(ReadError::TooLong));
-    assert_eq!(rt; read_from_memory(alloc, 0).err(), Some(ReadError::TooLong));
-    let mut empty = MemSource::new(Vec::new(alloc));
-    assert_eq!(rt; read_all(alloc, &mut empty, 0)?.len(), 0);
+    for (bytes, limit, wanted) in READINGS {
+        let mut source = MemSource::new(bytes.to_vec(alloc)?);
+        assert!(rt; gives(alloc, &mut source, limit, wanted));
+    }
     Ok(())
 }
+
+/// The reads, of at most two bytes, that fail, and what is read. The fourth read would find the end.
+const FAILING_READS: [(&[u64], Result<&[u8], ReadError>); 4] = [
+    (&[], Ok(b"bytes")),
+    (&[2], Err(ReadError::Fault)),
+    (&[4], Err(ReadError::Fault)),
+    (&[5], Ok(b"bytes")),
+];
 
 #[test]
 fn reads_pieces_and_stops_at_a_fault(rt: HostRuntime) -> Result<(), Fail> {
     let alloc = rt.alloc();
-    assert_eq!(rt;
-        read_failing(alloc, 2, &[])?.as_slice(),
-        b"bytes".as_slice()
-    );
-    assert_eq!(rt; read_failing(alloc, 2, &[2]).err(), Some(ReadError::Fault));
-    assert_eq!(rt; read_failing(alloc, 2, &[5])?.len(), 5);
-    // the fourth read would find the end
-    assert_eq!(rt; read_failing(alloc, 2, &[4]).err(), Some(ReadError::Fault));
+    for (fails, wanted) in FAILING_READS {
+        let mut source = FailingSource::new(b"bytes".to_vec(alloc)?, 2, fails.to_vec(alloc)?);
+        assert!(rt; gives(alloc, &mut source, 100, wanted));
+    }
     Ok(())
 }
 
+/// A call of a sink, and the answer that it is to have.
+#[derive(Clone, Copy)]
+enum Call {
+    Write(&'static [u8], Result<usize, Failed>),
+    WriteAll(&'static [u8], Result<(), WriteFault>),
+}
+
+/// Whether each of the calls has its answer.
+fn have_answers<K: Sink>(sink: &mut K, calls: &[Call]) -> bool {
+    for call in calls {
+        let is_right = match *call {
+            Call::Write(bytes, answer) => sink.write(bytes) == answer,
+            Call::WriteAll(bytes, answer) => write_all(sink, bytes) == answer,
+        };
+        if !is_right {
+            return false;
+        }
+    }
+    true
+}
+
+// A piece that does not fit is not begun.
+const WHOLE_PIECES: [Call; 3] = [
+    Call::WriteAll(b"abc", Ok(())),
+    Call::WriteAll(b"de", Err(WriteFault)),
+    Call::WriteAll(b"f", Ok(())),
+];
+
 #[test]
 fn writes_whole_pieces_into_room(rt: HostRuntime) -> Result<(), Fail> {
-    let mut sink = MemSink::with_room(rt.alloc(), 4).ok().ok_or("memory")?;
-    assert_eq!(rt; write_all(&mut sink, b"abc"), Ok(()));
-    assert_eq!(rt; write_all(&mut sink, b"de"), Err(WriteFault));
-    assert_eq!(rt; write_all(&mut sink, b"f"), Ok(()));
+    let mut sink = MemSink::with_room(rt.alloc(), 4)?;
+    assert!(rt; have_answers(&mut sink, &WHOLE_PIECES));
     assert_eq!(rt; sink.taken(), b"abcf".as_slice());
     Ok(())
 }
 
+// Without a step a piece is taken whole or not at all.
+const FAULT_AND_ROOM: [Call; 5] = [
+    Call::Write(b"abc", Ok(3)),
+    Call::Write(b"d", Err(Failed)),
+    Call::Write(b"de", Err(Failed)),
+    Call::Write(b"f", Ok(1)),
+    Call::Write(b"", Ok(0)),
+];
+
 #[test]
-fn leaves_the_start_after_a_write_fault(rt: HostRuntime) -> Result<(), Fail> {
-    let mut sink = ByteSink {
-        bytes: Vec::new(rt.alloc()),
-        room: 3,
-        faults: 0,
-    };
-    assert_eq!(rt; write_all(&mut sink, b"ab"), Ok(()));
-    assert_eq!(rt; write_all(&mut sink, b"cde"), Err(WriteFault));
-    assert_eq!(rt; sink.bytes.as_slice(), b"abc".as_slice());
-    assert_eq!(rt; sink.faults, 1);
+fn a_sink_fails_at_its_writes_and_for_want_of_room(rt: HostRuntime) -> Result<(), Fail> {
+    let alloc = rt.alloc();
+    let mut sink = FailingSink::with_room(alloc, 4, [2].to_vec(alloc)?)?;
+    assert!(rt; have_answers(&mut sink, &FAULT_AND_ROOM));
+    assert_eq!(rt; sink.taken(), b"abcf".as_slice());
     Ok(())
 }
 
+// Of three bytes at a time into room for seven; the fifth write fails.
+const STEPS: [Call; 5] = [
+    Call::WriteAll(b"abcde", Ok(())),
+    Call::Write(b"fgh", Ok(2)),
+    Call::Write(b"h", Err(Failed)),
+    Call::Write(b"", Err(Failed)),
+    Call::Write(b"", Ok(0)),
+];
+
+#[test]
+fn a_sink_takes_steps(rt: HostRuntime) -> Result<(), Fail> {
+    let alloc = rt.alloc();
+    let mut sink = FailingSink::with_step(alloc, 7, 3, [5].to_vec(alloc)?)?;
+    assert!(rt; have_answers(&mut sink, &STEPS));
+    assert_eq!(rt; sink.taken(), b"abcdefg".as_slice());
+    Ok(())
+}
+
+const A_LINE: [Call; 2] = [Call::WriteAll(b"a line\n", Ok(())), Call::Write(b"", Ok(0))];
+
 #[test]
 fn takes_the_standard_streams(rt: HostRuntime) -> Result<(), Fail> {
-    let mut output = StdSink::new(&rt);
-    assert_eq!(rt; write_all(&mut output, b"a line\n"), Ok(()));
-    assert_eq!(rt; output.write(b""), Ok(0));
-    let mut input = StdSource::new(&rt);
-    assert_eq!(rt; input.read(&mut []), Ok(0));
+    assert!(rt; have_answers(&mut StdSink::new(&rt), &A_LINE));
+    assert_eq!(rt; StdSource::new(&rt).read(&mut []), Ok(0));
     Ok(())
 }
 
@@ -146,7 +182,13 @@ impl Sink for ByteOutput {
     }
 }
 
-// Each short write is told as short, so all bytes come; a writer that takes none has failed.
+// Each short write is told as short, so all bytes come; a writer that takes none has failed, behind the start of a piece.
+const SHORT_WRITES: [Call; 3] = [
+    Call::WriteAll(b"abc", Ok(())),
+    Call::Write(b"", Ok(0)),
+    Call::WriteAll(b"def", Err(WriteFault)),
+];
+
 #[test]
 fn writes_on_behind_short_writes(rt: HostRuntime) -> Result<(), Fail> {
     let output = ByteWriter {
@@ -154,9 +196,7 @@ fn writes_on_behind_short_writes(rt: HostRuntime) -> Result<(), Fail> {
         room: 5,
     };
     let mut sink = ByteOutput { output, faults: 0 };
-    assert_eq!(rt; write_all(&mut sink, b"abc"), Ok(()));
-    assert_eq!(rt; sink.write(b""), Ok(0));
-    assert_eq!(rt; write_all(&mut sink, b"def"), Err(WriteFault));
+    assert!(rt; have_answers(&mut sink, &SHORT_WRITES));
     assert_eq!(rt; sink.output.bytes.as_slice(), b"abcde".as_slice());
     assert_eq!(rt; sink.faults, 1);
     Ok(())
@@ -182,50 +222,21 @@ impl Read for BrokenReader {
     }
 }
 
+/// Whether three reads have these answers, and so many faults are counted.
+fn reads<R: Read>(input: &mut R, wanted: [Result<usize, Failed>; 3], most: u64) -> bool {
+    let (mut faults, mut buffer) = (0, [0u8; 4]);
+    let answers = [
+        read_counted(input, &mut faults, &mut buffer),
+        read_counted(input, &mut faults, &mut buffer),
+        read_counted(input, &mut faults, &mut buffer),
+    ];
+    answers == wanted && faults == most
+}
+
 // A read that fails is no end.
 #[test]
 fn counts_a_failed_read(rt: HostRuntime) -> Result<(), Fail> {
     let mut input = BrokenReader { reads: 0 };
-    let mut faults = 0;
-    let mut buffer = [0u8; 4];
-    assert_eq!(rt; read_counted(&mut input, &mut faults, &mut buffer), Ok(1));
-    assert_eq!(rt;
-        read_counted(&mut input, &mut faults, &mut buffer),
-        Err(Failed)
-    );
-    assert_eq!(rt; faults, 1);
-    assert_eq!(rt; read_counted(&mut input, &mut faults, &mut buffer), Ok(0));
-    assert_eq!(rt; faults, 1);
-    Ok(())
-}
-
-fn list(alloc: Global, numbers: &[u64]) -> Result<Vec<u64>, Fail> {
-    Ok(numbers.to_vec(alloc)?)
-}
-
-// Without a step a piece is taken whole or not at all.
-#[test]
-fn a_sink_fails_at_its_writes_and_for_want_of_room(rt: HostRuntime) -> Result<(), Fail> {
-    let alloc = rt.alloc();
-    let mut sink = FailingSink::with_room(alloc, 4, list(alloc, &[2])?)?;
-    assert_eq!(rt; sink.write(b"abc"), Ok(3));
-    assert_eq!(rt; sink.write(b"d"), Err(Failed));
-    assert_eq!(rt; sink.write(b"de"), Err(Failed));
-    assert_eq!(rt; sink.write(b"f"), Ok(1));
-    assert_eq!(rt; sink.write(b""), Ok(0));
-    assert_eq!(rt; sink.taken(), b"abcf".as_slice());
-    Ok(())
-}
-
-#[test]
-fn a_sink_takes_steps(rt: HostRuntime) -> Result<(), Fail> {
-    let alloc = rt.alloc();
-    let mut sink = FailingSink::with_step(alloc, 7, 3, list(alloc, &[5])?)?;
-    assert_eq!(rt; write_all(&mut sink, b"abcde"), Ok(()));
-    assert_eq!(rt; sink.write(b"fgh"), Ok(2));
-    assert_eq!(rt; sink.write(b"h"), Err(Failed));
-    assert_eq!(rt; sink.write(b""), Err(Failed));
-    assert_eq!(rt; sink.write(b""), Ok(0));
-    assert_eq!(rt; sink.taken(), b"abcdefg".as_slice());
+    assert!(rt; reads(&mut input, [Ok(1), Err(Failed), Ok(0)], 1));
     Ok(())
 }

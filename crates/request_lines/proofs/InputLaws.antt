@@ -23,7 +23,7 @@ use Rattle.request_lines.specs.Input.{reading_of, begins_client, name_by, record
 use Rattle.request_lines.specs.Counting.{counted_with, cause_by_counts}
 use Rattle.request_lines.proofs.CountedLines.{Line, lines_from, input_lines, error_of, refusal_of, asked_of, part_of, parts_of, names_of, records_of, IsSessionOf, IsRefused}
 use Rattle.request_lines.specs.Left.{texts_left}
-use Rattle.request_lines.specs.Reading.{Progress, Takes, no_progress, all_ended, ended_by, current_by, kept, taken, error_of_text}
+use Rattle.request_lines.specs.Reading.{Progress, Takes, no_progress, all_ended, ended_by, current_by, kept, taken, error_of_text, Reaches, Meets, TakesAll}
 
 -- the parts of all clients, with the lines that are left, cut at each line that begins a client
 abbrev with_pieces : Bool → List ClientPart → List Asked → List (List Line) → List ClientPart
@@ -196,3 +196,39 @@ pub answer_at : (bytes : List ℕ) (r : Result Session SessionError) → IfOk r 
 answer_at bytes (Ok s) right memory = right.faultless
 answer_at bytes (Err errors.NoMemory) right memory = tt
 answer_at bytes (Err (errors.Input e)) right memory = cc
+
+-- ---- several lines
+
+-- the next lines are taken where none has a cause
+pub halfway_all : (bytes : List ℕ) (p after : Progress) (number : ℕ) (texts behind : List (List ℕ)) → Reaches p number texts after
+    → IsHalfway bytes p number (texts ++ behind) → IsHalfway bytes after (number + length texts) behind
+halfway_all bytes p after number [] behind reached half =
+    let same : number ≡ number + length {A = List ℕ} [] = omega arith in
+    subst (λ (n : ℕ). IsHalfway bytes after n behind) same (subst (λ (q : Progress). IsHalfway bytes q number behind) (sym reached) half)
+halfway_all bytes p after number (text ∷ texts) behind reached half =
+    let next : number + 1 + length texts ≡ number + length (text ∷ texts) = omega arith in
+    subst (λ (n : ℕ). IsHalfway bytes after n behind) next
+    (halfway_all bytes (taken p number text) after (number + 1) texts behind reached.1 (halfway_more bytes p number text (texts ++ behind) reached.0 half))
+
+-- and else the first cause is the refusal
+pub halfway_meets : (bytes : List ℕ) (p : Progress) (number : ℕ) (texts behind : List (List ℕ)) (e : InputError) → Meets p number texts e
+    → IsHalfway bytes p number (texts ++ behind) → refusal_of bytes ≡ Some e
+halfway_meets bytes p number [] behind e met half = elim met [ ]
+halfway_meets bytes p number (text ∷ texts) behind e met half =
+    elim met [
+      | inl here ↦ halfway_refused bytes p number text (texts ++ behind) e here half
+      | inr later ↦ halfway_meets bytes (taken p number text) (number + 1) texts behind e later.1 (halfway_more bytes p number text (texts ++ behind) later.0 half)
+    ]
+
+-- lines that are not all taken are the refusal
+pub refused_among : (bytes : List ℕ) (p after : Progress) (before : ℕ) (texts behind : List (List ℕ)) (e : SessionError) → TakesAll p before texts after (Err e)
+    → IsHalfway bytes p (before + 1) (texts ++ behind) → IsRefused bytes (Err e)
+refused_among bytes p after before texts behind (errors.Input e) met half = halfway_meets bytes p (before + 1) texts behind e met half
+refused_among bytes p after before texts behind errors.NoMemory met half = tt
+
+-- the lines that are left, of which these are the first
+pub halfway_cut : (bytes : List ℕ) (p : Progress) (number : ℕ) (left rest : Option (Bor (List ℕ))) (lines : Bor (List ℕ)) (texts : List (List ℕ)) → left ≡ Some lines
+    → texts_of lines.now ≡ texts ++ texts_left rest → IsHalfway bytes p number (texts_left left) → IsHalfway bytes p number (texts ++ texts_left rest)
+halfway_cut bytes p number left rest lines texts is cut half =
+    let P : List (List ℕ) → Type 0 = IsHalfway bytes p number in
+    subst P (ap texts_left is ∙ cut) half

@@ -8,7 +8,8 @@ use Rattle.std.proofs.lemmas.List.FromFn.{get_or-range_with_len, length-range_wi
 use Rattle.std.proofs.lemmas.List.Elements.{All-head, All-tail, All-push, All-weaker, All-map, Contains-get_or, Contains-push, Contains-push_cases, Contains-append_left}
 use Rattle.std.proofs.lemmas.List.Sorted.{All-permutation, Contains-permutation, IsPermutation-map, length_permutation}
 use Rattle.std.proofs.lemmas.Bool.Decides.{eqb_tells}
-use Rattle.key_names.specs.Names.{HoldsEachOnce, IsFine, name_at}
+use Rattle.key_names.specs.Names.{HoldsEachOnce, IsFine, most_names, name_at}
+use Rattle.request_lines.proofs.NameCounts.{rising_count}
 use Rattle.request_lines.specs.declared.leads.Numbered.{Numbered}
 use Rattle.request_lines.specs.Interned.{named, names_kept, AreKept, IsInterned, IsKnownAs, AreGroups, HaveNumbers, AreNumbered, AreRanks, IsRankedBy, number_in, name_of}
 
@@ -74,13 +75,19 @@ held_once ks order held interned holds = record {
 
 pub kept_once : (names : List (List ℕ)) (order : Option (List ℕ)) (held : List (List ℕ)) → AreKept names order → HoldsEachOnce names held → HoldsEachOnce (names_kept names order) held
 kept_once names None held kept holds = holds
-kept_once names (Some order) held kept holds = held_once names order held kept holds
+kept_once names (Some order) held kept holds = held_once names order held kept.interned holds
+
+-- so many distinct ones a directory may have
+pub kept_few : (names : List (List ℕ)) (order : Option (List ℕ)) (held : List (List ℕ)) → AreKept names order → HoldsEachOnce names held → length held ≤ most_names
+kept_few names order held kept holds =
+    let once = kept_once names order held kept holds in
+    omega (arith, kept.few, rising_count held (names_kept names order) once.rising once.no_other)
 
 -- what holds of each name of the lines holds of each distinct one
 pub kept_fine : (names : List (List ℕ)) (order : Option (List ℕ)) → AreKept names order → All IsFine (names_kept names order) → All IsFine names
 kept_fine names None kept fine = fine
 kept_fine names (Some order) kept fine = λ k d within.
-    let has = kept.used (get_or names k d) (Contains-get_or names k d within) in
+    let has = kept.interned.used (get_or names k d) (Contains-get_or names k d within) in
     subst IsFine has.2 (fine has.0 (get_or names k d) has.1)
 
 -- ---- the numbers

@@ -8,8 +8,12 @@ pub mod TagBytes
 pub mod Fine
 pub mod CountedLines
 pub mod LineCounts
+pub mod NameCounts
 pub mod Interned
 pub mod InputLaws
+pub mod Saying
+pub mod TakingLaws
+pub mod BlockLaws
 pub mod CheckInputs
 pub mod Rising
 pub mod Sound

@@ -1,5 +1,5 @@
 -- What holds of what is kept of the lines so far.
-use Rattle.std.proofs.Common.{◌≡◌, ℕ, zero, suc, ◌+◌, ◌^◌, ◌<◌, ◌≤◌, Bool, true, false, List, [], ◌∷◌, ◌++◌, length, map, Option, Some, None, Result, Ok, Err, refl, ap, sym, ◌∙◌, append_assoc, inl, inr, arith, length-append, add-zero, add-one, zero-add}
+use Rattle.std.proofs.Common.{◌≡◌, ℕ, zero, suc, ◌+◌, ◌^◌, ◌<◌, ◌≤◌, Bool, true, false, List, [], ◌∷◌, ◌++◌, length, map, Option, Some, None, Result, Ok, Err, refl, ap, sym, subst, ◌∙◌, append_assoc, inl, inr, arith, length-append, add-zero, add-one, zero-add}
 use Rattle.std.specs.Prelude.{All, Contains, IfSome, IfOk, ◌==◌, if◌then◌else◌}
 use Rattle.std.specs.List.{filter_map, cons_option, range_with_len}
 use Rattle.std.specs.Option.{option_to_list}
@@ -27,8 +27,8 @@ use Rattle.request_lines.specs.declared.verb.PutWhen.TheVariants.{Always, IfAbse
 use Rattle.request_lines.specs.Input.{is_client, put_request, reading_of}
 use Rattle.request_lines.specs.Fine.{IsFineCommand}
 use Rattle.request_lines.specs.Counting.{IsWithin, counted, limit_by_counts, cause_by_counts}
-use Rattle.request_lines.specs.InputParts.{error_at}
-use Rattle.request_lines.specs.Reading.{Progress, no_progress, all_ended, kept, taken, error_of_text}
+use Rattle.request_lines.specs.InputParts.{error_at, most_requests}
+use Rattle.request_lines.specs.Reading.{Progress, no_progress, all_ended, kept, taken, error_of_text, Reaches}
 use Rattle.request_lines.specs.Session.{request_line, request_lines}
 use Rattle.request_lines.specs.SessionLaws.{all_requests, requested_name, record_place, asked_name, asked_place, HasNames, HasRecords, IsFineRequest, IsServed, HasRequests, Rise, HasLineNumber, HasLines, IsSmall}
 use Rattle.request_lines.proofs.Rising.{LinesRise, rise_of, numbers_of}
@@ -358,7 +358,31 @@ sound_more p number text right positive small sound =
       | inr full ↦ rw full (sound_read p number (reading_of text) (reading_fine text) (rw full at right) positive small sound)
     ]
 
+-- several lines that were taken
+pub sound_all : (p after : Progress) (number : ℕ) (texts : List (List ℕ)) → Reaches p number texts after → 0 < number → number + length texts ≤ 2 ^ 32 → IsSound p number
+    → IsSound after (number + length texts)
+sound_all p after number [] reached positive small sound =
+    let same : number ≡ number + length {A = List ℕ} [] = omega arith in
+    subst (λ (n : ℕ). IsSound after n) same (subst (λ (q : Progress). IsSound q number) (sym reached) sound)
+sound_all p after number (text ∷ texts) reached positive small sound =
+    let next : number + 1 + length texts ≡ number + length (text ∷ texts) = omega arith in
+    subst (λ (n : ℕ). IsSound after n) next
+    (sound_all (taken p number text) after (number + 1) texts reached.1 (omega arith) (omega (arith, next, small))
+    (sound_more p number text reached.0 positive (omega (arith, next, small)) sound))
+
 -- ---- at the end
+
+one_fewer : {A B : Type 0} (x : A) (xs : List A) (o : Option B) (ys : List B) → length ys ≤ length xs → length (cons_option o ys) ≤ length (x ∷ xs)
+one_fewer x xs None ys fewer = omega (arith, fewer)
+one_fewer x xs (Some y) ys fewer = omega (arith, fewer)
+
+filter_map_fewer : {A B : Type 0} (f : A → Option B) (xs : List A) → length (filter_map f xs) ≤ length xs
+filter_map_fewer f [] = omega arith
+filter_map_fewer f (x ∷ xs) = one_fewer x xs (f x) (filter_map f xs) (filter_map_fewer f xs)
+
+-- no more names than requests
+pub few_names : (p : Progress) (number : ℕ) → IsWithin p.counts → IsSound p number → length p.names ≤ most_requests
+few_names p number within sound = omega (arith, ap length sound.names, filter_map_fewer asked_name (asked_so_far p), sound.requests, within.requests)
 
 -- what holds of every session
 pub record IsSoundSession (s : Session) : Type 0 where

@@ -1,8 +1,8 @@
 -- Helper: the headline does not rest on this file.
 -- Names that are kept once, with their places in the order of the lines.
-use Rattle.std.specs.Prelude.{◌≡◌, ◌⊎◌, ℕ, ◌<◌, List, [], ◌∷◌, ◌++◌, length, map, All, Contains, Option, Some, None, slice_index}
+use Rattle.std.specs.Prelude.{◌≡◌, ◌⊎◌, ℕ, ◌<◌, ◌≤◌, List, [], ◌∷◌, ◌++◌, length, map, All, Contains, Option, Some, None, IfSome, slice_index}
 use Rattle.std.specs.List.{range_with_len}
-use Rattle.key_names.specs.Names.{name_at}
+use Rattle.key_names.specs.Names.{name_at, most_names}
 use Rattle.std.specs.List.Sorted.{IsPermutation}
 use Rattle.request_lines.specs.declared.leads.Numbered.{Numbered}
 
@@ -20,9 +20,10 @@ abbrev pub names_kept : List (List ℕ) → Option (List ℕ) → List (List ℕ
 names_kept names None = names
 names_kept distinct (Some order) = named distinct order
 
-abbrev pub AreKept : List (List ℕ) → Option (List ℕ) → Type 0
-AreKept names None = Unit {0}
-AreKept distinct (Some order) = IsInterned distinct order
+-- where there are places, they are those of the names; and of no more lines than a directory has names at most
+pub record AreKept (names : List (List ℕ)) (order : Option (List ℕ)) : Type 0 where
+  pub interned : IfSome order (IsInterned names)
+  pub few : length (names_kept names order) ≤ most_names
 
 -- the name has this number among the known ones: it was among them, or it joins them
 pub record IsKnownAs (old new : List (List ℕ)) (name : List ℕ) (number : ℕ) : Type 0 where

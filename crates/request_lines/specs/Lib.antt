@@ -10,6 +10,7 @@ pub mod InputParts
 pub mod Session
 pub mod Interned
 pub mod Left
+pub mod Said
 pub mod Pieces
 pub mod Reading
 pub mod SessionLaws

@@ -1,6 +1,6 @@
 -- Helper: the headline does not rest on this file.
 -- How far a reader has come: what it keeps of the lines so far.
-use Rattle.std.specs.Prelude.{◌≡◌, ℕ, ◌==◌, Bool, true, false, List, [], ◌∷◌, ◌++◌, length, Option, Some, None, Result, Ok, Err, if◌then◌else◌}
+use Rattle.std.specs.Prelude.{◌≡◌, ◌⊎◌, ℕ, ◌+◌, ◌==◌, Bool, true, false, List, [], ◌∷◌, ◌++◌, length, Option, Some, None, Result, Ok, Err, if◌then◌else◌}
 use Rattle.std.specs.Option.{option_to_list}
 use Rattle.bucket_terms.specs.declared.record.Record.{Record}
 use Rattle.request_lines.specs.declared.cause.Cause.{Cause}
@@ -63,14 +63,38 @@ taken p number text = if length text == 0 then p else kept p number (reading_of 
 unfoldable pub error_of_text : Progress → ℕ → List ℕ → Option InputError
 error_of_text p number text = if length text == 0 then None else error_at number (cause_by_counts p.counts (reading_of text))
 
+-- why a session is not read whose line of this number is not
+abbrev pub session_error : ℕ → LineError → SessionError
+session_error number (faults.Faulty cause) = errors.Input (record { line = number; cause = cause })
+session_error number faults.NoMemory = errors.NoMemory
+
 -- the line was taken, or it has this cause
 abbrev pub Takes : Progress → ℕ → List ℕ → Progress → Result (Unit {0}) SessionError → Type 0
 Takes p number text after (Ok done) = (error_of_text p number text ≡ None) × (after ≡ taken p number text)
 Takes p number text after (Err (errors.Input e)) = error_of_text p number text ≡ Some e
 Takes p number text after (Err errors.NoMemory) = Unit {0}
 
--- the same of a line that is not empty
+-- the same of a line that is not empty, and says this or has this cause of its own
+abbrev pub KeepsReading : Progress → ℕ → Result Command Cause → Progress → Result (Unit {0}) LineError → Type 0
+KeepsReading p number reading after (Ok done) = (cause_by_counts p.counts reading ≡ None) × (after ≡ kept p number reading)
+KeepsReading p number reading after (Err (faults.Faulty cause)) = cause_by_counts p.counts reading ≡ Some cause
+KeepsReading p number reading after (Err faults.NoMemory) = Unit {0}
+
 abbrev pub Keeps : Progress → ℕ → List ℕ → Progress → Result (Unit {0}) LineError → Type 0
-Keeps p number text after (Ok done) = (cause_by_counts p.counts (reading_of text) ≡ None) × (after ≡ kept p number (reading_of text))
-Keeps p number text after (Err (faults.Faulty cause)) = cause_by_counts p.counts (reading_of text) ≡ Some cause
-Keeps p number text after (Err faults.NoMemory) = Unit {0}
+Keeps p number text after result = KeepsReading p number (reading_of text) after result
+
+-- these lines were taken in turn, of which the first has this number
+abbrev pub Reaches : Progress → ℕ → List (List ℕ) → Progress → Type 0
+Reaches p number [] after = after ≡ p
+Reaches p number (text ∷ texts) after = (error_of_text p number text ≡ None) × Reaches (taken p number text) (number + 1) texts after
+
+-- the first of these lines that has a cause has this one
+abbrev pub Meets : Progress → ℕ → List (List ℕ) → InputError → Type 0
+Meets p number [] e = ⊥
+Meets p number (text ∷ texts) e = (error_of_text p number text ≡ Some e) ⊎ ((error_of_text p number text ≡ None) × Meets (taken p number text) (number + 1) texts e)
+
+-- the lines were taken, which have so many before them and as many with them as is answered; or one has this cause
+abbrev pub TakesAll : Progress → ℕ → List (List ℕ) → Progress → Result ℕ SessionError → Type 0
+TakesAll p before texts after (Ok number) = (number ≡ before + length texts) × Reaches p (before + 1) texts after
+TakesAll p before texts after (Err (errors.Input e)) = Meets p (before + 1) texts e
+TakesAll p before texts after (Err errors.NoMemory) = Unit {0}

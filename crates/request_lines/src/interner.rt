@@ -1,6 +1,7 @@
 // Names as they are read: most that come again are not kept again, and behind the last line each distinct one is kept
 // once.
-ghost use Rattle.std.specs.Prelude.{◌≡◌, ◌<◌, ◌++◌, ◌∷◌, [], length, map, All, IfOk, OnOk, OnErr, IsOkUnless, replicate, slice_index};
+ghost use Rattle.std.specs.Prelude.{◌≡◌, ◌<◌, ◌≤◌, ◌++◌, ◌∷◌, [], length, map, All, IfOk, OnOk, OnErr, IsOkUnless, replicate, slice_index};
+ghost use Rattle.key_names.specs.Names.{most_names};
 ghost use Rattle.request_lines.specs.declared.line_error.LineError.TheVariants.{NoMemory as OutOfMemory};
 ghost use Rattle.request_lines.specs.Interned.{AreGroups, AreRanks, HaveNumbers, IsKnownAs, IsRankedBy};
 
@@ -66,6 +67,7 @@ impl Interner {
 
     /// The names of all lines, with the distinct ones in byte order, and the rank of each number.
     pub(crate) fn ranked(self, alloc: Global) -> Result<(Names, Vec<usize>), NoMemory>
+        requires { length self ≤ most_names }
         ensures { IfOk result (λ names. names.0 ≡ self) }
     {
         let Interner {

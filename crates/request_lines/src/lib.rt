@@ -1,8 +1,9 @@
 //! A session's text, read line by line: which clients there are, what each of them asks, and the first fault.
-//! The layers above use `read_session`, what `specs/SessionLaws.antt` says of every session, and the grammar of
+//! The layers above use `read_session` and `read_session_on_threads`, what `specs/SessionLaws.antt` says of every session, and the grammar of
 //! `specs/Input.antt`; and, for a session with a written text behind it, `read_check_input` and `line_len`.
 #![tactic(auto)]
 
+mod blocks;
 mod cause;
 mod check_input;
 mod command;
@@ -18,11 +19,14 @@ mod parts;
 mod put;
 mod query;
 mod read;
+mod read_on_threads;
 mod reader;
 mod requests;
+mod said;
 mod sample;
 mod session;
 mod session_error;
+mod taking;
 mod texts;
 mod values;
 mod verb;
@@ -32,6 +36,7 @@ pub use check_input::{CheckInput, line_len, read_check_input};
 pub use limits::MAX_INPUT_BYTES;
 pub use names::Names;
 pub use read::read_session;
+pub use read_on_threads::read_session_on_threads;
 pub use requests::Requests;
 pub use sample::sample_input;
 pub use session::{Asked, ClientPart, Session, is_update};

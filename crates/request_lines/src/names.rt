@@ -1,15 +1,16 @@
 // The names of a session's lines, each kept once where the session was read.
-ghost use Rattle.std.specs.Prelude.{◌≡◌, ◌<◌, [], length, All, IfOk};
-ghost use Rattle.key_names.specs.Names.{HoldsEachOnce, IsFine, name_at};
+ghost use Rattle.std.specs.Prelude.{◌≡◌, ◌<◌, ◌≤◌, ℕ, List, [], length, All, IfOk, IfErr};
+ghost use Rattle.key_names.specs.Names.{HoldsEachOnce, IsFine, most_names, name_at};
 ghost use Rattle.request_lines.specs.Interned.{IsInterned, named};
 
 use key_map::Items;
-use key_names::{Directory, NoMemory, Text};
+use key_names::{Directory, MAX_NAMES, NamesError, NoMemory, Text};
 use std::alloc::Global;
 use std::marker::Model;
 use std::mem;
 
-/// Names in the order of the lines, where a name may stand more than once. Contracts see the list of them.
+/// Names in the order of the lines, where a name may stand more than once, and at most `MAX_NAMES` stand, so that a
+/// directory can have them. Contracts see the list of them.
 #[derive(Debug, Drop)]
 pub struct Names {
     // With `order` the distinct names, in byte order; without it a name for each line.
@@ -34,14 +35,23 @@ impl Names {
     pub fn new(alloc: Global) -> Names
         ensures { result ≡ [] }
     {
-        Names::from_vec(Vec::new(alloc))
+        Names {
+            names: Vec::new(alloc),
+            order: None,
+        }
     }
 
-    /// The names of a vector, one for each line, whose memory is used on.
-    pub fn from_vec(names: Vec<Text>) -> Names
-        ensures { result ≡ names.items }
+    /// The names of a vector, one for each line, whose memory is used on. `TooMany` comes where they are more than
+    /// `MAX_NAMES`, and no other refusal.
+    pub fn from_vec(names: Vec<Text>) -> Result<Names, NamesError>
+        ensures names { IfOk result (λ held. held ≡ names.items) }
+        ensures few { IfOk result (λ _. length names.items ≤ most_names) }
+        ensures refused { IfErr result (λ error. (error ≡ NamesError.TooMany) × most_names < length names.items) }
     {
-        Names { names, order: None }
+        if names.len() > MAX_NAMES {
+            return Err(NamesError::TooMany);
+        }
+        Ok(Names { names, order: None })
     }
 
     /// A name for each line. Where they came as a vector it is that one, and no memory is taken; where a session was
@@ -58,7 +68,8 @@ impl Names {
 
     /// The names with these places among the distinct ones.
     pub(crate) fn of(distinct: Vec<Text>, order: Vec<usize>) -> Names
-        requires { IsInterned distinct.items order.items }
+        requires interned { IsInterned distinct.items order.items }
+        requires few { length order.items ≤ most_names }
         ensures { result ≡ named distinct.items order.items }
     {
         Names {
@@ -97,8 +108,8 @@ impl Names {
         mem::replace(self, none)
     }
 
-    /// The directory of the names. They are sorted in place, so no memory is asked for, and `Directory::new` refuses no
-    /// fine name.
+    /// The directory of the names. They are sorted in place, so no memory is asked for, and `Directory::new` refuses
+    /// neither a fine name nor as many names as may stand here.
     pub fn into_directory(self) -> Directory
         requires { All IsFine self }
         ensures { HoldsEachOnce self result }
@@ -119,7 +130,8 @@ impl Names {
 
 // The directory of names that it may have.
 fn directory_of(names: Vec<Text>) -> Directory
-    requires { All IsFine names.items }
+    requires fine { All IsFine names.items }
+    requires few { (held : List (List ℕ)) → HoldsEachOnce names.items held → length held ≤ most_names }
     ensures { HoldsEachOnce names.items result }
 {
     match Directory::new(*names.allocator(), names) {

@@ -43,8 +43,8 @@ pub fn read_session(alloc: Global, bytes: &[u8]) -> Result<Session, SessionError
     reader.finish(alloc)
 }
 
-// The first line without its end, and what stands behind it: None behind the last line.
-fn first_line(bytes: &[u8]) -> (&[u8], Option<&[u8]>)
+/// The first line without its end, and what stands behind it: None behind the last line.
+pub(crate) fn first_line(bytes: &[u8]) -> (&[u8], Option<&[u8]>)
     ensures cut { texts_of bytes.now ≡ result.0.now ∷ texts_left result.1 }
     ensures shorter { size_left result.1 ≤ length bytes.now }
 {
@@ -58,8 +58,8 @@ fn first_line(bytes: &[u8]) -> (&[u8], Option<&[u8]>)
     }
 }
 
-// The place of the first line feed.
-fn line_feed(bytes: &[u8]) -> Option<usize>
+/// The place of the first line feed.
+pub(crate) fn line_feed(bytes: &[u8]) -> Option<usize>
     ensures { result ≡ position (λ b. b == 10) bytes.now }
 {
     memchr(b'\n', bytes)

@@ -1,10 +1,13 @@
 // What is kept of the lines so far.
-ghost use Rattle.std.specs.Prelude.{◌≡◌, ◌∷◌, [], ◌++◌, Ok, OnOk, IfOk, IsOkUnless};
+ghost use Rattle.std.specs.Prelude.{◌≡◌, ◌≤◌, ℕ, List, ◌∷◌, [], ◌++◌, length, Ok, OnOk, IfOk, IsOkUnless};
 ghost use Rattle.request_lines.specs.declared.line_error.LineError.TheVariants.{NoMemory as OutOfMemory};
 ghost use Rattle.request_lines.specs.declared.session_error.SessionError.TheVariants.{NoMemory as NoSession};
 ghost use Rattle.request_lines.specs.Counting.{IsWithin, counted};
 ghost use Rattle.request_lines.specs.Input as spec;
-ghost use Rattle.request_lines.specs.Reading.{progress, no_progress, all_ended, kept, Takes, Keeps};
+ghost use Rattle.request_lines.specs.Fine.{IsFineCommand};
+ghost use Rattle.request_lines.specs.InputParts.{most_requests};
+ghost use Rattle.request_lines.specs.Reading.{progress, no_progress, all_ended, kept, session_error, Takes, Keeps, KeepsReading};
+ghost use Rattle.request_lines.specs.Said.{SaysLine};
 
 use crate::command::{Command, command_of};
 use crate::counts::Counts;
@@ -62,13 +65,7 @@ impl Reader {
         }
         match self.read(alloc, number, text) {
             Ok(()) => Ok(()),
-            Err(LineError::Faulty(cause)) => {
-                Err(SessionError::Input(InputError {
-                    line: number,
-                    cause,
-                }))
-            }
-            Err(LineError::NoMemory) => Err(SessionError::NoMemory),
+            Err(error) => Err(error_at(number, error)),
         }
     }
 
@@ -79,8 +76,39 @@ impl Reader {
         ensures within { OnOk result (IsWithin self.new.counts) }
     {
         let command = command_of(alloc, text)?;
+        self.admit(alloc, number, command)
+    }
+
+    // Takes the next line, which says this.
+    fn admit(&mut self, alloc: Global, number: u32, command: Command) -> Result<(), LineError>
+        requires within { IsWithin self.old.counts }
+        requires fine { IsFineCommand command }
+        ensures kept { KeepsReading (progress self.old) number (Ok command) (progress self.new) result }
+        ensures within { OnOk result (IsWithin self.new.counts) }
+    {
         let counts = self.counts.admitted(&command)?;
         self.keep(alloc, number, command, counts)
+    }
+
+    /// Takes the next line, which has this number and says this, or is empty.
+    pub(crate) fn take_said(
+        &mut self,
+        alloc: Global,
+        number: u32,
+        said: Option<Command>,
+    ) -> Result<(), SessionError>
+        requires within { IsWithin self.old.counts }
+        requires says { (text : List ℕ) × SaysLine text said }
+        ensures taken { (text : List ℕ) → SaysLine text said → Takes (progress self.old) number text (progress self.new) result }
+        ensures within { OnOk result (IsWithin self.new.counts) }
+    {
+        let Some(command) = said else {
+            return Ok(());
+        };
+        match self.admit(alloc, number, command) {
+            Ok(()) => Ok(()),
+            Err(error) => Err(error_at(number, error)),
+        }
     }
 
     // Keeps what the line asks.
@@ -154,6 +182,7 @@ impl Reader {
 
     /// The session of the lines so far, where no line is left.
     pub(crate) fn finish(self, alloc: Global) -> Result<Session, SessionError>
+        requires { length self.names ≤ most_requests }
         ensures clients { IfOk result (λ s. s.clients ≡ all_ended (progress self)) }
         ensures names { IfOk result (λ s. s.names ≡ self.names) }
         ensures records { IfOk result (λ s. s.records ≡ self.records.items) }
@@ -176,6 +205,21 @@ impl Reader {
             names,
             records: Items::from_vec(records),
         })
+    }
+}
+
+/// Why a session is not read whose line of this number is not.
+pub(crate) fn error_at(number: u32, error: LineError) -> SessionError
+    ensures { result ≡ session_error number error }
+{
+    match error {
+        LineError::Faulty(cause) => {
+            SessionError::Input(InputError {
+                line: number,
+                cause,
+            })
+        }
+        LineError::NoMemory => SessionError::NoMemory,
     }
 }
 

@@ -13,7 +13,7 @@ use crate::running::run_session;
 use client_run::Gate;
 use client_threads::{NodeSlots, Runner};
 use outside_io::{ReadError, Sink, Source, read_all};
-use request_lines::{MAX_INPUT_BYTES, SessionError, read_session};
+use request_lines::{MAX_INPUT_BYTES, SessionError, read_session_on_threads};
 use run_text::Stop;
 use std::alloc::Global;
 use std::sync::Wait;
@@ -62,7 +62,7 @@ pub(crate) fn serve_input<
         Err(ReadError::TooLong) => return Status::TooLong,
         Err(ReadError::NoMemory) => return Status::NoMemory,
     };
-    let read = read_session(alloc, &input);
+    let read = read_session_on_threads(rt, alloc, &input);
     // The session has its own texts, and the clients need the memory.
     drop(input);
     let session = match read {

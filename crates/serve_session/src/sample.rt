@@ -19,7 +19,7 @@ use client_run::Gate;
 use client_threads::{NodeSlots, Runner, history_of, summary_of};
 use key_names::NoMemory;
 use outside_io::{Sink, write_all};
-use request_lines::{Session, SessionError, read_session, sample_input};
+use request_lines::{Session, SessionError, read_session_on_threads, sample_input};
 use run_text::Stop;
 use std::alloc::Global;
 use std::sync::Wait;
@@ -70,7 +70,7 @@ fn run_sample<K: Sink, G: Gate + Sync, R: Runner<G>, Rt: Threads + Wait + Sync>(
     ensures fault { IsErrOf result Stop.Fault → K.faults sink.new ≡ one_more (K.faults sink.old) }
     ensures quiet { ¬ (IsErrOf result Stop.Fault) → K.faults sink.new ≡ K.faults sink.old }
 {
-    let session = sample_session(alloc, n)?;
+    let session = sample_session(rt, alloc, n)?;
     let summary = run_summed(rt, alloc, n, session, gate, runner)?;
     let line = summary_line(alloc, &summary)?;
     write_all(sink, line.bytes())?;
@@ -104,7 +104,7 @@ fn run_summed<G: Gate + Sync, R: Runner<G>, Rt: Threads + Wait + Sync>(
 }
 
 // The generated session. Its text has no faulty line.
-fn sample_session(alloc: Global, n: u32) -> Result<Session, NoMemory>
+fn sample_session<Rt: Threads + Sync>(rt: &Rt, alloc: Global, n: u32) -> Result<Session, NoMemory>
     requires some { 0 < n }
     requires most { n ≤ most_sample_requests }
     ensures session { IfOk result (λ session. session ≡ spec.sample_session n) }
@@ -115,7 +115,7 @@ fn sample_session(alloc: Global, n: u32) -> Result<Session, NoMemory>
     ensures small { IfOk result IsSmall }
 {
     let input = sample_input(alloc, n)?;
-    match read_session(alloc, &input) {
+    match read_session_on_threads(rt, alloc, &input) {
         Ok(session) => Ok(session),
         Err(SessionError::NoMemory) => Err(NoMemory),
         Err(SessionError::Input(_)) => unreachable!(),

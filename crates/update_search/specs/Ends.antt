@@ -17,6 +17,9 @@ pub record EndsMissing (v : View) (key : ℕ) (gap : Gap) : Type 0 where
   pub place : v.reading.place ≡ AtGap gap.at.node gap.at.side
   pub found : RemembersGap v gap.at.node gap.at.side gap.tag key
 
+abbrev pub IsMissing : View → ℕ → Type 0
+IsMissing v key = (gap : Gap) × EndsMissing v key gap
+
 -- it has come to the key's node, which is another one than that above it
 pub record IsFoundAt (v : View) (key : ℕ) (found : KeyNode) : Type 0 where
   pub here : HasKeyAt v found.at found.node key found.turns

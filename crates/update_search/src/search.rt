@@ -4,7 +4,7 @@ ghost use Rattle.key_map.specs.declared.update.Change.TheVariants.{Remove};
 ghost use Rattle.table_steps.specs.Passes.{IsAlone, IsSamePass};
 ghost use Rattle.plan_laws.specs.Tries.{IsTrying};
 ghost use Rattle.update_search.specs.Aims.{IsAim, IsAimOf};
-ghost use Rattle.update_search.specs.Ends.{IsFoundAt};
+ghost use Rattle.update_search.specs.Ends.{IsFoundAt, IsMissing};
 ghost use Rattle.update_search.specs.Outcomes.{IsCounted, KeepsPlaces};
 ghost use Rattle.update_search.specs.Searching.{IsAtTop, KeepsSearch};
 
@@ -52,7 +52,7 @@ fn aim_at_removal(pass: &mut TablePass<'_>, key: u64, found: KeyNode) -> Aim
 }
 
 /// What a try of the update is to do: the search for its key goes from the root down the plain links. None for a
-/// removal of a key that it has not found.
+/// removal of a key that it has not found: it has ended at a null link for it.
 ///
 /// # Errors
 /// The search has met a node that was taken out, and cannot go on there.
@@ -63,6 +63,7 @@ pub fn find_aim(pass: &mut TablePass<'_>, key: u64, change: Change) -> Result<Op
     ensures aim { IfOk result (λ found. IfSome found (IsAim pass.new.view)) }
     ensures of { IfOk result (λ found. IfSome found (IsAimOf key change)) }
     ensures none { IfOk result (λ found. found ≡ None → change ≡ Remove) }
+    ensures missing { IfOk result (λ found. found ≡ None → IsMissing pass.new.view key) }
     ensures given_up { IfErr result (λ failed. KeepsPlaces pass.old.view pass.new.view) }
     ensures counted { IfErr result (λ failed. IsCounted failed pass.old.view pass.new.view) }
     ensures alone { IfErr result (λ failed. ¬ IsAlone pass.new.view) }

@@ -14,8 +14,9 @@ returns-in-Key c =
     let query = c.args.query.now in
     let below = subst (IsEntryInRange dir) c.in-Key.is c.requires.in_range in
     let high = subst (λ e. is_before (entry_text dir e) query.prefix ≡ false) c.in-Key.is c.requires.listed in
-    subst (λ e. GoesOnAt dir query (Some (entry_point dir e)) (c.in-Key.rank + 1)) (sym c.in-Key.is)
-    (behind_key dir query c.in-Key.rank c.len-names.ensures.rising below high)
+    rw c.from.ensures
+    (subst (λ e. GoesOnAt dir query (Some (entry_point dir e)) (c.in-Key.rank + 1)) (sym c.in-Key.is)
+    (behind_key dir query c.in-Key.rank c.len-names.ensures.rising below high))
 
 pub returns-in-Group : goal.returns-in-Group
 returns-in-Group c =

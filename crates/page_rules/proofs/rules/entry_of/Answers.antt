@@ -3,10 +3,12 @@ use Rattle.std.specs.Str.{IsUtf8}
 use Rattle.std.proofs.Common.{◌≡◌, length, Some, sym, ap, ◌∙◌, arith}
 use Rattle.std.proofs.lemmas.Bool.Decides.{nat_tests}
 use Rattle.bucket_terms.specs.Listing.{group_len, entry_by}
+use Rattle.bucket_terms.specs.PageInRange.{IsGroupInRange}
 use Rattle.key_names.specs.Names.{name_at}
 use Rattle.page_rules.proofs.FirstEnd.{no_group-without}
 use Rattle.page_rules.proofs.InRange.{whole_group}
 use Rattle.page_rules.proofs.rules.entry_of.Goals as goal
+use Rattle.page_rules.proofs.rules.entry_of.Goals.{In-Some}
 
 pub returns-then-is_empty-clause-entry : goal.returns-then-is_empty-clause-entry
 returns-then-is_empty-clause-entry c =
@@ -14,10 +16,17 @@ returns-then-is_empty-clause-entry c =
     let empty : length c.bytes.result.now ≡ 0 = grind (arith, nat_tests, c.is_empty.ensures) in
     sym (ap (λ o. entry_by o c.args.pair.now) (no_group-without c.args.query.now (name_at c.args.dir.now c.args.pair.now.key) (omega (arith, is, empty))))
 
-pub returns-in-Some-clause-in_range : goal.returns-in-Some-clause-in_range
-returns-in-Some-clause-in_range c below =
+-- the group is in range
+in_range : (c : In-Some) → IsGroupInRange c.args.dir.now c.args.pair.now.key c.in-Some.len
+in_range c =
     let pair = c.args.pair.now in
     let query = c.args.query.now in
     let delimiter : IsUtf8 query.delimiter = rw c.bytes.ensures.value at c.bytes.ensures.utf8 in
     let group : group_len query (name_at c.args.dir.now pair.key) ≡ Some c.in-Some.len = sym (c.in-Some.ensures ∙ ap (group_len query) c.name_at.ensures) in
-    whole_group c.args.dir.now query pair.key c.in-Some.len below (c.len-names.ensures.fine pair.key [] below).text delimiter group
+    whole_group c.args.dir.now query pair.key c.in-Some.len c.requires (c.len-names.ensures.fine pair.key [] c.requires).text delimiter group
+
+pub overflow_cast-result : goal.overflow_cast-result
+overflow_cast-result c = omega (arith, (in_range c).whole.0, (c.len-names.ensures.fine c.args.pair.now.key [] c.requires).short)
+
+pub returns-in-Some-clause-in_range : goal.returns-in-Some-clause-in_range
+returns-in-Some-clause-in_range c = in_range c

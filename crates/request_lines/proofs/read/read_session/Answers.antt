@@ -6,7 +6,7 @@ use Rattle.request_lines.specs.Left.{texts_left, size_left}
 use Rattle.request_lines.proofs.InputLaws.{halfway_start, halfway_more, halfway_next, refused_at, session_at, answer_at}
 use Rattle.request_lines.proofs.CountedLines.{IsSessionOf}
 use Rattle.request_lines.proofs.LineCounts.{session_is, refused_is}
-use Rattle.request_lines.proofs.Sound.{sound_start, sound_more, sound_answer, IsSoundSession}
+use Rattle.request_lines.proofs.Sound.{sound_start, sound_more, few_names, sound_answer, IsSoundSession}
 use Rattle.request_lines.proofs.read.read_session.Goals as goal
 
 pub loop-left-init : goal.loop-left-init
@@ -40,6 +40,9 @@ returns-in_err-take-clause-refused c =
     let rest = c.first_line.result.1 in
     let half = halfway_next c.args.bytes.now p number c.loop-left.left rest c.in-Some.lines text c.in-Some.is c.first_line.ensures.cut c.loop-left.invariant.halfway in
     rw (error.1, error.2) (refused_is c.args.bytes.now (Err c.in_err-take.field-0.0) (refused_at c.args.bytes.now p p number text (texts_left rest) _ c.in_err-take.ensures.taken half))
+
+pub finish-requires : goal.finish-requires
+finish-requires c = few_names (progress c.loop-left.reader) (c.loop-left.number + 1) c.loop-left.invariant.within c.loop-left.invariant.sound
 
 -- the session is that of the lines as the reader counts them
 counted_session : (c : goal.After-finish) → IfOk c.finish.result (IsSessionOf c.args.bytes.now)

@@ -1,0 +1,15 @@
+use Rattle.std.proofs.Common.{◌≡◌, ℕ, ◌+◌, ◌≤◌, List, length, take, get_or, Option}
+use Rattle.request_lines.specs.declared.command.Command.{Command}
+use Rattle.request_lines.specs.Counting.{IsWithin}
+use Rattle.request_lines.specs.Reading.{progress, Reaches}
+use Rattle.request_lines.specs.Said.{SayInTurn}
+use Rattle.request_lines.proofs.reader.Reader.take_all.Given as goal
+
+abbrev pub invariant-loop-place : goal.invariant-loop-place
+invariant-loop-place l = record {
+  number : l.number ≡ l.before + l.place;
+  within : IsWithin l.self.counts;
+  long : length l.commands.items ≡ length l.fn.said.commands.items;
+  left : (i : ℕ) (d : Option Command) → l.place ≤ i → get_or l.commands.items i d ≡ get_or l.fn.said.commands.items i d;
+  reached : (front : List (List ℕ)) → SayInTurn front l.fn.said.commands.items → Reaches (progress l.initial.self) (l.before + 1) (take l.place front) (progress l.self);
+}

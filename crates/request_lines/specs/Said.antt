@@ -1,0 +1,63 @@
+-- Helper: the headline does not rest on this file.
+-- What the lines of a block of an input say, before they are held against the limits of a session.
+use Rattle.std.specs.Prelude.{◌≡◌, ℕ, ◌<◌, ◌==◌, List, [], ◌∷◌, ◌++◌, length, Option, Some, None, Result, Ok, Err, IfOk, slice_index_or, if◌then◌else◌}
+use Rattle.std.specs.Borrow.{Bor}
+use Rattle.std.specs.Option.{option_map}
+use Rattle.key_names.specs.declared.no_memory.NoMemory.{NoMemory}
+use Rattle.request_lines.specs.declared.cause.Cause.{Cause}
+use Rattle.request_lines.specs.declared.command.Command.{Command}
+use Rattle.request_lines.specs.declared.line_error.LineError.{LineError}
+use Rattle.request_lines.specs.declared.line_error.LineError.TheVariants as faults
+use Rattle.request_lines.specs.declared.said.Said.{Said}
+use Rattle.request_lines.specs.Input.{reading_of}
+use Rattle.request_lines.specs.InputParts.{texts_of}
+
+-- what a line says, or its own cause; nothing where it is empty
+unfoldable pub said_of : List ℕ → Option (Result Command Cause)
+said_of text = if length text == 0 then None else Some (reading_of text)
+
+-- the line says this command, or is empty
+abbrev pub SaysLine : List ℕ → Option Command → Type 0
+SaysLine text command = said_of text ≡ option_map Ok command
+
+-- the same of what comes of its reading, or it has this cause of its own
+abbrev pub ReadsLine : List ℕ → Result (Option Command) LineError → Type 0
+ReadsLine text (Ok command) = SaysLine text command
+ReadsLine text (Err (faults.Faulty cause)) = said_of text ≡ Some (Err cause)
+ReadsLine text (Err faults.NoMemory) = Unit {0}
+
+-- each of these lines says one of the commands, in order
+abbrev pub SayInTurn : List (List ℕ) → List (Option Command) → Type 0
+SayInTurn [] [] = Unit {0}
+SayInTurn (text ∷ texts) (command ∷ commands) = SaysLine text command × SayInTurn texts commands
+SayInTurn texts commands = ⊥
+
+-- there are no more lines, or the next one has this cause of its own
+abbrev pub StopsAt : List (List ℕ) → Option Cause → Type 0
+StopsAt [] cause = cause ≡ None
+StopsAt (text ∷ texts) None = ⊥
+StopsAt (text ∷ texts) (Some cause) = said_of text ≡ Some (Err cause)
+
+-- the lines say this, up to the first that has a cause of its own
+pub record Says (texts : List (List ℕ)) (said : Said) : Type 0 where
+  pub front : List (List ℕ)
+  pub behind : List (List ℕ)
+  pub all : texts ≡ front ++ behind
+  pub commands : SayInTurn front said.commands.items
+  pub cause : StopsAt behind said.cause
+
+-- the lines of these blocks
+abbrev pub texts_in : List (Bor (List ℕ)) → List (List ℕ)
+texts_in [] = []
+texts_in (block ∷ blocks) = texts_of block.now ++ texts_in blocks
+
+-- what comes of the reading of each of these blocks is what its lines say, unless memory ran out
+abbrev pub SayEach : List (Bor (List ℕ)) → List (Result Said NoMemory) → Type 0
+SayEach [] [] = Unit {0}
+SayEach (block ∷ blocks) (r ∷ results) = IfOk r (Says (texts_of block.now)) × SayEach blocks results
+SayEach blocks results = ⊥
+
+-- the same by the places of the blocks
+pub record SayAtEach (blocks : List (Bor (List ℕ))) (results : List (Result Said NoMemory)) : Type 0 where
+  pub one_each : length results ≡ length blocks
+  pub each : (i : ℕ) (b : Bor (List ℕ)) (d : Result Said NoMemory) → i < length blocks → IfOk (slice_index_or results i d) (Says (texts_of (slice_index_or blocks i b).now))
