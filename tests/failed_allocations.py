@@ -4,12 +4,12 @@
     tests/failed_allocations.py PROGRAM [SESSION ..]
 
 Without names it takes each text of examples/ that has its answers beside it, tests/three_clients.txt, whose text does
-not depend on the schedule, a session whose text is put together in several pieces, on threads, the sessions of
-tests/rows.py whose clients have a named number of node slots, and two texts that `check` is given, one legal and one
-not. Wanted of each failure: status 7, a start of the whole text, down to nothing, and one line on standard error; or the
-same end as without a failure, where a thread could not be started, and its client was run or its piece made without one. A session of several
-clients needs answers that do not depend on the schedule. PROGRAM is the built program itself,
-crates/bucketidx/out/bucketidx. A small library, which is compiled with cc and loaded before the C library, counts the
+not depend on the schedule, a session whose text is put together in several pieces on threads, one whose lines are read
+in several blocks, the sessions of tests/rows.py whose clients have a named number of node slots, and two texts that
+`check` is given, one legal and one not. Wanted of each failure: status 7, a start of the whole text, down to nothing,
+and one line on standard error; or the same end as without a failure, where a thread could not be started, and its client
+was run, its piece made or its block read without one. A session of several clients needs answers that do not depend on
+the schedule. PROGRAM is the built program itself, crates/bucketidx/out/bucketidx. A small library, which is compiled with cc and loaded before the C library, counts the
 program's allocations and refuses one of them; those of the C library itself are let through. Not part of the gate.
 """
 import os
@@ -21,6 +21,7 @@ from pathlib import Path
 from check_rows import VERDICTS
 from legal_runs import words_of
 from rows import rows
+from several_blocks import plain_session
 from several_pieces import long_lines
 
 HERE = Path(__file__).resolve().parent.parent
@@ -144,6 +145,7 @@ def main():
         tries = [(name, Path(name).read_bytes(), None, words_of(SLOTS.get(Path(name).stem))) for name in names]
         if not sys.argv[2:]:
             tries.append(("a text of several pieces", *long_lines(), words_of(None)))
+            tries.append(("lines of several blocks", plain_session(), None, words_of(None)))
             tries += [(row.name, row.raw, None, row.words) for row in rows() if len(row.words) > 1 and not row.refusal]
             tries += [(row.name, row.raw, None, row.words) for row in rows() if row.name == PAGES]
             tries += [("check: " + name, raw + line + text, None, words) for name, words, raw, line, text, _ in VERDICTS if name in CHECKED]

@@ -69,6 +69,14 @@ def session_of(rng):
     return b"\n".join(lines) + rng.choice([b"", b"\n", b"\r\n"])
 
 
+def plain_session():
+    """Five blocks of lines with few names, each of which lies in its value."""
+    keys = [(b"blocks/%03d/" % number).ljust(60, b"b") for number in range(100)]
+    puts = [b"PUT %s %d e%d %d" % (key, number, number, number) for number, key in enumerate(keys)]
+    heads = [b"HEAD " + keys[number * 7 % 100] for number in range(5 * BLOCK // 66)]
+    return b"\n".join([b"CLIENT", *puts, *heads, b"LIST max-keys=3", b""])
+
+
 def main():
     parser = argparse.ArgumentParser(description=__doc__, formatter_class=argparse.RawDescriptionHelpFormatter)
     parser.add_argument("program")

@@ -1,21 +1,19 @@
-// The first put of a table by single steps, and what another pass reads at its stages. All numbers were worked by hand.
+// The first put of a table by single steps. All numbers were worked by hand.
 ghost use Rattle.std.specs.Prelude.{◌≡◌, true, IfOk};
 ghost use Rattle.index_words.specs.declared.side.Side.TheVariants.{Right};
 ghost use Rattle.core_events.specs.LockMoves.{locked_view};
 ghost use Rattle.core_events.specs.PlainMoves.{link_loaded, tag_loaded};
 ghost use Rattle.core_laws.specs.PlainNeeds.{MayReadLink};
 ghost use Rattle.table_tests.specs.FirstPut.{at_start, at_seen, at_root, at_pair, at_locked_root};
-ghost use Rattle.snapshot_read.specs.Snapshots.{IsReading};
-ghost use Rattle.table_steps.specs.Passes.{AtRest, IsPassOf};
+ghost use Rattle.table_steps.specs.Passes.{IsPassOf};
 
+use crate::rows::{Row, have_answers};
 use crate::set_up::both;
 use index_words::{Change, Layout, NoMemory, Pair, PassSize, Side};
-use key_map::PassError;
-use snapshot_read::{Look, begin, end, try_next_from};
 use std::alloc::Global;
+use std::sync::Wait;
 use std::test::Fail;
 use table_steps::{PassKey, SharedTable, TablePass};
-use tree_update::{Try, try_put};
 
 const SIZE: PassSize = PassSize {
     nodes: 1,
@@ -101,69 +99,48 @@ fn locks_root(pass: &mut TablePass<'_>) -> bool
     }
 }
 
-/// What a pass reads at the stages of another one's put.
-#[derive(Clone, Copy, Debug, PartialEq, Eq)]
-struct Read {
-    prepared: (u64, Look),
-    place: u64,
-    /// A try of another put: the root is locked.
-    tried: Result<Try, PassError>,
-    raised: (u64, Look),
-    ended: [Look; 2],
-}
-
-/// A snapshot's number and the first pair in it.
-fn look(pass: &mut TablePass<'_>) -> (u64, Look)
-    requires rest { AtRest pass.old.view }
-    ensures reads { IsReading pass.new.view }
-{
-    let at = begin(pass);
-    (at, try_next_from(pass, 0))
-}
-
-/// Raises the put that is ready, and ends it. The other pass reads in between.
-fn put_by_steps(pass: &mut TablePass<'_>, other: &mut TablePass<'_>) -> Read
+/// Raises the put that is ready, and ends it. Its place.
+fn put_by_steps(pass: &mut TablePass<'_>) -> u64
     requires locked { pass.old.view ≡ at_locked_root }
-    requires rest { AtRest other.old.view }
 {
     pass.number_fact();
     pass.prepare(0, Side::Right, 1);
-    let prepared = look(other);
-    end(other);
     let place = pass.raise(2, 5, Change::Put(7), [1, 0, 0], [0, 0]);
-    let tried = try_put(other, 1, 6, 8);
-    let raised = look(other);
     pass.finalise(1);
     pass.set_link(0, Side::Right, 1);
     pass.unlock(0);
     pass.close_section();
-    let ended = [try_next_from(other, 0), try_next_from(other, 6)];
-    end(other);
-    Read {
-        prepared,
-        place,
-        tried,
-        raised,
-        ended,
+    place
+}
+
+/// The place of a put by single steps. None where the pass finds another table than one without updates.
+fn place_of_put(pass: &mut TablePass<'_>) -> Option<u64>
+    requires start { pass.old.view ≡ at_start }
+{
+    if sees_nothing(pass) && reads_nothing(pass) {
+        fill_pair(pass);
+        if locks_root(pass) {
+            return Some(put_by_steps(pass));
+        }
     }
+    None
+}
+
+const SEEN: [Row; 2] = [
+    Row::First(0, 1, Some(Pair { key: 5, val: 7 })),
+    Row::First(6, 1, None),
+];
+
+/// The place of the put, and whether the other pass sees the pair then.
+fn put_and_seen<R: Wait>(rt: &R, alloc: Global) -> Result<(Option<u64>, bool), NoMemory> {
+    let (table, one, two) = opened(alloc)?;
+    let place = place_of_put(&mut table.attach(one));
+    let is_seen = have_answers(rt, alloc, &mut table.attach(two), &SEEN);
+    Ok((place, is_seen))
 }
 
 #[test]
-fn a_reader_waits_at_an_entry_until_it_has_its_number(rt: HostRuntime) -> Result<(), Fail> {
-    let (table, one, two) = opened(rt.alloc())?;
-    let mut pass = table.attach(one);
-    let mut other = table.attach(two);
-    assert!(rt; sees_nothing(&mut pass));
-    assert!(rt; reads_nothing(&mut pass));
-    fill_pair(&mut pass);
-    assert!(rt; locks_root(&mut pass));
-    let read = Read {
-        prepared: (0, Look::Pending),
-        place: 1,
-        tried: Ok(Try::Busy),
-        raised: (1, Look::Pending),
-        ended: [Look::Found(Pair { key: 5, val: 7 }), Look::Nothing],
-    };
-    assert_eq!(rt; put_by_steps(&mut pass, &mut other), read);
+fn the_first_put_by_single_steps_fills_three_words(rt: HostRuntime) -> Result<(), Fail> {
+    assert_eq!(rt; put_and_seen(&rt, rt.alloc())?, (Some(1), true));
     Ok(())
 }

@@ -3,26 +3,18 @@
 #![tactic(auto)]
 
 #[cfg(test)]
-mod announcing;
-#[cfg(test)]
 mod first_put;
-#[cfg(test)]
-mod loads;
 #[cfg(test)]
 mod moved;
 #[cfg(test)]
-mod passes;
+mod rows;
 #[cfg(test)]
-mod plain_links;
-#[cfg(test)]
-mod pruning;
+mod sections;
 #[cfg(test)]
 mod set_up;
 #[cfg(test)]
-mod settling;
-#[cfg(test)]
-mod snapshots;
-#[cfg(test)]
 mod stages;
 #[cfg(test)]
-mod updates;
+mod stories;
+#[cfg(test)]
+mod tested_pass;

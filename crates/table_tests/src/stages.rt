@@ -8,119 +8,90 @@ ghost use Rattle.update_search.specs.Aims.{IsAim, IsPut};
 ghost use Rattle.table_steps.specs.Passes.{AtRest};
 ghost use Rattle.tree_update.specs.Trying.{OffersSlots};
 
-use crate::set_up::{ROOMY, done, two_passes};
+use crate::rows::{Row, have_answers};
+use crate::set_up::{ROOMY, two_passes};
+use crate::tested_pass::TestedPass;
 use core_updates::{Plan, PlanSlots};
-use index_words::{Change, Pair};
-use key_map::{Done, PassError};
-use snapshot_read::{Look, begin, end, try_next_from};
+use index_words::{Change, NoMemory, Pair};
+use key_map::Done;
+use snapshot_read::Look;
+use std::alloc::Global;
+use std::sync::Wait;
 use std::test::Fail;
 use table_steps::TablePass;
-use tree_update::{Try, put, try_put};
+use tree_update::Try;
 use update_search::{Aim, begin_search, find_aim};
 use update_try::{
     finalise_all, leave_section, make_ready, mark_all, plan_slots, prune_all, raise_plan,
     raise_tag, set_plain, unlock_all, validate,
 };
 
-/// The answer of one look, in a snapshot of its own, and then that of one try of a put.
-#[derive(Clone, Copy, Debug, PartialEq, Eq)]
-struct Met {
-    look: Look,
-    tried: Result<Try, PassError>,
-}
+/// Key 5 behind the update.
+const NEW: Look = Look::Found(Pair { key: 5, val: 51 });
 
-/// What a pass meets before the numbers of the update are written.
-#[derive(Clone, Copy)]
-struct Before {
-    locked: Met,
-    prepared: Met,
-    raised: Met,
-}
+/// What one look for the first pair finds, in a snapshot of its own, with the snapshot's place.
+type Seen = (u64, Look);
 
-/// What it meets from then on.
-#[derive(Clone, Copy)]
-struct Behind {
-    numbered: Met,
-    pruned: Met,
-    marked: Met,
-    set: Met,
-    ended: Met,
-}
-
-fn answers(val: u64, tried: Try) -> Met {
-    let look = Look::Found(Pair { key: 5, val });
-    Met {
-        look,
-        tried: Ok(tried),
-    }
-}
-
-/// One look for the first pair.
-fn look_once(pass: &mut TablePass<'_>) -> Look
-    requires rest { AtRest pass.old.view }
-    ensures rest { AtRest pass.new.view }
+/// Whether the other pass sees this, and then meets this at one try to put key 5.
+fn meets<P: TestedPass>(other: &mut P, seen: Seen, tried: Try) -> bool
+    requires { AtRest (P.view other.old) }
+    ensures { AtRest (P.view other.new) }
 {
-    begin(pass);
-    let look = try_next_from(pass, 0);
-    end(pass);
-    look
+    let at = other.begin_reading();
+    let look = other.look_for_first();
+    other.end_reading();
+    other.put_by_try(5, 52) == Ok(tried) && (at, look) == seen
 }
 
-/// Looks for the first pair, and tries to put key 5.
-fn meet(pass: &mut TablePass<'_>) -> Met
-    requires rest { AtRest pass.old.view }
-    ensures rest { AtRest pass.new.view }
-{
-    let look = look_once(pass);
-    let tried = try_put(pass, 1, 5, 52);
-    Met { look, tried }
-}
-
-/// Ends an update behind its raise. Another pass meets it with the numbers written, with the bundles cut, with the
-/// nodes that went out marked, with the plain links set, and after its end.
-fn end_in_stages(
+/// Ends an update behind its raise at this place. Whether the other pass sees the new pair and meets a lock with the
+/// numbers written, with the bundles cut, with the nodes that went out marked and with the plain links set, and whether
+/// it comes through behind the end.
+fn end_in_stages<P: TestedPass>(
     pass: &mut TablePass<'_>,
-    other: &mut TablePass<'_>,
+    other: &mut P,
     number: u64,
     plan: &Plan,
     slots: &PlanSlots,
-) -> Behind
+    place: u64,
+) -> [bool; 5]
     requires raised { (at : ℕ) × HasFinalised pass.old.view pass.old.number plan.now slots.now at 0 }
     requires apart { AreApart slots.now }
     requires near { SetsAtOnce plan.now }
     requires least { pass.old.view.reading.least ≡ Some number }
-    requires rest { AtRest other.old.view }
+    requires rest { AtRest (P.view other.old) }
 {
+    let shown = (place, NEW);
     finalise_all(pass, plan, slots);
-    let numbered = meet(other);
+    let numbered = meets(other, shown, Try::Busy);
     prune_all(pass, plan, slots, number);
-    let pruned = meet(other);
+    let pruned = meets(other, shown, Try::Busy);
     mark_all(pass, plan);
-    let marked = meet(other);
+    let marked = meets(other, shown, Try::Busy);
     set_plain(pass, plan, slots);
     raise_tag(pass, plan, slots);
-    let set = meet(other);
+    let set = meets(other, shown, Try::Busy);
     unlock_all(pass, plan.locks().as_slice());
     leave_section(pass);
-    let ended = meet(other);
-    Behind {
-        numbered,
-        pruned,
-        marked,
-        set,
-        ended,
-    }
+    let done = Done {
+        at: place.wrapping_add(1),
+        was: true,
+    };
+    let ended = meets(other, shown, Try::Done(done));
+    [numbered, pruned, marked, set, ended]
 }
 
-/// Carries an aim out. Another pass meets it with the nodes locked, with the entries in front of their bundles, behind
-/// the raise, and at the stages of its end. None where a lock or a look fails.
-fn carry_in_stages(
+/// Carries an aim out, at this place. Whether the other pass sees what it had seen with the nodes locked, waits at an
+/// entry with the entries in front of their bundles and behind the raise, and meets a lock then; and what it meets at the
+/// stages of the end. None where a lock or a look fails.
+fn carry_in_stages<P: TestedPass>(
     pass: &mut TablePass<'_>,
-    other: &mut TablePass<'_>,
+    other: &mut P,
     number: u64,
     aim: &Aim,
     slots: &PlanSlots,
-) -> Option<(Before, Behind)>
+    before: Seen,
+    place: u64,
+) -> Option<([bool; 3], [bool; 5])>
     requires aim { IsAim pass.old.view aim.now }
     requires put { IsPut aim.now }
     requires free { HasSlots pass.old.view slots.now }
@@ -128,81 +99,91 @@ fn carry_in_stages(
     requires node { 0 < slots.now.node }
     requires left { 0 < pass.old.view.history.left }
     requires reads { pass.old.view.reading.section ≡ Some number }
-    requires rest { AtRest other.old.view }
+    requires rest { AtRest (P.view other.old) }
 {
     let Ok(plan) = validate(pass, aim) else {
         return None;
     };
-    let locked = meet(other);
+    let locked = meets(other, before, Try::Busy);
     make_ready(pass, &plan, slots);
-    let prepared = meet(other);
+    let prepared = meets(other, (before.0, Look::Pending), Try::Busy);
     raise_plan(pass, 1, &plan, slots);
-    let raised = meet(other);
-    let behind = end_in_stages(pass, other, number, &plan, slots);
-    let before = Before {
-        locked,
-        prepared,
-        raised,
-    };
-    Some((before, behind))
+    let raised = meets(other, (place, Look::Pending), Try::Busy);
+    let behind = end_in_stages(pass, other, number, &plan, slots, place);
+    Some(([locked, prepared, raised], behind))
 }
 
 /// Carries out what a search for key 5 has found.
-fn put_in_stages(
+fn put_in_stages<P: TestedPass>(
     pass: &mut TablePass<'_>,
-    other: &mut TablePass<'_>,
+    other: &mut P,
     slots: &PlanSlots,
-) -> Option<(Before, Behind)>
+    before: Seen,
+    place: u64,
+) -> Option<([bool; 3], [bool; 5])>
     requires rest { AtRest pass.old.view }
     requires left { 0 < pass.old.view.history.left }
     requires slots { OffersSlots pass.old.view slots.now }
-    requires other { AtRest other.old.view }
+    requires other { AtRest (P.view other.old) }
 {
     let at = begin_search(pass);
     pass.facts();
     pass.number_fact();
     match find_aim(pass, 5, Change::Put(51)) {
-        Ok(Some(aim)) => carry_in_stages(pass, other, at, &aim, slots),
+        Ok(Some(aim)) => carry_in_stages(pass, other, at, &aim, slots, before, place),
         Ok(None) | Err(_) => None,
     }
 }
 
-/// Replaces the value of key 5, with free slots of its own.
-fn replace_in_stages(
+/// Puts key 5 anew, with free slots of the pass's own.
+fn put_with_own_slots<P: TestedPass>(
     pass: &mut TablePass<'_>,
-    other: &mut TablePass<'_>,
-) -> Option<(Before, Behind)>
+    other: &mut P,
+    before: Seen,
+    place: u64,
+) -> Option<([bool; 3], [bool; 5])>
     requires rest { AtRest pass.old.view }
-    requires other { AtRest other.old.view }
+    requires other { AtRest (P.view other.old) }
 {
     if pass.calls_left() == 0 {
         return None;
     }
     let slots = plan_slots(pass)?;
-    put_in_stages(pass, other, &slots)
+    put_in_stages(pass, other, &slots, before, place)
 }
+
+/// The same on a table of two passes, behind the calls of these rows.
+fn met_behind<R: Wait>(
+    rt: &R,
+    alloc: Global,
+    rows: &[Row],
+    before: Seen,
+    place: u64,
+) -> Result<Option<([bool; 3], [bool; 5])>, NoMemory> {
+    let (table, first, second) = two_passes(alloc, ROOMY)?;
+    let mut pass = table.attach(second);
+    if !have_answers(rt, alloc, &mut pass, rows) {
+        return Ok(None);
+    }
+    Ok(put_with_own_slots(&mut pass, &mut table.attach(first), before, place))
+}
+
+const MET: Option<([bool; 3], [bool; 5])> = Some(([true; 3], [true; 5]));
+
+#[test]
+fn a_pass_meets_another_ones_first_put_at_its_stages(rt: HostRuntime) -> Result<(), Fail> {
+    assert_eq!(rt;
+        met_behind(&rt, rt.alloc(), &[], (0, Look::Nothing), 1)?,
+        MET
+    );
+    Ok(())
+}
+
+const FIRST: [Row; 1] = [Row::Put(1, 5, 50, Ok(Done { at: 1, was: false }))];
 
 #[test]
 fn a_pass_meets_another_ones_update_at_its_stages(rt: HostRuntime) -> Result<(), Fail> {
-    let (table, other, key) = two_passes(rt.alloc(), ROOMY)?;
-    let mut pass = table.attach(key);
-    let mut other = table.attach(other);
-    assert_eq!(rt; put(&mut pass, &rt, 1, 5, 50), done(1, false));
-    let Some((before, behind)) = replace_in_stages(&mut pass, &mut other) else {
-        panic!(rt; "the update was not made")
-    };
-    let pending = Met {
-        look: Look::Pending,
-        tried: Ok(Try::Busy),
-    };
-    assert_eq!(rt; before.locked, answers(50, Try::Busy));
-    assert_eq!(rt; before.prepared, pending);
-    assert_eq!(rt; before.raised, pending);
-    assert_eq!(rt; behind.numbered, answers(51, Try::Busy));
-    assert_eq!(rt; behind.pruned, answers(51, Try::Busy));
-    assert_eq!(rt; behind.marked, answers(51, Try::Busy));
-    assert_eq!(rt; behind.set, answers(51, Try::Busy));
-    let last = Try::Done(Done { at: 3, was: true });
-    assert_eq!(rt; behind.ended, answers(51, last));
+    let old = Look::Found(Pair { key: 5, val: 50 });
+    assert_eq!(rt; met_behind(&rt, rt.alloc(), &FIRST, (1, old), 2)?, MET);
     Ok(())
 }

@@ -18,12 +18,12 @@ near_by (Lift p) put = cc
 near_by (Join p) put = cc
 
 pub end_in_stages-behind-requires-clause-near : goal.end_in_stages-behind-requires-clause-near
-end_in_stages-behind-requires-clause-near c =
+end_in_stages-behind-requires-clause-near g c =
     near_by c.in-Ok.plan (subst (λ (x : Change). is_put x ≡ true) (sym c.in-Ok.ensures.plan.change_is) c.requires.put)
 
 -- the number at which the pass reads is its least one
 pub end_in_stages-behind-requires-clause-least : goal.end_in_stages-behind-requires-clause-least
-end_in_stages-behind-requires-clause-least c =
+end_in_stages-behind-requires-clause-least g c =
     let u = c.args.pass.now.view in
     let v = c.validate.new.pass.view in
     let p = c.make_ready.new.pass.view in
