@@ -1,7 +1,6 @@
 -- The texts of pieces: their lines, and what is on the sheets.
 use Rattle.std.proofs.Common.{◌≡◌, ℕ, zero, suc, ◌+◌, ◌<◌, length, take, drop, get_or, List, [], ◌∷◌, ◌++◌, Option, Ok, string_bytes, inl, inr, ◌⊎◌, refl, sym, ap, ◌∙◌, subst, arith, append_assoc, append-nil, length-take}
 use Rattle.std.proofs.lemmas.List.{take_more}
-use Rattle.std.proofs.lemmas.Grind.{flat_map-append}
 use Rattle.outside_io.specs.Streams.{IsTaken, TakesStart}
 use Rattle.key_map.specs.declared.update.Update.{Update}
 use Rattle.bucket_terms.specs.declared.record.Record.{Record}
@@ -35,11 +34,10 @@ here_is (x ∷ xs) zero lt = (x, (refl, refl))
 here_is (x ∷ xs) (suc i) lt = here_is xs i (omega arith)
 
 module _ (dir : List (List ℕ)) (records : List Record) (pieces : List Piece) (sheets : List Sheet) (are : AreFilled dir records pieces sheets)
-    (i : ℕ) (sheet : Sheet) (lt : i < length sheets) (here : sheet ≡ get_or sheets i sheet) where
+    (i : ℕ) (sheet : Sheet) (within : i < length pieces) (here : sheet ≡ get_or sheets i sheet) where
   -- the text is that of the piece at its place
   one_text : sheet.filled ≡ Ok tt → pieces_text dir records (take 1 (drop i pieces)) ≡ string_bytes sheet.text
   one_text filled =
-      let within : i < length pieces = omega (arith, lt, are.one_each) in
       let at = here_is pieces i within in
       let piece = at.0 in
       let is : IsFilledAt dir records pieces i sheet = subst (IsFilledAt dir records pieces i) (sym here) (are.each i sheet within) in

@@ -1,8 +1,9 @@
 //! The text of a run: its lines are put together in pieces, several at once on threads, and are written in order, one
-//! write a line. `Pieces` is told what the lines say, and writes them; what the text of each piece is, is said in the
+//! write a line, while the next pieces are put together. `Pieces` is told what the lines say, and writes them; what the text of each piece is, is said in the
 //! words of `answer_text`. The layer above has the replies and the journal.
 #![tactic(auto)]
 
+mod batches;
 mod cutting;
 mod entries;
 mod lines;

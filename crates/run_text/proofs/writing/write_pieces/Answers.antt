@@ -1,28 +1,39 @@
-use Rattle.std.proofs.Common.{length, ap, ◌∙◌, subst, arith, Result, Err}
-use Rattle.std.specs.Prelude.{IsErrOf}
+use Rattle.std.proofs.Common.{length, drop, length-take, length-drop, sym, ap, ◌∙◌, subst, Result, Err, arith}
 use Rattle.std.proofs.lemmas.Result.{err_from_is_err_and}
+use Rattle.outside_io.specs.Streams.{one_more}
 use Rattle.run_text.specs.declared.stop.Stop.{Stop}
-use Rattle.run_text.proofs.Starts.{front_of}
+use Rattle.run_text.specs.Pieces.{pieces_text}
+use Rattle.run_text.specs.Sheets.{Writes}
 use Rattle.run_text.proofs.Made.{batch_taken, batch_started}
 use Rattle.run_text.proofs.writing.write_pieces.Goals as goal
 
-pub returns-in_err-write_batch-clause-start : goal.returns-in_err-write_batch-clause-start
-returns-in_err-write_batch-clause-start g c = λ stop is.
-    let error = err_from_is_err_and c.from_residual-in_err-write_batch.result c.from_residual-in_err-write_batch.ensures.1 in
-    let batch = c.split_at-in-loop-done in
-    batch_started c.args.dir.now c.args.records.now c.args.pieces.now batch.result.0.now c.loop-done.done (length batch.result.0.now)
-    (front_of c.args.pieces.now c.split_at.result.1.now batch.result.0.now c.loop-done.done _ c.split_at.ensures.back batch.ensures.front batch.ensures.front_len)
-    _ _ _ c.loop-done.invariant.taken
-    (c.in_err-write_batch.ensures.start stop (subst (λ (r : Result (Unit {0}) Stop). IsErrOf r stop) (error.1 ∙ ap Err error.2) is))
+pub returns-in_err-write_beside : goal.returns-in_err-write_beside
+returns-in_err-write_beside g c =
+    let error = err_from_is_err_and c.from_residual-in_err-write_beside.result c.from_residual-in_err-write_beside.ensures.1 in
+    let here = c.in_err-write_beside.ensures.written in
+    subst
+    (λ (r : Result (Unit {0}) Stop). Writes (pieces_text c.args.dir.now c.args.records.now c.args.pieces.now) (g.K.Sink.taken c.args.sink.now) (g.K.Sink.taken c.write_beside.new.sink) (g.K.Sink.faults c.args.sink.now) (g.K.Sink.faults c.write_beside.new.sink) r)
+    (sym (error.1 ∙ ap Err error.2))
+    (record {
+      taken = tt;
+      start = λ stop is.
+          batch_started c.args.dir.now c.args.records.now c.args.pieces.now c.batch_at-batch.result.now c.loop-done.done _ c.batch_at-batch.ensures.whole
+          _ _ _ c.loop-done.invariant.taken (here.start stop is);
+      fault = λ is. here.fault is ∙ ap one_more c.loop-done.invariant.quiet;
+      quiet = λ no_fault. here.quiet no_fault ∙ c.loop-done.invariant.quiet;
+    })
 
 pub loop-done-preserved : goal.loop-done-preserved
 loop-done-preserved g c =
-    let batch = c.split_at-in-loop-done in
+    let batch = c.batch_at-batch.result.now in
+    let written = c.in_ok-write_beside.ensures.written in
     record {
-      sheets = omega (arith, c.loop-done.invariant.sheets, c.in_ok-write_batch.ensures.as_many);
-      within = omega (arith, c.loop-done.invariant.within, c.split_at.ensures.back_len, batch.ensures.front_len);
-      taken = batch_taken c.args.dir.now c.args.records.now c.args.pieces.now batch.result.0.now c.loop-done.done (length batch.result.0.now)
-          (front_of c.args.pieces.now c.split_at.result.1.now batch.result.0.now c.loop-done.done _ c.split_at.ensures.back batch.ensures.front batch.ensures.front_len)
-          _ _ _ c.loop-done.invariant.taken c.in_ok-write_batch.ensures.taken;
-      quiet = c.in_ok-write_batch.ensures.quiet (λ is. cc) ∙ c.loop-done.invariant.quiet;
+      most = c.loop-done.invariant.most;
+      spare = rw c.swap.ensures.y_after c.loop-done.invariant.filled_room;
+      filled_room = rw c.swap.ensures.x_after (c.in_ok-write_beside.ensures.as_many ∙ c.loop-done.invariant.spare);
+      within = omega (arith, c.loop-done.invariant.within, ap length c.batch_at-batch.ensures.batch, length-take c.at_once-most.result (drop c.loop-done.done c.args.pieces.now), length-drop c.loop-done.done c.args.pieces.now);
+      filled = rw c.swap.ensures.x_after (rw (sym c.batch_at-next.ensures.batch) c.in_ok-write_beside.ensures.next);
+      taken = batch_taken c.args.dir.now c.args.records.now c.args.pieces.now batch c.loop-done.done (length batch) c.batch_at-batch.ensures.whole
+          _ _ _ c.loop-done.invariant.taken written.taken;
+      quiet = written.quiet (λ is. cc) ∙ c.loop-done.invariant.quiet;
     }
