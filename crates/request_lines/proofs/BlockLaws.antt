@@ -1,5 +1,5 @@
 -- Lines that are cut into blocks.
-use Rattle.std.proofs.Common.{◌≡◌, ℕ, ◌+◌, ◌<◌, ◌≤◌, Bool, true, List, [], ◌∷◌, ◌++◌, length, take, drop, map, get_or, Option, Some, refl, sym, ap, subst, ◌∙◌, append_assoc, inl, inr, arith, length-append}
+use Rattle.std.proofs.Common.{◌≡◌, ℕ, ◌+◌, ◌^◌, ◌<◌, ◌≤◌, Bool, true, List, [], ◌∷◌, ◌++◌, length, take, drop, map, get_or, Option, Some, refl, sym, ap, subst, ◌∙◌, append_assoc, inl, inr, arith}
 use Rattle.std.specs.Prelude.{◌==◌}
 use Rattle.std.specs.Borrow.{Bor}
 use Rattle.std.specs.List.{slice_split, onto_first, position_or_len}
@@ -9,8 +9,9 @@ use Rattle.std.proofs.lemmas.List.{take-append-drop, drop_more, get_or-drop, len
 use Rattle.std.proofs.lemmas.List.Sums.{passes_at_first, count_by-le-length}
 use Rattle.std.proofs.lemmas.List.Splits.{slice_split-cons_yes, slice_split-cons_no, length-slice_split}
 use Rattle.std.specs.Str.Lines.{strip_carriage_return}
+use Rattle.request_lines.specs.Input.{most_input_bytes}
 use Rattle.request_lines.specs.InputParts.{texts_of}
-use Rattle.request_lines.specs.Left.{texts_left, size_left}
+use Rattle.request_lines.specs.Left.{texts_left}
 use Rattle.request_lines.specs.Said.{texts_in}
 
 -- a list that is cut has a part
@@ -50,19 +51,22 @@ block_cut lines start end within place inside below =
     ap texts_of cut ∙ texts_append (take (start + end) lines) (drop (start + end + 1) lines)
 
 -- there are no more lines than bytes, and one
-pub texts_few : (bytes : List ℕ) → length (texts_of bytes) ≤ length bytes + 1
+texts_few : (bytes : List ℕ) → length (texts_of bytes) ≤ length bytes + 1
 texts_few bytes =
     let cut = length-slice_split (λ b. b == 10) bytes in
     let few = count_by-le-length (λ b. b == 10) bytes in
     let same = length-map (slice_split (λ b. b == 10) bytes) strip_carriage_return in
     omega (arith, cut, few, same)
 
+pub texts_small : (bytes : List ℕ) (texts : List (List ℕ)) → texts ≡ texts_of bytes → length bytes ≤ most_input_bytes → 1 + length texts ≤ 2 ^ 32
+texts_small bytes texts same small = omega (arith, ap length same, texts_few bytes)
+
 -- the lines of one more block
 pub texts_push : (blocks : List (Bor (List ℕ))) (block : Bor (List ℕ)) → texts_in (blocks ++ block ∷ []) ≡ texts_in blocks ++ texts_of block.now
 texts_push [] block = append-nil (texts_of block.now)
 texts_push (b ∷ blocks) block = ap (λ (more : List (List ℕ)). texts_of b.now ++ more) (texts_push blocks block) ∙ sym (append_assoc (texts_of b.now) (texts_in blocks) (texts_of block.now))
 
--- with the next block, less is left
+-- with the next block
 pub blocks_more : (lines : List ℕ) (blocks : List (Bor (List ℕ))) (left rest : Option (Bor (List ℕ))) (here block : Bor (List ℕ)) → left ≡ Some here
     → texts_of here.now ≡ texts_of block.now ++ texts_left rest → texts_of lines ≡ texts_in blocks ++ texts_left left
     → texts_of lines ≡ texts_in (blocks ++ block ∷ []) ++ texts_left rest
@@ -70,9 +74,3 @@ blocks_more lines blocks left rest here block is cut all =
     all ∙ ap (λ (behind : List (List ℕ)). texts_in blocks ++ behind) (ap texts_left is ∙ cut)
     ∙ sym (append_assoc (texts_in blocks) (texts_of block.now) (texts_left rest))
     ∙ ap (λ (front : List (List ℕ)). front ++ texts_left rest) (sym (texts_push blocks block))
-
-pub blocks_few : (lines : List ℕ) (blocks : List (Bor (List ℕ))) (left rest : Option (Bor (List ℕ))) (here block : Bor (List ℕ)) → left ≡ Some here
-    → length (texts_of block.now) + size_left rest ≤ length here.now + 1 → length (texts_in blocks) + size_left left ≤ length lines + 1
-    → length (texts_in (blocks ++ block ∷ [])) + size_left rest ≤ length lines + 1
-blocks_few lines blocks left rest here block is few all =
-    omega (arith, ap size_left is, few, all, ap length (texts_push blocks block), length-append (texts_in blocks) (texts_of block.now))

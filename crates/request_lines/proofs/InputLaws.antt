@@ -221,14 +221,21 @@ halfway_meets bytes p number (text ∷ texts) behind e met half =
     ]
 
 -- lines that are not all taken are the refusal
-pub refused_among : (bytes : List ℕ) (p after : Progress) (before : ℕ) (texts behind : List (List ℕ)) (e : SessionError) → TakesAll p before texts after (Err e)
+refused_among : (bytes : List ℕ) (p after : Progress) (before : ℕ) (texts behind : List (List ℕ)) (e : SessionError) → TakesAll p before texts after (Err e)
     → IsHalfway bytes p (before + 1) (texts ++ behind) → IsRefused bytes (Err e)
 refused_among bytes p after before texts behind (errors.Input e) met half = halfway_meets bytes p (before + 1) texts behind e met half
 refused_among bytes p after before texts behind errors.NoMemory met half = tt
 
--- the lines that are left, of which these are the first
-pub halfway_cut : (bytes : List ℕ) (p : Progress) (number : ℕ) (left rest : Option (Bor (List ℕ))) (lines : Bor (List ℕ)) (texts : List (List ℕ)) → left ≡ Some lines
-    → texts_of lines.now ≡ texts ++ texts_left rest → IsHalfway bytes p number (texts_left left) → IsHalfway bytes p number (texts ++ texts_left rest)
-halfway_cut bytes p number left rest lines texts is cut half =
-    let P : List (List ℕ) → Type 0 = IsHalfway bytes p number in
-    subst P (ap texts_left is ∙ cut) half
+-- ---- all lines of the input
+
+whole_start : (bytes : List ℕ) (p : Progress) (texts : List (List ℕ)) → p ≡ no_progress → texts ≡ texts_of bytes → IsHalfway bytes p 1 (texts ++ [])
+whole_start bytes p texts start same =
+    subst (λ (q : Progress). IsHalfway bytes q 1 (texts ++ [])) (sym start) (subst (IsHalfway bytes no_progress 1) (sym (append-nil texts ∙ same)) (halfway_start bytes))
+
+pub halfway_whole : (bytes : List ℕ) (p after : Progress) (texts : List (List ℕ)) → p ≡ no_progress → texts ≡ texts_of bytes → Reaches p 1 texts after
+    → IsHalfway bytes after (1 + length texts) []
+halfway_whole bytes p after texts start same reached = halfway_all bytes p after 1 texts [] reached (whole_start bytes p texts start same)
+
+pub refused_whole : (bytes : List ℕ) (p after : Progress) (texts : List (List ℕ)) (e : SessionError) → p ≡ no_progress → texts ≡ texts_of bytes → TakesAll p 0 texts after (Err e)
+    → IsRefused bytes (Err e)
+refused_whole bytes p after texts e start same refused = refused_among bytes p after 0 texts [] e refused (whole_start bytes p texts start same)

@@ -359,7 +359,7 @@ sound_more p number text right positive small sound =
     ]
 
 -- several lines that were taken
-pub sound_all : (p after : Progress) (number : ℕ) (texts : List (List ℕ)) → Reaches p number texts after → 0 < number → number + length texts ≤ 2 ^ 32 → IsSound p number
+sound_all : (p after : Progress) (number : ℕ) (texts : List (List ℕ)) → Reaches p number texts after → 0 < number → number + length texts ≤ 2 ^ 32 → IsSound p number
     → IsSound after (number + length texts)
 sound_all p after number [] reached positive small sound =
     let same : number ≡ number + length {A = List ℕ} [] = omega arith in
@@ -369,6 +369,9 @@ sound_all p after number (text ∷ texts) reached positive small sound =
     subst (λ (n : ℕ). IsSound after n) next
     (sound_all (taken p number text) after (number + 1) texts reached.1 (omega arith) (omega (arith, next, small))
     (sound_more p number text reached.0 positive (omega (arith, next, small)) sound))
+
+pub sound_whole : (p after : Progress) (texts : List (List ℕ)) → p ≡ no_progress → Reaches p 1 texts after → 1 + length texts ≤ 2 ^ 32 → IsSound after (1 + length texts)
+sound_whole p after texts start reached small = sound_all p after 1 texts reached (omega arith) small (subst (λ (q : Progress). IsSound q 1) (sym start) sound_start)
 
 -- ---- at the end
 

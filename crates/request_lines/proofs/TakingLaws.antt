@@ -1,9 +1,9 @@
 -- Lines that are taken by what they say, one after another.
 use Rattle.std.proofs.Common.{◌≡◌, ℕ, zero, suc, ◌+◌, ◌<◌, ◌≤◌, Bool, true, false, List, [], ◌∷◌, ◌++◌, length, take, drop, get_or, Option, Some, None, Result, Ok, Err, refl, sym, ap, subst, ◌∙◌, append_assoc, inl, inr, arith, length-append}
-use Rattle.std.specs.Prelude.{IfOk, ◌==◌, if◌then◌else◌}
+use Rattle.std.specs.Prelude.{◌==◌, if◌then◌else◌}
 use Rattle.std.specs.Borrow.{Bor}
+use Rattle.std.proofs.Math.Seq.{take-add}
 use Rattle.std.proofs.lemmas.List.{take_more, drop_more, take-append-drop, append-nil, length-take-le, take_all}
-use Rattle.key_names.specs.declared.no_memory.NoMemory.{NoMemory}
 use Rattle.request_lines.specs.declared.cause.Cause.{Cause}
 use Rattle.request_lines.specs.declared.command.Command.{Command}
 use Rattle.request_lines.specs.declared.line_error.LineError.{LineError}
@@ -16,7 +16,7 @@ use Rattle.request_lines.specs.Input.{reading_of}
 use Rattle.request_lines.specs.InputParts.{error_at, texts_of}
 use Rattle.request_lines.specs.Reading.{Progress, taken, error_of_text, session_error, Takes, KeepsReading, Reaches, Meets, TakesAll}
 use Rattle.request_lines.specs.declared.said.Said.{Said}
-use Rattle.request_lines.specs.Said.{said_of, SaysLine, SayInTurn, StopsAt, Says, SayEach, texts_in}
+use Rattle.request_lines.specs.Said.{said_of, SaysLine, SayInTurn, StopsAt, Says, texts_in}
 use Rattle.request_lines.proofs.Fine.{IsFineReading, reading_fine}
 
 -- ---- one line
@@ -218,27 +218,6 @@ taken_in p q after before i d commands front say lt reached takes =
 
 -- ---- the blocks of a round
 
-pub each_length : (blocks : List (Bor (List ℕ))) (results : List (Result Said NoMemory)) → SayEach blocks results → length blocks ≡ length results
-each_length [] [] say = refl
-each_length [] (r ∷ results) say = elim say [ ]
-each_length (b ∷ blocks) [] say = elim say [ ]
-each_length (b ∷ blocks) (r ∷ results) say = ap suc (each_length blocks results say.1)
-
-pub each_at : (blocks : List (Bor (List ℕ))) (results : List (Result Said NoMemory)) (i : ℕ) (d : Bor (List ℕ)) (e : Result Said NoMemory) → SayEach blocks results → i < length results
-    → IfOk (get_or results i e) (Says (texts_of (get_or blocks i d).now))
-each_at [] [] i d e say lt = absurd (omega arith)
-each_at [] (r ∷ results) i d e say lt = elim say [ ]
-each_at (b ∷ blocks) [] i d e say lt = elim say [ ]
-each_at (b ∷ blocks) (r ∷ results) zero d e say lt = say.0
-each_at (b ∷ blocks) (r ∷ results) (suc i) d e say lt = each_at blocks results i d e say.1 (omega arith)
-
-pub each_from : (blocks : List (Bor (List ℕ))) (results : List (Result Said NoMemory)) → length results ≡ length blocks
-    → ((i : ℕ) (b : Bor (List ℕ)) (d : Result Said NoMemory) → i < length blocks → IfOk (get_or results i d) (Says (texts_of (get_or blocks i b).now))) → SayEach blocks results
-each_from [] [] long each = tt
-each_from [] (r ∷ results) long each = absurd (omega (arith, long))
-each_from (b ∷ blocks) [] long each = absurd (omega (arith, long))
-each_from (b ∷ blocks) (r ∷ results) long each = (each 0 b r (omega arith), each_from blocks results (omega (arith, long)) (λ i c d lt. each (suc i) c d (omega arith)))
-
 -- the lines of the blocks, cut at a block
 texts_append : (xs ys : List (Bor (List ℕ))) → texts_in (xs ++ ys) ≡ texts_in xs ++ texts_in ys
 texts_append [] ys = refl
@@ -255,6 +234,20 @@ pub texts_to : (blocks : List (Bor (List ℕ))) (i : ℕ) (d : Bor (List ℕ)) �
 texts_to blocks i d lt =
     ap texts_in (take_more blocks i d lt) ∙ texts_append (take i blocks) (get_or blocks i d ∷ [])
     ∙ ap (λ (back : List (List ℕ)). texts_in (take i blocks) ++ back) (append-nil (texts_of (get_or blocks i d).now))
+
+-- and cut at a round of blocks
+pub round_to : (blocks round : List (Bor (List ℕ))) (done : ℕ) → round ≡ take (length round) (drop done blocks)
+    → texts_in (take (done + length round) blocks) ≡ texts_in (take done blocks) ++ texts_in round
+round_to blocks round done whole =
+    ap texts_in (take-add done (length round) blocks) ∙ texts_append (take done blocks) (take (length round) (drop done blocks))
+    ∙ ap (λ (bs : List (Bor (List ℕ))). texts_in (take done blocks) ++ texts_in bs) (sym whole)
+
+pub round_cut : (blocks round : List (Bor (List ℕ))) (done : ℕ) → round ≡ take (length round) (drop done blocks)
+    → texts_in blocks ≡ texts_in (take done blocks) ++ (texts_in round ++ texts_in (drop (done + length round) blocks))
+round_cut blocks round done whole =
+    let behind = texts_in (drop (done + length round) blocks) in
+    ap texts_in (sym (take-append-drop (done + length round) blocks)) ∙ texts_append (take (done + length round) blocks) (drop (done + length round) blocks)
+    ∙ ap (λ (front : List (List ℕ)). front ++ behind) (round_to blocks round done whole) ∙ append_assoc (texts_in (take done blocks)) (texts_in round) behind
 
 -- a block behind others is refused
 pub block_refused : (p q after : Progress) (before : ℕ) (front texts behind : List (List ℕ)) (e : SessionError) → Reaches p (before + 1) front q

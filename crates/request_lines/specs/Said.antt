@@ -1,9 +1,8 @@
 -- Helper: the headline does not rest on this file.
 -- What the lines of a block of an input say, before they are held against the limits of a session.
-use Rattle.std.specs.Prelude.{◌≡◌, ℕ, ◌<◌, ◌==◌, List, [], ◌∷◌, ◌++◌, length, Option, Some, None, Result, Ok, Err, IfOk, slice_index_or, if◌then◌else◌}
+use Rattle.std.specs.Prelude.{◌≡◌, ℕ, ◌<◌, ◌≤◌, ◌==◌, List, [], ◌∷◌, ◌++◌, length, Option, Some, None, Result, Ok, Err, slice_index_or, if◌then◌else◌}
 use Rattle.std.specs.Borrow.{Bor}
 use Rattle.std.specs.Option.{option_map}
-use Rattle.key_names.specs.declared.no_memory.NoMemory.{NoMemory}
 use Rattle.request_lines.specs.declared.cause.Cause.{Cause}
 use Rattle.request_lines.specs.declared.command.Command.{Command}
 use Rattle.request_lines.specs.declared.line_error.LineError.{LineError}
@@ -51,13 +50,15 @@ abbrev pub texts_in : List (Bor (List ℕ)) → List (List ℕ)
 texts_in [] = []
 texts_in (block ∷ blocks) = texts_of block.now ++ texts_in blocks
 
--- what comes of the reading of each of these blocks is what its lines say, unless memory ran out
-abbrev pub SayEach : List (Bor (List ℕ)) → List (Result Said NoMemory) → Type 0
-SayEach [] [] = Unit {0}
-SayEach (block ∷ blocks) (r ∷ results) = IfOk r (Says (texts_of block.now)) × SayEach blocks results
-SayEach blocks results = ⊥
+-- where memory sufficed, this is what the lines say
+abbrev pub IsRead : List (List ℕ) → Said → Type 0
+IsRead texts said = said.memory ≡ Ok tt → Says texts said
 
--- the same by the places of the blocks
-pub record SayAtEach (blocks : List (Bor (List ℕ))) (results : List (Result Said NoMemory)) : Type 0 where
-  pub one_each : length results ≡ length blocks
-  pub each : (i : ℕ) (b : Bor (List ℕ)) (d : Result Said NoMemory) → i < length blocks → IfOk (slice_index_or results i d) (Says (texts_of (slice_index_or blocks i b).now))
+-- the same of the lines of the block at this place
+abbrev pub IsReadAt : List (Bor (List ℕ)) → ℕ → Said → Type 0
+IsReadAt blocks place said = (b : Bor (List ℕ)) → IsRead (texts_of (slice_index_or blocks place b).now) said
+
+-- what the lines of each block say is in a list, the one at its place
+pub record AreRead (blocks : List (Bor (List ℕ))) (said : List Said) : Type 0 where
+  pub enough : length blocks ≤ length said
+  pub each : (place : ℕ) (d : Said) → place < length blocks → IsReadAt blocks place (slice_index_or said place d)

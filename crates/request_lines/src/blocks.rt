@@ -1,5 +1,5 @@
 // Blocks of lines, into which an input is cut so that several threads read what its lines say.
-ghost use Rattle.std.specs.Prelude.{◌≡◌, ◌+◌, ◌<◌, ◌≤◌, ◌++◌, length, IfOk};
+ghost use Rattle.std.specs.Prelude.{◌≡◌, ◌≤◌, ◌++◌, length, IfOk};
 ghost use Rattle.request_lines.specs.InputParts.{texts_of};
 ghost use Rattle.request_lines.specs.Left.{texts_left, size_left};
 ghost use Rattle.request_lines.specs.Said.{texts_in};
@@ -11,36 +11,24 @@ use std::alloc::Global;
 /// How many bytes the lines of a block have at least, but for the last block.
 pub(crate) const BLOCK_BYTES: usize = 1 << 18;
 
-/// The first blocks of these lines, at most so many, and what is left behind them.
-pub(crate) fn first_blocks<'a>(
-    alloc: Global,
-    lines: &'a [u8],
-    most: usize,
-) -> Result<(Vec<&'a [u8]>, Option<&'a [u8]>), NoMemory>
-    requires some { 0 < most }
-    ensures cut { IfOk result (λ cut. texts_of lines.now ≡ texts_in cut.0.items ++ texts_left cut.1) }
-    ensures shorter { IfOk result (λ cut. size_left cut.1 ≤ length lines.now) }
-    ensures few { IfOk result (λ cut. length (texts_in cut.0.items) + size_left cut.1 ≤ length lines.now + 1) }
+/// The blocks of these lines, in order.
+pub(crate) fn blocks_of(alloc: Global, lines: &[u8]) -> Result<Vec<&[u8]>, NoMemory>
+    ensures { IfOk result (λ blocks. texts_in blocks.items ≡ texts_of lines.now) }
 {
     let mut blocks = Vec::new(alloc);
-    let (block, mut left) = first_block(lines);
-    blocks.push(block)?;
-    for _ in 1..most {
-        let Some(lines) = left else {
-            break;
-        };
+    let mut left = Some(lines);
+    while let Some(lines) = left {
         let (block, rest) = first_block(lines);
         blocks.push(block)?;
         left = rest;
     }
-    Ok((blocks, left))
+    Ok(blocks)
 }
 
 // The first block of these lines, and what is left behind it: None behind the last one.
 fn first_block(lines: &[u8]) -> (&[u8], Option<&[u8]>)
     ensures cut { texts_of lines.now ≡ texts_of result.0.now ++ texts_left result.1 }
     ensures shorter { size_left result.1 ≤ length lines.now }
-    ensures few { length (texts_of result.0.now) + size_left result.1 ≤ length lines.now + 1 }
 {
     let (front, back) = lines.split_at(lines.len().min(BLOCK_BYTES));
     match line_feed(back) {

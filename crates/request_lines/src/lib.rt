@@ -22,6 +22,7 @@ mod read;
 mod read_on_threads;
 mod reader;
 mod requests;
+mod rounds;
 mod said;
 mod sample;
 mod session;

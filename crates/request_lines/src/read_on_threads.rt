@@ -1,18 +1,14 @@
 // A session, what whose lines say is read by several threads at once.
-ghost use Rattle.std.specs.Prelude.{◌≡◌, ℕ, ◌<◌, ◌≤◌, List, length, slice_index_or, IfOk};
-ghost use Rattle.std.specs.Borrow.{Bor};
+ghost use Rattle.std.specs.Prelude.{◌≤◌, length, IfOk};
 ghost use Rattle.request_lines.specs.Input.{most_input_bytes, IsSessionOf};
-ghost use Rattle.request_lines.specs.InputParts.{texts_of};
 ghost use Rattle.request_lines.specs.Refusal.{IsRefused};
-ghost use Rattle.request_lines.specs.Said.{Says, SayAtEach};
 ghost use Rattle.request_lines.specs.SessionLaws.{HasNames, HasRecords, HasRequests, HasLines, IsSmall};
 
-use crate::blocks::{BLOCK_BYTES, first_blocks};
+use crate::blocks::{BLOCK_BYTES, blocks_of};
 use crate::read::read_session;
 use crate::reader::Reader;
-use crate::said::{Said, said_in};
+use crate::rounds::take_rounds;
 use crate::{Session, SessionError};
-use key_names::NoMemory;
 use std::alloc::Global;
 use std::thread;
 use std::thread::Threads;
@@ -40,15 +36,9 @@ pub fn read_session_on_threads<Rt: Threads + Sync>(
     if threads < 2 {
         return read_session(alloc, bytes);
     }
+    let blocks = blocks_of(alloc, bytes)?;
     let mut reader = Reader::new(alloc);
-    let mut number: u32 = 0;
-    let mut left = Some(bytes);
-    while let Some(lines) = left {
-        let (blocks, rest) = first_blocks(alloc, lines, threads)?;
-        let said = said_in_each(rt, alloc, &blocks)?;
-        number = reader.take_each(alloc, number, said)?;
-        left = rest;
-    }
+    take_rounds(rt, alloc, &mut reader, &blocks, threads)?;
     reader.finish(alloc)
 }
 
@@ -58,19 +48,4 @@ fn at_once<Rt: Threads>(rt: &Rt, bytes: usize) -> usize {
         Ok(threads) if bytes > BLOCK_BYTES => threads.get(),
         _ => 1,
     }
-}
-
-// What the lines of each block say, each read on a thread of its own, where one can be started.
-fn said_in_each<Rt: Threads + Sync>(
-    rt: &Rt,
-    alloc: Global,
-    blocks: &[&[u8]],
-) -> Result<Vec<Result<Said, NoMemory>>, NoMemory>
-    ensures { IfOk result (λ said. SayAtEach blocks.now said.items) }
-{
-    let read = |place: usize| -> Result<Said, NoMemory>
-        requires { place < length blocks.now }
-        ensures { IfOk result (λ said. (block : Bor (List ℕ)) → Says (texts_of (slice_index_or blocks.entry.now place block).now) said) }
-    { said_in(alloc, blocks[place]) };
-    Ok(thread::map_indices(rt, alloc, blocks.len(), &read)?)
 }

@@ -1,7 +1,7 @@
 // What the lines of a block of an input say.
-ghost use Rattle.std.specs.Prelude.{◌≡◌, length, IfOk};
+ghost use Rattle.std.specs.Prelude.{◌≡◌, [], length, None, OnOk};
 ghost use Rattle.request_lines.specs.InputParts.{texts_of};
-ghost use Rattle.request_lines.specs.Said.{Says, ReadsLine};
+ghost use Rattle.request_lines.specs.Said.{Says, IsRead, ReadsLine};
 
 use crate::Cause;
 use crate::command::{Command, command_of};
@@ -10,39 +10,56 @@ use crate::read::first_line;
 use key_names::NoMemory;
 use std::alloc::Global;
 
-/// What the lines of a block say, in order, up to the first that has a cause of its own.
+/// What the lines of a block say, in a list that serves for the next block too.
 #[derive(Debug, Drop)]
 pub(crate) struct Said {
-    /// What each line says; None of an empty one.
+    /// What each line says, in order, up to the first that has a cause of its own; None of an empty one.
     pub(crate) commands: Vec<Option<Command>>,
     /// The cause of the line behind these, where there is one.
     pub(crate) cause: Option<Cause>,
+    /// Whether memory sufficed to read the block.
+    pub(crate) memory: Result<(), NoMemory>,
 }
 
-/// What the lines of a block say.
-pub(crate) fn said_in(alloc: Global, block: &[u8]) -> Result<Said, NoMemory>
-    ensures says { IfOk result (Says (texts_of block.now)) }
-{
-    let mut commands = Vec::new(alloc);
-    let mut left = Some(block);
-    while let Some(lines) = left {
-        let (text, rest) = first_line(lines);
-        match line_said(alloc, text) {
-            Ok(command) => commands.push(command)?,
-            Err(LineError::Faulty(cause)) => {
-                return Ok(Said {
-                    commands,
-                    cause: Some(cause),
-                });
-            }
-            Err(LineError::NoMemory) => return Err(NoMemory),
+impl Said {
+    pub(crate) fn new(alloc: Global) -> Said {
+        Said {
+            commands: Vec::new(alloc),
+            cause: None,
+            memory: Ok(()),
         }
-        left = rest;
     }
-    Ok(Said {
-        commands,
-        cause: None,
-    })
+
+    /// Puts what the lines of the block say in the place of what stood here.
+    pub(crate) fn read(&mut self, alloc: Global, block: &[u8])
+        ensures { IsRead (texts_of block.now) self.new }
+    {
+        self.commands.clear();
+        self.cause = None;
+        self.memory = self.push_lines(alloc, block);
+    }
+
+    // Puts what the lines of the block say here, where nothing stands yet.
+    fn push_lines(&mut self, alloc: Global, block: &[u8]) -> Result<(), NoMemory>
+        requires no_line { self.old.commands.items ≡ [] }
+        requires no_cause { self.old.cause ≡ None }
+        ensures { OnOk result (Says (texts_of block.now) self.new) }
+    {
+        let mut left = Some(block);
+        while let Some(lines) = left {
+            let (text, rest) = first_line(lines);
+            match line_said(alloc, text) {
+                Ok(command) => self.commands.push(command)?,
+                Err(LineError::Faulty(cause)) => {
+                    self.cause = Some(cause);
+                    return Ok(());
+                }
+                Err(LineError::NoMemory) => return Err(NoMemory),
+            }
+            left = rest;
+        }
+        Ok(())
+    }
 }
 
 // What a line says; None where it is empty.

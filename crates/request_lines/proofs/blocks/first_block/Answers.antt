@@ -1,7 +1,7 @@
 use Rattle.std.proofs.Common.{ℕ, List, ◌==◌, Some, arith, subst}
 use Rattle.std.proofs.Common.{◌≡◌, ◌<◌, length}
 use Rattle.std.specs.List.{position_or_len}
-use Rattle.request_lines.proofs.BlockLaws.{block_cut, texts_few}
+use Rattle.request_lines.proofs.BlockLaws.{block_cut}
 use Rattle.request_lines.proofs.TextLaws.{place_found}
 use Rattle.request_lines.proofs.blocks.first_block.Goals as goal
 
@@ -12,10 +12,3 @@ returns-in-Some-clause-cut c =
     let inside = subst (λ (back : List ℕ). c.in-Some.end < length back) c.split_at.ensures.back found.1 in
     rw (c.split_at-in-Some.ensures.front, c.split_at-in-Some-2.ensures.back, c.split_at.ensures.front_len)
     (block_cut c.args.lines.now c.min.result c.in-Some.end (omega (arith, c.split_at.ensures.front_len, c.split_at.ensures.back_len)) place inside (omega (arith, found.1, c.split_at.ensures.front_len, c.split_at.ensures.back_len)))
-
-pub returns-in-Some-clause-few : goal.returns-in-Some-clause-few
-returns-in-Some-clause-few c =
-    omega (arith, texts_few c.split_at-in-Some.result.0.now, c.split_at-in-Some.ensures.front_len, c.split_at-in-Some-2.ensures.back_len)
-
-pub returns-in-None-clause-few : goal.returns-in-None-clause-few
-returns-in-None-clause-few c = omega (arith, texts_few c.args.lines.now)

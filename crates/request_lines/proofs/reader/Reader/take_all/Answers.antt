@@ -11,31 +11,32 @@ use Rattle.request_lines.proofs.reader.Reader.take_all.Goals as goal
 
 pub overflow_add-number : goal.overflow_add-number
 overflow_add-number c =
-    let few = says_few c.requires.says.0 c.args.said c.requires.says.1 in
+    let few = says_few c.requires.says.0 c.args.said.now (c.requires.says.1 c.in_ok-said.was) in
     omega (arith, few, c.requires.says.2, c.loop-place.invariant.number, c.loop-place.invariant.long, c.len-place-end.ensures, c.loop-place-test.true)
 
 pub take_said-requires-clause-says : goal.take_said-requires-clause-says
 take_said-requires-clause-says c =
     let i = c.loop-place.place in
-    let commands = c.args.said.commands.items in
+    let commands = c.args.said.now.commands.items in
     let e = c.index_mut.result.now in
     let here = c.take.ensures.value ∙ (c.index_mut.ensures.value ∙ c.loop-place.invariant.left i e (omega arith)) in
     let lt : i < length commands = omega (arith, c.loop-place.invariant.long, c.len-place-end.ensures, c.loop-place-test.true) in
-    let says = c.requires.says.1 in
+    let says = c.requires.says.1 c.in_ok-said.was in
     (get_or says.front i [], subst (λ (o : Option Command). SaysLine (get_or says.front i []) o) (sym here) (say_at says.front commands i [] e says.commands lt))
 
 pub returns-in_err-take_said-clause-taken : goal.returns-in_err-take_said-clause-taken
-returns-in_err-take_said-clause-taken c texts says =
-    let error = err_from_is_err_and c.from_residual.result c.from_residual.ensures.1 in
+returns-in_err-take_said-clause-taken c texts read =
+    let says = read c.in_ok-said.was in
+    let error = err_from_is_err_and c.from_residual-in_err-take_said.result c.from_residual-in_err-take_said.ensures.1 in
     let i = c.loop-place.place in
     let p = progress c.args.self.now in
     let q = progress c.loop-place.self in
     let after = progress c.take_said.new.self in
     let e = c.index_mut.result.now in
     let here = c.take.ensures.value ∙ (c.index_mut.ensures.value ∙ c.loop-place.invariant.left i e (omega arith)) in
-    let lt : i < length c.args.said.commands.items = omega (arith, c.loop-place.invariant.long, c.len-place-end.ensures, c.loop-place-test.true) in
+    let lt : i < length c.args.said.now.commands.items = omega (arith, c.loop-place.invariant.long, c.len-place-end.ensures, c.loop-place-test.true) in
     rw (error.1, error.2)
-    (refused_in p q after c.args.before i e texts c.args.said c.in_err-take_said.field-0.0 says lt c.loop-place.invariant.reached
+    (refused_in p q after c.args.before i e texts c.args.said.now c.in_err-take_said.field-0.0 says lt c.loop-place.invariant.reached
     (λ text s. subst (λ (n : ℕ). Takes q n text after (Err c.in_err-take_said.field-0.0)) (ap (λ n. n + 1) c.loop-place.invariant.number)
     (c.in_err-take_said.ensures.taken text (subst (λ (o : Option Command). SaysLine text o) (sym here) s))))
 
@@ -45,15 +46,16 @@ loop-place-preserved c =
     let p = progress c.args.self.now in
     let q = progress c.loop-place.self in
     let after = progress c.take_said.new.self in
-    let commands = c.args.said.commands.items in
+    let commands = c.args.said.now.commands.items in
     let e = c.index_mut.result.now in
     let here = c.take.ensures.value ∙ (c.index_mut.ensures.value ∙ c.loop-place.invariant.left i e (omega arith)) in
     let lt : i < length commands = omega (arith, c.loop-place.invariant.long, c.len-place-end.ensures, c.loop-place-test.true) in
     record {
       number = omega (arith, c.loop-place.invariant.number);
       within = c.in_ok-take_said.ensures.within;
-      long = length-set c.loop-place.commands.items i c.take.new.self ∙ c.loop-place.invariant.long;
-      left = λ j d le. get_or-set_other c.loop-place.commands.items i j c.take.new.self d (omega arith) ∙ c.loop-place.invariant.left j d (omega arith);
+      cause = c.loop-place.invariant.cause;
+      long = length-set c.loop-place.said.commands.items i c.take.new.self ∙ c.loop-place.invariant.long;
+      left = λ j d le. get_or-set_other c.loop-place.said.commands.items i j c.take.new.self d (omega arith) ∙ c.loop-place.invariant.left j d (omega arith);
       reached = λ front say. taken_in p q after c.args.before i e commands front say lt (c.loop-place.invariant.reached front say)
           (λ text s. subst (λ (n : ℕ). Takes q n text after (Ok tt)) (ap (λ n. n + 1) c.loop-place.invariant.number)
           (c.in_ok-take_said.ensures.taken text (subst (λ (o : Option Command). SaysLine text o) (sym here) s)));
@@ -61,27 +63,29 @@ loop-place-preserved c =
 
 pub overflow_add-number-in-Some : goal.overflow_add-number-in-Some
 overflow_add-number-in-Some c =
-    let fewer = says_fewer c.requires.says.0 c.args.said c.in-Some.cause c.requires.says.1 c.in-Some.is in
+    let fewer = says_fewer c.requires.says.0 c.args.said.now c.in-Some.cause (c.requires.says.1 c.in_ok-said.was) (sym c.loop-place.invariant.cause ∙ c.in-Some.is) in
     omega (arith, fewer, c.requires.says.2, c.loop-place.invariant.number, c.loop-place.invariant.long, c.len-place-end.ensures, c.loop-place.auto.place-end)
 
 pub returns-in-Some-clause-taken : goal.returns-in-Some-clause-taken
-returns-in-Some-clause-taken c texts says =
-    let commands = c.args.said.commands.items in
+returns-in-Some-clause-taken c texts read =
+    let says = read c.in_ok-said.was in
+    let commands = c.args.said.now.commands.items in
     let p = progress c.args.self.now in
     let q = progress c.loop-place.self in
     let all : c.loop-place.place ≡ length commands = omega (arith, c.loop-place.invariant.long, c.len-place-end.ensures, c.loop-place.auto.place-end, c.loop-place-test.false) in
     let number : c.args.before + length commands + 1 ≡ c.loop-place.number + 1 = omega (arith, all, c.loop-place.invariant.number) in
     subst (λ (e : SessionError). TakesAll p c.args.before texts q (Err e)) (ap (λ (n : ℕ). session_error n (faults.Faulty c.in-Some.cause)) number ∙ sym c.error_at.ensures)
-    (stops_behind p q q c.args.before texts c.args.said c.in-Some.cause says c.in-Some.is
+    (stops_behind p q q c.args.before texts c.args.said.now c.in-Some.cause says (sym c.loop-place.invariant.cause ∙ c.in-Some.is)
     (λ front say. subst (λ (n : ℕ). Reaches p (c.args.before + 1) (take n front) q) all (c.loop-place.invariant.reached front say)))
 
-pub returns-clause-taken : goal.returns-clause-taken
-returns-clause-taken c texts says =
-    let commands = c.args.said.commands.items in
+pub returns-in-None-clause-taken : goal.returns-in-None-clause-taken
+returns-in-None-clause-taken c texts read =
+    let says = read c.in_ok-said.was in
+    let commands = c.args.said.now.commands.items in
     let p = progress c.args.self.now in
     let q = progress c.loop-place.self in
     let all : c.loop-place.place ≡ length commands = omega (arith, c.loop-place.invariant.long, c.len-place-end.ensures, c.loop-place.auto.place-end, c.loop-place-test.false) in
     let number : c.loop-place.number ≡ c.args.before + length commands = omega (arith, all, c.loop-place.invariant.number) in
-    let took = takes_all p q c.args.before texts c.args.said says c.in-None.is
+    let took = takes_all p q c.args.before texts c.args.said.now says (sym c.loop-place.invariant.cause ∙ c.in-None.is)
     (λ front say. subst (λ (n : ℕ). Reaches p (c.args.before + 1) (take n front) q) all (c.loop-place.invariant.reached front say)) in
     (number ∙ took.0, took.1)

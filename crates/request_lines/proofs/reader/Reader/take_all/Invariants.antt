@@ -9,7 +9,8 @@ abbrev pub invariant-loop-place : goal.invariant-loop-place
 invariant-loop-place l = record {
   number : l.number ≡ l.before + l.place;
   within : IsWithin l.self.counts;
-  long : length l.commands.items ≡ length l.fn.said.commands.items;
-  left : (i : ℕ) (d : Option Command) → l.place ≤ i → get_or l.commands.items i d ≡ get_or l.fn.said.commands.items i d;
+  cause : l.said.cause ≡ l.fn.said.cause;
+  long : length l.said.commands.items ≡ length l.fn.said.commands.items;
+  left : (i : ℕ) (d : Option Command) → l.place ≤ i → get_or l.said.commands.items i d ≡ get_or l.fn.said.commands.items i d;
   reached : (front : List (List ℕ)) → SayInTurn front l.fn.said.commands.items → Reaches (progress l.initial.self) (l.before + 1) (take l.place front) (progress l.self);
 }

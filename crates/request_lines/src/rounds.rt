@@ -1,0 +1,84 @@
+// Blocks of lines that are read in rounds: several at once, and the next round in the lists of the one before it.
+ghost use Rattle.std.specs.Prelude.{◌≡◌, ◌^◌, ◌<◌, ◌≤◌, take, drop, length, IfOk, OnOk};
+ghost use Rattle.request_lines.specs.Counting.{IsWithin};
+ghost use Rattle.request_lines.specs.Reading.{progress, TakesAll};
+ghost use Rattle.request_lines.specs.Said.{AreRead, IsReadAt, texts_in};
+
+use crate::SessionError;
+use crate::reader::Reader;
+use crate::said::Said;
+use key_names::NoMemory;
+use std::alloc::Global;
+use std::thread;
+use std::thread::Threads;
+
+/// Takes the lines of all blocks, at most so many of which are read at once, and answers how many lines there are.
+pub(crate) fn take_rounds<Rt: Threads + Sync>(
+    rt: &Rt,
+    alloc: Global,
+    reader: &mut Reader,
+    blocks: &[&[u8]],
+    most: usize,
+) -> Result<u32, SessionError>
+    requires some { 0 < most }
+    requires few { length (texts_in blocks.now) < 2 ^ 32 }
+    requires within { IsWithin reader.old.counts }
+    ensures taken { TakesAll (progress reader.old) 0 (texts_in blocks.now) (progress reader.new) result }
+    ensures within { OnOk result (IsWithin reader.new.counts) }
+{
+    let mut said = empty_lists(alloc, most)?;
+    let mut number: u32 = 0;
+    let mut done = 0;
+    while done < blocks.len() {
+        let round = round_at(blocks, done, most);
+        read_all(rt, alloc, round, &mut said);
+        number = reader.take_each(alloc, number, round, &mut said)?;
+        done += round.len();
+    }
+    Ok(number)
+}
+
+// The blocks from this one on, at most so many.
+fn round_at<'a, 'b>(blocks: &'b [&'a [u8]], done: usize, most: usize) -> &'b [&'a [u8]]
+    requires { done ≤ length blocks.now }
+    ensures round { result.now ≡ take most (drop done blocks.now) }
+    ensures whole { result.now ≡ take (length result.now) (drop done blocks.now) }
+{
+    let (_, left) = blocks.split_at(done);
+    let (round, _) = left.split_at(left.len().min(most));
+    round
+}
+
+// So many lists of what no line says yet.
+fn empty_lists(alloc: Global, count: usize) -> Result<Vec<Said>, NoMemory>
+    ensures { IfOk result (λ said. length said.items ≡ count) }
+{
+    let mut said = Vec::new(alloc);
+    for _ in 0..count {
+        said.push(Said::new(alloc))?;
+    }
+    Ok(said)
+}
+
+// Puts what the lines of the blocks say into the first lists, at once.
+fn read_all<Rt: Threads + Sync>(rt: &Rt, alloc: Global, blocks: &[&[u8]], said: &mut Vec<Said>)
+    requires { length blocks.now ≤ length said.old.items }
+    ensures read { AreRead blocks.now said.new.items }
+    ensures as_many { length said.new.items ≡ length said.old.items }
+{
+    let (used, _) = said.as_mut_slice().split_at_mut(blocks.len());
+    read_each(rt, alloc, blocks, used);
+}
+
+// Puts what the lines of each block say into the list at its place, each on a thread of its own, where one can be started.
+fn read_each<Rt: Threads + Sync>(rt: &Rt, alloc: Global, blocks: &[&[u8]], said: &mut [Said])
+    requires one_each { length said.old ≡ length blocks.now }
+    ensures read { AreRead blocks.now said.new }
+    ensures as_many { length said.new ≡ length said.old }
+{
+    let read = |place: usize, said: &mut Said|
+        requires { place < length blocks.now }
+        ensures { IsReadAt blocks.entry.now place said.exit.now }
+    { said.read(alloc, blocks[place]) };
+    thread::for_each_mut(rt, said, blocks.len().max(1), &read);
+}
