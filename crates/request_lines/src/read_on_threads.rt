@@ -14,8 +14,8 @@ use std::thread;
 use std::thread::Threads;
 
 /// As `read_session`. What the lines of several blocks say is read at once, on as many threads as the machine runs, and
-/// is then held against the limits and kept in order. Where a thread cannot be started, the caller reads its block; an
-/// input of no more bytes than a block has starts no thread.
+/// is then held against the limits and kept in order, while the next blocks are read. Where a thread cannot be started,
+/// the caller reads its block; an input of no more bytes than a block has starts no thread.
 pub fn read_session_on_threads<Rt: Threads + Sync>(
     rt: &Rt,
     alloc: Global,

@@ -1,5 +1,6 @@
-// Blocks of lines that are read in rounds: several at once, and the next round in the lists of the one before it.
-ghost use Rattle.std.specs.Prelude.{◌≡◌, ◌^◌, ◌<◌, ◌≤◌, take, drop, length, IfOk, OnOk};
+// Blocks of lines that are read in rounds, several at once, while the lines of the round before are taken.
+ghost use Rattle.std.specs.Prelude.{◌≡◌, ◌+◌, ◌^◌, ◌<◌, ◌≤◌, take, drop, length, IfOk, OnOk};
+ghost use Rattle.std.specs.Thread.{IsSync};
 ghost use Rattle.request_lines.specs.Counting.{IsWithin};
 ghost use Rattle.request_lines.specs.Reading.{progress, TakesAll};
 ghost use Rattle.request_lines.specs.Said.{AreRead, IsReadAt, texts_in};
@@ -9,8 +10,8 @@ use crate::reader::Reader;
 use crate::said::Said;
 use key_names::NoMemory;
 use std::alloc::Global;
-use std::thread;
-use std::thread::Threads;
+use std::thread::{Threads, join_mut};
+use std::{mem, thread};
 
 /// Takes the lines of all blocks, at most so many of which are read at once, and answers how many lines there are.
 pub(crate) fn take_rounds<Rt: Threads + Sync>(
@@ -27,15 +28,57 @@ pub(crate) fn take_rounds<Rt: Threads + Sync>(
     ensures within { OnOk result (IsWithin reader.new.counts) }
 {
     let mut said = empty_lists(alloc, most)?;
+    let mut spare = empty_lists(alloc, most)?;
+    read_all(rt, alloc, round_at(blocks, 0, most), &mut said);
     let mut number: u32 = 0;
     let mut done = 0;
     while done < blocks.len() {
         let round = round_at(blocks, done, most);
-        read_all(rt, alloc, round, &mut said);
-        number = reader.take_each(alloc, number, round, &mut said)?;
+        let next = round_at(blocks, done + round.len(), most);
+        number = take_beside(
+            rt, alloc, reader, number, round, &mut said, next, &mut spare,
+        )?;
+        mem::swap(&mut said, &mut spare);
         done += round.len();
     }
     Ok(number)
+}
+
+// Takes the lines of a round, which were read into the first lists, and reads the next round into other lists meanwhile,
+// on other threads.
+fn take_beside<Rt: Threads + Sync>(
+    rt: &Rt,
+    alloc: Global,
+    reader: &mut Reader,
+    before: u32,
+    round: &[&[u8]],
+    said: &mut Vec<Said>,
+    next: &[&[u8]],
+    spare: &mut Vec<Said>,
+) -> Result<u32, SessionError>
+    requires within { IsWithin reader.old.counts }
+    requires read { AreRead round.now said.old.items }
+    requires few { before + length (texts_in round.now) < 2 ^ 32 }
+    requires room { length next.now ≤ length spare.old.items }
+    ensures taken { TakesAll (progress reader.old) before (texts_in round.now) (progress reader.new) result }
+    ensures within { OnOk result (IsWithin reader.new.counts) }
+    ensures next { AreRead next.now spare.new.items }
+    ensures said_room { length said.new.items ≡ length said.old.items }
+    ensures spare_room { length spare.new.items ≡ length spare.old.items }
+{
+    if next.is_empty() {
+        return reader.take_each(alloc, before, round, said);
+    }
+    let mut read = ||
+        requires { IsSync Rt.row × (length next.now ≤ length spare.now.items) }
+        ensures { AreRead next.entry.now spare.exit.now.items × (length spare.exit.now.items ≡ length spare.entry.now.items) }
+    { read_all(rt, alloc, next, spare) };
+    let mut take = || -> Result<u32, SessionError>
+        requires { IsWithin reader.now.counts × AreRead round.now said.now.items × (before + length (texts_in round.now) < 2 ^ 32) }
+        ensures { TakesAll (progress reader.entry.now) before (texts_in round.entry.now) (progress reader.exit.now) result × OnOk result (IsWithin reader.exit.now.counts) × (length said.exit.now.items ≡ length said.entry.now.items) }
+    { reader.take_each(alloc, before, round, said) };
+    let (_, taken) = join_mut(rt, &mut read, &mut take);
+    taken
 }
 
 // The blocks from this one on, at most so many.

@@ -3,12 +3,12 @@ use Rattle.std.specs.Borrow.{Bor}
 use Rattle.std.proofs.lemmas.List.{take_all}
 use Rattle.std.proofs.lemmas.Result.{err_from_is_err_and}
 use Rattle.request_lines.specs.Reading.{progress, TakesAll, Reaches}
-use Rattle.request_lines.specs.Said.{texts_in}
+use Rattle.request_lines.specs.Said.{AreRead, texts_in}
 use Rattle.request_lines.proofs.TakingLaws.{round_to, round_cut, block_refused, block_taken}
 use Rattle.request_lines.proofs.rounds.take_rounds.Goals as goal
 
-pub take_each-requires-clause-few : goal.take_each-requires-clause-few
-take_each-requires-clause-few g c =
+pub take_beside-requires-clause-few : goal.take_beside-requires-clause-few
+take_beside-requires-clause-few g c =
     let blocks = c.args.blocks.now in
     let round = c.round_at-round.result.now in
     let done = c.loop-done.done in
@@ -23,7 +23,7 @@ returns-in_err-number-clause-taken g c =
     let done = c.loop-done.done in
     let p = progress c.args.reader.now in
     let q = progress c.loop-done.reader in
-    let after = progress c.take_each.new.self in
+    let after = progress c.take_beside.new.reader in
     let e = c.in_err-number.field-0.0 in
     let refused = subst (λ (n : ℕ). TakesAll q n (texts_in round) after (Err e)) c.loop-done.invariant.number c.in_err-number.ensures.taken in
     rw (error.1, error.2)
@@ -37,13 +37,15 @@ loop-done-preserved g c =
     let done = c.loop-done.done in
     let p = progress c.args.reader.now in
     let q = progress c.loop-done.reader in
-    let after = progress c.take_each.new.self in
+    let after = progress c.take_beside.new.reader in
     let number = c.in_ok-number.number in
     let took = subst (λ (n : ℕ). TakesAll q n (texts_in round) after (Ok number)) c.loop-done.invariant.number c.in_ok-number.ensures.taken in
     let more = subst (λ (all : List (List ℕ)). (number ≡ 0 + length all) × Reaches p 1 all after) (sym (round_to blocks round done c.round_at-round.ensures.whole))
     (block_taken p q after 0 number (texts_in (take done blocks)) (texts_in round) c.loop-done.invariant.reached took) in
     record {
-      room = c.in_ok-number.ensures.as_many ∙ c.read_all.ensures.as_many ∙ c.loop-done.invariant.room;
+      room = rw c.swap.ensures.x_after (c.in_ok-number.ensures.spare_room ∙ c.loop-done.invariant.spare_room);
+      spare_room = rw c.swap.ensures.y_after (c.in_ok-number.ensures.said_room ∙ c.loop-done.invariant.room);
+      read = rw c.swap.ensures.x_after (subst (λ (bs : List (Bor (List ℕ))). AreRead bs c.take_beside.new.spare.items) c.round_at-next.ensures.round c.in_ok-number.ensures.next);
       inside = omega (arith, c.loop-done.invariant.inside, ap length c.round_at-round.ensures.round, length-take c.args.most (drop done blocks), length-drop done blocks);
       number = more.0;
       within = c.in_ok-number.ensures.within;
