@@ -42,6 +42,9 @@ pub(crate) struct EntryText {
 #[derive(Debug, Drop)]
 pub struct EntryTexts {
     texts: Vec<Option<EntryText>>,
+    // Whether a text was made for each place. Of the many entries that pages show most have one already; this is small
+    // enough to stay in the processor's cache, and the texts are not.
+    made: Vec<bool>,
 }
 
 impl Model for EntryTexts {
@@ -60,6 +63,7 @@ impl EntryTexts {
     {
         EntryTexts {
             texts: Vec::new(alloc),
+            made: Vec::new(alloc),
         }
     }
 
@@ -71,7 +75,8 @@ impl EntryTexts {
         for _ in 0..records {
             texts.push(None)?;
         }
-        Ok(EntryTexts { texts })
+        let made = vec![in alloc; false; records]?;
+        Ok(EntryTexts { texts, made })
     }
 
     /// Makes the text of a key's entry, where the record has a place and no text stands there.
@@ -113,10 +118,12 @@ impl EntryTexts {
         ensures right { OnOk result (AreRight dir.now records.now self.new) }
     {
         let place = val as usize;
-        if place < self.texts.len() && self.texts[place].is_none() {
-            let text = made(alloc, dir, records, rank, val)?;
-            self.texts[place] = Some(text);
+        if place >= self.made.len() || self.made[place] || place >= self.texts.len() {
+            return Ok(());
         }
+        let text = made(alloc, dir, records, rank, val)?;
+        self.texts[place] = Some(text);
+        self.made[place] = true;
         Ok(())
     }
 

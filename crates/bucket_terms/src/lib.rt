@@ -3,7 +3,6 @@
 //! of `KeyPass`, and `PlainPass`, a pass over one sorted list.
 #![tactic(auto)]
 
-mod boxed;
 mod homed;
 mod key_pass;
 mod list_query;
@@ -13,12 +12,12 @@ mod pool_pass;
 mod record;
 mod reply;
 mod request;
+mod shared;
 mod summary;
 mod token;
 mod token_point;
 mod v1_query;
 
-pub use boxed::Boxed;
 pub use homed::{Homed, Tagged};
 pub use key_pass::KeyPass;
 pub use list_query::ListQuery;
@@ -28,6 +27,7 @@ pub use pool_pass::{PoolPass, Slots};
 pub use record::Record;
 pub use reply::{Placed, Reply};
 pub use request::Request;
+pub use shared::Shared;
 pub use summary::Summary;
 pub use token::{Bound, Token};
 pub use token_point::TokenPoint;

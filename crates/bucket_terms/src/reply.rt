@@ -1,22 +1,32 @@
-use crate::{Boxed, ListQuery, Page, V1Query};
+use crate::{ListQuery, Page, Shared, V1Query};
 
 /// The answer to a request.
 #[derive(Debug, Drop)]
 pub enum Reply {
     /// 200. `was` tells whether the key was there before.
-    Put { was: bool },
+    Put {
+        was: bool,
+    },
     /// 412. The key is there, so the put was not made.
     Exists,
     /// 204, whether or not the key was there (Amazon S3 API reference, DeleteObject).
     Deleted,
     /// 200. The record at place `val` of the session's records.
-    Found { val: u64 },
+    Found {
+        val: u64,
+    },
     /// 404.
     Missing,
     /// 200. The query that was answered, with the token that it went on from, and its page.
-    Listed { query: Boxed<ListQuery>, page: Page },
+    Listed {
+        query: Shared<ListQuery>,
+        page: Page,
+    },
     /// 200. The query of version 1 that was answered, and its page.
-    ListedV1 { query: Boxed<V1Query>, page: Page },
+    ListedV1 {
+        query: Shared<V1Query>,
+        page: Page,
+    },
     /// 400. The continuation token is the text of no token, or of one with another prefix or delimiter; or
     /// there is no page to go on from.
     BadToken,

@@ -1,4 +1,4 @@
-use crate::{Boxed, ListQuery, V1Query};
+use crate::{ListQuery, Shared, V1Query};
 use key_names::Text;
 
 /// What one line of a session asks.
@@ -11,9 +11,9 @@ pub enum Request {
     PutNew { name: Text, val: u64 },
     Delete { name: Text },
     Head { name: Text },
-    List(Boxed<ListQuery>),
+    List(Shared<ListQuery>),
     /// A listing of version 1 (Amazon S3 API reference, ListObjects).
-    ListV1(Boxed<V1Query>),
+    ListV1(Shared<V1Query>),
     /// The client's last LIST or NEXT again, from where its page ended.
     Next,
 }

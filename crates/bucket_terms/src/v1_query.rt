@@ -1,7 +1,4 @@
-ghost use Rattle.std.specs.Prelude.{◌≡◌, IfOk};
-
-use key_names::{NoMemory, Text};
-use std::alloc::Global;
+use key_names::Text;
 
 /// The parameters of a listing of version 1 (Amazon S3 API reference, ListObjects). An empty text is a parameter that
 /// was not given.
@@ -17,19 +14,4 @@ pub struct V1Query {
     pub max_keys: u32,
     /// Whether the texts of the answer are percent-encoded (`encoding-type=url`).
     pub url: bool,
-}
-
-impl V1Query {
-    /// An equal query with texts of its own.
-    pub fn copy(&self, alloc: Global) -> Result<V1Query, NoMemory>
-        ensures { IfOk result (λ copied. copied ≡ self.now) }
-    {
-        Ok(V1Query {
-            prefix: self.prefix.copy(alloc)?,
-            delimiter: self.delimiter.copy(alloc)?,
-            marker: self.marker.copy(alloc)?,
-            max_keys: self.max_keys,
-            url: self.url,
-        })
-    }
 }

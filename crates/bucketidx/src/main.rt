@@ -18,24 +18,27 @@ use serve_session::{Status, serve};
 use std::alloc::Global;
 use std::process::ExitCode;
 use std::rt::Env;
-use std::{env, io};
+use std::{env, io, mem};
 
 fn main(rt: HostRuntime) -> ExitCode {
     let mut source = StdSource::new(&rt);
     let mut sink = StdSink::new(&rt);
     match words(&rt) {
-        Ok(words) => end(
-            &rt,
-            serve(
+        Ok(words) => {
+            let mut runner = Threaded::new();
+            let status = serve(
                 &rt,
                 rt.alloc(),
                 &words,
                 &mut source,
                 &mut sink,
                 &OpenGate,
-                &mut Threaded::new(),
-            ),
-        ),
+                &mut runner,
+            );
+            // The process ends with this, and its memory is given back whole.
+            mem::forget(runner);
+            end(&rt, status)
+        }
         Err(status) => end(&rt, status),
     }
 }

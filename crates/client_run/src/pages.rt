@@ -12,7 +12,7 @@ ghost use Rattle.client_run.specs.Starts.{IsStartOf, IsStartBehind, resumed, res
 
 use crate::list;
 use crate::updates::{answer_at, refused};
-use bucket_terms::{Boxed, KeyPass, ListQuery, Page, Placed, Reply, Token, TokenPoint};
+use bucket_terms::{KeyPass, ListQuery, Page, Placed, Reply, Shared, Token, TokenPoint};
 use key_names::{Directory, NoMemory};
 use page_token::TokenError;
 use std::alloc::Global;
@@ -130,14 +130,14 @@ fn start_behind(token: Token, query: &ListQuery) -> Start
     }
 }
 
-// Answers a LIST.
+// Answers a LIST. The reply shares its query.
 pub(crate) fn list_request<P: KeyPass, Rt: Wait>(
     rt: &Rt,
     alloc: Global,
     pass: &mut P,
     dir: &Directory,
     line: u32,
-    query: &ListQuery,
+    query: &Shared<ListQuery>,
 ) -> Result<Placed, NoMemory>
     requires closed { (P.view pass.old).opened ≡ None }
     ensures answers { IfOk result (λ placed. (last : Option Reply) → Answers dir.now (P.view pass.old) (P.view pass.new) last (answered line (ListRequest query.now) placed)) }
@@ -145,9 +145,9 @@ pub(crate) fn list_request<P: KeyPass, Rt: Wait>(
     ensures stopped { OnErr result (Stopped (P.view pass.old) (P.view pass.new)) }
     ensures home { P.home pass.new ≡ P.home pass.old }
 {
-    match start_of(alloc, query)? {
-        Start::First => listed(rt, alloc, pass, dir, line, query.copy(alloc)?, None),
-        Start::Behind(point) => listed(rt, alloc, pass, dir, line, query.copy(alloc)?, Some(point)),
+    match start_of(alloc, query.get())? {
+        Start::First => listed(rt, alloc, pass, dir, line, query.share()?, None),
+        Start::Behind(point) => listed(rt, alloc, pass, dir, line, query.share()?, Some(point)),
         Start::Bad => Ok(refused(pass.client(), line, Reply::BadToken)),
     }
 }
@@ -171,6 +171,7 @@ pub(crate) fn next_request<P: KeyPass, Rt: Wait>(
     match resume(alloc, dir, last)? {
         Some(next) => {
             let Resumption { query, point } = next;
+            let query = Shared::new(alloc, query)?;
             listed(rt, alloc, pass, dir, line, query, Some(point))
         }
         None => Ok(refused(pass.client(), line, Reply::BadToken)),
@@ -184,7 +185,7 @@ fn listed<P: KeyPass, Rt: Wait>(
     pass: &mut P,
     dir: &Directory,
     line: u32,
-    query: ListQuery,
+    query: Shared<ListQuery>,
     point: Option<TokenPoint>,
 ) -> Result<Placed, NoMemory>
     requires closed { (P.view pass.old).opened ≡ None }
@@ -193,7 +194,6 @@ fn listed<P: KeyPass, Rt: Wait>(
     ensures home { P.home pass.new ≡ P.home pass.old }
 {
     let client = pass.client();
-    let query = Boxed::new(alloc, query)?;
     let (at, page) = list(rt, alloc, pass, dir, query.get(), point.as_ref())?;
     Ok(answer_at(client, line, at, Reply::Listed { query, page }))
 }

@@ -79,12 +79,8 @@ pub(crate) fn answer<P: KeyPass, Rt: Wait>(
         }
         Request::Delete { name } => Ok(updates::delete(rt, pass, dir, asked.line, name, hint)),
         Request::Head { name } => Ok(updates::head(rt, pass, dir, asked.line, name, hint)),
-        Request::List(query) => {
-            pages::list_request(rt, alloc, pass, dir, asked.line, query.get())
-        }
-        Request::ListV1(query) => {
-            v1_pages::v1_request(rt, alloc, pass, dir, asked.line, query.get())
-        }
+        Request::List(query) => pages::list_request(rt, alloc, pass, dir, asked.line, query),
+        Request::ListV1(query) => v1_pages::v1_request(rt, alloc, pass, dir, asked.line, query),
         Request::Next => pages::next_request(rt, alloc, pass, dir, asked.line, last),
     }
 }

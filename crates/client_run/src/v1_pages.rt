@@ -7,20 +7,20 @@ ghost use Rattle.client_run.specs.Listing.{HasPageInRange, ListedV1As};
 
 use crate::list;
 use crate::updates::answer_at;
-use bucket_terms::{Boxed, KeyPass, ListQuery, Placed, Reply, TokenPoint, V1Query};
+use bucket_terms::{KeyPass, ListQuery, Placed, Reply, Shared, TokenPoint, V1Query};
 use key_names::{Directory, NoMemory};
 use list_v1::{plain_query, point_of};
 use std::alloc::Global;
 use std::sync::Wait;
 
-// Answers a LISTV1.
+// Answers a LISTV1. The reply shares its query.
 pub(crate) fn v1_request<P: KeyPass, Rt: Wait>(
     rt: &Rt,
     alloc: Global,
     pass: &mut P,
     dir: &Directory,
     line: u32,
-    query: &V1Query,
+    query: &Shared<V1Query>,
 ) -> Result<Placed, NoMemory>
     requires closed { (P.view pass.old).opened ≡ None }
     ensures answers { IfOk result (λ placed. (last : Option Reply) → Answers dir.now (P.view pass.old) (P.view pass.new) last (answered line (ListV1 query.now) placed)) }
@@ -28,30 +28,30 @@ pub(crate) fn v1_request<P: KeyPass, Rt: Wait>(
     ensures stopped { OnErr result (Stopped (P.view pass.old) (P.view pass.new)) }
     ensures home { P.home pass.new ≡ P.home pass.old }
 {
-    let plain = plain_query(alloc, query)?;
-    let point = point_of(alloc, query)?;
-    let shown = query.copy(alloc)?;
+    let asked = query.get();
+    let plain = plain_query(alloc, asked)?;
+    let point = point_of(alloc, asked)?;
+    let shown = query.share()?;
     listed_v1(rt, alloc, pass, dir, line, shown, plain, point)
 }
 
-// The reply that shows this query, with the page of the plain one, from a point on.
+// The reply that shows the query, with the page of the plain one, from a point on.
 fn listed_v1<P: KeyPass, Rt: Wait>(
     rt: &Rt,
     alloc: Global,
     pass: &mut P,
     dir: &Directory,
     line: u32,
-    shown: V1Query,
+    query: Shared<V1Query>,
     plain: ListQuery,
     point: Option<TokenPoint>,
 ) -> Result<Placed, NoMemory>
     requires closed { (P.view pass.old).opened ≡ None }
-    ensures answer { IfOk result (ListedV1As dir.now shown plain point line (P.view pass.old) (P.view pass.new)) }
+    ensures answer { IfOk result (ListedV1As dir.now query plain point line (P.view pass.old) (P.view pass.new)) }
     ensures stopped { OnErr result (Stopped (P.view pass.old) (P.view pass.new)) }
     ensures home { P.home pass.new ≡ P.home pass.old }
 {
     let client = pass.client();
-    let query = Boxed::new(alloc, shown)?;
     let (at, page) = list(rt, alloc, pass, dir, &plain, point.as_ref())?;
     Ok(answer_at(client, line, at, Reply::ListedV1 { query, page }))
 }

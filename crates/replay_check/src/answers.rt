@@ -17,7 +17,7 @@ ghost use Rattle.client_run.specs.Listing.{HasPageInRange};
 ghost use Rattle.replay_check.specs.Answering.{own_reply, kept_by, absent_by, slot_reply, start_reply, next_page, IsListedFrom, IsLook, IsRefusal};
 
 use crate::replay_map::ReplayMap;
-use bucket_terms::{Boxed, ListQuery, Page, Reply, Request, TokenPoint, V1Query};
+use bucket_terms::{ListQuery, Page, Reply, Request, Shared, TokenPoint, V1Query};
 use client_run::{Resumption, Start, resume, start_of};
 use key_names::{Directory, NoMemory, Text};
 use list_v1::{plain_query, point_of};
@@ -126,8 +126,8 @@ pub(crate) fn of_look(
         Request::PutNew { name, .. } => Ok(of_kept(map, rank_of(dir, name, hint))),
         Request::Delete { name } => Ok(of_absent(map, rank_of(dir, name, hint))),
         Request::Head { name } => Ok(Some(of_head(map, rank_of(dir, name, hint)))),
-        Request::List(query) => of_list(alloc, map, dir, query.get()),
-        Request::ListV1(query) => Ok(Some(of_v1(alloc, map, dir, query.get())?)),
+        Request::List(query) => of_list(alloc, map, dir, query),
+        Request::ListV1(query) => Ok(Some(of_v1(alloc, map, dir, query)?)),
         Request::Next => of_next(alloc, map, dir, last),
     }
 }
@@ -165,14 +165,14 @@ fn of_list(
     alloc: Global,
     map: &ReplayMap,
     dir: &Directory,
-    query: &ListQuery,
+    query: &Shared<ListQuery>,
 ) -> Result<Option<Reply>, NoMemory>
     ensures look { IfOk result (λ found. MatchOption found ((point : Option Point) → ¬ (IsPointOf query.now point)) (IsListedFrom dir.now map.now query.now)) }
     ensures in_range { IfOk result (λ found. ForSome found (HasPageInRange dir.now)) }
 {
-    match start_of(alloc, query)? {
-        Start::First => Ok(Some(listed(alloc, map, dir, query.copy(alloc)?, None)?)),
-        Start::Behind(point) => Ok(Some(listed(alloc, map, dir, query.copy(alloc)?, Some(point))?)),
+    match start_of(alloc, query.get())? {
+        Start::First => Ok(Some(listed(alloc, map, dir, query.share()?, None)?)),
+        Start::Behind(point) => Ok(Some(listed(alloc, map, dir, query.share()?, Some(point))?)),
         Start::Bad => Ok(None),
     }
 }
@@ -189,6 +189,7 @@ fn of_next(
 {
     match resume(alloc, dir, last)? {
         Some(Resumption { query, point }) => {
+            let query = Shared::new(alloc, query)?;
             Ok(Some(listed(alloc, map, dir, query, Some(point))?))
         }
         None => Ok(None),
@@ -199,13 +200,12 @@ fn listed(
     alloc: Global,
     map: &ReplayMap,
     dir: &Directory,
-    query: ListQuery,
+    query: Shared<ListQuery>,
     point: Option<TokenPoint>,
 ) -> Result<Reply, NoMemory>
     ensures page { IfOk result (λ reply. reply ≡ Listed query (page_of dir.now query point map.now)) }
     ensures in_range { IfOk result (HasPageInRange dir.now) }
 {
-    let query = Boxed::new(alloc, query)?;
     let page = page_from(alloc, dir, map, query.get(), point.as_ref())?;
     Ok(Reply::Listed { query, page })
 }
@@ -214,14 +214,15 @@ fn of_v1(
     alloc: Global,
     map: &ReplayMap,
     dir: &Directory,
-    query: &V1Query,
+    query: &Shared<V1Query>,
 ) -> Result<Reply, NoMemory>
     ensures page { IfOk result (λ reply. reply ≡ ListedV1 query.now (v1_page dir.now query.now map.now)) }
     ensures in_range { IfOk result (HasPageInRange dir.now) }
 {
-    let plain = plain_query(alloc, query)?;
-    let point = point_of(alloc, query)?;
-    let query = Boxed::new(alloc, query.copy(alloc)?)?;
+    let asked = query.get();
+    let plain = plain_query(alloc, asked)?;
+    let point = point_of(alloc, asked)?;
+    let query = query.share()?;
     let page = page_from(alloc, dir, map, &plain, point.as_ref())?;
     Ok(Reply::ListedV1 { query, page })
 }

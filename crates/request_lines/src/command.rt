@@ -16,7 +16,7 @@ use crate::query::query_of;
 use crate::texts::key_of;
 use crate::values::Values;
 use crate::verb::{PutWhen, Verb};
-use bucket_terms::{Boxed, ListQuery, Record, V1Query};
+use bucket_terms::{ListQuery, Record, Shared, V1Query};
 use key_names::Text;
 use std::alloc::Global;
 use std::str;
@@ -37,8 +37,8 @@ pub(crate) enum Command {
     Head {
         name: Text,
     },
-    List(Boxed<ListQuery>),
-    ListV1(Boxed<V1Query>),
+    List(Shared<ListQuery>),
+    ListV1(Shared<V1Query>),
     /// The next page of the client's last LIST or NEXT.
     Next,
 }
@@ -170,7 +170,7 @@ fn listing(alloc: Global, version: Version, values: Values) -> Result<Command, L
     ensures { Reads result (Ok (listing_of version values)) }
 {
     match version {
-        Version::V1 => Ok(Command::ListV1(Boxed::new(alloc, values.v1_query())?)),
-        Version::V2 => Ok(Command::List(Boxed::new(alloc, values.list_query())?)),
+        Version::V1 => Ok(Command::ListV1(Shared::new(alloc, values.v1_query())?)),
+        Version::V2 => Ok(Command::List(Shared::new(alloc, values.list_query())?)),
     }
 }

@@ -23,7 +23,7 @@ use Rattle.core_kept.proofs.SeatLaws.{make_law, first_law}
 use Rattle.core_kept.proofs.StepLaw.{keeps}
 use Rattle.core_laws.proofs.ViewNeeds.{may_split_law, may_join_law}
 use Rattle.table_rule.specs.Homes.{IsLiveView}
-use Rattle.table_rule.specs.Running.{table, Stands}
+use Rattle.table_rule.specs.Running.{table, Stands, Holds}
 use Rattle.table_rule.specs.Seats.{Split, Join}
 use Rattle.table_rule.proofs.Happens.{holds, after_known}
 use Rattle.table_rule.proofs.Lists.{get_from_found, get_set, get_left, get_last, item_at, set_else_get}
@@ -157,12 +157,15 @@ module _ (z : Layout) (v u : View) (may : MayJoin v u) where
 abbrev pub knows : Me ℕ View → ℕ → Me ℕ View → Type 0
 knows me n x = (x ≡ me) × Stands me.0.layout me.0
 
-pub know_allowed : (z : Layout) (slots id : ℕ) (me : Me ℕ View) (at : ℕ) (then : ℕ → Me ℕ View → Type 0) → ((n : ℕ) → Stands z me.0 → then n me) → Allows (holds z) slots id me at (λ n. n) then
+abbrev pub tells : ℕ → Me ℕ View → ℕ → Me ℕ View → Type 0
+tells at me n x = (x ≡ me) × Holds me.0.layout me.0 at n
+
+pub know_allowed : (z : Layout) (slots id : ℕ) (me : Me ℕ View) (at : ℕ) (then : ℕ → Me ℕ View → Type 0) → ((n : ℕ) (stands : Stands z me.0) → n ≡ slice_index stands.words at → then n me) → Allows (holds z) slots id me at (λ n. n) then
 know_allowed z slots id me at then told s rule long found small =
     let words : set s.words at (slice_index s.words at) ≡ s.words = set-get_or s.words at 0 in
     let views : set s.views id me.0 ≡ s.views = set_again s.views id me.0 found in
     let kept : InRule z (set s.words at (slice_index s.words at)) (set s.views id me.0) = subst (λ us. InRule z us (set s.views id me.0)) (sym words) (subst (λ vs. InRule z s.words vs) (sym views) rule) in
-    (me.0, nothing, tt, kept, told (slice_index s.words at) (record { words = s.words; views = s.views; rule = rule; seat = id; at = get_from_found s.views id me.0 found }))
+    (me.0, nothing, tt, kept, told (slice_index s.words at) (record { words = s.words; views = s.views; rule = rule; seat = id; at = get_from_found s.views id me.0 found }) refl)
 
 -- a table that is opened
 pub opened_rule : (z : Layout) (words : List ℕ) → z.calls < 2 ^ 64 → words ≡ replicate (word_count z) 0 → InRule z words (first_view z ∷ [])

@@ -4,6 +4,8 @@ use Rattle.std.specs.Prelude.{◌≡◌, ℕ, List, slice_index, true, Some, ⊤
 use Rattle.std.specs.List.{slice_get}
 use Rattle.index_words.specs.declared.layout.Layout.{Layout}
 use Rattle.index_words.specs.declared.view.View.{View}
+use Rattle.index_words.specs.declared.word.Word.{Word}
+use Rattle.index_words.specs.Words.{address}
 use Rattle.core_events.specs.declared.event.Event.{Event}
 use Rattle.core_events.specs.declared.event.Kind.{Kind}
 use Rattle.core_events.specs.declared.event.Kind.TheVariants.{Enter, Leave, LookSec, Fill, LoadStamp, LoadHead, LoadTs, LoadPtr, LoadNext, Prepare, Finalise, Unlock, LoadMark, Mark, LoadKeyOrVal, Announce, LookAnn, Cut, LoadLink, SetLink, LoadTag, SetTag}
@@ -21,6 +23,15 @@ pub record Stands (z : Layout) (v : View) : Type 0 where
   pub rule : InRule z words views
   pub seat : ℕ
   pub at : slice_get views seat ≡ Some v
+
+-- such a table holds `n` at the word of this number
+pub record Holds (z : Layout) (v : View) (at n : ℕ) : Type 0 where
+  pub stands : Stands z v
+  pub found : n ≡ slice_index stands.words at
+
+-- it holds `n` at this word
+abbrev pub HoldsAt : Layout → View → Word → ℕ → Type 0
+HoldsAt z v w n = Holds z v (address z w) n
 
 -- the event has happened: in a table that met the rule the seat had the view `v`, the event was allowed, its word held
 -- `n`, and in the table after it the seat has the view `w`

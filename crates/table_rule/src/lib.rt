@@ -4,6 +4,7 @@
 
 mod moves;
 mod node_split;
+mod reads;
 mod ruled;
 mod seats;
 

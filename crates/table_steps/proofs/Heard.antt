@@ -15,9 +15,7 @@ use Rattle.core_laws.specs.ViewNeeds.{MayJoin}
 use Rattle.pass_slots.specs.Owned.{KeepsLooks}
 use Rattle.table_rule.specs.Homes.{IsLiveView}
 use Rattle.std.specs.Prelude.{IfSome}
-use Rattle.index_words.specs.declared.view.update.Held.{Held}
 use Rattle.index_words.specs.declared.view.update.Updating.{Updating}
-use Rattle.table_steps.specs.HeldWords.{KeepsHeld}
 use Rattle.table_steps.specs.Kept.{Keeps}
 use Rattle.table_steps.specs.Notes.{note_view}
 use Rattle.table_steps.specs.Passes.{Extends}
@@ -98,7 +96,6 @@ module _ (v u w : View) (seen : List Update) (z : Layout) (note : u ≡ note_vie
         entry_room = subst (λ (y : Layout). y.entries ≤ k.slots.entry_room) (sym layout) keeps.entry_room;
         own = own_longer v.history w.history k.updates (ap (λ (y : View). y.history.mine) is) (ap (λ (y : View). y.history.left) is) more keeps.own;
         raised = subst (λ (u : Updating). IfSome u.raised (λ at. at ≡ k.raised)) (sym (ap (λ (y : View). y.update) is)) keeps.raised;
-        held = subst (λ (z : Layout). KeepsHeld z w.held k.held) (sym layout) (subst (λ (h : Held). KeepsHeld v.layout h k.held) (sym (ap (λ (y : View). y.held) is)) keeps.held);
       }
 
 pub note_may : (v u : View) (seen : List Update) (z : Layout) → u ≡ note_view z seen → IsLiveView v → IsLiveView u → MayJoin v u

@@ -5,15 +5,14 @@ pub mod Heard
 pub mod Opened
 pub mod Closed
 pub mod There
-pub mod HeldSteps
 pub mod UpdateSteps
 pub mod RaiseFacts
 pub mod RaiseGives
 pub mod RaiseKeeps
+pub mod ReadAgain
 pub mod RetireSteps
 pub mod CutFacts
 pub mod CutSteps
-pub mod HeldLoads
 pub mod LoadBounds
 pub mod LoadSteps
 pub mod LockSteps

@@ -1,6 +1,6 @@
 -- Each step on a plain link and on its tag: that it may be made, what it leaves in the view, and that what is kept at run time
 -- still is what the view says.
-use Rattle.std.proofs.Common.{◌≡◌, ℕ, ◌+◌, ◌<◌, ◌≤◌, ◌^◌, cond, Bool, true, false, eqb, leb, arith, refl, ap, ◌∙◌, sym, subst, inl, inr, map, List, Option, Some}
+use Rattle.std.proofs.Common.{◌≡◌, ℕ, ◌+◌, ◌<◌, ◌≤◌, ◌^◌, true, leb, arith, refl, ap, ◌∙◌, subst, inl, inr, List, Option, Some}
 use Rattle.std.specs.Prelude.{IfSome}
 use Rattle.std.specs.List.{slice_get}
 use Rattle.std.proofs.lemmas.Bool.Decides.{nat_tests}
@@ -8,7 +8,6 @@ use Rattle.index_words.specs.declared.layout.Layout.{Layout}
 use Rattle.index_words.specs.declared.side.Side.{Side}
 use Rattle.index_words.specs.declared.side.Side.TheVariants.{Left, Right}
 use Rattle.index_words.specs.declared.view.View.{View}
-use Rattle.index_words.specs.declared.view.update.Held.{Held as ViewHeld}
 use Rattle.index_words.specs.declared.view.update.HeldNode.{HeldNode}
 use Rattle.index_words.specs.declared.word.Field.{Field}
 use Rattle.index_words.specs.declared.word.Field.TheVariants.{Link, Tag}
@@ -16,13 +15,12 @@ use Rattle.index_words.specs.declared.word.Word.TheVariants.{Node}
 use Rattle.index_words.specs.Words.{Memory, memory, is_there}
 use Rattle.core_events.specs.declared.event.Event.{Event}
 use Rattle.core_events.specs.declared.event.Kind.TheVariants.{LoadLink, SetLink, LoadTag, SetTag}
-use Rattle.core_events.specs.PlainMoves.{link_known, tag_known, link_known_at, tag_known_at, link_loaded, tag_loaded, link_set, tag_set}
+use Rattle.core_events.specs.PlainMoves.{link_loaded, tag_loaded, link_set, tag_set}
 use Rattle.core_events.specs.Searches.{searches_at}
 use Rattle.core_events.specs.UpdateNeeds.{side_of}
 use Rattle.core_invariant.specs.Locks.{IsNodeAt}
 use Rattle.core_invariant.specs.Readers.{IsLocked}
 use Rattle.core_invariant.specs.Rule.{InRule}
-use Rattle.core_invariant.proofs.Frames.{every_mapped}
 use Rattle.core_invariant.proofs.Needed.{found_held}
 use Rattle.core_invariant.proofs.OneView.{seat_at}
 use Rattle.core_invariant.proofs.SearchNodes.{search_count}
@@ -36,10 +34,8 @@ use Rattle.table_rule.specs.Homes.{Home, Sat, IsOf, Asks, IsLiveView}
 use Rattle.table_rule.specs.Running.{Happened, Stored, table}
 use Rattle.table_rule.proofs.Happens.{happened_view, happened_word}
 use Rattle.table_rule.proofs.Lists.{item_at}
-use Rattle.table_steps.specs.HeldWords.{Held, KeepsNode, KeepsHeld}
 use Rattle.table_steps.specs.Kept.{Keeps}
 use Rattle.table_steps.specs.declared.kept.Kept.{Kept}
-use Rattle.table_steps.proofs.HeldSteps.{none_mapped}
 use Rattle.table_steps.proofs.LoadSteps.{own_part, keeps_same}
 use Rattle.table_steps.proofs.There.{locked_high, searched_high}
 use Rattle.table_steps.proofs.UpdateSteps.{found_locked}
@@ -51,32 +47,6 @@ stands_at v k side stands =
       | inl root ↦ inl root
       | inr here ↦ inr (omega (arith, here, search_count k 0 v.reading))
     ]
-
--- what is kept of the heads stays where something else of a node is known
-known_held : (z : Layout) (v : ViewHeld) (h : Held) (f : HeldNode → HeldNode) → ((n : HeldNode) → KeepsNode h n → KeepsNode h (f n)) → KeepsHeld z v h
-    → KeepsHeld z (record v { nodes = map f v.nodes }) h
-known_held z v h f keep keeps = record {
-  places = keeps.places;
-  nodes = every_mapped (KeepsNode h) (KeepsNode h) f v.nodes keep keeps.nodes;
-  nexts = keeps.nexts;
-  none = λ none. none_mapped f v.nodes (keeps.none none);
-}
-
-link_node : (h : Held) (k x : ℕ) (side : Side) (n : HeldNode) → KeepsNode h n → KeepsNode h (link_known_at k side x n)
-link_node h k x side n kept = by_test (eqb n.node k) side
-  where
-    by_test : (b : Bool) (side : Side) → KeepsNode h (cond b (link_known side x n) n)
-    by_test true Left = record { left = kept.left; right = kept.right }
-    by_test true Right = record { left = kept.left; right = kept.right }
-    by_test false side = kept
-
-tag_node : (h : Held) (k x : ℕ) (side : Side) (n : HeldNode) → KeepsNode h n → KeepsNode h (tag_known_at k side x n)
-tag_node h k x side n kept = by_test (eqb n.node k) side
-  where
-    by_test : (b : Bool) (side : Side) → KeepsNode h (cond b (tag_known side x n) n)
-    by_test true Left = record { left = kept.left; right = kept.right }
-    by_test true Right = record { left = kept.left; right = kept.right }
-    by_test false side = kept
 
 high_true : (a b : ℕ) → a ≤ b → leb a b ≡ true
 high_true a b low = grind (arith, nat_tests)
@@ -114,17 +84,6 @@ module _ (home : Home) (s : Sat) (of : IsOf home s) (live : IsLiveView s.view) w
         | inr stands ↦ high_there f node (searched_high v live may.inside node (stands_at v node side stands))
       ]
 
-  -- a view that differs in what is known of links is kept with the same
-  link_kept : (w : View) (k : Kept) (node x : ℕ) (side : Side) → own_part w ≡ own_part v → w.held ≡ (link_loaded v node side x).held → Keeps v k → Keeps w k
-  link_kept w k node x side same held keeps =
-      keeps_same v w k k.held same
-      (subst (λ (h : ViewHeld). KeepsHeld v.layout h k.held) (sym held) (known_held v.layout v.held k.held (link_known_at node side x) (link_node k.held node x side) keeps.held)) keeps
-
-  tag_kept : (w : View) (k : Kept) (node x : ℕ) (side : Side) → own_part w ≡ own_part v → w.held ≡ (tag_loaded v node side x).held → Keeps v k → Keeps w k
-  tag_kept w k node x side same held keeps =
-      keeps_same v w k k.held same
-      (subst (λ (h : ViewHeld). KeepsHeld v.layout h k.held) (sym held) (known_held v.layout v.held k.held (tag_known_at node side x) (tag_node k.held node x side) keeps.held)) keeps
-
   module _ (node : ℕ) (side : Side) where
     -- load of a link: what it holds is 0 or a node of the table
     module _ (may : MayReadLink v node side) where
@@ -144,7 +103,7 @@ module _ (home : Home) (s : Sat) (of : IsOf home s) (live : IsLiveView s.view) w
             ∙ ap (link_loaded v node side) (happened_word z link_event v w n (Node (Link side) node) link_is refl tt h)
 
         pub link_keeps : Happened z link_event v n w → (k : Kept) → Keeps v k → Keeps w k
-        link_keeps h k keeps = link_kept w k node n side (ap own_part (link_gives h)) (ap (λ (u : View). u.held) (link_gives h)) keeps
+        link_keeps h k keeps = keeps_same v w k (ap own_part (link_gives h)) keeps
 
         pub link_high : Happened z link_event v n w → n ≤ z.nodes
         link_high h =
@@ -169,7 +128,7 @@ module _ (home : Home) (s : Sat) (of : IsOf home s) (live : IsLiveView s.view) w
             ∙ ap (tag_loaded v node side) (happened_word z tag_event v w n (Node (Tag side) node) tag_is refl tt h)
 
         pub tag_keeps : Happened z tag_event v n w → (k : Kept) → Keeps v k → Keeps w k
-        tag_keeps h k keeps = tag_kept w k node n side (ap own_part (tag_gives h)) (ap (λ (u : View). u.held) (tag_gives h)) keeps
+        tag_keeps h k keeps = keeps_same v w k (ap own_part (tag_gives h)) keeps
 
     -- set link
     module _ (child : ℕ) (may : MaySetLink v node side child) where
@@ -184,7 +143,7 @@ module _ (home : Home) (s : Sat) (of : IsOf home s) (live : IsLiveView s.view) w
         set_gives = happened_view z set_event v w h.0 (Node (Link side) node) (node_there (Link side) node may.locked) refl tt h.1
 
         pub set_keeps : (k : Kept) → Keeps v k → Keeps w k
-        set_keeps k keeps = link_kept w k node child side (ap own_part set_gives) (ap (λ (u : View). u.held) set_gives) keeps
+        set_keeps k keeps = keeps_same v w k (ap own_part set_gives) keeps
 
     -- set tag
     module _ (tag : ℕ) (may : MaySetTag v node side tag) where
@@ -209,4 +168,4 @@ module _ (home : Home) (s : Sat) (of : IsOf home s) (live : IsLiveView s.view) w
         set_tag_gives = happened_view z set_tag_event v w h.0 (Node (Tag side) node) (node_there (Tag side) node tag_locked) refl tt h.1
 
         pub set_tag_keeps : (k : Kept) → Keeps v k → Keeps w k
-        set_tag_keeps k keeps = tag_kept w k node (tag + 1) side (ap own_part set_tag_gives) (ap (λ (u : View). u.held) set_tag_gives) keeps
+        set_tag_keeps k keeps = keeps_same v w k (ap own_part set_tag_gives) keeps

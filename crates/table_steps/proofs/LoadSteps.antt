@@ -1,6 +1,6 @@
 -- Each load of a word of a node or of an entry, and the try of a lock: that it may be made, what it leaves in the view,
 -- and that what is kept at run time still is what the view says.
-use Rattle.std.proofs.Common.{◌≡◌, ℕ, ◌<◌, ◌≤◌, length, cond, Bool, true, false, ltb, leb, ◌&&◌, arith, refl, ap, ◌∙◌, sym, subst, Option}
+use Rattle.std.proofs.Common.{◌≡◌, ℕ, ◌<◌, ◌≤◌, Bool, true, false, ltb, leb, ◌&&◌, arith, refl, ap, ◌∙◌, sym, subst, Option}
 use Rattle.std.specs.Prelude.{IfSome}
 use Rattle.std.proofs.lemmas.Bool.Decides.{nat_tests}
 use Rattle.index_words.specs.declared.layout.Layout.{Layout}
@@ -32,15 +32,11 @@ use Rattle.table_rule.specs.Homes.{Home, Sat, IsOf, Asks, IsLiveView}
 use Rattle.table_rule.specs.Running.{Happened, Stands, table}
 use Rattle.table_rule.proofs.Happens.{happened_view, happened_word}
 use Rattle.table_rule.proofs.Lists.{item_at}
-use Rattle.table_steps.specs.HeldWords.{Held, KeepsHeld, heads_on, with_head, with_next}
 use Rattle.table_steps.specs.Kept.{Keeps}
 use Rattle.table_steps.specs.Loads.{HasLoadedHead, IsAtSelected, FoundChild, HasLoadedMark}
 use Rattle.table_steps.specs.Made.{KeepsOwn}
 use Rattle.table_steps.specs.Passes.{Pass}
 use Rattle.table_steps.specs.declared.kept.Kept.{Kept}
-use Rattle.table_steps.proofs.HeldSteps.{marked_held}
-use Rattle.table_steps.proofs.HeldLoads.{found_where, next_where, nexts_agree, stamp_held, pair_held}
-use Rattle.table_steps.proofs.UpdateSteps.{heads_place}
 use Rattle.table_steps.proofs.LoadBounds.{reach_high, head_low, next_low, child_low, mark_low, may_watch}
 
 -- the parts of a view that what is kept at run time speaks of
@@ -70,9 +66,9 @@ own_part v = record {
   grace = v.grace;
 }
 
--- a view with the same parts, and with what is kept of its locked nodes, is kept with the same
-pub keeps_same : (v w : View) (k : Kept) (held : Held) → own_part w ≡ own_part v → KeepsHeld v.layout w.held held → Keeps v k → Keeps w (record k { held = held })
-keeps_same v w k held same locked keeps =
+-- a view with the same parts is kept with the same
+pub keeps_same : (v w : View) (k : Kept) → own_part w ≡ own_part v → Keeps v k → Keeps w k
+keeps_same v w k same keeps =
     let layout : w.layout ≡ v.layout = ap (λ (p : OwnPart). p.layout) same in
     record {
       number = ap (λ (p : OwnPart). p.number) same ∙ keeps.number;
@@ -91,7 +87,6 @@ keeps_same v w k held same locked keeps =
       entry_room = subst (λ (z : Layout). z.entries ≤ k.slots.entry_room) (sym layout) keeps.entry_room;
       own = subst (λ (h : SeenHistory). KeepsOwn h k.updates) (sym (ap (λ (p : OwnPart). p.history) same)) keeps.own;
       raised = subst (λ (o : Option ℕ). IfSome o (λ at. at ≡ k.raised)) (sym (ap (λ (p : OwnPart). p.raised) same)) keeps.raised;
-      held = subst (λ (z : Layout). KeepsHeld z w.held held) (sym layout) locked;
     }
 
 pub next_own : (v : View) (e next : ℕ) → own_part (next_loaded v e next) ≡ own_part v
@@ -160,18 +155,8 @@ module _ (home : Home) (s : Sat) (of : IsOf home s) where
       pub head_high : n ≤ z.entries
       head_high = let low = head_low (table z h.words h.views) h.rule s.seat v (item_at h.views s.seat v h.seat) node side may.reach in omega (arith, low, head_word)
 
-      -- the node has a place among the heads that are kept
-      pub head_place : (k : Kept) → Keeps v k → node < length (heads_on side k.held)
-      head_place k keeps =
-          let stands : Stands v.layout v = live.stands in
-          let high : node ≤ v.layout.nodes = reach_high (table v.layout stands.words stands.views) stands.rule stands.seat v (item_at stands.views stands.seat v stands.at) node may.reach in
-          omega (arith, high, heads_place v.layout.nodes v.layout.entries k.held side keeps.held.places)
-
-      pub head_keeps : (k : Kept) → Keeps v k → Keeps w (record k { held = cond k.held.any (with_head side node n k.held) k.held })
-      head_keeps k keeps =
-          keeps_same v w k (cond k.held.any (with_head side node n k.held) k.held) (ap own_part head_gives.view)
-          (subst (λ (u : View). KeepsHeld v.layout u.held (cond k.held.any (with_head side node n k.held) k.held)) (sym head_gives.view)
-          (found_where v.layout v.held k.held node side n (head_place k keeps) keeps.held)) keeps
+      pub head_keeps : (k : Kept) → Keeps v k → Keeps w k
+      head_keeps k keeps = keeps_same v w k (ap own_part head_gives.view) keeps
 
   -- load of the stamp of an entry
   module _ (e : ℕ) (may : MayReadNumber v e) where
@@ -192,8 +177,7 @@ module _ (home : Home) (s : Sat) (of : IsOf home s) where
 
       pub number_keeps : (k : Kept) → Keeps v k → Keeps w k
       number_keeps k keeps =
-          keeps_same v w k k.held (ap own_part number_gives)
-          (subst (λ (u : View). KeepsHeld v.layout u.held k.held) (sym number_gives) (stamp_held v.layout v.held k.held e n keeps.held)) keeps
+          keeps_same v w k (ap own_part number_gives) keeps
 
   -- load of the child of an entry
   module _ (e : ℕ) (may : MayReadChild v e) where
@@ -224,7 +208,7 @@ module _ (home : Home) (s : Sat) (of : IsOf home s) where
 
       pub child_keeps : (k : Kept) → Keeps v k → Keeps w k
       child_keeps k keeps =
-          keeps_same v w k k.held (ap own_part child_gives) (subst (λ (u : View). KeepsHeld v.layout u.held k.held) (sym child_gives) keeps.held) keeps
+          keeps_same v w k (ap own_part child_gives) keeps
 
   -- load of the next of an entry
   module _ (e : ℕ) (may : MayReadNext v e) where
@@ -247,15 +231,8 @@ module _ (home : Home) (s : Sat) (of : IsOf home s) where
       pub next_high : n ≤ z.entries
       next_high = let low = next_low (table z h.words h.views) h.rule s.seat v (item_at h.views s.seat v h.seat) e may.at (may_watch v e may) in omega (arith, low, next_word)
 
-      -- the entry has a place among the nexts that are kept
-      pub next_place : (k : Kept) → Keeps v k → e < length k.held.next
-      next_place k keeps = omega (arith, may.at.there, keeps.held.places.next)
-
-      pub next_keeps : (k : Kept) → Keeps v k → Keeps w (record k { held = cond k.held.any (with_next e n k.held) k.held })
-      next_keeps k keeps =
-          keeps_same v w k (cond k.held.any (with_next e n k.held) k.held) (ap own_part next_gives ∙ next_own v e n)
-          (subst (λ (u : View). KeepsHeld v.layout u.held (cond k.held.any (with_next e n k.held) k.held)) (sym next_gives)
-          (next_where v.layout v k.held e n (next_place k keeps) (nexts_agree z h.words h.views h.rule s.seat v h.seat e n next_word) keeps.held)) keeps
+      pub next_keeps : (k : Kept) → Keeps v k → Keeps w k
+      next_keeps k keeps = keeps_same v w k (ap own_part next_gives ∙ next_own v e n) keeps
 
   -- loads of a key and of a value
   module _ (node : ℕ) (may : MayReadPair v node) where
@@ -279,8 +256,7 @@ module _ (home : Home) (s : Sat) (of : IsOf home s) where
 
       pub key_keeps : (k : Kept) → Keeps v k → Keeps w k
       key_keeps k keeps =
-          keeps_same v w k k.held (ap own_part key_gives)
-          (subst (λ (u : View). KeepsHeld v.layout u.held k.held) (sym key_gives) (pair_held v.layout v.held k.held Key node n keeps.held)) keeps
+          keeps_same v w k (ap own_part key_gives) keeps
 
     module _ (w : View) (n : ℕ) (h : Happened z val_event v n w) where
       pub val_gives : w ≡ pair_loaded v Val node n
@@ -290,8 +266,7 @@ module _ (home : Home) (s : Sat) (of : IsOf home s) where
 
       pub val_keeps : (k : Kept) → Keeps v k → Keeps w k
       val_keeps k keeps =
-          keeps_same v w k k.held (ap own_part val_gives)
-          (subst (λ (u : View). KeepsHeld v.layout u.held k.held) (sym val_gives) (pair_held v.layout v.held k.held Val node n keeps.held)) keeps
+          keeps_same v w k (ap own_part val_gives) keeps
 
   -- load of a mark
   module _ (node : ℕ) (may : MayReadMark v node) where
@@ -326,5 +301,4 @@ module _ (home : Home) (s : Sat) (of : IsOf home s) where
 
       pub mark_keeps : (k : Kept) → Keeps v k → Keeps w k
       mark_keeps k keeps =
-          keeps_same v w k k.held (ap own_part mark_gives)
-          (subst (λ (u : View). KeepsHeld v.layout u.held k.held) (sym mark_gives) (marked_held v.layout v.held k.held node n keeps.held)) keeps
+          keeps_same v w k (ap own_part mark_gives) keeps

@@ -1,6 +1,6 @@
 -- The try of a lock: that it may be made, what it leaves in the view, and that what is kept at run time still is what the
 -- view says.
-use Rattle.std.proofs.Common.{◌≡◌, ℕ, ◌+◌, ◌<◌, cond, Bool, true, false, ◌||◌, eqb, arith, refl, ap, ◌∙◌, sym, subst, inl, inr}
+use Rattle.std.proofs.Common.{◌≡◌, ℕ, ◌+◌, ◌<◌, cond, Bool, true, false, eqb, arith, refl, ap, ◌∙◌, sym, subst, inl, inr}
 use Rattle.std.proofs.lemmas.Bool.{eq-eqb, ne_eqb, cases_lt}
 use Rattle.index_words.specs.declared.layout.Layout.{Layout}
 use Rattle.index_words.specs.declared.view.View.{View}
@@ -20,11 +20,9 @@ use Rattle.table_rule.specs.Homes.{Home, Sat, IsOf, Asks, IsLiveView}
 use Rattle.table_rule.specs.Running.{Happened}
 use Rattle.table_rule.proofs.Happens.{happened_view, happened_word}
 use Rattle.table_rule.proofs.Lists.{item_at}
-use Rattle.table_steps.specs.HeldWords.{Held, KeepsHeld}
 use Rattle.table_steps.specs.Kept.{Keeps}
 use Rattle.table_steps.specs.Loads.{HasLocked, HasMetLock}
 use Rattle.table_steps.specs.declared.kept.Kept.{Kept}
-use Rattle.table_steps.proofs.HeldLoads.{tried_held as kept_where}
 use Rattle.table_steps.proofs.LoadSteps.{own_part, keeps_same, pass_of, asks_of, high_there}
 use Rattle.table_steps.proofs.There.{searched_high}
 
@@ -101,8 +99,5 @@ module _ (home : Home) (s : Sat) (k : Kept) (keeps : Keeps s.view k) (of : IsOf 
     pub lock_missed : (n ≡ 0 → ⊥) → HasMetLock (pass_of s k.number) node w
     lock_missed held = record { found = n; held = omega (arith, held); event = event_here; view = lock_met held; busy = lock_busy held }
 
-    pub lock_keeps : Keeps w (record k { held = record k.held { any = k.held.any || eqb n 0 } })
-    lock_keeps =
-        let held : Held = record k.held { any = k.held.any || eqb n 0 } in
-        keeps_same v w k held (ap own_part tried_is ∙ tried_own (eqb n 0) v node own n)
-        (subst (λ (u : View). KeepsHeld v.layout u.held held) (sym tried_is) (kept_where v.layout v k.held node own n (eqb n 0) keeps.held)) keeps
+    pub lock_keeps : Keeps w k
+    lock_keeps = keeps_same v w k (ap own_part tried_is ∙ tried_own (eqb n 0) v node own n) keeps

@@ -39,7 +39,6 @@ fresh_keeps z n node entry size k fresh there few = record {
     room = subst (λ us. length us + size.calls ≤ k.updates.room) (sym fresh.updates) (omega (arith, fresh.room));
   };
   raised = tt;
-  held = record { places = fresh.held.places; nodes = tt; nexts = tt; none = λ _. refl };
 }
 
 -- and the pass is at rest

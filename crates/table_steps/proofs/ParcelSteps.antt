@@ -8,7 +8,6 @@ use Rattle.index_words.specs.declared.layout.Layout.{Layout}
 use Rattle.index_words.specs.declared.view.View.{View}
 use Rattle.index_words.specs.declared.view.slots.Slots.{Slots}
 use Rattle.index_words.specs.declared.view.slots.Looks.{Looks}
-use Rattle.index_words.specs.declared.view.update.Held.{Held}
 use Rattle.index_words.specs.declared.view.update.Updating.{Updating}
 use Rattle.index_words.specs.Views.{no_slots}
 use Rattle.key_map.specs.declared.update.Update.{Update}
@@ -20,7 +19,6 @@ use Rattle.core_laws.specs.ViewNeeds.{MayJoin}
 use Rattle.pass_slots.specs.Owned.{KeptSlots, KeepsLooks, node_count}
 use Rattle.table_rule.specs.Homes.{IsLiveView}
 use Rattle.table_rule.proofs.Lists.{some_same}
-use Rattle.table_steps.specs.HeldWords.{KeepsHeld}
 use Rattle.table_steps.specs.Kept.{Keeps}
 use Rattle.table_steps.specs.Parcels.{parcel_view, HasLent, HasAdopted}
 use Rattle.table_steps.specs.Passes.{Extends}
@@ -67,7 +65,7 @@ abbrev pub with_node : ℕ → KeptSlots → KeptSlots
 with_node node s = record s { free = record s.free { nodes = s.free.nodes ++ node ∷ [] } }
 
 abbrev pub kept_with : Kept → KeptSlots → Kept
-kept_with k slots = record { number = k.number; section_word = k.section_word; left = k.left; opened = k.opened; slots = slots; updates = k.updates; raised = k.raised; held = k.held }
+kept_with k slots = record { number = k.number; section_word = k.section_word; left = k.left; opened = k.opened; slots = slots; updates = k.updates; raised = k.raised }
 
 -- the first free node is lent
 module _ (v : View) (k : Kept) (node : ℕ) (keeps : Keeps v k) (first : slice_get k.slots.free.nodes 0 ≡ Some node) (live : IsLiveView v) where
@@ -125,7 +123,6 @@ module _ (v : View) (k : Kept) (node : ℕ) (keeps : Keeps v k) (first : slice_g
     entry_room = keeps.entry_room;
     own = keeps.own;
     raised = keeps.raised;
-    held = keeps.held;
   }
 
   pub lent_keeps : (w : View) (slots : KeptSlots) → w ≡ split_left v 1 → slots ≡ without_node node k.slots → Keeps w (kept_with k slots)
@@ -211,7 +208,6 @@ module _ (v u w : View) (k : Kept) (node : ℕ) (seen : List Update) (z : Layout
           entry_room = subst (λ (y : Layout). y.entries ≤ k.slots.entry_room) (sym layout) keeps.entry_room;
           own = own_longer v.history w.history k.updates (ap (λ (y : View). y.history.mine) is) (ap (λ (y : View). y.history.left) is) more keeps.own;
           raised = subst (λ (u : Updating). IfSome u.raised (λ at. at ≡ k.raised)) (sym (ap (λ (y : View). y.update) is)) keeps.raised;
-          held = subst (λ (z : Layout). KeepsHeld z w.held k.held) (sym layout) (subst (λ (h : Held). KeepsHeld v.layout h k.held) (sym (ap (λ (y : View). y.held) is)) keeps.held);
         } in
         subst (λ (s : KeptSlots). Keeps w (kept_with k s)) (sym are) kept
 

@@ -1,5 +1,5 @@
 -- What a seat holds of the bundles of its locked nodes is what the words say, so it knows which entries its raise retires.
-use Rattle.std.proofs.Common.{◌≡◌, ℕ, zero, suc, ◌+◌, ◌<◌, List, [], ◌∷◌, ◌++◌, cond, false, eqb, arith, refl, ap, ◌∙◌, sym, subst, inl, inr, Option, Some, None}
+use Rattle.std.proofs.Common.{◌≡◌, ℕ, zero, suc, ◌+◌, ◌<◌, ◌≤◌, List, [], ◌∷◌, ◌++◌, cond, false, eqb, arith, refl, ap, ◌∙◌, sym, subst, inl, inr, Option, Some, None}
 use Rattle.std.specs.Prelude.{IfSome}
 use Rattle.std.specs.List.{slice_get}
 use Rattle.std.proofs.lemmas.Bool.{eq-eqb}
@@ -31,7 +31,7 @@ use Rattle.core_invariant.specs.SeatRule.{SeatRight}
 use Rattle.core_invariant.proofs.Frames.{one_counted}
 use Rattle.core_invariant.proofs.HeldFacts.{held_holds}
 use Rattle.core_invariant.proofs.OneView.{seat_at}
-use Rattle.core_invariant.proofs.Owned.{held_live}
+use Rattle.core_invariant.proofs.Owned.{entry_there, held_live}
 use Rattle.core_invariant.proofs.TreeNow.{entries_are}
 use Rattle.core_laws.proofs.Remembered.{every_item}
 use Rattle.core_updates.specs.Held.{HoldsHead}
@@ -82,6 +82,22 @@ module _ (z : Layout) (words : List ℕ) (vs : List View) (right : InRule z word
   held_live_node node side entry h =
       let locked : 0 < count node (held_slots v.held.nodes) = subst (λ k. 0 < count k (held_slots v.held.nodes)) h.node_is (held_counted v.held.nodes h.place h.held h.at) in
       held_live z vs g right.rule.slots i node v at (held_holds v node locked) (seat.locks node locked).0
+
+  -- a locked node is one of the table, and so is an entry whose next was found
+  pub head_there : (node : ℕ) (side : Side) (entry : ℕ) → HoldsHead v node side entry → node ≤ z.nodes
+  head_there node side entry h =
+      let locked : 0 < count node (held_slots v.held.nodes) = subst (λ k. 0 < count k (held_slots v.held.nodes)) h.node_is (held_counted v.held.nodes h.place h.held h.at) in
+      (seat.locks node locked).0
+
+  pub next_there : (node e next : ℕ) → HoldsNext v node e next → e ≤ z.entries
+  next_there node e next h =
+      let known : IsNextAt m g.bundles v.held.nodes h.item = every_item (IsNextAt m g.bundles v.held.nodes) v.held.nexts h.place h.item h.at seat.loaded.nexts in
+      let live = held_live z vs g right.rule.slots i h.item.node v at (held_holds v h.item.node known.locked) (seat.locks h.item.node known.locked).0 in
+      subst (λ d. d ≤ z.entries) h.entry_is (entry_there z vs g right.rule.slots h.item.node h.item.entry live known.here)
+
+  pub chain_low : (node head : ℕ) (es : List ℕ) → HoldsChain v node head es → head ≤ z.entries
+  chain_low node head [] none = omega (arith, none)
+  chain_low node head (e ∷ es) held = omega (arith, held.0, next_there node e held.2.0 held.2.1)
 
   bundle_known : (node : ℕ) (side : Side) (es : List ℕ) → HoldsBundle v node side es
       → entries_from (m Stamp + 1) z.entries (λ e. m (Entry Next e)) (m (Node (Head side) node)) ≡ es

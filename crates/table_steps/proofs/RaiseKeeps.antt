@@ -11,27 +11,21 @@ use Rattle.index_words.specs.declared.view.View.{View}
 use Rattle.index_words.specs.declared.view.slots.Slots.{Slots}
 use Rattle.index_words.specs.declared.view.slots.Looks.{Looks}
 use Rattle.index_words.specs.declared.view.update.Held.{Held as ViewHeld}
-use Rattle.index_words.specs.declared.view.update.HeldNode.{HeldNode}
-use Rattle.index_words.specs.declared.view.update.LoadedHead.{LoadedHead}
 use Rattle.index_words.specs.declared.view.update.Updating.{Updating}
 use Rattle.key_map.specs.declared.update.Update.{Update}
-use Rattle.key_map.specs.Lists.{count}
+use Rattle.key_map.specs.Lists.{count, IsItem}
 use Rattle.core_grace.specs.Holds.{listed}
 use Rattle.core_grace.proofs.RuleMoves.{every_weaker, every_push}
 use Rattle.core_events.specs.UpdateMoves.{without_all, listed_entry}
-use Rattle.core_events.specs.UpdateNeeds.{side_of}
 use Rattle.core_invariant.specs.Histories.{update_at}
-use Rattle.core_laws.proofs.Remembered.{every_item}
-use Rattle.core_updates.specs.Held.{HoldsHead}
 use Rattle.pass_slots.specs.Owned.{KeptSlots, KeepsSlots, KeepsLooks, taken_from, node_count, entry_count}
 use Rattle.table_rule.specs.Homes.{IsLiveView}
 use Rattle.table_rule.proofs.Lists.{get_last}
-use Rattle.table_steps.specs.HeldWords.{Held, KeepsNode, KeepsNext, KeepsHeld, heads_on}
 use Rattle.table_steps.specs.Kept.{Keeps}
 use Rattle.table_steps.specs.Made.{Made, KeepsOwn}
 use Rattle.table_steps.specs.Passes.{Extends}
-use Rattle.table_steps.specs.Raises.{new_slot, new_left, new_right, slot_given, new_entries_of, nodes_out, HasNew, IsGiven, HoldsNext, HoldsChain, HoldsBundles, HoldsEntries, HasRaised}
-use Rattle.table_steps.specs.Retires.{IsKeptChain, AreKeptBundles, AreKeptEntries, HasRoomFor, with_retired}
+use Rattle.table_steps.specs.Raises.{new_slot, new_left, new_right, slot_given, new_entries_of, nodes_out, HasNew, IsGiven, HoldsNext, HoldsChain, HoldsBundle, HoldsEntries, HasRaised}
+use Rattle.table_steps.specs.Retires.{HasRoomFor, with_retired}
 use Rattle.table_steps.specs.declared.kept.Kept.{Kept}
 use Rattle.table_steps.specs.declared.own_updates.OwnUpdate.{OwnUpdate}
 use Rattle.index_words.specs.declared.word.Word.TheVariants.{Stamp}
@@ -41,40 +35,52 @@ use Rattle.table_steps.proofs.Own.{at_longer}
 use Rattle.table_steps.proofs.Views.{RightSeat, live_seat}
 use Rattle.table_steps.proofs.There.{free_entry_once, free_node_once, nodes_few, entries_few}
 
--- the entries that the seat holds are those that are kept
-module _ (v : View) (k : Held) (keeps : KeepsHeld v.layout v.held k) where
-  pub chain_kept : (node head : ℕ) (es : List ℕ) → HoldsChain v node head es → IsKeptChain k.next head es
-  chain_kept node head [] none = none
-  chain_kept node head (e ∷ es) held =
-      let h : HoldsNext v node e held.2.0 = held.2.1 in
-      let kept : slice_get k.next h.item.entry ≡ Some h.item.next = every_item (KeepsNext k) v.held.nexts h.place h.item h.at keeps.nexts in
-      (held.0, held.1, (held.2.0, subst (λ d. slice_get k.next d ≡ Some held.2.0) h.entry_is (kept ∙ ap Some h.next_is), chain_kept node held.2.0 es held.2.2))
+-- what a pass has found of its locked nodes, it knows where the same is held
+module _ (v w : View) (same : w.held ≡ v.held) where
+  chain_on : (node head : ℕ) (es : List ℕ) → HoldsChain v node head es → HoldsChain w node head es
+  chain_on node head [] none = none
+  chain_on node head (e ∷ es) held = (held.0, held.1, (held.2.0, next_on node e held.2.0 held.2.1, chain_on node held.2.0 es held.2.2))
+    where
+      next_on : (node e next : ℕ) → HoldsNext v node e next → HoldsNext w node e next
+      next_on node e next h = record {
+        place = h.place;
+        item = h.item;
+        at = subst (λ (x : ViewHeld). IsItem x.nexts h.place h.item) (sym same) h.at;
+        node_is = h.node_is;
+        entry_is = h.entry_is;
+        next_is = h.next_is;
+      }
 
-  head_by : (node entry : ℕ) (side : Side) (n : HeldNode) (l : LoadedHead) → KeepsNode k n → (side_of side n).head ≡ Some l → n.node ≡ node → l.entry ≡ entry → slice_get (heads_on side k) node ≡ Some entry
-  head_by node entry Left n l kept is same entry_is =
-      subst (λ j. slice_get k.left j ≡ Some entry) same (subst (λ (o : Option LoadedHead). IfSome o (λ (x : LoadedHead). slice_get k.left n.node ≡ Some x.entry)) is kept.left ∙ ap Some entry_is)
-  head_by node entry Right n l kept is same entry_is =
-      subst (λ j. slice_get k.right j ≡ Some entry) same (subst (λ (o : Option LoadedHead). IfSome o (λ (x : LoadedHead). slice_get k.right n.node ≡ Some x.entry)) is kept.right ∙ ap Some entry_is)
-
-  head_kept : (node : ℕ) (side : Side) (entry : ℕ) → HoldsHead v node side entry → slice_get (heads_on side k) node ≡ Some entry
-  head_kept node side entry h = head_by node entry side h.held h.loaded (every_item (KeepsNode k) v.held.nodes h.place h.held h.at keeps.nodes) h.head h.node_is h.entry_is
-
-  bundles_kept : (node : ℕ) (es : List ℕ) → HoldsBundles v node es → AreKeptBundles k node es
-  bundles_kept node es h = record {
-    left_head = h.left.head;
-    right_head = h.right.head;
-    lefts = h.lefts;
-    rights = h.rights;
-    left_is = head_kept node Left h.left.head h.left.held;
-    right_is = head_kept node Right h.right.head h.right.held;
-    left = chain_kept node h.left.head h.lefts h.left.chain;
-    right = chain_kept node h.right.head h.rights h.right.chain;
-    are = h.are;
+  bundle_on : (node : ℕ) (side : Side) (es : List ℕ) → HoldsBundle v node side es → HoldsBundle w node side es
+  bundle_on node side es h = record {
+    head = h.head;
+    held = record {
+      place = h.held.place;
+      held = h.held.held;
+      at = subst (λ (x : ViewHeld). IsItem x.nodes h.held.place h.held.held) (sym same) h.held.at;
+      node_is = h.held.node_is;
+      loaded = h.held.loaded;
+      head = h.held.head;
+      entry_is = h.held.entry_is;
+    };
+    chain = chain_on node h.head es h.chain;
   }
 
-  pub entries_kept : (ks es : List ℕ) → HoldsEntries v ks es → AreKeptEntries k ks es
-  entries_kept [] es none = none
-  entries_kept (j ∷ ks) es held = (held.0, held.1, bundles_kept j held.0 held.2, entries_kept ks held.1 held.3, held.4)
+  pub entries_on : (ks es : List ℕ) → HoldsEntries v ks es → HoldsEntries w ks es
+  entries_on [] es none = none
+  entries_on (k ∷ ks) es held = (
+    held.0,
+    held.1,
+    record {
+      lefts = held.2.lefts;
+      rights = held.2.rights;
+      left = bundle_on k Left held.2.lefts held.2.left;
+      right = bundle_on k Right held.2.rights held.2.right;
+      are = held.2.are;
+    },
+    entries_on ks held.1 held.3,
+    held.4,
+  )
 
 given_list : (k : ℕ) → listed (slot_given k) ≡ listed_entry k
 given_list k = by_test (eqb k 0)
@@ -147,7 +153,7 @@ module _ (v w : View) (u : Update) (new out : List ℕ) (at : ℕ) (gives : HasR
   layout : w.layout ≡ v.layout
   layout = ap (λ (y : View). y.layout) gives.view
 
-  pub raise_keeps : Keeps w (record { number = k.number; section_word = k.section_word; left = k.left - 1; opened = k.opened; slots = slots_moved; updates = made; raised = at; held = k.held })
+  pub raise_keeps : Keeps w (record { number = k.number; section_word = k.section_word; left = k.left - 1; opened = k.opened; slots = slots_moved; updates = made; raised = at })
   raise_keeps = record {
     number = ap (λ (y : View). y.number) gives.view ∙ keeps.number;
     there = subst (λ (z : Layout). k.number < z.passes) (sym layout) keeps.there;
@@ -160,8 +166,11 @@ module _ (v w : View) (u : Update) (new out : List ℕ) (at : ℕ) (gives : HasR
     entry_room = subst (λ (z : Layout). z.entries ≤ k.slots.entry_room) (sym layout) keeps.entry_room;
     own = own_kept;
     raised = subst (λ (y : Updating). IfSome y.raised (λ n. n ≡ at)) (sym (ap (λ (y : View). y.update) gives.view)) (sym gives.place);
-    held = subst (λ (z : Layout). KeepsHeld z w.held k.held) (sym layout) (subst (λ (h : ViewHeld). KeepsHeld v.layout h k.held) (sym (ap (λ (y : View). y.held) gives.view)) keeps.held);
   }
+
+  -- what the pass has found of its locked nodes, it knows behind the raise too
+  pub raise_holds : HoldsEntries w (nodes_out out) gives.entries
+  raise_holds = entries_on v w (ap (λ (y : View). y.held) gives.view) (nodes_out out) gives.entries gives.holds
 
   -- there is room for what is retired
   module _ (live : IsLiveView w) where

@@ -1,43 +1,42 @@
 -- How the entries of bundles are retired, one after another.
-use Rattle.std.proofs.Common.{◌≡◌, ℕ, zero, suc, ◌+◌, ◌<◌, List, [], ◌∷◌, ◌++◌, length, take, drop, arith, refl, ap, ◌∙◌, sym, subst, Some, append-nil, append_assoc}
-use Rattle.std.specs.List.{slice_get}
+use Rattle.std.proofs.Common.{◌≡◌, ℕ, zero, suc, ◌+◌, ◌<◌, List, [], ◌∷◌, ◌++◌, length, take, drop, cond, arith, refl, ap, ◌∙◌, sym, subst, append-nil, append_assoc}
+use Rattle.std.proofs.lemmas.Bool.{ne_eqb}
 use Rattle.std.proofs.lemmas.List.{length-append, length-take-le, take-append-drop}
+use Rattle.index_words.specs.declared.view.View.{View}
+use Rattle.index_words.specs.declared.word.Part.TheVariants.{Next as NextPart}
+use Rattle.index_words.specs.declared.word.Word.TheVariants.{Entry}
+use Rattle.index_words.specs.Words.{memory}
+use Rattle.core_links.proofs.Chains.{chain-same}
+use Rattle.core_events.specs.UpdateMoves.{listed_entry}
 use Rattle.pass_slots.specs.Owned.{KeptSlots, node_count, entry_count}
-use Rattle.table_rule.proofs.Lists.{some_same}
-use Rattle.table_steps.specs.HeldWords.{Held}
-use Rattle.table_steps.specs.Retires.{IsKeptChain, AreKeptEntries, HasRoomFor, with_retired}
+use Rattle.table_rule.specs.Homes.{IsLiveView}
+use Rattle.table_rule.specs.Running.{Stands}
+use Rattle.table_steps.specs.Raises.{HoldsBundles, HoldsChain, HoldsEntries}
+use Rattle.table_steps.specs.Retires.{HasRoomFor, with_retired}
+use Rattle.table_steps.proofs.RaiseFacts.{chain_known}
 
--- a chain is known by its head
-pub kept_same : (nexts : List ℕ) (head : ℕ) (xs ys : List ℕ) → IsKeptChain nexts head xs → IsKeptChain nexts head ys → xs ≡ ys
-kept_same nexts head [] [] one two = refl
-kept_same nexts head [] (y ∷ ys) one two = absurd (omega (arith, one, two.0, two.1))
-kept_same nexts head (x ∷ xs) [] one two = absurd (omega (arith, two, one.0, one.1))
-kept_same nexts head (x ∷ xs) (y ∷ ys) one two =
-    let same : x ≡ y = sym one.0 ∙ two.0 in
-    let next : one.2.0 ≡ two.2.0 = some_same one.2.0 two.2.0 (sym one.2.1 ∙ ap (slice_get nexts) same ∙ two.2.1) in
-    ap (λ z. z ∷ xs) same ∙ ap (λ zs. y ∷ zs) (kept_same nexts two.2.0 xs ys (subst (λ n. IsKeptChain nexts n xs) next one.2.2) two.2.2)
+-- the rule of a table knows what a chain is from its head on
+pub chain_once : (v : View) → IsLiveView v → (node other head : ℕ) (xs ys : List ℕ) → HoldsChain v node head xs → HoldsChain v other head ys → xs ≡ ys
+chain_once v live node other head xs ys one two =
+    let s : Stands v.layout v = live.stands in
+    chain-same (λ e. memory v.layout s.words (Entry NextPart e)) head xs ys (chain_known v.layout s.words s.views s.rule s.seat v s.at node head xs one)
+    (chain_known v.layout s.words s.views s.rule s.seat v s.at other head ys two)
 
 -- the first entry of a chain whose head is not 0, and those behind it
-pub record Behind (nexts : List ℕ) (entry : ℕ) (rest : List ℕ) : Type 0 where
+pub record Behind (v : View) (node entry : ℕ) (rest : List ℕ) : Type 0 where
   pub tail : List ℕ
-  pub next : ℕ
   pub are : rest ≡ entry ∷ tail
-  pub is : slice_get nexts entry ≡ Some next
-  pub chain : IsKeptChain nexts next tail
+  pub chain : HoldsChain v node entry (entry ∷ tail)
 
-pub behind : (nexts : List ℕ) (entry : ℕ) (rest : List ℕ) → (entry ≡ 0 → ⊥) → IsKeptChain nexts entry rest → Behind nexts entry rest
-behind nexts entry [] some chain = absurd (some chain)
-behind nexts entry (e ∷ es) some chain = record {
-  tail = es;
-  next = chain.2.0;
-  are = ap (λ x. x ∷ es) (sym chain.0);
-  is = ap (slice_get nexts) chain.0 ∙ chain.2.1;
-  chain = chain.2.2;
-}
+pub behind : (v : View) (node entry : ℕ) (rest : List ℕ) → (entry ≡ 0 → ⊥) → HoldsChain v node entry rest → Behind v node entry rest
+behind v node entry [] some chain = absurd (some chain)
+behind v node entry (e ∷ es) some chain =
+    let are : e ∷ es ≡ entry ∷ es = ap (λ x. x ∷ es) (sym chain.0) in
+    record { tail = es; are = are; chain = subst (HoldsChain v node entry) are chain }
 
-pub no_more : (nexts : List ℕ) (entry : ℕ) (rest : List ℕ) → entry ≡ 0 → IsKeptChain nexts entry rest → rest ≡ []
-no_more nexts entry [] none chain = refl
-no_more nexts entry (e ∷ es) none chain = absurd (omega (arith, none, chain.0, chain.1))
+pub no_more : (v : View) (node entry : ℕ) (rest : List ℕ) → entry ≡ 0 → HoldsChain v node entry rest → rest ≡ []
+no_more v node entry [] none chain = refl
+no_more v node entry (e ∷ es) none chain = absurd (omega (arith, none, chain.0, chain.1))
 
 -- one place on in a list
 pub record Next (xs : List ℕ) (i x : ℕ) (ys : List ℕ) : Type 0 where
@@ -105,26 +104,54 @@ room_before s ns ms es fs limit room = record {
 }
 
 -- the entries of two lists of nodes
-pub record Split (h : Held) (ks js es : List ℕ) : Type 0 where
+pub record Split (v : View) (ks js es : List ℕ) : Type 0 where
   pub first : List ℕ
   pub second : List ℕ
-  pub one : AreKeptEntries h ks first
-  pub two : AreKeptEntries h js second
+  pub one : HoldsEntries v ks first
+  pub two : HoldsEntries v js second
   pub are : es ≡ first ++ second
 
-pub split_kept : (h : Held) (ks js es : List ℕ) → AreKeptEntries h (ks ++ js) es → Split h ks js es
-split_kept h [] js es kept = record { first = []; second = es; one = refl; two = kept; are = refl }
-split_kept h (k ∷ ks) js es kept =
-    let rest : Split h ks js kept.1 = split_kept h ks js kept.1 kept.3 in
+pub split_held : (v : View) (ks js es : List ℕ) → HoldsEntries v (ks ++ js) es → Split v ks js es
+split_held v [] js es held = record { first = []; second = es; one = refl; two = held; are = refl }
+split_held v (k ∷ ks) js es held =
+    let rest : Split v ks js held.1 = split_held v ks js held.1 held.3 in
     record {
-      first = kept.0 ++ rest.first;
+      first = held.0 ++ rest.first;
       second = rest.second;
-      one = (kept.0, rest.first, kept.2, rest.one, refl);
+      one = (held.0, rest.first, held.2, rest.one, refl);
       two = rest.two;
-      are = kept.4 ∙ ap (λ (xs : List ℕ). kept.0 ++ xs) rest.are ∙ sym (append_assoc kept.0 rest.first rest.second);
+      are = held.4 ∙ ap (λ (xs : List ℕ). held.0 ++ xs) rest.are ∙ sym (append_assoc held.0 rest.first rest.second);
     }
 
 -- and what is retired with both
 pub both_retired : (s t u : KeptSlots) (ns ms es xs ys : List ℕ) → es ≡ xs ++ ys → t ≡ with_retired ns xs s → u ≡ with_retired ms ys t → u ≡ with_retired (ns ++ ms) es s
 both_retired s t u ns ms es xs ys are one two =
     two ∙ ap (with_retired ms ys) one ∙ with_more s ns ms xs ys ∙ ap (λ (zs : List ℕ). with_retired (ns ++ ms) zs s) (sym are)
+
+-- a node that is there, with the entries of its two bundles
+pub listed_some : (k : ℕ) → (k ≡ 0 → ⊥) → listed_entry k ≡ k ∷ []
+listed_some k some = ap (λ b. cond b [] (k ∷ [])) (ne_eqb k 0 some)
+
+pub only_node : (v : View) (k : ℕ) (es : List ℕ) → (k ≡ 0 → ⊥) → HoldsEntries v (listed_entry k) es → HoldsBundles v k es
+only_node v k es some held = whole (subst (λ ks. HoldsEntries v ks es) (listed_some k some) held)
+  where
+    whole : HoldsEntries v (k ∷ []) es → HoldsBundles v k es
+    whole h = subst (HoldsBundles v k) (sym (h.4 ∙ ap (λ xs. h.0 ++ xs) h.3 ∙ append-nil h.0)) h.2
+
+module _ (s t : KeptSlots) (k : ℕ) (some : k ≡ 0 → ⊥) (es xs ys : List ℕ) (are : es ≡ xs ++ ys) (node : t ≡ with_retired (k ∷ []) [] s) where
+  module _ (limit : ℕ) (room : HasRoomFor (listed_entry k) es limit s) where
+    both_room : HasRoomFor [] (xs ++ ys) limit t
+    both_room =
+        room_after s t (k ∷ []) [] [] (xs ++ ys) limit
+        (subst (λ zs. HasRoomFor (k ∷ []) zs limit s) are (subst (λ ns. HasRoomFor ns es limit s) (listed_some k some) room)) node
+
+    pub left_room : HasRoomFor [] xs limit t
+    left_room = room_before t [] [] xs ys limit both_room
+
+    pub right_room : (u : KeptSlots) → u ≡ with_retired [] xs t → HasRoomFor [] ys limit u
+    right_room u left = room_after t u [] [] xs ys limit both_room left
+
+  pub node_retired : (u w : KeptSlots) → u ≡ with_retired [] xs t → w ≡ with_retired [] ys u → w ≡ with_retired (listed_entry k) es s
+  node_retired u w left right =
+      both_retired s u w (k ∷ []) [] es xs ys are (both_retired s t u (k ∷ []) [] xs [] xs refl node left) right
+      ∙ ap (λ ns. with_retired ns es s) (sym (listed_some k some))

@@ -24,11 +24,8 @@ use Rattle.pass_slots.specs.Owned.{KeptSlots, KeepsSlots, HasRoomOf}
 use Rattle.table_rule.specs.Homes.{Home, Sat, IsOf, Asks}
 use Rattle.table_rule.specs.Running.{Happened, Stored}
 use Rattle.table_rule.proofs.Happens.{happened_view, happened_word}
-use Rattle.std.specs.Prelude.{IfSome, []}
-use Rattle.index_words.specs.declared.view.update.Held.{Held as ViewHeld}
+use Rattle.std.specs.Prelude.{IfSome}
 use Rattle.index_words.specs.declared.view.update.HeldNode.{HeldNode}
-use Rattle.core_grace.proofs.RuleMoves.{every_weaker}
-use Rattle.table_steps.specs.HeldWords.{KeepsHeld, KeepsNode}
 use Rattle.table_steps.specs.Kept.{Keeps}
 use Rattle.table_steps.specs.Made.{KeepsOwn}
 use Rattle.table_steps.specs.Passes.{Inside}
@@ -39,12 +36,9 @@ use Rattle.core_grace.proofs.Parity.{odd_next, even_left}
 pub still_raised : (v w : View) (k : Kept) → IsStill v w → Keeps v k → IfSome w.update.raised (λ at. at ≡ k.raised)
 still_raised v w k still keeps = subst (λ (o : Option ℕ). IfSome o (λ at. at ≡ k.raised)) (sym still.raised) keeps.raised
 
-pub still_held : (v w : View) (k : Kept) → w.layout ≡ v.layout → IsStill v w → Keeps v k → KeepsHeld w.layout w.held k.held
-still_held v w k layout still keeps = subst (λ (z : Layout). KeepsHeld z w.held k.held) (sym layout) (subst (λ (h : ViewHeld). KeepsHeld v.layout h k.held) (sym still.held) keeps.held)
-
 -- a view with the same parts, and its own section word, open snapshot and slots, is kept with these
 keeps_opened : (v w : View) (k : Kept) (word : ℕ) (opened : Option ℕ) (slots : KeptSlots) → Keeps v k → part_of w ≡ record (part_of v) { word = word; section = w.reading.section; opened = opened } → KeepsSlots w slots → HasRoomOf k.slots slots → IsStill v w
-    → Keeps w (record { number = k.number; section_word = word; left = k.left; opened = opened; slots = slots; updates = k.updates; raised = k.raised; held = k.held })
+    → Keeps w (record { number = k.number; section_word = word; left = k.left; opened = opened; slots = slots; updates = k.updates; raised = k.raised })
 keeps_opened v w k word opened slots keeps same kept room still = record {
   number = ap (λ (p : SeatPart). p.owner.number) same ∙ keeps.number;
   there = subst (λ (z : Layout). k.number < z.passes) (sym layout) keeps.there;
@@ -57,7 +51,6 @@ keeps_opened v w k word opened slots keeps same kept room still = record {
   entry_room = subst (λ (z : Layout). z.entries ≤ slots.entry_room) (sym layout) (subst (λ n. v.layout.entries ≤ n) (sym room.entries) keeps.entry_room);
   own = subst (λ (h : SeenHistory). KeepsOwn h k.updates) (sym (ap (λ (p : SeatPart). p.history) same)) keeps.own;
   raised = still_raised v w k still keeps;
-  held = still_held v w k layout still keeps;
 }
   where
     layout : w.layout ≡ v.layout
@@ -65,32 +58,9 @@ keeps_opened v w k word opened slots keeps same kept room still = record {
 
 -- a view with the same parts and the same open snapshot, and its own section word and slots
 pub keeps_moved : (v w : View) (k : Kept) (word : ℕ) (slots : KeptSlots) → Keeps v k → part_of w ≡ record (part_of v) { word = word; section = w.reading.section } → KeepsSlots w slots → HasRoomOf k.slots slots → IsStill v w
-    → Keeps w (record { number = k.number; section_word = word; left = k.left; opened = k.opened; slots = slots; updates = k.updates; raised = k.raised; held = k.held })
+    → Keeps w (record { number = k.number; section_word = word; left = k.left; opened = k.opened; slots = slots; updates = k.updates; raised = k.raised })
 keeps_moved v w k word slots keeps same kept room still =
     keeps_opened v w k word k.opened slots keeps (same ∙ ap (λ o. record (part_of v) { word = word; section = w.reading.section; opened = o }) keeps.opened) kept room still
-
--- where no lock is held nothing need be kept of the locked nodes
-cleared : (w : View) (k : Kept) → Keeps w k → w.held.nodes ≡ []
-    → Keeps w (record { number = k.number; section_word = k.section_word; left = k.left; opened = k.opened; slots = k.slots; updates = k.updates; raised = k.raised; held = record k.held { any = false } })
-cleared w k keeps none = record {
-  number = keeps.number;
-  there = keeps.there;
-  few = keeps.few;
-  word = keeps.word;
-  left = keeps.left;
-  opened = keeps.opened;
-  slots = keeps.slots;
-  node_room = keeps.node_room;
-  entry_room = keeps.entry_room;
-  own = keeps.own;
-  raised = keeps.raised;
-  held = record {
-    places = record { left = keeps.held.places.left; right = keeps.held.places.right; next = keeps.held.places.next };
-    nodes = every_weaker (KeepsNode k.held) (KeepsNode (record k.held { any = false })) w.held.nodes (λ n kept. record { left = kept.left; right = kept.right }) keeps.held.nodes;
-    nexts = keeps.held.nexts;
-    none = λ _. none;
-  };
-}
 
 -- a view whose own parts are as they were
 part_moved : (v w : View) (word : ℕ) → part_of w ≡ part_of v → v.section_word ≡ word → part_of w ≡ record (part_of v) { word = word; section = w.reading.section }
@@ -157,11 +127,11 @@ module _ (home : Home) (s : Sat) (k : Kept) (keeps : Keeps s.view k) (of : IsOf 
       }
 
   pub enter_keeps : (w : View) (slots : KeptSlots) → Stored z enter_event v w → ((u : View) → KeepsSlots u k.slots → u.number ≡ Some k.number → KeepsSlots (Rattle.core_grace.specs.Batches.settled z.passes (Rattle.core_grace.specs.Batches.batch_taken u)) slots) → HasRoomOf k.slots slots
-      → Keeps w (record { number = k.number; section_word = k.section_word + 1; left = k.left; opened = k.opened; slots = slots; updates = k.updates; raised = k.raised; held = k.held })
+      → Keeps w (record { number = k.number; section_word = k.section_word + 1; left = k.left; opened = k.opened; slots = slots; updates = k.updates; raised = k.raised })
   enter_keeps w slots h kept room =
       let word : ℕ = k.section_word + 1 in
       let inside : KeepsSlots (in_section v word) k.slots = record { free = keeps.slots.free; batch = keeps.slots.batch; retired = keeps.slots.retired; looks = keeps.slots.looks } in
-      subst (λ (u : View). Keeps u (record { number = k.number; section_word = word; left = k.left; opened = k.opened; slots = slots; updates = k.updates; raised = k.raised; held = k.held })) (sym (enter_view w h))
+      subst (λ (u : View). Keeps u (record { number = k.number; section_word = word; left = k.left; opened = k.opened; slots = slots; updates = k.updates; raised = k.raised })) (sym (enter_view w h))
       (keeps_moved v (entered z.passes v word) k word slots keeps
       (entered_part z.passes word v ∙ ap (λ (r : Work). record (part_of v) { word = word; section = r.reading.section }) (sym (entered_work z.passes word v)))
       (kept (in_section v word) inside keeps.number) room (work_still v (entered z.passes v word) (nowhere v.reading) (entered_work z.passes word v)))
@@ -191,19 +161,17 @@ module _ (home : Home) (s : Sat) (k : Kept) (keeps : Keeps s.view k) (of : IsOf 
         unlocked = ap (λ (u : View). u.held.nodes) is ∙ inside.unlocked;
       }
 
-  -- a view outside of its section, with the locks that it had
-  left_kept : (word : ℕ) → Keeps (left v word) (record { number = k.number; section_word = word; left = k.left; opened = None; slots = k.slots; updates = k.updates; raised = k.raised; held = k.held })
+  -- a view outside of its section
+  left_kept : (word : ℕ) → Keeps (left v word) (record { number = k.number; section_word = word; left = k.left; opened = None; slots = k.slots; updates = k.updates; raised = k.raised })
   left_kept word =
       let kept : KeepsSlots (left v word) k.slots = record { free = keeps.slots.free; batch = keeps.slots.batch; retired = keeps.slots.retired; looks = keeps.slots.looks } in
       keeps_opened v (left v word) k word None k.slots keeps refl kept (same_room k.slots) (record { held = refl; raised = refl })
 
-  pub leave_keeps : Inside v → (w : View) → Stored z leave_event v w
-      → Keeps w (record { number = k.number; section_word = left_word k.section_word; left = k.left; opened = None; slots = k.slots; updates = k.updates; raised = k.raised; held = record k.held { any = false } })
-  leave_keeps inside w h =
+  pub leave_keeps : (w : View) → Stored z leave_event v w
+      → Keeps w (record { number = k.number; section_word = left_word k.section_word; left = k.left; opened = None; slots = k.slots; updates = k.updates; raised = k.raised })
+  leave_keeps w h =
       let word : ℕ = left_word k.section_word in
-      subst (λ (u : View). Keeps u (record { number = k.number; section_word = word; left = k.left; opened = None; slots = k.slots; updates = k.updates; raised = k.raised; held = record k.held { any = false } })) (sym (leave_view w h))
-      (cleared (left v word) (record { number = k.number; section_word = word; left = k.left; opened = None; slots = k.slots; updates = k.updates; raised = k.raised; held = k.held })
-      (left_kept word) inside.unlocked)
+      subst (λ (u : View). Keeps u (record { number = k.number; section_word = word; left = k.left; opened = None; slots = k.slots; updates = k.updates; raised = k.raised })) (sym (leave_view w h)) (left_kept word)
 
   -- leave at the wait of a removal
   pub leave_waiting_asks : MayLeaveWaiting v k.number → Asks home s (Section k.number) leave_event
@@ -218,13 +186,6 @@ module _ (home : Home) (s : Sat) (k : Kept) (keeps : Keeps s.view k) (of : IsOf 
   pub leave_waiting_even : MayLeaveWaiting v k.number → (w : View) → Stored z leave_event v w → is_even w.section_word ≡ true
   leave_waiting_even may w h =
       ap (λ (u : View). is_even u.section_word) (leave_view w h) ∙ even_left k.section_word (subst (λ n. is_even n ≡ false) keeps.word may.inside)
-
-  pub leave_waiting_keeps : (w : View) → Stored z leave_event v w
-      → Keeps w (record { number = k.number; section_word = left_word k.section_word; left = k.left; opened = None; slots = k.slots; updates = k.updates; raised = k.raised; held = k.held })
-  leave_waiting_keeps w h =
-      let word : ℕ = left_word k.section_word in
-      subst (λ (u : View). Keeps u (record { number = k.number; section_word = word; left = k.left; opened = None; slots = k.slots; updates = k.updates; raised = k.raised; held = k.held })) (sym (leave_view w h))
-      (left_kept word)
 
   -- look
   module _ (other : ℕ) (there : other < v.layout.passes) where
@@ -275,10 +236,10 @@ module _ (home : Home) (s : Sat) (k : Kept) (keeps : Keeps s.view k) (of : IsOf 
     look_announced outside w n h = ap (λ (p : SeatPart). p.announced) (look_part outside w n h)
 
     pub look_keeps : IsOutside v → (w : View) (n : ℕ) (slots : KeptSlots) → Happened z look_event v n w → ((u : View) → KeepsSlots u k.slots → u.number ≡ Some k.number → KeepsSlots (looked z.passes u other n) slots) → HasRoomOf k.slots slots
-        → Keeps w (record { number = k.number; section_word = k.section_word; left = k.left; opened = k.opened; slots = slots; updates = k.updates; raised = k.raised; held = k.held })
+        → Keeps w (record { number = k.number; section_word = k.section_word; left = k.left; opened = k.opened; slots = slots; updates = k.updates; raised = k.raised })
     look_keeps outside w n slots h kept room =
         let u : View = looked z.passes v other n in
-        subst (λ (x : View). Keeps x (record { number = k.number; section_word = k.section_word; left = k.left; opened = k.opened; slots = slots; updates = k.updates; raised = k.raised; held = k.held })) (sym (look_view outside w n h))
+        subst (λ (x : View). Keeps x (record { number = k.number; section_word = k.section_word; left = k.left; opened = k.opened; slots = slots; updates = k.updates; raised = k.raised })) (sym (look_view outside w n h))
         (keeps_moved v u k k.section_word slots keeps
         (looked_part z other n v ∙ ap (λ x. record (part_of v) { word = x }) keeps.word
         ∙ ap (λ (r : Work). record (part_of v) { word = k.section_word; section = r.reading.section }) (sym (looked_work z.passes other n v)))

@@ -36,7 +36,7 @@ use Rattle.table_steps.specs.Stamps.{announced_word, with_seen, CanAnnounce, Has
 use Rattle.table_steps.specs.declared.kept.Kept.{Kept}
 use Rattle.table_steps.proofs.LoadSteps.{keeps_same, pass_of}
 use Rattle.table_steps.proofs.Own.{own_longer}
-use Rattle.table_steps.proofs.SectionSteps.{still_raised, still_held}
+use Rattle.table_steps.proofs.SectionSteps.{still_raised}
 use Rattle.table_steps.proofs.Views.{IsStill, RightSeat, live_seat}
 
 low_true : (a b : ℕ) → a < b → ltb a b ≡ true
@@ -166,7 +166,6 @@ module _ (home : Home) (s : Sat) (k : Kept) (keeps : Keeps s.view k) (of : IsOf 
           entry_room = subst (λ (y : Layout). y.entries ≤ k.slots.entry_room) (sym layout) keeps.entry_room;
           own = own_longer v.history w.history k.updates (ap (λ (u : View). u.history.mine) w_is) (ap (λ (u : View). u.history.left) w_is) longer keeps.own;
           raised = still_raised v w k still keeps;
-          held = still_held v w k layout still keeps;
         }
 
   -- an announcement, and taking it back
@@ -200,7 +199,7 @@ module _ (home : Home) (s : Sat) (k : Kept) (keeps : Keeps s.view k) (of : IsOf 
 
       pub announce_keeps : Keeps w k
       announce_keeps =
-          subst (λ (u : View). Keeps u k) (sym announce_view) (keeps_same v (announced_view v value) k k.held refl keeps.held keeps)
+          subst (λ (u : View). Keeps u k) (sym announce_view) (keeps_same v (announced_view v value) k refl keeps)
 
   -- a look at an announcement
   module _ (other : ℕ) (may : MayLookAnn v other) where
@@ -221,4 +220,4 @@ module _ (home : Home) (s : Sat) (k : Kept) (keeps : Keeps s.view k) (of : IsOf 
 
       pub look_ann_keeps : Keeps w k
       look_ann_keeps =
-          subst (λ (u : View). Keeps u k) (sym look_ann_view) (keeps_same v (ann_loaded v other n) k k.held refl keeps.held keeps)
+          subst (λ (u : View). Keeps u k) (sym look_ann_view) (keeps_same v (ann_loaded v other n) k refl keeps)

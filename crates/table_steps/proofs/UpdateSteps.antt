@@ -5,7 +5,6 @@ use Rattle.std.specs.Prelude.{IfSome}
 use Rattle.std.proofs.lemmas.Bool.Decides.{nat_tests}
 use Rattle.index_words.specs.declared.layout.Layout.{Layout}
 use Rattle.index_words.specs.declared.side.Side.{Side}
-use Rattle.index_words.specs.declared.side.Side.TheVariants.{Left, Right}
 use Rattle.index_words.specs.declared.view.View.{View}
 use Rattle.index_words.specs.declared.view.history.SeenHistory.{SeenHistory}
 use Rattle.index_words.specs.declared.view.slots.Slots.{Slots}
@@ -32,19 +31,17 @@ use Rattle.pass_slots.specs.Owned.{KeptSlots, KeepsSlots, HasRoomOf}
 use Rattle.table_rule.specs.Homes.{Home, Sat, IsOf, Asks, IsLiveView}
 use Rattle.table_rule.specs.Running.{Stored}
 use Rattle.table_rule.proofs.Happens.{happened_view}
-use Rattle.table_steps.specs.HeldWords.{Held, KeepsHeld, HasPlaces, heads_on, with_head}
 use Rattle.table_steps.specs.Kept.{Keeps}
 use Rattle.table_steps.specs.Made.{KeepsOwn}
 use Rattle.table_steps.specs.Updates.{raised_at}
 use Rattle.table_steps.specs.declared.kept.Kept.{Kept}
-use Rattle.table_steps.proofs.HeldSteps.{prepared_held, marked_held, unlocked_held}
 use Rattle.table_steps.proofs.There.{locked_high, free_entry_once, pending_there}
 
--- a view with the same parts, and its own slots, its own locked nodes and its own update, is kept with these
-pub keeps_worked : (v w : View) (k : Kept) (slots : KeptSlots) (held : Held) → Keeps v k → part_of w ≡ part_of v → KeepsSlots w slots → HasRoomOf k.slots slots
-    → IfSome w.update.raised (λ at. at ≡ k.raised) → KeepsHeld v.layout w.held held
-    → Keeps w (record { number = k.number; section_word = k.section_word; left = k.left; opened = k.opened; slots = slots; updates = k.updates; raised = k.raised; held = held })
-keeps_worked v w k slots held keeps same kept room raised locked = record {
+-- a view with the same parts, and its own slots and its own update, is kept with these
+pub keeps_worked : (v w : View) (k : Kept) (slots : KeptSlots) → Keeps v k → part_of w ≡ part_of v → KeepsSlots w slots → HasRoomOf k.slots slots
+    → IfSome w.update.raised (λ at. at ≡ k.raised)
+    → Keeps w (record { number = k.number; section_word = k.section_word; left = k.left; opened = k.opened; slots = slots; updates = k.updates; raised = k.raised })
+keeps_worked v w k slots keeps same kept room raised = record {
   number = ap (λ (p : SeatPart). p.owner.number) same ∙ keeps.number;
   there = subst (λ (z : Layout). k.number < z.passes) (sym layout) keeps.there;
   few = subst (λ (z : Layout). z.passes ≤ 32) (sym layout) keeps.few;
@@ -56,7 +53,6 @@ keeps_worked v w k slots held keeps same kept room raised locked = record {
   entry_room = subst (λ (z : Layout). z.entries ≤ slots.entry_room) (sym layout) (subst (λ n. v.layout.entries ≤ n) (sym room.entries) keeps.entry_room);
   own = subst (λ (h : SeenHistory). KeepsOwn h k.updates) (sym (ap (λ (p : SeatPart). p.history) same)) keeps.own;
   raised = raised;
-  held = subst (λ (z : Layout). KeepsHeld z w.held held) (sym layout) locked;
 }
   where
     layout : w.layout ≡ v.layout
@@ -88,10 +84,6 @@ ended_raised place hs u is = by_test (eqb (length hs) 0)
     by_test true = tt
     by_test false = is
 
-pub heads_place : (nodes entries : ℕ) (h : Held) (side : Side) → HasPlaces nodes entries h → nodes < length (heads_on side h)
-heads_place nodes entries h Left places = places.left
-heads_place nodes entries h Right places = places.right
-
 module _ (home : Home) (s : Sat) (k : Kept) (keeps : Keeps s.view k) (of : IsOf home s) (live : IsLiveView s.view) where
   abbrev v : View
   v = s.view
@@ -119,13 +111,9 @@ module _ (home : Home) (s : Sat) (k : Kept) (keeps : Keeps s.view k) (of : IsOf 
     pub prepare_once : count entry k.slots.free.entries ≡ 1
     prepare_once = subst (λ (f : Slots). count entry f.entries ≡ 1) keeps.slots.free (free_entry_once v live entry may.free)
 
-    pub prepare_place : node < length (heads_on side k.held)
-    prepare_place = omega (arith, heads_place v.layout.nodes v.layout.entries k.held side keeps.held.places, locked_high v live node prepare_locked)
-
-    pub prepare_keeps : (w : View) (slots : KeptSlots) (held : Held) → Stored z prepare_event v w
-        → slots ≡ record k.slots { free = record k.slots.free { entries = without entry k.slots.free.entries } } → held ≡ with_head side node entry k.held
-        → Keeps w (record { number = k.number; section_word = k.section_word; left = k.left; opened = k.opened; slots = slots; updates = k.updates; raised = k.raised; held = held })
-    prepare_keeps w slots held h slots_are held_is =
+    pub prepare_keeps : (w : View) (slots : KeptSlots) → Stored z prepare_event v w → slots ≡ record k.slots { free = record k.slots.free { entries = without entry k.slots.free.entries } }
+        → Keeps w (record { number = k.number; section_word = k.section_word; left = k.left; opened = k.opened; slots = slots; updates = k.updates; raised = k.raised })
+    prepare_keeps w slots h slots_are =
         let u : View = prepared v side node entry in
         let kept : KeepsSlots u (record k.slots { free = record k.slots.free { entries = without entry k.slots.free.entries } }) = record {
           free = ap (λ (f : Slots). record { nodes = f.nodes; entries = without entry f.entries }) keeps.slots.free;
@@ -133,10 +121,8 @@ module _ (home : Home) (s : Sat) (k : Kept) (keeps : Keeps s.view k) (of : IsOf 
           retired = keeps.slots.retired;
           looks = keeps.slots.looks;
         } in
-        subst (λ (x : View). Keeps x (record { number = k.number; section_word = k.section_word; left = k.left; opened = k.opened; slots = slots; updates = k.updates; raised = k.raised; held = held })) (sym (prepare_gives w h))
-        (keeps_worked v u k slots held keeps refl
-        (subst (KeepsSlots u) (sym slots_are) kept) (subst (HasRoomOf k.slots) (sym slots_are) (record { nodes = refl; entries = refl })) keeps.raised
-        (subst (KeepsHeld v.layout u.held) (sym held_is) (prepared_held v.layout v.held k.held node side entry prepare_place keeps.held)))
+        subst (λ (x : View). Keeps x (record { number = k.number; section_word = k.section_word; left = k.left; opened = k.opened; slots = slots; updates = k.updates; raised = k.raised })) (sym (prepare_gives w h))
+        (keeps_worked v u k slots keeps refl (subst (KeepsSlots u) (sym slots_are) kept) (subst (HasRoomOf k.slots) (sym slots_are) (record { nodes = refl; entries = refl })) keeps.raised)
 
   -- finalise
   module _ (entry : ℕ) (may : MayFinalise v entry (raised_at v)) where
@@ -170,7 +156,7 @@ module _ (home : Home) (s : Sat) (k : Kept) (keeps : Keeps s.view k) (of : IsOf 
     finalise_keeps w h =
         let u : View = finalised v entry in
         subst (λ (x : View). Keeps x k) (sym (finalise_gives w h))
-        (keeps_worked v u k k.slots k.held keeps refl (record { free = keeps.slots.free; batch = keeps.slots.batch; retired = keeps.slots.retired; looks = keeps.slots.looks }) (same_slots k.slots) keeps.raised keeps.held)
+        (keeps_worked v u k k.slots keeps refl (record { free = keeps.slots.free; batch = keeps.slots.batch; retired = keeps.slots.retired; looks = keeps.slots.looks }) (same_slots k.slots) keeps.raised)
 
   -- mark
   module _ (node : ℕ) (may : MayMark v node) where
@@ -187,8 +173,7 @@ module _ (home : Home) (s : Sat) (k : Kept) (keeps : Keeps s.view k) (of : IsOf 
     mark_keeps w h =
         let u : View = with_mark v node 1 in
         subst (λ (x : View). Keeps x k) (sym (mark_gives w h))
-        (keeps_worked v u k k.slots k.held keeps refl (record { free = keeps.slots.free; batch = keeps.slots.batch; retired = keeps.slots.retired; looks = keeps.slots.looks }) (same_slots k.slots) keeps.raised
-        (marked_held v.layout v.held k.held node 1 keeps.held))
+        (keeps_worked v u k k.slots keeps refl (record { free = keeps.slots.free; batch = keeps.slots.batch; retired = keeps.slots.retired; looks = keeps.slots.looks }) (same_slots k.slots) keeps.raised)
 
   -- unlock
   module _ (node : ℕ) (may : MayUnlock v node) where
@@ -205,5 +190,5 @@ module _ (home : Home) (s : Sat) (k : Kept) (keeps : Keeps s.view k) (of : IsOf 
     unlock_keeps w h =
         let u : View = unlocked_view v node in
         subst (λ (x : View). Keeps x k) (sym (unlock_gives w h))
-        (keeps_worked v u k k.slots k.held keeps refl (record { free = keeps.slots.free; batch = keeps.slots.batch; retired = keeps.slots.retired; looks = keeps.slots.looks }) (same_slots k.slots)
-        (ended_raised k.raised (other_nodes node v.held.nodes) v.update keeps.raised) (unlocked_held v.layout v.held k.held node keeps.held))
+        (keeps_worked v u k k.slots keeps refl (record { free = keeps.slots.free; batch = keeps.slots.batch; retired = keeps.slots.retired; looks = keeps.slots.looks }) (same_slots k.slots)
+        (ended_raised k.raised (other_nodes node v.held.nodes) v.update keeps.raised))

@@ -2,12 +2,11 @@
 use Rattle.std.specs.Prelude.{◌≡◌, ◌<◌, ◌≤◌, Some, IfSome}
 use Rattle.index_words.specs.declared.view.View.{View}
 use Rattle.pass_slots.specs.Owned.{KeepsSlots}
-use Rattle.table_steps.specs.HeldWords.{KeepsHeld}
 use Rattle.table_steps.specs.Made.{KeepsOwn}
 use Rattle.table_steps.specs.declared.kept.Kept.{Kept}
 
 -- what is kept of the number, the own section word, the calls left, the open snapshot, the slots, the own updates, the place
--- of an update that has raised, and the locked nodes is what the view says; the pass is one of a table of at most 32, and has
+-- of an update that has raised is what the view says; the pass is one of a table of at most 32, and has
 -- room for all slots of its table
 pub record Keeps (v : View) (k : Kept) : Type 0 where
   pub number : v.number ≡ Some k.number
@@ -21,4 +20,3 @@ pub record Keeps (v : View) (k : Kept) : Type 0 where
   pub entry_room : v.layout.entries ≤ k.slots.entry_room
   pub own : KeepsOwn v.history k.updates
   pub raised : IfSome v.update.raised (λ at. at ≡ k.raised)
-  pub held : KeepsHeld v.layout v.held k.held

@@ -1,6 +1,5 @@
 pub mod Passes
 pub mod Made
-pub mod HeldWords
 pub mod Kept
 pub mod Gives
 pub mod Stamps

@@ -6,7 +6,6 @@ use Rattle.index_words.specs.Views.{no_slots, no_looks}
 use Rattle.key_map.specs.declared.pass.PassSize.{PassSize}
 use Rattle.core_events.specs.Openings.{from_up}
 use Rattle.pass_slots.specs.Owned.{KeepsLooks}
-use Rattle.table_steps.specs.HeldWords.{HasNone}
 use Rattle.table_steps.specs.Passes.{Pass}
 use Rattle.table_steps.specs.declared.kept.Kept.{Kept}
 
@@ -37,7 +36,6 @@ pub record IsFresh (z : Layout) (n node entry : ℕ) (size : PassSize) (k : Kept
   pub entry_room : z.entries ≤ k.slots.entry_room
   pub updates : k.updates.updates ≡ []
   pub room : size.calls ≤ k.updates.room
-  pub held : HasNone z.nodes z.entries k.held
 
 -- the bounds of a table's sizes
 pub record IsSmall (z : Layout) : Type 0 where

@@ -5,7 +5,7 @@ ghost use Rattle.table_steps.specs.Cuts.{cutting, CanCutBehind, HasCut};
 ghost use Rattle.table_steps.specs.Passes.{IsSamePass};
 
 use crate::pass::TablePass;
-use crate::retires::retire_bundle;
+use crate::retires::{next_again, retire_bundle};
 use index_words::{Part, Word};
 use std::marker::Brand;
 
@@ -22,12 +22,17 @@ impl<'t> TablePass<'t> {
     {
         self.seat.facts();
         let table = self.table;
+        let limit = table.ruled.layout().entries;
+        // Behind the cut nothing is known of these entries any more.
+        let next = next_again(&table.ruled, &mut self.seat, entry);
+        retire_bundle(
+            &mut self.kept.slots,
+            &table.ruled,
+            &mut self.seat,
+            next,
+            limit,
+        );
         let word = Word::Entry(Part::Next, entry);
         table.ruled.store::<Brand>(&mut self.seat, word, 0);
-        self.seat.facts();
-        let limit = table.ruled.layout().entries;
-        let next = self.kept.held.next(entry);
-        retire_bundle(&mut self.kept.slots, &self.kept.held, next, limit);
-        self.kept.held.record_next(entry, 0);
     }
 }

@@ -1,4 +1,3 @@
-use crate::held_words::HeldWords;
 use crate::own_updates::OwnUpdates;
 use pass_slots::PassSlots;
 
@@ -17,5 +16,4 @@ pub struct Kept {
     pub updates: OwnUpdates,
     /// The place of the last update, while it is under way.
     pub raised: u64,
-    pub held: HeldWords,
 }

@@ -6,7 +6,6 @@
 mod close;
 mod cuts;
 mod free;
-mod held_words;
 mod kept;
 mod links;
 mod loads;

@@ -12,6 +12,14 @@ use index_words::{Field, Side, Word};
 use std::marker::Brand;
 
 impl<'t> TablePass<'t> {
+    /// Loads what holds a node's plain links into the processor's cache, before a search loads one of them. It is no
+    /// event, it changes nothing, and nothing is known from it.
+    #[inline(always)]
+    pub fn fetch_links(&self, node: u32) {
+        let table = self.table;
+        table.ruled.fetch_links(node);
+    }
+
     /// Loads a plain link: the child, or 0 for none. The pass has locked the node, or its search stands there; then the
     /// search goes on by the link.
     pub fn load_link(&mut self, node: u32, side: Side) -> u32

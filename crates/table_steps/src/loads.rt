@@ -41,9 +41,7 @@ impl<'t> TablePass<'t> {
             .load::<Brand>(&mut self.seat, Word::Node(Field::Head(side), node));
         let entries = table.ruled.layout().entries;
         prove!(word <= entries as u64);
-        let head = word as u32;
-        self.kept.held.find_head(node, side, head);
-        head
+        word as u32
     }
 
     /// Loads the stamp of the entry at which the pass stands: the entry's number, or 0 while the entry is pending.
@@ -91,9 +89,7 @@ impl<'t> TablePass<'t> {
             .load::<Brand>(&mut self.seat, Word::Entry(Part::Next, entry));
         let entries = table.ruled.layout().entries;
         prove!(word <= entries as u64);
-        let next = word as u32;
-        self.kept.held.find_next(entry, next);
-        next
+        word as u32
     }
 
     /// Loads the key of a node.

@@ -26,8 +26,6 @@ impl<'t> TablePass<'t> {
         let found = table
             .ruled
             .exchange::<Brand>(&mut self.seat, Word::Node(Field::Lock, node), own);
-        let won = found == 0;
-        self.kept.held.add_lock(won);
-        won
+        found == 0
     }
 }

@@ -9,7 +9,6 @@ ghost use Rattle.core_events.specs.Openings.{giving};
 ghost use Rattle.table_steps.specs.Opens.{view_of, numbers_from, HasLayout, IsFresh, IsSmall};
 ghost use Rattle.table_steps.specs.Passes.{IsPassOf};
 
-use crate::held_words::HeldWords;
 use crate::kept::Kept;
 use crate::own_updates::OwnUpdates;
 use crate::pass::PassKey;
@@ -60,7 +59,6 @@ fn first_kept(
     let nodes = slots_from(alloc, first.node, size.nodes, layout.nodes)?;
     let entries = slots_from(alloc, first.entry, size.entries, layout.entries)?;
     let updates = OwnUpdates::with_room(alloc, size.calls)?;
-    let held = HeldWords::with_room(alloc, layout.nodes, layout.entries)?;
     let slots = PassSlots::new(alloc, nodes, entries)?;
     Ok(Kept {
         number: first.number,
@@ -70,7 +68,6 @@ fn first_kept(
         slots,
         updates,
         raised: 0,
-        held,
     })
 }
 

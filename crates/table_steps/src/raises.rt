@@ -49,7 +49,13 @@ impl<'t> TablePass<'t> {
         self.kept.raised = at;
         self.kept.updates.add(OwnUpdate { at, update });
         self.kept.slots.take_new(new[0], new[1], new[2]);
-        retire_nodes(&mut self.kept.slots, &self.kept.held, out, limit);
+        retire_nodes(
+            &mut self.kept.slots,
+            &table.ruled,
+            &mut self.seat,
+            out,
+            limit,
+        );
         at
     }
 }

@@ -1,48 +1,105 @@
 //! How a raise and a cut move the slots that a pass keeps.
-ghost use Rattle.std.specs.Prelude.{◌≡◌, ℕ, ◌⊎◌, ◌++◌, ◌<◌, List, [], slice_index, length};
+//!
+//! Which entries the bundles of a locked node have, the pass has found since it locked the node. It keeps none of that:
+//! the words are as they were, so they are loaded again.
+ghost use Rattle.std.specs.Prelude.{◌≡◌, ℕ, ◌++◌, ◌<◌, List, [], ◌∷◌};
 ghost use Rattle.core_events.specs.UpdateMoves.{listed_entry};
-ghost use Rattle.table_steps.specs.Raises.{nodes_out};
-ghost use Rattle.table_steps.specs.Retires.{IsKeptChain, AreKeptEntries, HasRoomFor, with_retired};
+ghost use Rattle.table_rule.specs.Homes.{IsOf};
+ghost use Rattle.table_steps.specs.Raises.{nodes_out, HoldsBundle, HoldsChain, HoldsEntries};
+ghost use Rattle.table_steps.specs.Retires.{HasRoomFor, with_retired};
 
-use crate::held_words::HeldWords;
-use index_words::Side;
+use index_words::{Field, Part, Side, Word};
 use pass_slots::PassSlots;
+use table_rule::{RuledTable, TableSeat};
 
-/// Retires the entries of a bundle from this one on, which are at most so many.
-pub fn retire_bundle(slots: &mut PassSlots, held: &HeldWords, head: u32, limit: u32)
-    requires chain { (es : List ℕ) × IsKeptChain held.now.next head es × HasRoomFor [] es limit slots.old }
-    ensures { (es : List ℕ) → IsKeptChain held.now.next head es → slots.new ≡ with_retired [] es slots.old }
+/// The head of a bundle of a locked node, which the pass has found since it locked the node.
+fn head_again(table: &RuledTable, seat: &mut TableSeat, node: u32, side: Side) -> u32
+    requires of { IsOf table.now seat.old }
+    requires known { (es : List ℕ) × HoldsBundle seat.old.view node side es }
+    ensures same { seat.new ≡ seat.old }
+    ensures chain { (es : List ℕ) → HoldsBundle seat.old.view node side es → HoldsChain seat.old.view node result es }
 {
+    seat.facts();
+    let word = table.read(seat, Word::Node(Field::Head(side), node));
+    let entries = table.layout().entries;
+    prove!(word <= entries as u64);
+    word as u32
+}
+
+/// The next of an entry in a bundle of a locked node, which the pass has found since it locked the node.
+pub(crate) fn next_again(table: &RuledTable, seat: &mut TableSeat, entry: u32) -> u32
+    requires of { IsOf table.now seat.old }
+    requires known { (node : ℕ) × (es : List ℕ) × HoldsChain seat.old.view node entry (entry ∷ es) }
+    ensures same { seat.new ≡ seat.old }
+    ensures chain { (node : ℕ) (es : List ℕ) → HoldsChain seat.old.view node entry (entry ∷ es) → HoldsChain seat.old.view node result es }
+{
+    seat.facts();
+    let word = table.read(seat, Word::Entry(Part::Next, entry));
+    let entries = table.layout().entries;
+    prove!(word <= entries as u64);
+    word as u32
+}
+
+/// Retires the entries of a bundle of a locked node from this one on, which are at most so many.
+pub(crate) fn retire_bundle(
+    slots: &mut PassSlots,
+    table: &RuledTable,
+    seat: &mut TableSeat,
+    head: u32,
+    limit: u32,
+)
+    requires of { IsOf table.now seat.old }
+    requires chain { (node : ℕ) × (es : List ℕ) × HoldsChain seat.old.view node head es × HasRoomFor [] es limit slots.old }
+    ensures same { seat.new ≡ seat.old }
+    ensures retired { (node : ℕ) (es : List ℕ) → HoldsChain seat.old.view node head es → slots.new ≡ with_retired [] es slots.old }
+{
+    seat.facts();
     let mut entry = head;
     for done in 0..limit {
         if entry == 0 {
             return;
         }
         slots.retire_entry(entry);
-        entry = held.next(entry);
+        entry = next_again(table, seat, entry);
     }
 }
 
 /// Retires a node with the entries of its bundles, where it is not 0.
-fn retire_node(slots: &mut PassSlots, held: &HeldWords, node: u32, limit: u32)
-    requires entries { (es : List ℕ) × AreKeptEntries held.now (listed_entry node) es × HasRoomFor (listed_entry node) es limit slots.old }
-    ensures { (es : List ℕ) → AreKeptEntries held.now (listed_entry node) es → slots.new ≡ with_retired (listed_entry node) es slots.old }
+fn retire_node(
+    slots: &mut PassSlots,
+    table: &RuledTable,
+    seat: &mut TableSeat,
+    node: u32,
+    limit: u32,
+)
+    requires of { IsOf table.now seat.old }
+    requires entries { (es : List ℕ) × HoldsEntries seat.old.view (listed_entry node) es × HasRoomFor (listed_entry node) es limit slots.old }
+    ensures same { seat.new ≡ seat.old }
+    ensures retired { (es : List ℕ) → HoldsEntries seat.old.view (listed_entry node) es → slots.new ≡ with_retired (listed_entry node) es slots.old }
 {
     if node == 0 {
         return;
     }
     slots.retire_node(node);
-    let left = held.head(node, Side::Left);
-    retire_bundle(slots, held, left, limit);
-    let right = held.head(node, Side::Right);
-    retire_bundle(slots, held, right, limit);
+    let left = head_again(table, seat, node, Side::Left);
+    retire_bundle(slots, table, seat, left, limit);
+    let right = head_again(table, seat, node, Side::Right);
+    retire_bundle(slots, table, seat, right, limit);
 }
 
 /// Retires the nodes that an update takes out, with the entries of their bundles.
-pub fn retire_nodes(slots: &mut PassSlots, held: &HeldWords, out: [u32; 2], limit: u32)
-    requires entries { (es : List ℕ) × AreKeptEntries held.now (nodes_out out) es × HasRoomFor (nodes_out out) es limit slots.old }
-    ensures { (es : List ℕ) → AreKeptEntries held.now (nodes_out out) es → slots.new ≡ with_retired (nodes_out out) es slots.old }
+pub(crate) fn retire_nodes(
+    slots: &mut PassSlots,
+    table: &RuledTable,
+    seat: &mut TableSeat,
+    out: [u32; 2],
+    limit: u32,
+)
+    requires of { IsOf table.now seat.old }
+    requires entries { (es : List ℕ) × HoldsEntries seat.old.view (nodes_out out) es × HasRoomFor (nodes_out out) es limit slots.old }
+    ensures same { seat.new ≡ seat.old }
+    ensures retired { (es : List ℕ) → HoldsEntries seat.old.view (nodes_out out) es → slots.new ≡ with_retired (nodes_out out) es slots.old }
 {
-    retire_node(slots, held, out[0], limit);
-    retire_node(slots, held, out[1], limit);
+    retire_node(slots, table, seat, out[0], limit);
+    retire_node(slots, table, seat, out[1], limit);
 }

@@ -64,7 +64,6 @@ impl<'t> TablePass<'t> {
             .store::<Brand>(&mut self.seat, Word::Section(self.kept.number), word);
         self.kept.section_word = word;
         forget(&mut self.kept.opened);
-        self.kept.held.clear();
     }
 
     /// Leaves a section at the wait of a removal, with the locks of the successor and of its parent.

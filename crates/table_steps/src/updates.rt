@@ -26,7 +26,6 @@ impl<'t> TablePass<'t> {
             .ruled
             .store::<Brand>(&mut self.seat, word, entry as u64);
         self.kept.slots.take_entry(entry);
-        self.kept.held.record_head(node, side, entry);
     }
 
     /// Writes the number of the update that has raised into a pending entry.

@@ -117,6 +117,8 @@ pub(crate) fn find_end(pass: &mut TablePass<'_>, key: u64) -> Result<End, Failed
         if node == 0 {
             return Ok(End::Missing(end_at(pass, at)));
         }
+        // They are near then, once the key has told the side.
+        pass.fetch_links(node);
         let here = pass.load_key(node);
         if let Some(turn) = turns.crossed_by(here) {
             return Err(meet_odd(pass, node, turn));

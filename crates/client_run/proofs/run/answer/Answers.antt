@@ -1,8 +1,7 @@
-use Rattle.std.proofs.Common.{sym, ap, ◌∙◌, subst}
+use Rattle.std.proofs.Common.{sym, subst}
 use Rattle.std.specs.Option.{option_copied}
 use Rattle.std.proofs.lemmas.Result.{IfOk-weaker}
 use Rattle.bucket_terms.specs.declared.request.Request.{Request}
-use Rattle.bucket_terms.specs.declared.request.Request.TheVariants.{List as ListRequest, ListV1}
 use Rattle.client_run.specs.ClientRun.{Answers}
 use Rattle.client_run.proofs.run.answer.Goals as goal
 
@@ -30,12 +29,12 @@ pub returns-in-List-clause-answers : goal.returns-in-List-clause-answers
 returns-in-List-clause-answers g c =
     IfOk-weaker c.list_request.result _ _
     (λ placed answers. subst (λ (r : Request). Answers c.args.dir.now (g.P.KeyPass.view c.args.pass.now) (g.P.KeyPass.view c.list_request.new.pass) (option_copied c.args.last)
-    (record { asked = record { line = c.args.asked.now.line; request = r }; placed = placed })) (ap ListRequest c.get.ensures ∙ sym c.in-List.is) (answers (option_copied c.args.last)))
+    (record { asked = record { line = c.args.asked.now.line; request = r }; placed = placed })) (sym c.in-List.is) (answers (option_copied c.args.last)))
     c.list_request.ensures.answers
 
 pub returns-in-ListV1-clause-answers : goal.returns-in-ListV1-clause-answers
 returns-in-ListV1-clause-answers g c =
     IfOk-weaker c.v1_request.result _ _
     (λ placed answers. subst (λ (r : Request). Answers c.args.dir.now (g.P.KeyPass.view c.args.pass.now) (g.P.KeyPass.view c.v1_request.new.pass) (option_copied c.args.last)
-    (record { asked = record { line = c.args.asked.now.line; request = r }; placed = placed })) (ap ListV1 c.get-in-ListV1.ensures ∙ sym c.in-ListV1.is) (answers (option_copied c.args.last)))
+    (record { asked = record { line = c.args.asked.now.line; request = r }; placed = placed })) (sym c.in-ListV1.is) (answers (option_copied c.args.last)))
     c.v1_request.ensures.answers

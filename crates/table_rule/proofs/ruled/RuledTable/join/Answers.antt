@@ -43,7 +43,7 @@ load-requires c =
       is.0 ∙ of.id,
       word_within t.table_id t.key z c.self.invariant.0 c.self.invariant.1 s.table_id s.id s.me Stamp 0 refl refl,
       subst (λ (k : Layout). Allows (holds k) t.table_id.slots n.id n.me 0 (λ x. x) (knows n.me)) (sym c.self.invariant.0)
-          (know_allowed z t.table_id.slots n.id n.me 0 (knows n.me) (λ x stands. (refl, subst (λ (k : Layout). Stands k n.me.0) (sym laid) stands))),
+          (know_allowed z t.table_id.slots n.id n.me 0 (knows n.me) (λ x stands is. (refl, subst (λ (k : Layout). Stands k n.me.0) (sym laid) stands))),
     )
 
 pub returns-clause-event : goal.returns-clause-event

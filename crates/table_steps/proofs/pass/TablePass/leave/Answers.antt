@@ -32,7 +32,7 @@ invariant_of-self c =
     let is = c.left_word-word.ensures in
     let went : Stored home.layout (leave_event home s k keeps of) s.view c.store.new.seat.view
     = subst (λ n. Stored home.layout (event_at home.layout s.seat Leave (Section k.number) n) s.view c.store.new.seat.view) is c.store.ensures.event in (
-      rw (is, c.forget.ensures, c.clear.ensures) (leave_keeps home s k keeps of inside c.store.new.seat.view went),
+      rw (is, c.forget.ensures) (leave_keeps home s k keeps of c.store.new.seat.view went),
       subst (λ (h : Home). IsOf h c.store.new.seat) c.table.view_is c.store.ensures.of,
     )
 

@@ -9,7 +9,7 @@ use Rattle.core_laws.specs.ViewNeeds.{event_at}
 use Rattle.table_rule.specs.Running.{Stored}
 use Rattle.core_laws.specs.Waits.{MayLeaveWaiting}
 use Rattle.table_steps.specs.Passes.{Pass}
-use Rattle.table_steps.proofs.SectionSteps.{leave_view, leave_event, leave_waiting_asks, leave_waiting_even, leave_waiting_keeps}
+use Rattle.table_steps.proofs.SectionSteps.{leave_view, leave_event, leave_waiting_asks, leave_waiting_even, leave_keeps}
 use Rattle.table_steps.proofs.pass.TablePass.leave_waiting.Goals as goal
 
 pub store-requires-clause-asks : goal.store-requires-clause-asks
@@ -32,7 +32,7 @@ invariant_of-self c =
     let is = c.left_word-next.ensures in
     let went : Stored home.layout (leave_event home s k keeps of) s.view c.store.new.seat.view
     = subst (λ n. Stored home.layout (event_at home.layout s.seat Leave (Section k.number) n) s.view c.store.new.seat.view) is c.store.ensures.event in (
-      rw (is, c.forget.ensures) (leave_waiting_keeps home s k keeps of c.store.new.seat.view went),
+      rw (is, c.forget.ensures) (leave_keeps home s k keeps of c.store.new.seat.view went),
       subst (λ (h : Home). IsOf h c.store.new.seat) c.table.view_is c.store.ensures.of,
     )
 

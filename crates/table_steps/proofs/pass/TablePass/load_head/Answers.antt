@@ -4,7 +4,7 @@ use Rattle.table_steps.specs.Loads.{HasLoadedHead}
 use Rattle.core_laws.specs.ViewNeeds.{MayReadHead}
 use Rattle.table_rule.specs.Homes.{Home, IsOf}
 use Rattle.table_steps.specs.Passes.{Pass}
-use Rattle.table_steps.proofs.LoadSteps.{head_asks, head_gives, head_keeps, head_high, head_place}
+use Rattle.table_steps.proofs.LoadSteps.{head_asks, head_gives, head_keeps, head_high}
 use Rattle.table_steps.proofs.pass.TablePass.load_head.Goals as goal
 
 pub load-word-requires-clause-asks : goal.load-word-requires-clause-asks
@@ -22,7 +22,7 @@ invariant_of-self c =
     let of : IsOf home s = subst (λ (h : Home). IsOf h s) (sym c.table.view_is) c.self.invariant.1 in
     let may : MayReadHead s.view c.args.node = subst (λ (p : Pass). MayReadHead p.view c.args.node) (sym c.self.view_is) c.requires.may in
     let keeps = c.self.invariant.0 in (
-      rw c.find_head.ensures (head_keeps home s of c.args.node c.args.side c.facts.ensures may c.load-word.new.seat.view c.load-word.result c.load-word.ensures.event c.self.inside.kept keeps),
+      head_keeps home s of c.args.node c.args.side c.facts.ensures may c.load-word.new.seat.view c.load-word.result c.load-word.ensures.event c.self.inside.kept keeps,
       subst (λ (h : Home). IsOf h c.load-word.new.seat) c.table.view_is c.load-word.ensures.of,
     )
 
@@ -50,11 +50,3 @@ prove-unreachable-requires c =
     let may : MayReadHead s.view c.args.node = subst (λ (p : Pass). MayReadHead p.view c.args.node) (sym c.self.view_is) c.requires.may in
     let high : c.load-word.result ≤ home.layout.entries = head_high home s of c.args.node c.args.side c.facts.ensures may c.load-word.new.seat.view c.load-word.result c.load-word.ensures.event in
     omega (arith, c.if-prove.true, high, ap (λ (y : Layout). y.entries) c.layout-entries.ensures)
-
-pub find_head-requires : goal.find_head-requires
-find_head-requires c =
-    let s = c.self.inside.seat in
-    let home : Home = c.table.inside.ruled in
-    let of : IsOf home s = subst (λ (h : Home). IsOf h s) (sym c.table.view_is) c.self.invariant.1 in
-    let may : MayReadHead s.view c.args.node = subst (λ (p : Pass). MayReadHead p.view c.args.node) (sym c.self.view_is) c.requires.may in
-    head_place home s of c.args.node c.args.side c.facts.ensures may c.load-word.new.seat.view c.load-word.result c.load-word.ensures.event c.self.inside.kept c.self.invariant.0

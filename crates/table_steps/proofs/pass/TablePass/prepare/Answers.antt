@@ -3,7 +3,7 @@ use Rattle.core_events.specs.UpdateMoves.{prepared}
 use Rattle.core_laws.specs.ViewNeeds.{MayPrepare}
 use Rattle.table_rule.specs.Homes.{Home, IsOf}
 use Rattle.table_steps.specs.Passes.{Pass}
-use Rattle.table_steps.proofs.UpdateSteps.{prepare_asks, prepare_gives, prepare_keeps, prepare_once, prepare_place}
+use Rattle.table_steps.proofs.UpdateSteps.{prepare_asks, prepare_gives, prepare_keeps, prepare_once}
 use Rattle.table_steps.proofs.pass.TablePass.prepare.Goals as goal
 
 pub store-requires-clause-asks : goal.store-requires-clause-asks
@@ -26,16 +26,6 @@ take_entry-requires c =
     let may : MayPrepare s.view c.args.node c.args.side c.args.entry = subst (λ (p : Pass). MayPrepare p.view c.args.node c.args.side c.args.entry) (sym c.self.view_is) c.requires.may in
     prepare_once home s k keeps of c.facts.ensures c.args.node c.args.side c.args.entry may
 
-pub record_head-requires : goal.record_head-requires
-record_head-requires c =
-    let s = c.self.inside.seat in
-    let k = c.self.inside.kept in
-    let home : Home = c.table.inside.ruled in
-    let keeps = c.self.invariant.0 in
-    let of : IsOf home s = subst (λ (h : Home). IsOf h s) (sym c.table.view_is) c.self.invariant.1 in
-    let may : MayPrepare s.view c.args.node c.args.side c.args.entry = subst (λ (p : Pass). MayPrepare p.view c.args.node c.args.side c.args.entry) (sym c.self.view_is) c.requires.may in
-    prepare_place home s k keeps of c.facts.ensures c.args.node c.args.side c.args.entry may
-
 pub invariant_of-self : goal.invariant_of-self
 invariant_of-self c =
     let s = c.self.inside.seat in
@@ -44,7 +34,7 @@ invariant_of-self c =
     let keeps = c.self.invariant.0 in
     let of : IsOf home s = subst (λ (h : Home). IsOf h s) (sym c.table.view_is) c.self.invariant.1 in
     let may : MayPrepare s.view c.args.node c.args.side c.args.entry = subst (λ (p : Pass). MayPrepare p.view c.args.node c.args.side c.args.entry) (sym c.self.view_is) c.requires.may in (
-      prepare_keeps home s k keeps of c.facts.ensures c.args.node c.args.side c.args.entry may c.store.new.seat.view c.take_entry.new.self c.record_head.new.self c.store.ensures.event c.take_entry.ensures c.record_head.ensures,
+      prepare_keeps home s k keeps of c.facts.ensures c.args.node c.args.side c.args.entry may c.store.new.seat.view c.take_entry.new.self c.store.ensures.event c.take_entry.ensures,
       subst (λ (h : Home). IsOf h c.store.new.seat) c.table.view_is c.store.ensures.of,
     )
 

@@ -4,7 +4,7 @@ use Rattle.index_words.specs.declared.view.View.{View}
 use Rattle.key_map.specs.declared.update.Update.{Update}
 use Rattle.core_updates.specs.Ready.{update_of}
 use Rattle.pass_slots.specs.Owned.{KeptSlots}
-use Rattle.table_rule.specs.Homes.{Home, IsOf}
+use Rattle.table_rule.specs.Homes.{Home, IsOf, Sat}
 use Rattle.table_steps.specs.Kept.{Keeps}
 use Rattle.table_steps.specs.Made.{Made}
 use Rattle.table_steps.specs.Passes.{Pass}
@@ -12,7 +12,7 @@ use Rattle.table_steps.specs.Raises.{nodes_out, HasNew, HoldsEntries, HasRaised,
 use Rattle.table_steps.specs.Retires.{HasRoomFor, with_retired}
 use Rattle.table_steps.specs.declared.kept.Kept.{Kept}
 use Rattle.table_steps.proofs.RaiseGives.{raise_gives}
-use Rattle.table_steps.proofs.RaiseKeeps.{entries_kept, made, made_same, slots_moved, raise_keeps, raise_room, raise_small, node_ready, left_ready, right_ready, apart_ready}
+use Rattle.table_steps.proofs.RaiseKeeps.{made, made_same, slots_moved, raise_holds, raise_keeps, raise_room, raise_small, node_ready, left_ready, right_ready, apart_ready}
 use Rattle.table_steps.proofs.pass.TablePass.raise.Goals as goal
 
 pub add-found-requires-clause-asks : goal.add-found-requires-clause-asks
@@ -108,9 +108,10 @@ retire_nodes-requires c =
     let room : HasRoomFor (nodes_out c.args.out) gives.entries s.view.layout.entries c.take_new.new.self
     = subst (HasRoomFor (nodes_out c.args.out) gives.entries s.view.layout.entries) (sym c.take_new.ensures) (raise_room s.view w u c.args.new c.args.out at gives k keeps left c.facts-2.ensures) in
     record {
+      of = c.add-found.ensures.of;
       entries = (
         gives.entries,
-        entries_kept s.view k.held keeps.held (nodes_out c.args.out) gives.entries gives.holds,
+        raise_holds s.view w u c.args.new c.args.out at gives k keeps left,
         subst (λ (z : Layout). HasRoomFor (nodes_out c.args.out) gives.entries z.entries c.take_new.new.self) (of.layout ∙ sym c.layout-limit.ensures) room,
       );
     }
@@ -134,13 +135,14 @@ invariant_of-self c =
     = raise_gives home.layout s.seat u s.view w of.layout c.add-found.result c.add-found.ensures.event c.args.new c.args.out held.0 may ready held.1 in
     let left : 0 < s.view.history.left = subst (λ (p : Pass). 0 < p.view.history.left) (sym c.self.view_is) c.requires.can.left in
     let slots : c.retire_nodes.new.slots ≡ slots_moved s.view w u c.args.new c.args.out at gives k keeps left
-    = c.retire_nodes.ensures gives.entries (entries_kept s.view k.held keeps.held (nodes_out c.args.out) gives.entries gives.holds) ∙ ap (λ (x : KeptSlots). with_retired (nodes_out c.args.out) gives.entries x) c.take_new.ensures in
+    = c.retire_nodes.ensures.retired gives.entries (raise_holds s.view w u c.args.new c.args.out at gives k keeps left) ∙ ap (λ (x : KeptSlots). with_retired (nodes_out c.args.out) gives.entries x) c.take_new.ensures in
     let updates : c.add.new.self ≡ made s.view w u c.args.new c.args.out at gives k keeps left
     = made_same c.add.new.self (made s.view w u c.args.new c.args.out at gives k keeps left) c.add.ensures.updates c.add.ensures.room in (
-      subst (λ (x : KeptSlots). Keeps w (record { number = k.number; section_word = k.section_word; left = k.left - 1; opened = k.opened; slots = x; updates = c.add.new.self; raised = at; held = k.held })) (sym slots)
-          (subst (λ (m : Made). Keeps w (record { number = k.number; section_word = k.section_word; left = k.left - 1; opened = k.opened; slots = slots_moved s.view w u c.args.new c.args.out at gives k keeps left; updates = m; raised = at; held = k.held })) (sym updates)
-          (raise_keeps s.view w u c.args.new c.args.out at gives k keeps left)),
-      subst (λ (h : Home). IsOf h c.add-found.new.seat) c.table.view_is c.add-found.ensures.of,
+      subst (λ (x : Sat). Keeps x.view (record { number = k.number; section_word = k.section_word; left = k.left - 1; opened = k.opened; slots = c.retire_nodes.new.slots; updates = c.add.new.self; raised = at })) (sym c.retire_nodes.ensures.same)
+          (subst (λ (x : KeptSlots). Keeps w (record { number = k.number; section_word = k.section_word; left = k.left - 1; opened = k.opened; slots = x; updates = c.add.new.self; raised = at })) (sym slots)
+          (subst (λ (m : Made). Keeps w (record { number = k.number; section_word = k.section_word; left = k.left - 1; opened = k.opened; slots = slots_moved s.view w u c.args.new c.args.out at gives k keeps left; updates = m; raised = at })) (sym updates)
+          (raise_keeps s.view w u c.args.new c.args.out at gives k keeps left))),
+      subst (IsOf c.self.inside.table.now) (sym c.retire_nodes.ensures.same) (subst (λ (h : Home). IsOf h c.add-found.new.seat) c.table.view_is c.add-found.ensures.of),
     )
 
 pub returns-clause-gives : goal.returns-clause-gives
@@ -160,4 +162,5 @@ returns-clause-gives c =
     let at : ℕ = c.add-found.result + 1 in
     let gives : HasRaised s.view u c.args.new c.args.out at w
     = raise_gives home.layout s.seat u s.view w of.layout c.add-found.result c.add-found.ensures.event c.args.new c.args.out held.0 may ready held.1 in
-    subst (λ (p : Pass). HasRaised p.view (update_of p.number c.args.line c.args.key c.args.change) c.args.new c.args.out at w) c.self.view_is gives
+    subst (λ (x : Sat). HasRaised c.args.self.now.view (update_of c.args.self.now.number c.args.line c.args.key c.args.change) c.args.new c.args.out at x.view) (sym c.retire_nodes.ensures.same)
+    (subst (λ (p : Pass). HasRaised p.view (update_of p.number c.args.line c.args.key c.args.change) c.args.new c.args.out at w) c.self.view_is gives)

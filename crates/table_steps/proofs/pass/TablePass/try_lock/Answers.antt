@@ -39,7 +39,7 @@ invariant_of-self c =
     let w = c.exchange-found.new.seat.view in
     let n = c.exchange-found.result in
     let went = subst (λ x. Happened home.layout (event_at home.layout s.seat TryLock (Node Lock node) (x + 1)) s.view n w) c.from-own.ensures c.exchange-found.ensures.event in (
-      rw c.add_lock.ensures (lock_keeps home s k keeps of node c.facts.ensures inside searched unlocked w n went),
+      lock_keeps home s k keeps of node c.facts.ensures inside searched unlocked w n went,
       subst (λ (h : Home). IsOf h c.exchange-found.new.seat) c.table.view_is c.exchange-found.ensures.of,
     )
 
