@@ -12,7 +12,7 @@ use bucket_terms::Record;
 use key_names::Directory;
 use outside_io::Sink;
 use std::thread;
-use std::thread::{Threads, join_mut};
+use std::thread::{Threads, join_mut, yield_now};
 
 /// Writes the texts of a batch, which are on the first sheets, and puts those of the next one on other sheets meanwhile,
 /// on other threads. Where there is one sheet the caller does one behind the other.
@@ -45,7 +45,11 @@ pub(crate) fn write_beside<K: Sink, Rt: Threads + Sync>(
     let mut write = || -> Result<(), Stop>
         requires { AreFilled dir.now records.now batch.now filled.now }
         ensures { Writes (pieces_text dir.entry.now records.entry.now batch.entry.now) (K.taken sink.entry.now) (K.taken sink.exit.now) (K.faults sink.entry.now) (K.faults sink.exit.now) result }
-    { write_batch(sink, dir, records, batch, filled) };
+    {
+        // The thread that fills has begun on this processor. Its turn comes first: it wakes the others.
+        yield_now();
+        write_batch(sink, dir, records, batch, filled)
+    };
     let (_, written) = join_mut(rt, &mut fill, &mut write);
     written
 }
