@@ -1,10 +1,10 @@
 """Sessions of one client whose texts are put together in several pieces, and the texts that they get.
 
-A piece has about two mebibytes: `PIECE_BYTES` of crates/run_text/src/pieces.rt. The texts are those of session_model.py.
+A piece has about a mebibyte: `PIECE_BYTES` of crates/run_text/src/pieces.rt. The texts are those of session_model.py.
 """
 from session_model import answers
 
-PIECE = 1 << 21
+PIECE = 1 << 20
 
 
 def name(number, length):
@@ -24,12 +24,12 @@ def checked(lines):
     return raw, text
 
 
-def long_lines(listings=300, names=100):
+def long_lines(listings=150, names=100):
     """A few lines, most of which list all names."""
     return checked(puts(name(number, 250) for number in range(names)) + ["LIST"] * listings)
 
 
-def short_lines(count=80000, names=1000):
+def short_lines(count=40000, names=1000):
     """Many lines, each of which goes through a pipe at once."""
     keys = [name(number, 60) for number in range(names)]
     return checked(puts(keys) + ["HEAD " + keys[number * 7 % names] for number in range(count)])

@@ -9,7 +9,7 @@ use std::alloc::Global;
 use std::marker::Model;
 
 /// How many bytes the text of a piece is to have. It is estimated before the text is there.
-pub(crate) const PIECE_BYTES: usize = 1 << 21;
+pub(crate) const PIECE_BYTES: usize = 1 << 20;
 
 /// What the lines of a piece tell.
 #[derive(Clone, Copy, Debug)]
