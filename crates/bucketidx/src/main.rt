@@ -5,7 +5,7 @@
 //! clients, and the exit status.
 #![tactic(auto)]
 
-ghost use Rattle.std.specs.Prelude.{◌≡◌, IfOk, map, drop, string_bytes};
+ghost use Rattle.std.specs.Prelude.{◌≡◌, IfOk, OnErr, OnOk, map, drop, string_bytes};
 ghost use Rattle.std.specs.Process.{exit_status};
 ghost use Rattle.std.specs.Vec.Iter.{into_iter_items};
 ghost use Rattle.serve_session.specs.Statuses.{exit_code};
@@ -13,7 +13,7 @@ ghost use Rattle.serve_session.specs.Statuses.{exit_code};
 use client_run::OpenGate;
 use client_threads::Threaded;
 use key_names::{NoMemory, Text};
-use outside_io::{StdSink, StdSource};
+use outside_io::{Failed, StdSink, StdSource};
 use serve_session::{Status, serve};
 use std::alloc::Global;
 use std::process::ExitCode;
@@ -37,9 +37,21 @@ fn main(rt: HostRuntime) -> ExitCode {
             );
             // The process ends with this, and its memory is given back whole.
             mem::forget(runner);
-            end(&rt, status)
+            let flushed = sink.flush();
+            end(&rt, written(status, flushed))
         }
         Err(status) => end(&rt, status),
+    }
+}
+
+// How serving ended whose last bytes the output took, or did not take.
+fn written(status: Status, flushed: Result<(), Failed>) -> Status
+    ensures taken { OnOk flushed (result ≡ status) }
+    ensures not_taken { OnErr flushed (result ≡ Status.WriteFault) }
+{
+    match flushed {
+        Ok(()) => status,
+        Err(Failed) => Status::WriteFault,
     }
 }
 

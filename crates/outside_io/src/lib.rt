@@ -23,5 +23,5 @@ pub use reading::{ReadError, read_all};
 pub use sink::Sink;
 pub use source::Source;
 pub use standard::{StdSink, StdSource};
-pub use streams::{read_counted, write_counted};
+pub use streams::{flush_counted, read_counted, write_counted};
 pub use writing::{WriteFault, write_all};

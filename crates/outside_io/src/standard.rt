@@ -1,11 +1,12 @@
 // The standard input and output of the process: the edge where nothing is known of the bytes. Their code is
 // that of `streams`, which is proved for readers and writers whose bytes are known.
-ghost use Rattle.std.specs.Prelude.{◌≡◌, ◌<◌, ◌≤◌, None, length, IfOk};
+ghost use Rattle.std.specs.Prelude.{◌≡◌, ◌<◌, ◌≤◌, None, length, IfOk, OnOk, OnErr};
 ghost use Rattle.outside_io.specs.StandardStreams.{count_after};
+ghost use Rattle.outside_io.specs.Streams.{one_more};
 
-use crate::streams::{read_counted, write_counted};
+use crate::streams::{flush_counted, read_counted, write_counted};
 use crate::{Failed, Sink, Source};
-use std::io::{Stdin, Stdout};
+use std::io::{BufWriter, Stdin, Stdout, Write};
 use std::marker::Model;
 
 /// The standard input. It tells no bytes, and counts its failures.
@@ -49,11 +50,11 @@ impl Source for StdSource {
     }
 }
 
-/// The standard output. It tells no bytes, and counts its failures; to take none of a piece that has
-/// some is one.
+/// The standard output, with a buffer before it, so that a piece is no call of the operating system of its own. It tells
+/// no bytes, and counts its failures; to take none of a piece that has some is one.
 #[derive(Drop)]
 pub struct StdSink {
-    output: Stdout,
+    output: BufWriter<Stdout>,
     faults: u64,
 }
 
@@ -70,10 +71,28 @@ impl StdSink {
     pub fn new(rt: &HostRuntime) -> StdSink
         ensures { result ≡ 0 }
     {
-        StdSink {
-            output: rt.stdout(),
-            faults: 0,
-        }
+        let output = match BufWriter::new(rt.alloc(), rt.stdout()) {
+            Ok(output) => output,
+            Err(_) => unbuffered(rt),
+        };
+        StdSink { output, faults: 0 }
+    }
+
+    /// Hands on what the buffer has. A failure is counted.
+    pub fn flush(&mut self) -> Result<(), Failed>
+        ensures quiet { OnOk result (self.new ≡ self.old) }
+        ensures failed { OnErr result (self.new ≡ one_more self.old) }
+        ensures counted { self.old ≤ self.new }
+    {
+        flush_counted(&mut self.output, &mut self.faults)
+    }
+}
+
+// The standard output without a buffer, which takes no memory.
+fn unbuffered(rt: &HostRuntime) -> BufWriter<Stdout> {
+    match BufWriter::with_capacity(rt.alloc(), 0, rt.stdout()) {
+        Ok(output) => output,
+        Err(_) => unreachable!(),
     }
 }
 

@@ -1,7 +1,8 @@
 // Reads and writes of a reader and a writer of the standard library, whose failures are counted.
-ghost use Rattle.std.specs.Prelude.{◌≡◌, ◌<◌, ◌≤◌, length, IfOk};
-ghost use Rattle.std.specs.Io.KnownBytes.{ReadConsumes, WriteAppends};
+ghost use Rattle.std.specs.Prelude.{◌≡◌, ◌<◌, ◌≤◌, length, IfOk, OnOk, OnErr};
+ghost use Rattle.std.specs.Io.KnownBytes.{Keeps, ReadConsumes, WriteAppends};
 ghost use Rattle.outside_io.specs.StandardStreams.{count_after};
+ghost use Rattle.outside_io.specs.Streams.{one_more};
 
 use crate::Failed;
 use std::io::{Read, Write};
@@ -42,6 +43,20 @@ pub fn write_counted<W: Write>(
         && (n > 0 || bytes.is_empty())
     {
         return Ok(n);
+    }
+    *faults = faults.saturating_add(1);
+    Err(Failed)
+}
+
+/// Hands on what a writer has kept back. A failure of the writer is counted.
+pub fn flush_counted<W: Write>(output: &mut W, faults: &mut u64) -> Result<(), Failed>
+    ensures bytes { Keeps (W.contents output.old) (W.contents output.new) }
+    ensures quiet { OnOk result (faults.new ≡ faults.old) }
+    ensures failed { OnErr result (faults.new ≡ one_more faults.old) }
+    ensures counted { faults.old ≤ faults.new }
+{
+    if output.flush().is_ok() {
+        return Ok(());
     }
     *faults = faults.saturating_add(1);
     Err(Failed)

@@ -3,10 +3,10 @@ ghost use Rattle.std.specs.Prelude.{Some, ◌<◌};
 
 use outside_io::{
     Failed, FailingSink, FailingSource, MemSink, MemSource, ReadError, Sink, Source, StdSink,
-    StdSource, WriteFault, read_all, read_counted, write_all, write_counted,
+    StdSource, WriteFault, flush_counted, read_all, read_counted, write_all, write_counted,
 };
 use std::alloc::Global;
-use std::io::{Read, Write};
+use std::io::{BufWriter, Read, Write};
 use std::test::Fail;
 
 /// Whether reading gives so many of the bytes `bytes`, or this error.
@@ -135,7 +135,9 @@ const A_LINE: [Call; 2] = [Call::WriteAll(b"a line\n", Ok(())), Call::Write(b"",
 
 #[test]
 fn takes_the_standard_streams(rt: HostRuntime) -> Result<(), Fail> {
-    assert!(rt; have_answers(&mut StdSink::new(&rt), &A_LINE));
+    let mut sink = StdSink::new(&rt);
+    assert!(rt; have_answers(&mut sink, &A_LINE));
+    assert_eq!(rt; sink.flush(), Ok(()));
     assert_eq!(rt; StdSource::new(&rt).read(&mut []), Ok(0));
     Ok(())
 }
@@ -199,6 +201,26 @@ fn writes_on_behind_short_writes(rt: HostRuntime) -> Result<(), Fail> {
     assert!(rt; have_answers(&mut sink, &SHORT_WRITES));
     assert_eq!(rt; sink.output.bytes.as_slice(), b"abcde".as_slice());
     assert_eq!(rt; sink.faults, 1);
+    Ok(())
+}
+
+// A buffer keeps short pieces back until it is flushed. A writer that does not take them has failed then.
+#[test]
+fn hands_on_what_a_buffer_has(rt: HostRuntime) -> Result<(), Fail> {
+    let writer = ByteWriter {
+        bytes: Vec::new(rt.alloc()),
+        room: 5,
+    };
+    let mut output = BufWriter::new(rt.alloc(), writer)?;
+    let mut faults = 0;
+    assert_eq!(rt; write_counted(&mut output, &mut faults, b"abc"), Ok(3));
+    assert!(rt; output.get_ref().bytes.is_empty());
+    assert_eq!(rt; flush_counted(&mut output, &mut faults), Ok(()));
+    assert_eq!(rt; output.get_ref().bytes.as_slice(), b"abc".as_slice());
+    assert_eq!(rt; write_counted(&mut output, &mut faults, b"def"), Ok(3));
+    assert_eq!(rt; flush_counted(&mut output, &mut faults), Err(Failed));
+    assert_eq!(rt; output.get_ref().bytes.as_slice(), b"abcde".as_slice());
+    assert_eq!(rt; faults, 1);
     Ok(())
 }
 

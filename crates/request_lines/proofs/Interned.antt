@@ -134,7 +134,7 @@ have_numbers ks entries are = record {
 -- ---- the ranks of the names
 
 abbrev none : Numbered
-none = record { lead = 0; number = 0 }
+none = record { leads = (0, 0); number = 0 }
 
 -- one entry more
 pub one_group_more : (ks : List (List ℕ)) (entries : List Numbered) (distinct new : List (List ℕ)) (groups : List ℕ) (place group : ℕ) → AreGroups ks (take place entries) distinct groups

@@ -49,9 +49,17 @@ pub(crate) fn command_of(alloc: Global, text: &[u8]) -> Result<Command, LineErro
     ensures reading { Reads result (reading_of text.now) }
     ensures fine { IfOk result IsFineCommand }
 {
-    let Ok(line) = str::from_utf8(text) else {
-        return Err(LineError::Faulty(Cause::NotUtf8));
-    };
+    match str::from_utf8(text) {
+        Ok(line) => command_of_text(alloc, line),
+        Err(_) => Err(LineError::Faulty(Cause::NotUtf8)),
+    }
+}
+
+/// What a line says that is known to be UTF-8.
+pub(crate) fn command_of_text(alloc: Global, line: &str) -> Result<Command, LineError>
+    ensures reading { Reads result (reading_of line.now) }
+    ensures fine { IfOk result IsFineCommand }
+{
     said(alloc, line)
 }
 

@@ -57,11 +57,11 @@ impl Interner {
         ensures memory { IsOkUnless result OutOfMemory }
     {
         self.order.reserve(1)?;
-        let place = self.known.place_of(alloc, name)?;
-        let hint = self.known.number_at(place);
+        let hash = self.known.hash_of(alloc, name)?;
+        let hint = self.known.number_of(hash);
         let number = number_of(alloc, &mut self.names, name, hint)?;
         self.order.push_reserved(number);
-        self.known.note(place, number);
+        self.known.note(hash, number);
         Ok(number)
     }
 
@@ -86,12 +86,15 @@ fn number_of(
     alloc: Global,
     names: &mut Vec<Text>,
     name: &Text,
-    hint: usize,
+    hint: Option<usize>,
 ) -> Result<usize, NoMemory>
     ensures known { IfOk result (IsKnownAs names.old.items names.new.items name.now) }
     ensures unchanged { OnErr result (names.new.items ≡ names.old.items) }
 {
-    if hint < names.len() && names[hint].bytes() == name.bytes() {
+    if let Some(hint) = hint
+        && hint < names.len()
+        && names[hint].bytes() == name.bytes()
+    {
         return Ok(hint);
     }
     let count = names.len();

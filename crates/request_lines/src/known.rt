@@ -6,50 +6,71 @@ use std::hash::{FoldHasher, Hasher};
 // How many places the table has.
 const PLACES: usize = 65_536;
 
-/// At the place where a name's hash leads stands the number of the last name that was kept with this place. It is a hint:
-/// that name may be another one, and where there was none, the number is 0.
+/// At the place where a name's hash leads stands what was kept last with this place. It is a hint: that name may be
+/// another one.
 #[derive(Debug, Drop)]
 pub(crate) struct Known {
     // No place before the first name.
-    numbers: Vec<u32>,
+    kept: Vec<Kept>,
+}
+
+/// The upper half of a name's hash, and its number. Before the first name of a place both are 0.
+#[derive(Clone, Copy, Debug)]
+struct Kept {
+    upper: u32,
+    number: u32,
 }
 
 impl Known {
     /// No name is known. It takes no memory.
     pub(crate) fn none(alloc: Global) -> Known {
         Known {
-            numbers: Vec::new(alloc),
+            kept: Vec::new(alloc),
         }
     }
 
-    /// The place of a name. The first call takes the memory of the table.
-    pub(crate) fn place_of(&mut self, alloc: Global, name: &Text) -> Result<usize, AllocError> {
-        if self.numbers.is_empty() {
-            self.numbers = zeros(alloc, PLACES)?;
+    /// The hash of a name. The first call takes the memory of the table.
+    pub(crate) fn hash_of(&mut self, alloc: Global, name: &Text) -> Result<u64, AllocError> {
+        if self.kept.is_empty() {
+            self.kept = nothing(alloc)?;
         }
         let mut hasher = FoldHasher::default();
         hasher.write(name.bytes());
-        Ok((hasher.finish() % PLACES as u64) as usize)
+        Ok(hasher.finish())
     }
 
-    /// The number that a name with this place may have.
-    pub(crate) fn number_at(&self, place: usize) -> usize {
-        match self.numbers.get(place) {
-            Some(number) => *number as usize,
-            None => 0,
+    /// The number that a name with this hash may have: None where the last name of its place had another hash.
+    pub(crate) fn number_of(&self, hash: u64) -> Option<usize> {
+        match self.kept.get(place_of(hash)) {
+            Some(kept) if kept.upper == upper_half(hash) => Some(kept.number as usize),
+            _ => None,
         }
     }
 
-    /// A name with this place has this number.
-    pub(crate) fn note(&mut self, place: usize, number: usize) {
+    /// A name with this hash has this number.
+    pub(crate) fn note(&mut self, hash: u64, number: usize) {
+        let place = place_of(hash);
         if let Ok(number) = u32::try_from(number) {
-            if place < self.numbers.len() {
-                self.numbers[place] = number;
+            if place < self.kept.len() {
+                let upper = upper_half(hash);
+                self.kept[place] = Kept { upper, number };
             }
         }
     }
 }
 
-fn zeros(alloc: Global, count: usize) -> Result<Vec<u32>, AllocError> {
-    vec![in alloc; 0; count]
+fn place_of(hash: u64) -> usize {
+    (hash % PLACES as u64) as usize
+}
+
+fn upper_half(hash: u64) -> u32 {
+    (hash >> 32) as u32
+}
+
+// A table in which no name is known.
+fn nothing(alloc: Global) -> Result<Vec<Kept>, AllocError> {
+    vec![in alloc; Kept {
+        upper: 0,
+        number: 0
+    }; PLACES]
 }

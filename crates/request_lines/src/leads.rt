@@ -1,5 +1,5 @@
 // The sort of the names, which is fast where many names begin alike: the bytes behind what all have in common are
-// compared first, as one number.
+// compared first, as two numbers.
 ghost use Rattle.std.specs.Prelude.{◌≡◌, length, map, IfOk};
 ghost use Rattle.std.specs.List.{range_with_len};
 ghost use Rattle.request_lines.specs.Interned.{AreNumbered, number_in};
@@ -11,10 +11,10 @@ use std::cmp::Ordering;
 // How many bytes are compared as one number.
 const LEAD_BYTES: usize = 16;
 
-/// The number of a name, and its bytes behind what all names begin with, as a number.
+/// The number of a name, and its bytes behind what all names begin with, as two numbers.
 #[derive(Debug, Drop)]
 pub(crate) struct Numbered {
-    pub(crate) lead: u128,
+    pub(crate) leads: (u128, u128),
     pub(crate) number: usize,
 }
 
@@ -34,15 +34,15 @@ fn with_numbers(alloc: Global, names: &[Text]) -> Result<Vec<Numbered>, NoMemory
     let begin = common_len(names);
     let mut entries = Vec::with_capacity(alloc, names.len())?;
     for (number, name) in names.iter().enumerate() {
-        let lead = lead_of(name.bytes(), begin);
-        entries.push(Numbered { lead, number })?;
+        let leads = leads_of(name.bytes(), begin);
+        entries.push(Numbered { leads, number })?;
     }
     Ok(entries)
 }
 
 // The order of the names of these numbers.
 fn order_of(names: &[Text], first: &Numbered, second: &Numbered) -> Ordering {
-    match first.lead.cmp(&second.lead) {
+    match first.leads.cmp(&second.leads) {
         Ordering::Equal => names.get(first.number).cmp(&names.get(second.number)),
         unequal => unequal,
     }
@@ -72,12 +72,18 @@ fn common_front<'a>(bytes: &'a [u8], name: &[u8]) -> &'a [u8] {
     front
 }
 
-// The bytes of a name from this place on as a number, with zeros behind its end. Where names begin alike up to the
-// place and the numbers differ, they are in the order of the numbers.
-fn lead_of(name: &[u8], begin: usize) -> u128 {
-    match name.split_at_checked(begin) {
-        Some((_, rest)) => lead(rest),
-        None => 0,
+// The bytes of a name from this place on as two numbers, one behind the other, with zeros behind its end. Where names
+// begin alike up to the place and the numbers differ, they are in the order of the numbers.
+fn leads_of(name: &[u8], begin: usize) -> (u128, u128) {
+    let rest = behind(name, begin);
+    (lead(rest), lead(behind(rest, LEAD_BYTES)))
+}
+
+// The bytes behind so many of them.
+fn behind(bytes: &[u8], count: usize) -> &[u8] {
+    match bytes.split_at_checked(count) {
+        Some((_, rest)) => rest,
+        None => &[],
     }
 }
 

@@ -7,6 +7,7 @@ ghost use Rattle.request_lines.specs.SessionLaws.{HasNames, HasRecords, HasReque
 ghost use Rattle.request_lines.specs.Left.{texts_left, size_left};
 ghost use Rattle.std.specs.Str.Lines.{strip_carriage_return};
 
+use crate::parts::first_part;
 use crate::reader::Reader;
 use crate::{Session, SessionError};
 use memchr::memchr;
@@ -58,6 +59,15 @@ pub(crate) fn first_line(bytes: &[u8]) -> (&[u8], Option<&[u8]>)
     }
 }
 
+/// The same of a text.
+pub(crate) fn first_line_of_text(text: &str) -> (&str, Option<&str>)
+    ensures cut { texts_of text.now ≡ result.0.now ∷ texts_left result.1 }
+    ensures shorter { size_left result.1 ≤ length text.now }
+{
+    let (line, rest) = first_part(text, '\n');
+    (text_without_return(line), rest)
+}
+
 /// The place of the first line feed.
 pub(crate) fn line_feed(bytes: &[u8]) -> Option<usize>
     ensures { result ≡ position (λ b. b == 10) bytes.now }
@@ -71,6 +81,19 @@ pub(crate) fn without_return(line: &[u8]) -> &[u8]
 {
     match line.split_last() {
         Some((b'\r', front)) => front,
+        _ => line,
+    }
+}
+
+// The same of a text.
+fn text_without_return(line: &str) -> &str
+    ensures { result.now ≡ strip_carriage_return line.now }
+{
+    match line.as_bytes().split_last() {
+        Some((b'\r', front)) => {
+            let (text, _) = line.split_at(front.len());
+            text
+        }
         _ => line,
     }
 }

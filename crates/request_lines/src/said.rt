@@ -4,10 +4,11 @@ ghost use Rattle.request_lines.specs.InputParts.{texts_of};
 ghost use Rattle.request_lines.specs.Said.{Says, IsRead, ReadsLine};
 
 use crate::Cause;
-use crate::command::{Command, command_of};
+use crate::command::{Command, command_of, command_of_text};
 use crate::line_error::LineError;
-use crate::read::first_line;
+use crate::read::{first_line, first_line_of_text};
 use key_names::NoMemory;
+use simdutf8::basic::from_utf8;
 use std::alloc::Global;
 
 /// What the lines of a block say, in a list that serves for the next block too.
@@ -36,7 +37,32 @@ impl Said {
     {
         self.commands.clear();
         self.cause = None;
-        self.memory = self.push_lines(alloc, block);
+        self.memory = match from_utf8(block) {
+            Ok(text) => self.push_text(alloc, text),
+            Err(_) => self.push_lines(alloc, block),
+        };
+    }
+
+    // As `push_lines`, for a block that was tested for UTF-8 as a whole, which is faster than line by line.
+    fn push_text(&mut self, alloc: Global, block: &str) -> Result<(), NoMemory>
+        requires no_line { self.old.commands.items ≡ [] }
+        requires no_cause { self.old.cause ≡ None }
+        ensures { OnOk result (Says (texts_of block.now) self.new) }
+    {
+        let mut left = Some(block);
+        while let Some(lines) = left {
+            let (text, rest) = first_line_of_text(lines);
+            match text_said(alloc, text) {
+                Ok(command) => self.commands.push(command)?,
+                Err(LineError::Faulty(cause)) => {
+                    self.cause = Some(cause);
+                    return Ok(());
+                }
+                Err(LineError::NoMemory) => return Err(NoMemory),
+            }
+            left = rest;
+        }
+        Ok(())
     }
 
     // Puts what the lines of the block say here, where nothing stands yet.
@@ -50,8 +76,8 @@ impl Said {
             let (text, rest) = first_line(lines);
             match line_said(alloc, text) {
                 Ok(command) => self.commands.push(command)?,
-                Err(LineError::Faulty(cause)) => {
-                    self.cause = Some(cause);
+                Err(LineError::Faulty(found)) => {
+                    self.cause = Some(found);
                     return Ok(());
                 }
                 Err(LineError::NoMemory) => return Err(NoMemory),
@@ -71,6 +97,20 @@ fn line_said(alloc: Global, text: &[u8]) -> Result<Option<Command>, LineError>
         return Ok(None);
     }
     match command_of(alloc, text) {
+        Ok(command) => Ok(Some(command)),
+        Err(error) => Err(error),
+    }
+}
+
+// The same of a line that is known to be UTF-8.
+#[tactic(auto, unfolding(crate::specs::Said::said_of))]
+fn text_said(alloc: Global, text: &str) -> Result<Option<Command>, LineError>
+    ensures { ReadsLine text.now result }
+{
+    if text.is_empty() {
+        return Ok(None);
+    }
+    match command_of_text(alloc, text) {
         Ok(command) => Ok(Some(command)),
         Err(error) => Err(error),
     }

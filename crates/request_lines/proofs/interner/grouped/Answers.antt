@@ -9,7 +9,7 @@ pub loop-entry-preserved : goal.loop-entry-preserved
 loop-entry-preserved c =
     let names = c.args.names.now in
     let place = c.loop-entry.entry-index in
-    let first : Numbered = record { lead = 0; number = 0 } in
+    let first : Numbered = record { leads = (0, 0); number = 0 } in
     let entry : Numbered = get_or c.args.entries.now place first in
     let is : c.index-names-entry.result ≡ name_of names entry =
     c.index-names-entry.is ∙ get_or_default names entry.number c.index-names-entry.result [] (c.requires place first c.loop-entry-test.true)

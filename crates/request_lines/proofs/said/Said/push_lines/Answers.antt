@@ -38,7 +38,7 @@ returns-in-Err-Faulty c =
       behind = text ∷ texts_left rest;
       all = now.all;
       commands = now.say;
-      cause = subst (λ (cause : Cause). said_of text ≡ Some (Err cause)) (sym c.in-Err-Faulty.cause-is) faulty;
+      cause = subst (λ (cause : Cause). said_of text ≡ Some (Err cause)) (sym c.in-Err-Faulty.found-is) faulty;
     }
 
 pub returns : goal.returns
