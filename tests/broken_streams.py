@@ -8,7 +8,7 @@ The session is the first of rows.txt, whose whole text stands there, worked out 
 - Pieces: the text does not depend on how many bytes a read gives.
 - Reads: the input fails behind each piece, also behind the last one. Nothing is written then.
 - Writes: the output takes so many bytes and no more, for each number of them. Just these were written.
-- Lines: each line is written at once.
+- Lines: they are kept back until there are some kilobytes of them, and all have been written at the end.
 - Check: the same pieces, reads and writes where the session and its text are checked.
 - Several pieces: the same of texts that are put together in several pieces, on threads. The output fails at each line,
   at its first byte and in its middle.
@@ -87,7 +87,7 @@ def into_room(program, raw, room, form="run"):
 
 
 def writes_of(program, raw, form="run"):
-    """The bytes of each write of a run. Such a pipe keeps them apart."""
+    """The bytes of each write of a run, or of each page of 4,096 of them. Such a pipe keeps them apart."""
     end, start = os.pipe2(os.O_DIRECT)
     ran = subprocess.Popen([program, form], stdin=subprocess.PIPE, stdout=start, stderr=subprocess.DEVNULL)
     os.close(start)
@@ -97,6 +97,12 @@ def writes_of(program, raw, form="run"):
     os.close(end)
     ran.wait()
     return writes
+
+
+def are_few(writes, text):
+    """Whether the writes give the text, and one of each two that follow one another takes half a page at least."""
+    sizes = [len(write) for write in writes]
+    return b"".join(writes) == text and all(one + next >= 4096 for one, next in zip(sizes[:-2], sizes[1:-1]))
 
 
 def rooms_of_lines(text):
@@ -118,7 +124,7 @@ def compared_by(program, form, raw, text, done):
     for room in range(len(text)):
         yield "%s: room for %d bytes" % (form, room), into_room(program, raw, room, form), (WRITE_FAULT, text[:room])
     yield form + ": room for all bytes", into_room(program, raw, len(text), form), (done, text)
-    yield form + ": a write a line", writes_of(program, raw, form), text.splitlines(keepends=True)
+    yield form + ": one write", writes_of(program, raw, form), [text]
 
 
 def compared(program):
@@ -129,7 +135,7 @@ def compared(program):
     wrong = raw + b"----\n" + text.replace(b"false", b"true", 1)
     yield from compared_by(program, "check", wrong, b'{"Legal":false,"Wrong":1}\n', (8, "bucketidx: wrong line 1\n"))
     raw, text = short_lines()
-    yield "a write a line, in several pieces", writes_of(program, raw), text.splitlines(keepends=True)
+    yield "few writes, in several pieces", are_few(writes_of(program, raw), text), True
     raw, text = long_lines()
     for room in rooms_of_lines(text):
         yield "several pieces and room for %d bytes" % room, into_room(program, raw, room), (WRITE_FAULT, text[:room])

@@ -11,9 +11,16 @@ use bucket_terms::{Page, Placed, Record, Reply};
 use key_names::{Directory, NoMemory};
 use std::alloc::Global;
 
-// How often a record has to be shown on average, so that the texts of entries are kept. A page keeps 24 bytes an entry,
+// How often a record has to be shown on average, so that the texts of entries are kept. A page keeps 16 bytes an entry,
 // and a text has some 200, so that the texts take little more than the pages.
 const OFTEN: usize = 8;
+
+// How often a record is met on average in the pages that are looked at. One that is shown less often than others may
+// not be met: its text is made for each page.
+const MET: usize = 4;
+
+// 2^32 divided by the golden ratio: its multiples, of which 32 bits are kept, lie nowhere close together.
+const GOLDEN: u32 = 0x9E37_79B9;
 
 /// The texts of the entries that the pages of these pieces show without escapes, where the pages show many more entries
 /// than there are records; else none.
@@ -26,16 +33,42 @@ pub(crate) fn entry_texts(
     requires { All (IsPieceOf dir.now records.now) pieces.now }
     ensures { IfOk result (AreRight dir.now records.now) }
 {
-    if shown(pieces) / OFTEN < records.len() {
+    let times = shown(pieces).checked_div(records.len()).unwrap_or(0);
+    if times < OFTEN {
         return Ok(EntryTexts::none(alloc));
     }
     let mut texts = EntryTexts::with_places(alloc, records.len())?;
+    let mut pages = ChosenPages::one_of(times / MET);
     for piece in pieces {
         if let Part::Replies(replies) = &piece.part {
-            keep_all(alloc, &mut texts, dir, records, replies)?;
+            keep_all(alloc, &mut texts, dir, records, replies, &mut pages)?;
         }
     }
     Ok(texts)
+}
+
+/// Which pages are looked at: one of so many, in no pattern that those of a session could have.
+#[derive(Debug, Drop)]
+struct ChosenPages {
+    most: u32,
+    place: u32,
+}
+
+impl ChosenPages {
+    fn one_of(count: usize) -> ChosenPages {
+        let most = match u32::try_from(count) {
+            Ok(count) => u32::MAX.checked_div(count).unwrap_or(u32::MAX),
+            Err(_) => 0,
+        };
+        ChosenPages { most, place: 0 }
+    }
+
+    /// Whether the next page is looked at. The first one is.
+    fn is_next(&mut self) -> bool {
+        let place = self.place;
+        self.place = place.wrapping_add(GOLDEN);
+        place <= self.most
+    }
 }
 
 // How many entries the pages show.
@@ -72,13 +105,16 @@ fn keep_all(
     dir: &Directory,
     records: &[Record],
     replies: &[Placed],
+    pages: &mut ChosenPages,
 ) -> Result<(), NoMemory>
     requires fine { All (λ (p : Placed). IsReplyOf dir.now records.now p.reply) replies.now }
     requires right { AreRight dir.now records.now texts.old }
     ensures { OnOk result (AreRight dir.now records.now texts.new) }
 {
     for placed in replies {
-        keep_reply(alloc, texts, dir, records, &placed.reply)?;
+        if shown_in(&placed.reply) > 0 && pages.is_next() {
+            keep_reply(alloc, texts, dir, records, &placed.reply)?;
+        }
     }
     Ok(())
 }
