@@ -1,6 +1,6 @@
 -- Helper: the headline does not rest on this file.
 -- The texts of entries that are made once, for the pages that show them.
-use Rattle.std.specs.Prelude.{◌≡◌, ℕ, true, List, ◌++◌, All, Option, IfSome, string_bytes}
+use Rattle.std.specs.Prelude.{◌≡◌, ℕ, ◌<◌, true, List, length, ◌++◌, All, Option, IfSome, string_bytes}
 use Rattle.serde_json.specs.Written.{comma_if}
 use Rattle.key_names.specs.Names.{name_at}
 use Rattle.bucket_terms.specs.declared.record.Record.{Record}
@@ -15,6 +15,10 @@ later_text key r = comma_if true ++ content_text key r
 -- the text is that of its key and its record
 abbrev pub IsRight : List (List ℕ) → List Record → EntryText → Type 0
 IsRight dir records t = string_bytes t.text ≡ later_text (name_at dir t.rank) (record_at records t.val)
+
+-- each rank that is there is that of a name
+abbrev pub AreWanted : List (List ℕ) → List (Option ℕ) → Type 0
+AreWanted dir ranks = All (λ (o : Option ℕ). IfSome o (λ (rank : ℕ). rank < length dir)) ranks
 
 -- each text that is there is right
 abbrev pub AreRight : List (List ℕ) → List Record → List (Option EntryText) → Type 0

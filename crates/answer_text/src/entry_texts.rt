@@ -1,11 +1,11 @@
 // The texts of entries that are made once, for the pages that show them.
-ghost use Rattle.std.specs.Prelude.{◌≡◌, ◌<◌, ℕ, List, [], length, string_bytes, IfOk, IfSome, OnOk};
+ghost use Rattle.std.specs.Prelude.{◌≡◌, ◌++◌, ◌<◌, ℕ, List, [], length, string_bytes, IfOk, IfSome, OnOk};
 ghost use Rattle.key_names.specs.Names.{name_at};
 ghost use Rattle.bucket_terms.specs.declared.record.Record.{Record as StoredRecord};
 ghost use Rattle.bucket_terms.specs.PageInRange.{IsEntryInRange};
 ghost use Rattle.answer_text.specs.Lines.{record_at};
 ghost use Rattle.answer_text.specs.InRange.{HasRecord};
-ghost use Rattle.answer_text.specs.EntryTexts.{AreRight, IsRight, later_text};
+ghost use Rattle.answer_text.specs.EntryTexts.{AreRight, AreWanted, IsRight, later_text};
 
 use crate::entries::push_content;
 use crate::pieces::push;
@@ -29,22 +29,103 @@ pub(crate) struct EntryText {
     pub(crate) text: String,
 }
 
+/// Which entries' texts are made: at the place of each record the rank of the key with which a page shows it.
+#[derive(Debug, Drop)]
+pub struct WantedTexts {
+    ranks: Vec<Option<u32>>,
+}
+
+impl Model for WantedTexts {
+    ghost use Rattle.std.specs.Prelude.{List, ℕ, Option};
+
+    ghost Value = { List (Option ℕ) };
+
+    ghost view = { λ w. w.ranks.items };
+}
+
+impl WantedTexts {
+    /// None yet, and a place for each of so many records.
+    pub fn with_places(alloc: Global, records: usize) -> Result<WantedTexts, NoMemory>
+        ensures { (dir : List (List ℕ)) → IfOk result (AreWanted dir) }
+    {
+        let ranks = vec![in alloc; None; records]?;
+        Ok(WantedTexts { ranks })
+    }
+
+    /// How many places there are.
+    pub fn len(&self) -> usize
+        ensures { result ≡ length self.now }
+    {
+        self.ranks.len()
+    }
+
+    /// Wants the text of a key's entry, where the record has a place and none is wanted there.
+    pub fn want(&mut self, _dir: &Directory, entry: &PageEntry)
+        requires in_range { IsEntryInRange _dir.now entry.now }
+        requires wanted { AreWanted _dir.now self.old }
+        ensures wanted { AreWanted _dir.now self.new }
+    {
+        if let PageEntry::Key { rank, val } = *entry {
+            let place = val as usize;
+            if place < self.ranks.len() && self.ranks[place].is_none() {
+                self.ranks[place] = Some(rank);
+            }
+        }
+    }
+
+    /// The texts that are wanted at the places from one on up to another one.
+    pub fn texts(
+        &self,
+        alloc: Global,
+        dir: &Directory,
+        records: &[Record],
+        from: usize,
+        to: usize,
+    ) -> Result<EntryTexts, NoMemory>
+        requires wanted { AreWanted dir.now self.now }
+        ensures right { IfOk result (AreRight dir.now records.now) }
+    {
+        let mut texts = Vec::with_capacity(alloc, to.saturating_sub(from))?;
+        for place in from..to {
+            texts.push(self.text_at(alloc, dir, records, place)?)?;
+        }
+        Ok(EntryTexts { texts })
+    }
+
+    fn text_at(
+        &self,
+        alloc: Global,
+        dir: &Directory,
+        records: &[Record],
+        place: usize,
+    ) -> Result<Option<EntryText>, NoMemory>
+        requires wanted { AreWanted dir.now self.now }
+        ensures right { IfOk result (λ text. IfSome text (IsRight dir.now records.now)) }
+    {
+        match self.ranks.get(place) {
+            Some(Some(rank)) if place < records.len() => {
+                let text = made(alloc, dir, records, u64::from(*rank), place as u64)?;
+                Ok(Some(text))
+            }
+            _ => Ok(None),
+        }
+    }
+}
+
 /// The texts of entries of one session, each at the place of its record. A page that has such an entry shows the text
 /// that is here; the texts of its other entries are made for the page.
 ///
 /// ```
-/// let mut texts = EntryTexts::with_places(alloc, records.len())?;
+/// let mut wanted = WantedTexts::with_places(alloc, records.len())?;
 /// for entry in page.entries.as_slice() {
-///     texts.keep(alloc, &dir, records, entry)?;
+///     wanted.want(&dir, entry);
 /// }
+/// let texts = wanted.texts(alloc, &dir, records, 0, wanted.len())?;
 /// push_known_line(&mut line, &dir, records, &texts, &placed)?;
 /// ```
 #[derive(Debug, Drop)]
 pub struct EntryTexts {
     texts: Vec<Option<EntryText>>,
-    // Whether a text was made for each place. Of the many entries that pages show most have one already; this is small
-    // enough to stay in the processor's cache, and the texts are not.
-    made: Vec<bool>,
 }
 
 impl Model for EntryTexts {
@@ -63,67 +144,15 @@ impl EntryTexts {
     {
         EntryTexts {
             texts: Vec::new(alloc),
-            made: Vec::new(alloc),
         }
     }
 
-    /// No texts, and a place for each of so many records.
-    pub fn with_places(alloc: Global, records: usize) -> Result<EntryTexts, NoMemory>
-        ensures { (dir : List (List ℕ)) (records : List StoredRecord) → IfOk result (AreRight dir records) }
+    /// Adds texts behind the last place.
+    pub fn append(&mut self, behind: EntryTexts) -> Result<(), NoMemory>
+        ensures { OnOk result (self.new ≡ self.old ++ behind) }
     {
-        let mut texts = Vec::with_capacity(alloc, records)?;
-        for _ in 0..records {
-            texts.push(None)?;
-        }
-        let made = vec![in alloc; false; records]?;
-        Ok(EntryTexts { texts, made })
-    }
-
-    /// Makes the text of a key's entry, where the record has a place and no text stands there.
-    pub fn keep(
-        &mut self,
-        alloc: Global,
-        dir: &Directory,
-        records: &[Record],
-        entry: &PageEntry,
-    ) -> Result<(), NoMemory>
-        requires in_range { IsEntryInRange dir.now entry.now }
-        requires recorded { HasRecord records.now entry.now }
-        requires right { AreRight dir.now records.now self.old }
-        ensures right { OnOk result (AreRight dir.now records.now self.new) }
-    {
-        match *entry {
-            PageEntry::Key { rank, val } => self.keep_key(
-                alloc,
-                dir,
-                records,
-                u64::from(rank),
-                val,
-            ),
-            PageEntry::Group { .. } => Ok(()),
-        }
-    }
-
-    fn keep_key(
-        &mut self,
-        alloc: Global,
-        dir: &Directory,
-        records: &[Record],
-        rank: u64,
-        val: u64,
-    ) -> Result<(), NoMemory>
-        requires ranked { rank < length dir.now }
-        requires recorded { val < length records.now }
-        requires right { AreRight dir.now records.now self.old }
-        ensures right { OnOk result (AreRight dir.now records.now self.new) }
-    {
-        let place = val as usize;
-        if place >= self.made.len() || self.made[place] || place >= self.texts.len() {
-            return Ok(());
-        }
-        let text = made(alloc, dir, records, rank, val)?;
-        self.texts[place] = Some(text);
-        self.made[place] = true;
+        let EntryTexts { mut texts } = behind;
+        self.texts.append(&mut texts)?;
         Ok(())
     }
 

@@ -6,6 +6,7 @@ ghost use Rattle.bucket_terms.specs.declared.reply.Reply.{Reply};
 ghost use Rattle.bucket_terms.specs.Listing.{page_point};
 ghost use Rattle.bucket_terms.specs.PageInRange.{IsInRange};
 ghost use Rattle.bucket_terms.specs.LegalRun.{Resumed, next_of};
+ghost use Rattle.page_rules.specs.PrefixRanks.{AreKnown};
 ghost use Rattle.client_run.specs.ClientRun.{answered, Answers, Stopped};
 ghost use Rattle.client_run.specs.Listing.{HasPageInRange, ListedAs};
 ghost use Rattle.client_run.specs.Starts.{IsStartOf, IsStartBehind, resumed, resumed_at};
@@ -14,6 +15,7 @@ use crate::list;
 use crate::updates::{answer_at, refused};
 use bucket_terms::{KeyPass, ListQuery, Page, Placed, Reply, Shared, Token, TokenPoint};
 use key_names::{Directory, NoMemory};
+use page_rules::KnownPrefixes;
 use page_token::TokenError;
 use std::alloc::Global;
 use std::sync::Wait;
@@ -136,18 +138,26 @@ pub(crate) fn list_request<P: KeyPass, Rt: Wait>(
     alloc: Global,
     pass: &mut P,
     dir: &Directory,
+    known: &KnownPrefixes,
     line: u32,
     query: &Shared<ListQuery>,
 ) -> Result<Placed, NoMemory>
     requires closed { (P.view pass.old).opened ≡ None }
+    requires known { AreKnown dir.now known.now }
     ensures answers { IfOk result (λ placed. (last : Option Reply) → Answers dir.now (P.view pass.old) (P.view pass.new) last (answered line (ListRequest query.now) placed)) }
     ensures in_range { IfOk result (λ placed. HasPageInRange dir.now placed.reply) }
     ensures stopped { OnErr result (Stopped (P.view pass.old) (P.view pass.new)) }
     ensures home { P.home pass.new ≡ P.home pass.old }
 {
     match start_of(alloc, query.get())? {
-        Start::First => listed(rt, alloc, pass, dir, line, query.share()?, None),
-        Start::Behind(point) => listed(rt, alloc, pass, dir, line, query.share()?, Some(point)),
+        Start::First => {
+            let query = query.share()?;
+            listed(rt, alloc, pass, dir, known, line, query, None)
+        }
+        Start::Behind(point) => {
+            let query = query.share()?;
+            listed(rt, alloc, pass, dir, known, line, query, Some(point))
+        }
         Start::Bad => Ok(refused(pass.client(), line, Reply::BadToken)),
     }
 }
@@ -158,10 +168,12 @@ pub(crate) fn next_request<P: KeyPass, Rt: Wait>(
     alloc: Global,
     pass: &mut P,
     dir: &Directory,
+    known: &KnownPrefixes,
     line: u32,
     last: Option<&Reply>,
 ) -> Result<Placed, NoMemory>
     requires closed { (P.view pass.old).opened ≡ None }
+    requires known { AreKnown dir.now known.now }
     requires in_range { ForSome (option_copied last) (HasPageInRange dir.now) }
     ensures answers { IfOk result (λ placed. Answers dir.now (P.view pass.old) (P.view pass.new) (option_copied last.entry) (answered line Next placed)) }
     ensures in_range { IfOk result (λ placed. HasPageInRange dir.now placed.reply) }
@@ -172,7 +184,7 @@ pub(crate) fn next_request<P: KeyPass, Rt: Wait>(
         Some(next) => {
             let Resumption { query, point } = next;
             let query = Shared::new(alloc, query)?;
-            listed(rt, alloc, pass, dir, line, query, Some(point))
+            listed(rt, alloc, pass, dir, known, line, query, Some(point))
         }
         None => Ok(refused(pass.client(), line, Reply::BadToken)),
     }
@@ -184,16 +196,18 @@ fn listed<P: KeyPass, Rt: Wait>(
     alloc: Global,
     pass: &mut P,
     dir: &Directory,
+    known: &KnownPrefixes,
     line: u32,
     query: Shared<ListQuery>,
     point: Option<TokenPoint>,
 ) -> Result<Placed, NoMemory>
     requires closed { (P.view pass.old).opened ≡ None }
+    requires known { AreKnown dir.now known.now }
     ensures answer { IfOk result (ListedAs dir.now query point line (P.view pass.old) (P.view pass.new)) }
     ensures stopped { OnErr result (Stopped (P.view pass.old) (P.view pass.new)) }
     ensures home { P.home pass.new ≡ P.home pass.old }
 {
     let client = pass.client();
-    let (at, page) = list(rt, alloc, pass, dir, query.get(), point.as_ref())?;
+    let (at, page) = list(rt, alloc, pass, dir, known, query.get(), point.as_ref())?;
     Ok(answer_at(client, line, at, Reply::Listed { query, page }))
 }

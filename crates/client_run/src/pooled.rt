@@ -8,14 +8,16 @@ ghost use Rattle.request_lines.specs.Session.{request_line, request_lines};
 ghost use Rattle.request_lines.specs.SessionLaws.{IsAskable, Rise};
 ghost use Rattle.slot_depot.specs.Depots.{IsSameSeat, IsSeatOf};
 ghost use Rattle.client_run.specs.Listing.{HasPageInRange};
+ghost use Rattle.page_rules.specs.PrefixRanks.{AreKnown};
 ghost use Rattle.client_run.specs.ClientRun.{IsLaterLine, Stopped};
 ghost use Rattle.client_run.specs.Pooling.{AnswersPooled, HasGrown, RanPooled};
 
 use crate::Gate;
 use crate::pool::{hand_over, top_up};
-use crate::run::{answer, later_listing, reply_at};
+use crate::run::{answer, known_prefixes, later_listing, reply_at};
 use bucket_terms::{Placed, PoolPass, Reply};
 use key_names::{Directory, NoMemory};
+use page_rules::KnownPrefixes;
 use request_lines::{Asked, ClientPart, is_update};
 use slot_depot::{Depot, DepotSeat};
 use std::alloc::Global;
@@ -50,6 +52,7 @@ pub fn run_pooled<P: PoolPass, G: Gate, Rt: Wait>(
     ensures home { P.home pass.new ≡ P.home pass.old }
 {
     let client = pass.client();
+    let known = known_prefixes(alloc, dir, part)?;
     let mut replies: Vec<Placed> = Vec::new(alloc);
     let mut last = None;
     for asked in part.requests.as_slice() {
@@ -61,6 +64,7 @@ pub fn run_pooled<P: PoolPass, G: Gate, Rt: Wait>(
             alloc,
             pass,
             dir,
+            &known,
             asked,
             hint,
             reply_at(&replies, last),
@@ -81,6 +85,7 @@ fn answer_pooled<P: PoolPass, Rt: Wait>(
     alloc: Global,
     pass: &mut P,
     dir: &Directory,
+    known: &KnownPrefixes,
     asked: &Asked,
     hint: usize,
     last: Option<&Reply>,
@@ -89,6 +94,7 @@ fn answer_pooled<P: PoolPass, Rt: Wait>(
     own: u32,
 ) -> Result<Placed, NoMemory>
     requires closed { (P.view pass.old).opened ≡ None }
+    requires known { AreKnown dir.now known.now }
     requires askable { IsAskable dir.now (request_line asked.now) }
     requires calls { updates_in (request_line asked.now ∷ []) ≤ (P.view pass.old).left }
     requires later { IsLaterLine (P.view pass.old) asked.now.line }
@@ -104,10 +110,10 @@ fn answer_pooled<P: PoolPass, Rt: Wait>(
     ensures home { P.home pass.new ≡ P.home pass.old }
 {
     if !is_update(&asked.request) {
-        return answer(rt, alloc, pass, dir, asked, hint, last);
+        return answer(rt, alloc, pass, dir, known, asked, hint, last);
     }
     top_up(rt, pass, depot, seat);
-    let placed = answer(rt, alloc, pass, dir, asked, hint, last)?;
+    let placed = answer(rt, alloc, pass, dir, known, asked, hint, last)?;
     hand_over(rt, pass, depot, seat, own);
     Ok(placed)
 }

@@ -5,12 +5,14 @@ ghost use Rattle.bucket_terms.specs.LegalRun.{RequestLine, is_listing};
 ghost use Rattle.bucket_terms.specs.RunParts.{updates_in};
 ghost use Rattle.request_lines.specs.Session.{request_line, request_lines};
 ghost use Rattle.client_run.specs.Listing.{HasPageInRange};
+ghost use Rattle.page_rules.specs.PrefixRanks.{AreKnown};
 ghost use Rattle.client_run.specs.ClientRun.{Answers, RanClient, IsLaterLine, Stopped};
 ghost use Rattle.request_lines.specs.SessionLaws.{IsAskable, Rise};
 
 use crate::{Gate, pages, updates, v1_pages};
 use bucket_terms::{KeyPass, Placed, Reply, Request};
 use key_names::{Directory, NoMemory};
+use page_rules::KnownPrefixes;
 use request_lines::{Asked, ClientPart};
 use std::alloc::Global;
 use std::sync::Wait;
@@ -36,18 +38,39 @@ pub fn run_client<P: KeyPass, G: Gate, Rt: Wait>(
     ensures home { P.home pass.new ≡ P.home pass.old }
 {
     let client = pass.client();
+    let known = known_prefixes(alloc, dir, part)?;
     let mut replies: Vec<Placed> = Vec::with_capacity(alloc, part.requests.len())?;
     let mut last = None;
     for asked in part.requests.as_slice() {
         let place = replies.len();
         let hint = part.requests.rank(place);
+        let last_reply = reply_at(&replies, last);
         gate.before(client, asked.line);
-        let placed = answer(rt, alloc, pass, dir, asked, hint, reply_at(&replies, last))?;
+        let placed = answer(rt, alloc, pass, dir, &known, asked, hint, last_reply)?;
         gate.after(client, asked.line);
         last = later_listing(last, &asked.request, place);
         replies.push(placed)?;
     }
     Ok(replies)
+}
+
+/// The ranks of the prefixes that the client's listings name: each is looked for once.
+pub(crate) fn known_prefixes(
+    alloc: Global,
+    dir: &Directory,
+    part: &ClientPart,
+) -> Result<KnownPrefixes, NoMemory>
+    ensures { IfOk result (AreKnown dir.now) }
+{
+    let mut known = KnownPrefixes::none(alloc);
+    for asked in part.requests.as_slice() {
+        match &asked.request {
+            Request::List(query) => known.note(alloc, dir, &query.get().prefix)?,
+            Request::ListV1(query) => known.note(alloc, dir, &query.get().prefix)?,
+            _ => (),
+        }
+    }
+    Ok(known)
 }
 
 // Answers one request; `hint` is where the directory may have its name, `last` the reply of the client's last listing.
@@ -56,11 +79,13 @@ pub(crate) fn answer<P: KeyPass, Rt: Wait>(
     alloc: Global,
     pass: &mut P,
     dir: &Directory,
+    known: &KnownPrefixes,
     asked: &Asked,
     hint: usize,
     last: Option<&Reply>,
 ) -> Result<Placed, NoMemory>
     requires closed { (P.view pass.old).opened ≡ None }
+    requires known { AreKnown dir.now known.now }
     requires askable { IsAskable dir.now (request_line asked.now) }
     requires calls { updates_in (request_line asked.now ∷ []) ≤ (P.view pass.old).left }
     requires later { IsLaterLine (P.view pass.old) asked.now.line }
@@ -79,9 +104,13 @@ pub(crate) fn answer<P: KeyPass, Rt: Wait>(
         }
         Request::Delete { name } => Ok(updates::delete(rt, pass, dir, asked.line, name, hint)),
         Request::Head { name } => Ok(updates::head(rt, pass, dir, asked.line, name, hint)),
-        Request::List(query) => pages::list_request(rt, alloc, pass, dir, asked.line, query),
-        Request::ListV1(query) => v1_pages::v1_request(rt, alloc, pass, dir, asked.line, query),
-        Request::Next => pages::next_request(rt, alloc, pass, dir, asked.line, last),
+        Request::List(query) => {
+            pages::list_request(rt, alloc, pass, dir, known, asked.line, query)
+        },
+        Request::ListV1(query) => {
+            v1_pages::v1_request(rt, alloc, pass, dir, known, asked.line, query)
+        },
+        Request::Next => pages::next_request(rt, alloc, pass, dir, known, asked.line, last),
     }
 }
 

@@ -9,6 +9,7 @@ mod node_slots;
 mod opening;
 mod parts;
 mod pooled;
+mod room;
 mod runner;
 mod slots;
 mod threaded;

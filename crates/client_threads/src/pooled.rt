@@ -12,8 +12,10 @@ ghost use Rattle.client_threads.specs.Runs.{CanRunEach, parts_of};
 ghost use Rattle.client_threads.specs.Threads.{CameOf};
 
 use crate::parts::{RanPart, take_apart};
+use crate::room::make_room;
 use bucket_terms::{KeyPass, Placed, PoolPass};
 use client_run::{Gate, run_pooled};
+use fork_join::map_vec;
 use key_map::Items;
 use key_names::{Directory, NoMemory};
 use request_lines::ClientPart;
@@ -22,7 +24,6 @@ use slot_depot::{Depot, DepotSeat};
 use std::alloc::Global;
 use std::marker::Model;
 use std::sync::Wait;
-use std::thread;
 use std::thread::Threads;
 
 /// Runs the client of each key on a thread of its own, with a depot of so much room, and closes it. The keys come back,
@@ -130,7 +131,7 @@ fn pool_jobs<G: Gate + Sync, Rt: Threads + Wait + Sync>(
         requires { CanPoolOne dir.now index.now depot.now (parts_of parts.now) job }
         ensures { IfOk result (PooledOne own dir.entry.now index.entry.now (parts_of parts.entry.now) job.key.number job) }
     { pool_job(rt, alloc, index, job, parts, dir, gate, depot, own) };
-    Ok(thread::map_vec(rt, jobs, &run)?)
+    Ok(map_vec(rt, jobs, &run)?)
 }
 
 // Runs the client of the key's number.
@@ -151,6 +152,7 @@ fn pool_job<G: Gate, Rt: Wait>(
     let SeatedKey { key, mut seat } = job;
     let mut pass = index.attach(key);
     let part = &parts[pass.client() as usize];
+    make_room(alloc);
     let replies = run_pooled(rt, alloc, &mut pass, part, dir, gate, depot, &mut seat, own)?;
     Ok(RanPart {
         key: pass.detach(),

@@ -9,9 +9,11 @@ ghost use Rattle.bucket_terms.specs.LegalRun.{lines_of};
 
 use crate::parts::{RanPart, take_apart};
 use crate::pooled::pool_each;
+use crate::room::make_room;
 use crate::runner::Runner;
 use bucket_terms::{KeyPass, Placed};
 use client_run::{Gate, OpenGate, run_client};
+use fork_join::map_vec;
 use key_map::Items;
 use key_names::{Directory, NoMemory};
 use request_lines::{ClientPart, Session};
@@ -19,7 +21,6 @@ use shared_index::{PassKey, SharedIndex};
 use std::alloc::Global;
 use std::marker::Model;
 use std::sync::Wait;
-use std::thread;
 use std::thread::Threads;
 
 /// Runs each client on a thread of its own. Where a thread cannot be started, its client is run by the thread that was
@@ -201,7 +202,7 @@ fn run_each<G: Gate + Sync, Rt: Threads + Wait + Sync>(
         requires { CanRunOne dir.now index.now (parts_of parts.now) key }
         ensures { IfOk result (λ r. RanOver dir.entry.now index.entry.now key.number (lines_of (parts_of parts.entry.now) key.number) key r.key r.replies) }
     { run_key(rt, alloc, index, key, parts, dir, gate) };
-    Ok(thread::map_vec(rt, keys, &run)?)
+    Ok(map_vec(rt, keys, &run)?)
 }
 
 // Runs the client of the key's number.
@@ -219,6 +220,7 @@ fn run_key<G: Gate, Rt: Wait>(
 {
     let mut pass = index.attach(key);
     let part = &parts[pass.client() as usize];
+    make_room(alloc);
     let replies = run_client(rt, alloc, &mut pass, part, dir, gate)?;
     Ok(RanPart {
         key: pass.detach(),

@@ -1,6 +1,7 @@
 // The standard input and output of the process: the edge where nothing is known of the bytes. Their code is
 // that of `streams`, which is proved for readers and writers whose bytes are known.
-ghost use Rattle.std.specs.Prelude.{◌≡◌, ◌<◌, ◌≤◌, None, length, IfOk, OnOk, OnErr};
+ghost use Rattle.std.specs.Prelude.{◌≡◌, ◌<◌, ◌≤◌, [], None, length, IfOk, OnOk, OnErr};
+ghost use Rattle.std.specs.Io.Buffered.{writer_buffer};
 ghost use Rattle.outside_io.specs.StandardStreams.{count_after};
 ghost use Rattle.outside_io.specs.Streams.{one_more};
 
@@ -58,18 +59,10 @@ pub struct StdSink {
     faults: u64,
 }
 
-// seen as the count of its faults
-impl Model for StdSink {
-    ghost use Rattle.std.specs.Prelude.{ℕ};
-
-    ghost Value = { ℕ };
-
-    ghost view = { λ s. s.faults };
-}
-
 impl StdSink {
     pub fn new(rt: &HostRuntime) -> StdSink
-        ensures { result ≡ 0 }
+        ensures counts { result.faults ≡ 0 }
+        ensures empty { writer_buffer result.output ≡ [] }
     {
         let output = match BufWriter::new(rt.alloc(), rt.stdout()) {
             Ok(output) => output,
@@ -78,18 +71,21 @@ impl StdSink {
         StdSink { output, faults: 0 }
     }
 
-    /// Hands on what the buffer has. A failure is counted.
+    /// Hands on what the buffer has; where it answers `Ok`, nothing is left there. A failure is counted.
     pub fn flush(&mut self) -> Result<(), Failed>
-        ensures quiet { OnOk result (self.new ≡ self.old) }
-        ensures failed { OnErr result (self.new ≡ one_more self.old) }
-        ensures counted { self.old ≤ self.new }
+        ensures emptied { OnOk result (writer_buffer self.new.output ≡ []) }
+        ensures quiet { OnOk result (self.new.faults ≡ self.old.faults) }
+        ensures failed { OnErr result (self.new.faults ≡ one_more self.old.faults) }
+        ensures counted { self.old.faults ≤ self.new.faults }
     {
         flush_counted(&mut self.output, &mut self.faults)
     }
 }
 
 // The standard output without a buffer, which takes no memory.
-fn unbuffered(rt: &HostRuntime) -> BufWriter<Stdout> {
+fn unbuffered(rt: &HostRuntime) -> BufWriter<Stdout>
+    ensures { writer_buffer result ≡ [] }
+{
     match BufWriter::with_capacity(rt.alloc(), 0, rt.stdout()) {
         Ok(output) => output,
         Err(_) => unreachable!(),
@@ -99,11 +95,11 @@ fn unbuffered(rt: &HostRuntime) -> BufWriter<Stdout> {
 impl Sink for StdSink {
     ghost taken = { λ _. None };
 
-    ghost faults = { λ count. count };
+    ghost faults = { λ s. s.faults };
 
     fn write(&mut self, bytes: &[u8]) -> Result<usize, Failed>
-        ensures count { self.new ≡ count_after self.old result }
-        ensures counted { self.old ≤ self.new }
+        ensures count { self.new.faults ≡ count_after self.old.faults result }
+        ensures counted { self.old.faults ≤ self.new.faults }
         ensures most { IfOk result (λ n. n ≤ length bytes.now) }
         ensures some { IfOk result (λ n. 0 < length bytes.now → 0 < n) }
     {

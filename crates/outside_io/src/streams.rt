@@ -1,11 +1,12 @@
 // Reads and writes of a reader and a writer of the standard library, whose failures are counted.
-ghost use Rattle.std.specs.Prelude.{◌≡◌, ◌<◌, ◌≤◌, length, IfOk, OnOk, OnErr};
+ghost use Rattle.std.specs.Prelude.{◌≡◌, ◌<◌, ◌≤◌, [], length, IfOk, OnOk, OnErr};
+ghost use Rattle.std.specs.Io.Buffered.{writer_buffer, writer_contents};
 ghost use Rattle.std.specs.Io.KnownBytes.{Keeps, ReadConsumes, WriteAppends};
 ghost use Rattle.outside_io.specs.StandardStreams.{count_after};
 ghost use Rattle.outside_io.specs.Streams.{one_more};
 
 use crate::Failed;
-use std::io::{Read, Write};
+use std::io::{BufWriter, Read, Write};
 
 /// Reads once. A failure of the reader is counted, and is no end of its bytes.
 pub fn read_counted<R: Read>(
@@ -48,9 +49,14 @@ pub fn write_counted<W: Write>(
     Err(Failed)
 }
 
-/// Hands on what a writer has kept back. A failure of the writer is counted.
-pub fn flush_counted<W: Write>(output: &mut W, faults: &mut u64) -> Result<(), Failed>
-    ensures bytes { Keeps (W.contents output.old) (W.contents output.new) }
+/// Hands on what a buffer has kept back; where it answers `Ok`, nothing is left there. A failure of the writer is
+/// counted.
+pub fn flush_counted<W: Write + Drop>(
+    output: &mut BufWriter<W>,
+    faults: &mut u64,
+) -> Result<(), Failed>
+    ensures bytes { Keeps (writer_contents W.contents output.old) (writer_contents W.contents output.new) }
+    ensures emptied { OnOk result (writer_buffer output.new ≡ []) }
     ensures quiet { OnOk result (faults.new ≡ faults.old) }
     ensures failed { OnErr result (faults.new ≡ one_more faults.old) }
     ensures counted { faults.old ≤ faults.new }

@@ -17,7 +17,7 @@ use std::marker::Model;
 ///
 /// ```
 /// // the page of a query from the pairs of a sorted list; of another map, its first pair from `rank` on
-/// let mut cursor = PageCursor::new(alloc, &dir, &query, None);
+/// let mut cursor = PageCursor::new(alloc, &dir, &query, None, None);
 /// while let Some(rank) = cursor.next_rank() {
 ///     match first_from(pairs, rank) {
 ///         Some(pair) => cursor.take(alloc, pair)?,
@@ -33,8 +33,8 @@ pub struct PageCursor<'a> {
     entries: Vec<PageEntry>,
     next: Option<u64>,
     truncated: bool,
-    // Where the listed names stand, once the page has so many entries that two searches for it cost less than a
-    // comparison of each name with the prefix.
+    // Where the listed names stand: from the start where the caller knows it, else once the page has so many entries that
+    // two searches for it cost less than a comparison of each name with the prefix.
     ranks: Option<PrefixRanks>,
 }
 
@@ -63,20 +63,23 @@ impl<'a> PageCursor<'a> {
     ghost use Rattle.bucket_terms.specs.PageInRange.{IsInRange};
     ghost use Rattle.page_rules.specs.Cursor.{IsNew, IsOnWay, IsOver, Took, page_so_far};
 
-    /// A cursor for the page of the query, from a point on. It takes no memory yet.
+    /// A cursor for the page of the query, from a point on; `ranks` are those of the names with the query's prefix, where
+    /// the caller knows them. It takes no memory yet.
     pub fn new(
         alloc: Global,
         dir: &'a Directory,
         query: &'a ListQuery,
         point: Option<&TokenPoint>,
+        ranks: Option<PrefixRanks>,
     ) -> PageCursor<'a>
+        requires ranks { AreListed dir.now query.now ranks }
         ensures start { IsNew result dir.now query.now (option_copied point.entry) }
         ensures on_way { (m : List Pair) → IsOnWay result (option_copied point.entry) m }
     {
         let next = if query.max_keys == 0 {
             None
         } else {
-            Some(first_rank(dir, query, point))
+            Some(first_rank(dir, query, point, ranks))
         };
         PageCursor {
             dir,
@@ -84,7 +87,7 @@ impl<'a> PageCursor<'a> {
             entries: Vec::new(alloc),
             next,
             truncated: false,
-            ranks: None,
+            ranks,
         }
     }
 
@@ -161,7 +164,7 @@ fn later_ranks(
     requires { AreListed dir.now query.now ranks }
     ensures { AreListed dir.now query.now result }
 {
-    if entries == MANY {
+    if ranks.is_none() && entries == MANY {
         return Some(PrefixRanks::of(dir, query.prefix.bytes()));
     }
     ranks

@@ -5,6 +5,7 @@
 #![tactic(auto)]
 
 mod cursor;
+mod known_prefixes;
 mod list_page;
 mod look_ups;
 mod prefix_ranks;
@@ -12,6 +13,8 @@ mod resume;
 mod rules;
 
 pub use cursor::PageCursor;
+pub use known_prefixes::KnownPrefixes;
 pub use list_page::page_of_list;
 pub use look_ups::page_by_look_ups;
+pub use prefix_ranks::PrefixRanks;
 pub use rules::group_len;

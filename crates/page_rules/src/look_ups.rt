@@ -30,7 +30,7 @@ pub fn page_by_look_ups(
     ensures page { IfOk result (λ page. page ≡ page_of dir.now query.now (option_copied point.entry) list.now) }
     ensures in_range { IfOk result (IsInRange dir.now) }
 {
-    let mut cursor = PageCursor::new(alloc, dir, query, point);
+    let mut cursor = PageCursor::new(alloc, dir, query, point, None);
     while let Some(rank) = cursor.next_rank() {
         match first_from(list, rank) {
             Some(pair) => cursor.take(alloc, pair)?,

@@ -6,16 +6,25 @@ ghost use Rattle.bucket_terms.specs.Listing.{is_admitted, entry_point};
 ghost use Rattle.bucket_terms.specs.PageInRange.{IsEntryInRange};
 ghost use Rattle.page_rules.specs.PageLaw.{entry_text};
 ghost use Rattle.page_rules.specs.Cursor.{GoesOnAt};
+ghost use Rattle.page_rules.specs.PrefixRanks.{AreListed};
 
+use crate::prefix_ranks::{PrefixRanks, start_of};
 use crate::rules::group_text;
 use bucket_terms::{ListQuery, PageEntry, TokenPoint};
 use key_names::Directory;
 
-/// The rank at which a listing from this point goes on.
-pub(crate) fn first_rank(dir: &Directory, query: &ListQuery, point: Option<&TokenPoint>) -> u64
+/// The rank at which a listing from this point goes on; `ranks` are those of the names that it may list, where they are
+/// known.
+pub(crate) fn first_rank(
+    dir: &Directory,
+    query: &ListQuery,
+    point: Option<&TokenPoint>,
+    ranks: Option<PrefixRanks>,
+) -> u64
+    requires { AreListed dir.now query.now ranks }
     ensures { GoesOnAt dir.now query.now (option_copied point.entry) result }
 {
-    let prefix = dir.at_or_after(query.prefix.bytes());
+    let prefix = start_of(dir, query.prefix.bytes(), ranks);
     prefix.max(first_admitted(dir, query, point))
 }
 

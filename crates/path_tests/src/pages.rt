@@ -2,7 +2,7 @@
 use bucket_terms::{ListQuery, Page, PageEntry, TokenPoint};
 use key_map::Pair;
 use key_names::{Directory, NoMemory, Text};
-use page_rules::{PageCursor, page_by_look_ups, page_of_list};
+use page_rules::{KnownPrefixes, PageCursor, page_by_look_ups, page_of_list};
 use std::alloc::Global;
 use std::test::Fail;
 
@@ -97,7 +97,7 @@ fn asks_for_two(alloc: Global, cursor: &mut PageCursor<'_>) -> Result<bool, NoMe
 // Whether it gives the first page then.
 fn leaves_the_group_at_once(alloc: Global, dir: &Directory) -> Result<bool, NoMemory> {
     let query = one_entry(alloc)?;
-    let mut cursor = PageCursor::new(alloc, dir, &query, None);
+    let mut cursor = PageCursor::new(alloc, dir, &query, None, None);
     let has_asked = asks_for_two(alloc, &mut cursor)?;
     let entry = PageEntry::Group { rank: 0, len: 2 };
     Ok(has_asked && is_page(&cursor.finish(), entry, true))
@@ -107,5 +107,46 @@ fn leaves_the_group_at_once(alloc: Global, dir: &Directory) -> Result<bool, NoMe
 fn leaves_a_group_with_one_jump(rt: HostRuntime) -> Result<(), Fail> {
     let dir = directory(rt.alloc())?;
     assert!(rt; leaves_the_group_at_once(rt.alloc(), &dir)?);
+    Ok(())
+}
+
+// A listing of the names that begin with `a/`.
+fn names_below_a(alloc: Global) -> Result<ListQuery, NoMemory> {
+    let prefix = Text::of(alloc, "a/")?;
+    let mut query = one_entry(alloc)?;
+    query.prefix = prefix;
+    query.delimiter = empty(alloc);
+    query.max_keys = 5;
+    Ok(query)
+}
+
+// Whether the known ranks lead to the page of both names, and no rank is known of another prefix.
+fn lists_two_known(alloc: Global, dir: &Directory) -> Result<bool, NoMemory> {
+    let query = names_below_a(alloc)?;
+    let mut known = KnownPrefixes::none(alloc);
+    let before = known.ranks(&query.prefix);
+    known.note(alloc, dir, &query.prefix)?;
+    let ranks = known.ranks(&query.prefix);
+    let is_known = before.is_none()
+        && ranks.is_some()
+        && known.ranks(&Text::of(alloc, "b")?).is_none();
+    let mut cursor = PageCursor::new(alloc, dir, &query, None, ranks);
+    for pair in PAIRS {
+        if cursor.next_rank().is_some() {
+            cursor.take(alloc, pair)?;
+        }
+    }
+    let page = cursor.finish();
+    let listed = [
+        PageEntry::Key { rank: 0, val: 9 },
+        PageEntry::Key { rank: 1, val: 8 },
+    ];
+    Ok(is_known && page.entries.as_slice() == listed.as_slice() && !page.truncated)
+}
+
+#[test]
+fn lists_by_the_ranks_of_a_known_prefix(rt: HostRuntime) -> Result<(), Fail> {
+    let dir = directory(rt.alloc())?;
+    assert!(rt; lists_two_known(rt.alloc(), &dir)?);
     Ok(())
 }

@@ -9,9 +9,9 @@ use crate::sheets::Sheet;
 use crate::stop::Stop;
 use answer_text::EntryTexts;
 use bucket_terms::Record;
+use fork_join::for_each_mut;
 use key_names::Directory;
 use outside_io::Sink;
-use std::thread;
 use std::thread::{Threads, join_mut, yield_now};
 
 /// Writes the texts of a batch, which are on the first sheets, and puts those of the next one on other sheets meanwhile,
@@ -106,5 +106,5 @@ fn fill_each<Rt: Threads + Sync>(
         requires { CanFill dir.now records.now texts.now pieces.now place }
         ensures { IsFilledAt dir.entry.now records.entry.now pieces.entry.now place sheet.exit.now }
     { sheet.fill(dir, records, texts, &pieces[place]) };
-    thread::for_each_mut(rt, sheets, pieces.len().max(1), &fill);
+    for_each_mut(rt, sheets, &fill);
 }

@@ -1,15 +1,18 @@
 // The texts of entries that many pages show: each is made once, before the pieces.
-ghost use Rattle.std.specs.Prelude.{All, IfOk, OnOk};
+ghost use Rattle.std.specs.Prelude.{All, IfOk};
 ghost use Rattle.bucket_terms.specs.declared.reply.Placed.{Placed};
-ghost use Rattle.answer_text.specs.EntryTexts.{AreRight};
+ghost use Rattle.answer_text.specs.EntryTexts.{AreRight, AreWanted};
 ghost use Rattle.answer_text.specs.InRange.{IsPageOf, IsReplyOf};
 ghost use Rattle.run_text.specs.Pieces.{IsPieceOf};
+ghost use Rattle.run_text.specs.Texts.{IsPartRight};
 
 use crate::pieces::{Part, Piece};
-use answer_text::EntryTexts;
+use answer_text::{EntryTexts, WantedTexts};
 use bucket_terms::{Page, Placed, Record, Reply};
+use fork_join::map_vec;
 use key_names::{Directory, NoMemory};
 use std::alloc::Global;
+use std::thread::Threads;
 
 // How often a record has to be shown on average, so that the texts of entries are kept. A page keeps 16 bytes an entry,
 // and a text has some 200, so that the texts take little more than the pages.
@@ -23,12 +26,14 @@ const MET: usize = 4;
 const GOLDEN: u32 = 0x9E37_79B9;
 
 /// The texts of the entries that the pages of these pieces show without escapes, where the pages show many more entries
-/// than there are records; else none.
-pub(crate) fn entry_texts(
+/// than there are records; else none. Each of so many threads makes a share of them.
+pub(crate) fn entry_texts<Rt: Threads + Sync>(
+    rt: &Rt,
     alloc: Global,
     dir: &Directory,
     records: &[Record],
     pieces: &[Piece<'_>],
+    threads: usize,
 ) -> Result<EntryTexts, NoMemory>
     requires { All (IsPieceOf dir.now records.now) pieces.now }
     ensures { IfOk result (AreRight dir.now records.now) }
@@ -37,17 +42,92 @@ pub(crate) fn entry_texts(
     if times < OFTEN {
         return Ok(EntryTexts::none(alloc));
     }
-    let mut texts = EntryTexts::with_places(alloc, records.len())?;
-    let mut pages = ChosenPages::one_of(times / MET);
+    let wanted = wanted_texts(alloc, dir, records, pieces, times / MET)?;
+    made(rt, alloc, dir, records, &wanted, threads)
+}
+
+// The entries of one of so many pages, and the first rank with which a record is met there.
+fn wanted_texts(
+    alloc: Global,
+    dir: &Directory,
+    records: &[Record],
+    pieces: &[Piece<'_>],
+    times: usize,
+) -> Result<WantedTexts, NoMemory>
+    requires { All (IsPieceOf dir.now records.now) pieces.now }
+    ensures { IfOk result (AreWanted dir.now) }
+{
+    let mut wanted = WantedTexts::with_places(alloc, records.len())?;
+    let mut pages = ChosenPages::one_of(times);
     for piece in pieces {
         if let Part::Replies(replies) = &piece.part {
-            keep_all(alloc, &mut texts, dir, records, replies, &mut pages)?;
+            want_all(&mut wanted, dir, records, replies, &mut pages);
         }
+    }
+    Ok(wanted)
+}
+
+/// The places from one on up to another one.
+#[derive(Clone, Copy, Debug)]
+struct Share {
+    from: usize,
+    to: usize,
+}
+
+// So many places in so many shares, one behind the other.
+fn shares(alloc: Global, places: usize, threads: usize) -> Result<Vec<Share>, NoMemory> {
+    let most = places.div_ceil(threads.max(1));
+    let mut shares = Vec::new(alloc);
+    let mut from: usize = 0;
+    for _ in 0..threads {
+        let to = places.min(from.saturating_add(most));
+        shares.push(Share { from, to })?;
+        from = to;
+    }
+    Ok(shares)
+}
+
+// The texts that are wanted, of which each thread makes a share.
+fn made<Rt: Threads + Sync>(
+    rt: &Rt,
+    alloc: Global,
+    dir: &Directory,
+    records: &[Record],
+    wanted: &WantedTexts,
+    threads: usize,
+) -> Result<EntryTexts, NoMemory>
+    requires { AreWanted dir.now wanted.now }
+    ensures { IfOk result (AreRight dir.now records.now) }
+{
+    let parts = made_apart(rt, alloc, dir, records, wanted, threads)?;
+    let mut texts = EntryTexts::none(alloc);
+    for part in parts {
+        texts.append(part?)?;
     }
     Ok(texts)
 }
 
-/// Which pages are looked at: one of so many, in no pattern that those of a session could have.
+// The texts of each share.
+fn made_apart<Rt: Threads + Sync>(
+    rt: &Rt,
+    alloc: Global,
+    dir: &Directory,
+    records: &[Record],
+    wanted: &WantedTexts,
+    threads: usize,
+) -> Result<Vec<Result<EntryTexts, NoMemory>>, NoMemory>
+    requires { AreWanted dir.now wanted.now }
+    ensures { IfOk result (λ parts. All (IsPartRight dir.now records.now) parts.items) }
+{
+    let make = |share: Share| -> Result<EntryTexts, NoMemory>
+        requires { AreWanted dir.now wanted.now }
+        ensures { IsPartRight dir.entry.now records.entry.now result }
+    { wanted.texts(alloc, dir, records, share.from, share.to) };
+    let shares = shares(alloc, wanted.len(), threads)?;
+    Ok(map_vec(rt, shares, &make)?)
+}
+
+/// Which pages are looked at: one of so many, spread evenly, and in no short pattern.
 #[derive(Debug, Drop)]
 struct ChosenPages {
     most: u32,
@@ -98,64 +178,49 @@ fn shown_in(reply: &Reply) -> usize {
     }
 }
 
-// Keeps the texts of the entries of these replies.
-fn keep_all(
-    alloc: Global,
-    texts: &mut EntryTexts,
+// Wants the texts of the entries of these replies.
+fn want_all(
+    wanted: &mut WantedTexts,
     dir: &Directory,
     records: &[Record],
     replies: &[Placed],
     pages: &mut ChosenPages,
-) -> Result<(), NoMemory>
+)
     requires fine { All (λ (p : Placed). IsReplyOf dir.now records.now p.reply) replies.now }
-    requires right { AreRight dir.now records.now texts.old }
-    ensures { OnOk result (AreRight dir.now records.now texts.new) }
+    requires wanted { AreWanted dir.now wanted.old }
+    ensures { AreWanted dir.now wanted.new }
 {
     for placed in replies {
         if shown_in(&placed.reply) > 0 && pages.is_next() {
-            keep_reply(alloc, texts, dir, records, &placed.reply)?;
+            want_reply(wanted, dir, records, &placed.reply);
         }
     }
-    Ok(())
 }
 
-// Keeps the texts of the entries of a page that shows them without escapes.
-fn keep_reply(
-    alloc: Global,
-    texts: &mut EntryTexts,
-    dir: &Directory,
-    records: &[Record],
-    reply: &Reply,
-) -> Result<(), NoMemory>
+// Wants the texts of the entries of a page that shows them without escapes.
+fn want_reply(wanted: &mut WantedTexts, dir: &Directory, records: &[Record], reply: &Reply)
     requires reply { IsReplyOf dir.now records.now reply.now }
-    requires right { AreRight dir.now records.now texts.old }
-    ensures { OnOk result (AreRight dir.now records.now texts.new) }
+    requires wanted { AreWanted dir.now wanted.old }
+    ensures { AreWanted dir.now wanted.new }
 {
     match reply {
         Reply::Listed { query, page } if !query.get().url => {
-            keep_page(alloc, texts, dir, records, page)
+            want_page(wanted, dir, records, page);
         }
         Reply::ListedV1 { query, page } if !query.get().url => {
-            keep_page(alloc, texts, dir, records, page)
+            want_page(wanted, dir, records, page);
         }
-        _ => Ok(()),
+        _ => (),
     }
 }
 
-// Keeps the texts of the entries of this page.
-fn keep_page(
-    alloc: Global,
-    texts: &mut EntryTexts,
-    dir: &Directory,
-    records: &[Record],
-    page: &Page,
-) -> Result<(), NoMemory>
-    requires page { IsPageOf dir.now records.now page.now }
-    requires right { AreRight dir.now records.now texts.old }
-    ensures { OnOk result (AreRight dir.now records.now texts.new) }
+// Wants the texts of the entries of this page.
+fn want_page(wanted: &mut WantedTexts, dir: &Directory, _records: &[Record], page: &Page)
+    requires page { IsPageOf dir.now _records.now page.now }
+    requires wanted { AreWanted dir.now wanted.old }
+    ensures { AreWanted dir.now wanted.new }
 {
     for entry in page.entries.as_slice() {
-        texts.keep(alloc, dir, records, entry)?;
+        wanted.want(dir, entry);
     }
-    Ok(())
 }

@@ -37,16 +37,10 @@ impl<'a> Pieces<'a> {
         ensures fault { IsErrOf result Stop.Fault → K.faults sink.new ≡ one_more (K.faults sink.old) }
         ensures quiet { ¬ (IsErrOf result Stop.Fault) → K.faults sink.new ≡ K.faults sink.old }
     {
-        let texts = entry_texts(alloc, dir, records, self.pieces.as_slice())?;
-        write_pieces(
-            rt,
-            alloc,
-            sink,
-            dir,
-            records,
-            &texts,
-            self.pieces.as_slice(),
-        )
+        let pieces = self.pieces.as_slice();
+        let threads = at_once(rt, pieces);
+        let texts = entry_texts(rt, alloc, dir, records, pieces, threads)?;
+        write_pieces(rt, alloc, sink, dir, records, &texts, pieces, threads)
     }
 }
 
@@ -58,12 +52,13 @@ fn write_pieces<K: Sink, Rt: Threads + Sync>(
     records: &[Record],
     texts: &EntryTexts,
     pieces: &[Piece<'_>],
+    most: usize,
 ) -> Result<(), Stop>
+    requires some { 0 < most }
     requires fine { All (IsPieceOf dir.now records.now) pieces.now }
     requires right { AreRight dir.now records.now texts.now }
     ensures { Writes (pieces_text dir.now records.now pieces.now) (K.taken sink.old) (K.taken sink.new) (K.faults sink.old) (K.faults sink.new) result }
 {
-    let most = at_once(rt, pieces);
     let mut filled = empty_sheets(alloc, most)?;
     let mut spare = empty_sheets(alloc, most)?;
     fill_all(

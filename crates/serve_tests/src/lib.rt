@@ -1,12 +1,14 @@
-//! Tests of the top call, `serve_session`, and of what runs the clients of a session, `client_threads`: of what no run
-//! of the built program shows. So both are proved once, and not a second time with their tests. What the whole program
-//! writes is compared by rows that the built program is run on.
+//! Tests of the top call, `serve_session`, of what runs the clients of a session, `client_threads`, and of how calls
+//! are given to threads, `fork_join`: of what no run of the built program shows. So these are proved once, and not a
+//! second time with their tests. What the whole program writes is compared by rows that the built program is run on.
 #![tactic(auto)]
 
 #[cfg(test)]
 mod clients;
 #[cfg(test)]
 mod faults;
+#[cfg(test)]
+mod forks;
 #[cfg(test)]
 mod gates;
 #[cfg(test)]

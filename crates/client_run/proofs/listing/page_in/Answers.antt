@@ -10,7 +10,7 @@ use Rattle.client_run.proofs.listing.page_in.Goals as goal
 pub loop-rank-smaller : goal.loop-rank-smaller
 loop-rank-smaller g c =
     let start = g.P.KeyPass.view c.args.pass.now in
-    let at = some_is start.opened c.requires in
+    let at = some_is start.opened c.requires.open in
     ranks_smaller c.loop-rank.cursor c.take.new.self c.in-Some.rank c.in-Some-next_from.pair (after start.seen at.0) (sym c.in-Some.ensures.next) c.in-Some.ensures.within
     (found_at start (g.P.KeyPass.view c.loop-rank.pass) c.in-Some.rank at.0 (Some c.in-Some-next_from.pair) c.loop-rank.invariant.0.same at.1 c.in-Some-next_from.ensures.first)
     c.in_ok-take-in-Some-next_from.ensures.took

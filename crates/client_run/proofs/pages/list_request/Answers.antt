@@ -7,20 +7,20 @@ use Rattle.client_run.specs.declared.pages.Start.{Start}
 use Rattle.client_run.proofs.Listings.{list_answers, bad_answers, no_point}
 use Rattle.client_run.proofs.pages.list_request.Goals as goal
 
-pub returns-in_ok-share-in-First-clause-answers : goal.returns-in_ok-share-in-First-clause-answers
-returns-in_ok-share-in-First-clause-answers g c =
+pub returns-in_ok-query-in-First-clause-answers : goal.returns-in_ok-query-in-First-clause-answers
+returns-in_ok-query-in-First-clause-answers g c =
     let view = g.P.KeyPass.view in
     let start = subst (λ (s : Start). IsStartOf c.args.query.now s) c.in-First.is (subst (λ (q : ListQuery). IsStartOf q c.in_ok-start_of.field-0) c.get.ensures c.in_ok-start_of.ensures) in
     IfOk-weaker c.listed.result _ _
-    (λ placed is last. list_answers c.args.dir.now c.args.query.now c.in_ok-share-in-First.field-0 None c.args.line (view c.args.pass.now) (view c.listed.new.pass) last placed c.in_ok-share-in-First.ensures start is)
+    (λ placed is last. list_answers c.args.dir.now c.args.query.now c.in_ok-query-in-First.query None c.args.line (view c.args.pass.now) (view c.listed.new.pass) last placed c.in_ok-query-in-First.ensures start is)
     c.listed.ensures.answer
 
-pub returns-in_ok-share-in-Behind-clause-answers : goal.returns-in_ok-share-in-Behind-clause-answers
-returns-in_ok-share-in-Behind-clause-answers g c =
+pub returns-in_ok-query-in-Behind-clause-answers : goal.returns-in_ok-query-in-Behind-clause-answers
+returns-in_ok-query-in-Behind-clause-answers g c =
     let view = g.P.KeyPass.view in
     let start = subst (λ (s : Start). IsStartOf c.args.query.now s) c.in-Behind.is (subst (λ (q : ListQuery). IsStartOf q c.in_ok-start_of.field-0) c.get.ensures c.in_ok-start_of.ensures) in
     IfOk-weaker c.listed-in-Behind.result _ _
-    (λ placed is last. list_answers c.args.dir.now c.args.query.now c.in_ok-share-in-Behind.field-0 (Some c.in-Behind.point) c.args.line (view c.args.pass.now) (view c.listed-in-Behind.new.pass) last placed c.in_ok-share-in-Behind.ensures start is)
+    (λ placed is last. list_answers c.args.dir.now c.args.query.now c.in_ok-query-in-Behind.query (Some c.in-Behind.point) c.args.line (view c.args.pass.now) (view c.listed-in-Behind.new.pass) last placed c.in_ok-query-in-Behind.ensures start is)
     c.listed-in-Behind.ensures.answer
 
 pub returns-in-Bad-clause-answers : goal.returns-in-Bad-clause-answers

@@ -92,7 +92,7 @@ loop-asked-preserved g c =
 pub returns-in_err-placed-clause-stopped : goal.returns-in_err-placed-clause-stopped
 returns-in_err-placed-clause-stopped g c =
     let view = g.P.KeyPass.view in
-    after_error c.from_residual.result (stopped_later (view c.args.pass.now) (view c.loop-asked.pass) (view c.answer_pooled.new.pass)
+    after_error c.from_residual-in_err-placed.result (stopped_later (view c.args.pass.now) (view c.loop-asked.pass) (view c.answer_pooled.new.pass)
     (continues_all c.args.own (view c.args.pass.now) (view c.loop-asked.pass) c.loop-asked.invariant.0.running.ran.continues) c.in_err-placed.ensures.stopped)
 
 pub returns-in_err-push-clause-stopped : goal.returns-in_err-push-clause-stopped

@@ -48,8 +48,8 @@ loop-asked-preserved g c =
     let here = line_here c.args.part.now.requests c.as_slice-asked-items.result.now i d c.as_slice-asked-items.ensures c.loop-asked-test.true c.asked-item.is in
     let before = c.loop-asked.invariant.0 in
     let last = c.loop-asked.last in
-    let last_is : option_copied c.reply_at.result ≡ last_listing (answered_lines (take i lines) replies) =
-    c.reply_at.ensures ∙ ap (λ (rs : List Placed). reply_at rs last) c.deref.ensures.value ∙ before.listing in
+    let last_is : option_copied c.reply_at-last_reply.result ≡ last_listing (answered_lines (take i lines) replies) =
+    c.reply_at-last_reply.ensures ∙ ap (λ (rs : List Placed). reply_at rs last) c.deref.ensures.value ∙ before.listing in
     let long : c.len-place.result ≡ length replies = omega arith in
     let later_is : c.later_listing-last.result ≡ (if is_listing (get_or lines i (request_line d)).request then Some (length replies) else last) =
     c.later_listing-last.ensures
@@ -72,5 +72,5 @@ pub returns-in_err-push-clause-stopped : goal.returns-in_err-push-clause-stopped
 returns-in_err-push-clause-stopped g c =
     let view = g.P.KeyPass.view in
     after_error c.from_residual-in_err-push.result
-    (stopped_behind c.args.dir.now (view c.args.pass.now) (view c.loop-asked.pass) (view c.answer.new.pass) (option_copied c.reply_at.result) (record { asked = request_line c.asked-item.result; placed = c.in_ok-placed.placed })
+    (stopped_behind c.args.dir.now (view c.args.pass.now) (view c.loop-asked.pass) (view c.answer.new.pass) (option_copied c.reply_at-last_reply.result) (record { asked = request_line c.asked-item.result; placed = c.in_ok-placed.placed })
     c.loop-asked.invariant.0.running.ran.continues c.in_ok-placed.ensures.answers)

@@ -31,7 +31,7 @@ loop-done-preserved g c =
       most = c.loop-done.invariant.most;
       spare = rw c.swap.ensures.y_after c.loop-done.invariant.filled_room;
       filled_room = rw c.swap.ensures.x_after (c.in_ok-write_beside.ensures.as_many ∙ c.loop-done.invariant.spare);
-      within = omega (arith, c.loop-done.invariant.within, ap length c.batch_at-batch.ensures.batch, length-take c.at_once-most.result (drop c.loop-done.done c.args.pieces.now), length-drop c.loop-done.done c.args.pieces.now);
+      within = omega (arith, c.loop-done.invariant.within, ap length c.batch_at-batch.ensures.batch, length-take c.args.most (drop c.loop-done.done c.args.pieces.now), length-drop c.loop-done.done c.args.pieces.now);
       filled = rw c.swap.ensures.x_after (rw (sym c.batch_at-next.ensures.batch) c.in_ok-write_beside.ensures.next);
       taken = batch_taken c.args.dir.now c.args.records.now c.args.pieces.now batch c.loop-done.done (length batch) c.batch_at-batch.ensures.whole
           _ _ _ c.loop-done.invariant.taken written.taken;

@@ -1,0 +1,102 @@
+// Prefixes whose ranks were looked for.
+ghost use Rattle.std.specs.Prelude.{ℕ, List, OnOk, IfOk, IfSome};
+ghost use Rattle.page_rules.specs.PrefixRanks.{AreOfPrefix, AreKnown};
+
+use crate::prefix_ranks::PrefixRanks;
+use key_names::{Directory, NoMemory, Text};
+use std::alloc::Global;
+use std::hash::{FoldHasher, Hasher};
+use std::marker::Model;
+
+/// How many places there are for prefixes.
+const PLACES: usize = 1024;
+
+/// The ranks of prefixes in one directory, in a table of fixed size. Where a prefix has the place of another one that
+/// was noted before it, it is not kept: then its ranks are looked for as if there were no table.
+#[derive(Drop)]
+pub struct KnownPrefixes {
+    // No place before the first prefix.
+    places: Vec<Option<KnownPrefix>>,
+}
+
+/// A prefix and the ranks of the names that begin with it.
+#[derive(Drop)]
+pub(crate) struct KnownPrefix {
+    prefix: Text,
+    ranks: PrefixRanks,
+}
+
+impl Model for KnownPrefixes {
+    ghost use Rattle.std.specs.Prelude.{List, Option};
+    ghost use Rattle.page_rules.specs.declared.known_prefixes.KnownPrefix.{KnownPrefix};
+    ghost use Rattle.page_rules.specs.declared.known_prefixes.KnownPrefixes.TheInside.{Inside};
+
+    ghost Value = { List (Option KnownPrefix) };
+
+    ghost view = { λ (k : Inside). k.places.items };
+}
+
+impl KnownPrefixes {
+    /// No prefix is known. It takes no memory.
+    pub fn none(alloc: Global) -> KnownPrefixes
+        ensures { (dir : List (List ℕ)) → AreKnown dir result }
+    {
+        KnownPrefixes {
+            places: Vec::new(alloc),
+        }
+    }
+
+    /// Looks for the ranks of a prefix and keeps them, where its place is free. The first call takes the memory of
+    /// the table.
+    pub fn note(&mut self, alloc: Global, dir: &Directory, prefix: &Text) -> Result<(), NoMemory>
+        requires { AreKnown dir.now self.old }
+        ensures { OnOk result (AreKnown dir.now self.new) }
+    {
+        if self.places.is_empty() {
+            self.places = free_places(alloc)?;
+        }
+        let place = place_of(prefix);
+        if place < self.places.len() && self.places[place].is_none() {
+            self.places[place] = Some(looked_for(alloc, dir, prefix)?);
+        }
+        Ok(())
+    }
+
+    /// The ranks of the names that begin with the prefix: None where it was not kept.
+    pub fn ranks(&self, prefix: &Text) -> Option<PrefixRanks>
+        ensures { (dir : List (List ℕ)) → AreKnown dir self.now → IfSome result (AreOfPrefix dir prefix.now) }
+    {
+        match self.places.get(place_of(prefix)) {
+            Some(Some(known)) if known.prefix.bytes() == prefix.bytes() => Some(known.ranks),
+            _ => None,
+        }
+    }
+}
+
+// The place that a prefix has.
+fn place_of(prefix: &Text) -> usize {
+    let mut hasher = FoldHasher::default();
+    hasher.write(prefix.bytes());
+    (hasher.finish() % PLACES as u64) as usize
+}
+
+// A table without a prefix.
+fn free_places(alloc: Global) -> Result<Vec<Option<KnownPrefix>>, NoMemory>
+    ensures { IfOk result (λ places. (dir : List (List ℕ)) → AreKnown dir places.items) }
+{
+    let mut places: Vec<Option<KnownPrefix>> = Vec::with_capacity(alloc, PLACES)?;
+    for _ in 0..PLACES {
+        places.push(None)?;
+    }
+    Ok(places)
+}
+
+// A prefix with its ranks.
+fn looked_for(alloc: Global, dir: &Directory, prefix: &Text) -> Result<KnownPrefix, NoMemory>
+    ensures { IfOk result (λ known. AreOfPrefix dir.now known.prefix known.ranks) }
+{
+    Ok(KnownPrefix {
+        prefix: prefix.copy(alloc)?,
+        ranks: PrefixRanks::of(dir, prefix.bytes()),
+    })
+}
