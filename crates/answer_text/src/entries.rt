@@ -15,7 +15,7 @@ use crate::entry_texts::EntryTexts;
 use crate::escapes::shown;
 use crate::pieces::{push, push_number, push_text};
 use crate::plain::is_plain;
-use bucket_terms::{PageEntry, Record};
+use bucket_terms::{PageEntries, PageEntry, Record};
 use key_names::{Directory, NoMemory};
 
 /// The common prefixes of these entries, and the end of their array.
@@ -23,14 +23,14 @@ pub(crate) fn push_prefixes(
     out: &mut String,
     dir: &Directory,
     url: bool,
-    entries: &[PageEntry],
+    entries: &PageEntries,
 ) -> Result<(), NoMemory>
     requires { All (IsEntryInRange dir.now) entries.now }
     ensures { OnOk result (string_bytes out.new ≡ string_bytes out.old ++ items_text false (items_of (filter_map (prefix_of dir.now url) entries.now))) }
 {
     let mut later = false;
-    for entry in entries {
-        later = push_prefix_of(out, later, dir, url, *entry)?;
+    for place in 0..entries.len() {
+        later = push_prefix_of(out, later, dir, url, entries.at(place))?;
     }
     push(out, "]")
 }
@@ -42,7 +42,7 @@ pub(crate) fn push_contents(
     records: &[Record],
     texts: &EntryTexts,
     url: bool,
-    entries: &[PageEntry],
+    entries: &PageEntries,
 ) -> Result<(), NoMemory>
     requires in_range { All (IsEntryInRange dir.now) entries.now }
     requires recorded { All (HasRecord records.now) entries.now }
@@ -50,8 +50,9 @@ pub(crate) fn push_contents(
     ensures { OnOk result (string_bytes out.new ≡ string_bytes out.old ++ items_text false (items_of (filter_map (content_of dir.now records.now url) entries.now))) }
 {
     let mut later = false;
-    for entry in entries {
-        later = push_content_of(out, later, dir, records, texts, url, *entry)?;
+    for place in 0..entries.len() {
+        let entry = entries.at(place);
+        later = push_content_of(out, later, dir, records, texts, url, entry)?;
     }
     push(out, "]")
 }

@@ -1,11 +1,10 @@
 // The texts of entries that are made once, for the pages that show them.
-ghost use Rattle.std.specs.Prelude.{◌≡◌, ◌++◌, ◌<◌, ℕ, List, [], length, string_bytes, IfOk, IfSome, OnOk};
+ghost use Rattle.std.specs.Prelude.{◌≡◌, ◌++◌, ◌<◌, ◌-◌, ℕ, List, None, length, replicate, IfOk, IfSome, OnOk};
 ghost use Rattle.key_names.specs.Names.{name_at};
 ghost use Rattle.bucket_terms.specs.declared.record.Record.{Record as StoredRecord};
 ghost use Rattle.bucket_terms.specs.PageInRange.{IsEntryInRange};
 ghost use Rattle.answer_text.specs.Lines.{record_at};
-ghost use Rattle.answer_text.specs.InRange.{HasRecord};
-ghost use Rattle.answer_text.specs.EntryTexts.{AreRight, AreWanted, IsRight, later_text};
+ghost use Rattle.answer_text.specs.EntryTexts.{AreRight, AreMadeFrom, IsMadeFor, IsRight, later_text, wanted_with};
 
 use crate::entries::push_content;
 use crate::pieces::push;
@@ -29,41 +28,53 @@ pub(crate) struct EntryText {
     pub(crate) text: String,
 }
 
-/// Which entries' texts are made: at the place of each record the rank of the key with which a page shows it.
-#[derive(Debug, Drop)]
-pub struct WantedTexts {
+/// Which entries' texts are made, of the names of a directory and the records of a session: at the place of each record
+/// the rank of the key with which a page shows it.
+#[derive(Drop)]
+pub struct WantedTexts<'a> {
+    dir: &'a Directory,
+    records: &'a [Record],
     ranks: Vec<Option<u32>>,
 }
 
-impl Model for WantedTexts {
-    ghost use Rattle.std.specs.Prelude.{List, ℕ, Option};
+impl<'a> Model for WantedTexts<'a> {
+    ghost use Rattle.answer_text.specs.EntryTexts.{WantedView, wanted_of, AreWanted};
 
-    ghost Value = { List (Option ℕ) };
+    ghost Value = { WantedView };
 
-    ghost view = { λ w. w.ranks.items };
+    ghost view = { wanted_of };
+
+    ghost invariant = { λ w. AreWanted (wanted_of w) };
 }
 
-impl WantedTexts {
-    /// None yet, and a place for each of so many records.
-    pub fn with_places(alloc: Global, records: usize) -> Result<WantedTexts, NoMemory>
-        ensures { (dir : List (List ℕ)) → IfOk result (AreWanted dir) }
+impl<'a> WantedTexts<'a> {
+    /// None yet, and a place for each record.
+    pub fn none(
+        alloc: Global,
+        dir: &'a Directory,
+        records: &'a [Record],
+    ) -> Result<WantedTexts<'a>, NoMemory>
+        ensures { IfOk result (λ wanted. wanted ≡ record { dir = dir.now; records = records.now; ranks = replicate (length records.now) None }) }
     {
-        let ranks = vec![in alloc; None; records]?;
-        Ok(WantedTexts { ranks })
+        let ranks = vec![in alloc; None; records.len()]?;
+        Ok(WantedTexts {
+            dir,
+            records,
+            ranks,
+        })
     }
 
     /// How many places there are.
     pub fn len(&self) -> usize
-        ensures { result ≡ length self.now }
+        ensures { result ≡ length self.now.records }
     {
         self.ranks.len()
     }
 
     /// Wants the text of a key's entry, where the record has a place and none is wanted there.
-    pub fn want(&mut self, _dir: &Directory, entry: &PageEntry)
-        requires in_range { IsEntryInRange _dir.now entry.now }
-        requires wanted { AreWanted _dir.now self.old }
-        ensures wanted { AreWanted _dir.now self.new }
+    pub fn want(&mut self, entry: &PageEntry)
+        requires { IsEntryInRange self.old.dir entry.now }
+        ensures { self.new ≡ wanted_with self.old entry.now }
     {
         if let PageEntry::Key { rank, val } = *entry {
             let place = val as usize;
@@ -73,38 +84,34 @@ impl WantedTexts {
         }
     }
 
-    /// The texts that are wanted at the places from one on up to another one.
-    pub fn texts(
-        &self,
-        alloc: Global,
-        dir: &Directory,
-        records: &[Record],
-        from: usize,
-        to: usize,
-    ) -> Result<EntryTexts, NoMemory>
-        requires wanted { AreWanted dir.now self.now }
-        ensures right { IfOk result (AreRight dir.now records.now) }
+    /// The texts that are wanted at the places from one on up to another one, one for each place; none behind the last
+    /// record.
+    pub fn texts(&self, alloc: Global, from: usize, to: usize) -> Result<EntryTexts, NoMemory>
+        ensures right { IfOk result (AreRight self.now.dir self.now.records) }
+        ensures count { IfOk result (λ texts. length texts ≡ to - from) }
+        ensures made { IfOk result (AreMadeFrom self.now from) }
     {
         let mut texts = Vec::with_capacity(alloc, to.saturating_sub(from))?;
         for place in from..to {
-            texts.push(self.text_at(alloc, dir, records, place)?)?;
+            texts.push(self.text_at(alloc, place)?)?;
         }
         Ok(EntryTexts { texts })
     }
 
-    fn text_at(
-        &self,
-        alloc: Global,
-        dir: &Directory,
-        records: &[Record],
-        place: usize,
-    ) -> Result<Option<EntryText>, NoMemory>
-        requires wanted { AreWanted dir.now self.now }
-        ensures right { IfOk result (λ text. IfSome text (IsRight dir.now records.now)) }
+    // The text that is wanted at a place.
+    fn text_at(&self, alloc: Global, place: usize) -> Result<Option<EntryText>, NoMemory>
+        ensures right { IfOk result (λ text. IfSome text (IsRight self.now.dir self.now.records)) }
+        ensures made { IfOk result (IsMadeFor self.now place) }
     {
         match self.ranks.get(place) {
-            Some(Some(rank)) if place < records.len() => {
-                let text = made(alloc, dir, records, u64::from(*rank), place as u64)?;
+            Some(Some(rank)) => {
+                let text = made(
+                    alloc,
+                    self.dir,
+                    self.records,
+                    u64::from(*rank),
+                    place as u64,
+                )?;
                 Ok(Some(text))
             }
             _ => Ok(None),
@@ -116,11 +123,11 @@ impl WantedTexts {
 /// that is here; the texts of its other entries are made for the page.
 ///
 /// ```
-/// let mut wanted = WantedTexts::with_places(alloc, records.len())?;
-/// for entry in page.entries.as_slice() {
-///     wanted.want(&dir, entry);
+/// let mut wanted = WantedTexts::none(alloc, &dir, records)?;
+/// for place in 0..page.entries.len() {
+///     wanted.want(&page.entries.at(place));
 /// }
-/// let texts = wanted.texts(alloc, &dir, records, 0, wanted.len())?;
+/// let texts = wanted.texts(alloc, 0, wanted.len())?;
 /// push_known_line(&mut line, &dir, records, &texts, &placed)?;
 /// ```
 #[derive(Debug, Drop)]
@@ -179,7 +186,8 @@ fn made(
 ) -> Result<EntryText, NoMemory>
     requires ranked { rank < length dir.now }
     requires recorded { val < length records.now }
-    ensures { IfOk result (IsRight dir.now records.now) }
+    ensures right { IfOk result (IsRight dir.now records.now) }
+    ensures of { IfOk result (λ text. (text.rank ≡ rank) × (text.val ≡ val)) }
 {
     let key = dir.name(rank).as_str();
     let stored = &records[val as usize];

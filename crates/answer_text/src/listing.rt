@@ -53,11 +53,10 @@ pub(crate) fn push_entries(
     ensures { OnOk result (string_bytes out.new ≡ string_bytes out.old
         ++ spec.entries_text (filter_map (prefix_of dir.now url) page.now.entries) (filter_map (content_of dir.now records.now url) page.now.entries)) }
 {
-    let entries = page.entries.as_slice();
     push(out, ",\"CommonPrefixes\":[")?;
-    push_prefixes(out, dir, url, entries)?;
+    push_prefixes(out, dir, url, &page.entries)?;
     push(out, ",\"Contents\":[")?;
-    push_contents(out, dir, records, texts, url, entries)
+    push_contents(out, dir, records, texts, url, &page.entries)
 }
 
 // The members from `ContinuationToken` to `EncodingType`. A token is never escaped.
@@ -90,7 +89,7 @@ fn push_size(
     ensures { OnOk result (string_bytes out.new ≡ string_bytes out.old ++ spec.size_text placed.now.line query.now page.now.truncated (length page.now.entries)) }
 {
     push_truth(out, ",\"IsTruncated\":", page.truncated)?;
-    push_number(out, ",\"KeyCount\":", page.entries.as_slice().len() as u64)?;
+    push_number(out, ",\"KeyCount\":", page.entries.len() as u64)?;
     push_number(out, ",\"Line\":", u64::from(placed.line))?;
     push_number(out, ",\"MaxKeys\":", u64::from(query.max_keys))
 }

@@ -1,10 +1,9 @@
 // A page of a listing, in ranks of names: no text is copied to make one.
-use crate::TokenPoint;
-use key_map::Items;
+use crate::{PageEntries, TokenPoint};
 use key_names::{Directory, NoMemory, Text};
 use std::alloc::Global;
 
-/// One return of a listing. It takes 16 bytes: a page may have 1,000, and a rank has 32 bits in every directory.
+/// One return of a listing. It takes 16 bytes, and a rank has 32 bits in every directory; `PageEntries` keeps most in 8.
 #[derive(Clone, Copy, Debug, PartialEq, Eq)]
 pub enum PageEntry {
     /// A key, by the rank of its name, with its value.
@@ -43,7 +42,7 @@ impl PageEntry {
 /// A page of a listing: its entries, at most 1,000, and whether it has some and more are left behind them.
 #[derive(Debug, Drop)]
 pub struct Page {
-    pub entries: Items<PageEntry>,
+    pub entries: PageEntries,
     pub truncated: bool,
 }
 
@@ -64,7 +63,7 @@ impl Page {
         if !self.truncated {
             return Ok(None);
         }
-        match self.entries.as_slice().last() {
+        match self.entries.last() {
             Some(entry) => Ok(Some(entry.point(alloc, dir)?)),
             None => Ok(None),
         }

@@ -4,34 +4,31 @@ ghost use Rattle.std.specs.Option.{option_copied};
 ghost use Rattle.key_map.specs.History.{after};
 ghost use Rattle.bucket_terms.specs.Listing.{page_of};
 ghost use Rattle.bucket_terms.specs.PageInRange.{IsInRange};
-ghost use Rattle.page_rules.specs.PrefixRanks.{AreKnown};
 ghost use Rattle.client_run.specs.Listing.{ListedAt, LookedOnly};
 
 use bucket_terms::{KeyPass, ListQuery, Page, TokenPoint};
-use key_names::{Directory, NoMemory};
+use key_names::NoMemory;
 use page_rules::{KnownPrefixes, PageCursor};
 use std::alloc::Global;
 use std::sync::Wait;
 
 /// The page of a query, from a point on, in one snapshot, and the place of the snapshot. After both answers
-/// no snapshot is open. `known` may spare the searches for the prefix.
+/// no snapshot is open. A known prefix spares the searches for it.
 pub fn list<P: KeyPass, Rt: Wait>(
     rt: &Rt,
     alloc: Global,
     pass: &mut P,
-    dir: &Directory,
-    known: &KnownPrefixes,
+    known: &KnownPrefixes<'_>,
     query: &ListQuery,
     point: Option<&TokenPoint>,
 ) -> Result<(u64, Page), NoMemory>
     requires closed { (P.view pass.old).opened ≡ None }
-    requires known { AreKnown dir.now known.now }
-    ensures listed { IfOk result (λ answer. ListedAt dir.now query.now (option_copied point.entry) (P.view pass.old) (P.view pass.new) answer.0 answer.1) }
+    ensures listed { IfOk result (λ answer. ListedAt known.now query.now (option_copied point.entry) (P.view pass.old) (P.view pass.new) answer.0 answer.1) }
     ensures kept { LookedOnly (P.view pass.old) (P.view pass.new) }
     ensures home { P.home pass.new ≡ P.home pass.old }
 {
     let at = pass.begin();
-    let page = page_in(rt, alloc, pass, dir, known, query, point);
+    let page = page_in(rt, alloc, pass, known, query, point);
     pass.end();
     match page {
         Ok(page) => Ok((at, page)),
@@ -44,21 +41,18 @@ fn page_in<P: KeyPass, Rt: Wait>(
     rt: &Rt,
     alloc: Global,
     pass: &mut P,
-    dir: &Directory,
-    known: &KnownPrefixes,
+    known: &KnownPrefixes<'_>,
     query: &ListQuery,
     point: Option<&TokenPoint>,
 ) -> Result<Page, NoMemory>
     requires open { IsSome (P.view pass.old).opened }
-    requires known { AreKnown dir.now known.now }
     ensures page { IfOk result (λ page. (at : ℕ) → (P.view pass.old).opened ≡ Some at
-        → page ≡ page_of dir.now query.now (option_copied point.entry) (after (P.view pass.old).seen at)) }
-    ensures in_range { IfOk result (IsInRange dir.now) }
+        → page ≡ page_of known.now query.now (option_copied point.entry) (after (P.view pass.old).seen at)) }
+    ensures in_range { IfOk result (IsInRange known.now) }
     ensures same { P.view pass.new ≡ P.view pass.old }
     ensures home { P.home pass.new ≡ P.home pass.old }
 {
-    let ranks = known.ranks(&query.prefix);
-    let mut cursor = PageCursor::new(alloc, dir, query, point, ranks);
+    let mut cursor = PageCursor::of_known(alloc, known, query, point);
     while let Some(rank) = cursor.next_rank() {
         match pass.next_from(rt, rank) {
             Some(pair) => cursor.take(alloc, pair)?,

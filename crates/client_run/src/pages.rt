@@ -6,7 +6,6 @@ ghost use Rattle.bucket_terms.specs.declared.reply.Reply.{Reply};
 ghost use Rattle.bucket_terms.specs.Listing.{page_point};
 ghost use Rattle.bucket_terms.specs.PageInRange.{IsInRange};
 ghost use Rattle.bucket_terms.specs.LegalRun.{Resumed, next_of};
-ghost use Rattle.page_rules.specs.PrefixRanks.{AreKnown};
 ghost use Rattle.client_run.specs.ClientRun.{answered, Answers, Stopped};
 ghost use Rattle.client_run.specs.Listing.{HasPageInRange, ListedAs};
 ghost use Rattle.client_run.specs.Starts.{IsStartOf, IsStartBehind, resumed, resumed_at};
@@ -137,26 +136,24 @@ pub(crate) fn list_request<P: KeyPass, Rt: Wait>(
     rt: &Rt,
     alloc: Global,
     pass: &mut P,
-    dir: &Directory,
-    known: &KnownPrefixes,
+    known: &KnownPrefixes<'_>,
     line: u32,
     query: &Shared<ListQuery>,
 ) -> Result<Placed, NoMemory>
     requires closed { (P.view pass.old).opened ≡ None }
-    requires known { AreKnown dir.now known.now }
-    ensures answers { IfOk result (λ placed. (last : Option Reply) → Answers dir.now (P.view pass.old) (P.view pass.new) last (answered line (ListRequest query.now) placed)) }
-    ensures in_range { IfOk result (λ placed. HasPageInRange dir.now placed.reply) }
+    ensures answers { IfOk result (λ placed. (last : Option Reply) → Answers known.now (P.view pass.old) (P.view pass.new) last (answered line (ListRequest query.now) placed)) }
+    ensures in_range { IfOk result (λ placed. HasPageInRange known.now placed.reply) }
     ensures stopped { OnErr result (Stopped (P.view pass.old) (P.view pass.new)) }
     ensures home { P.home pass.new ≡ P.home pass.old }
 {
     match start_of(alloc, query.get())? {
         Start::First => {
             let query = query.share()?;
-            listed(rt, alloc, pass, dir, known, line, query, None)
+            listed(rt, alloc, pass, known, line, query, None)
         }
         Start::Behind(point) => {
             let query = query.share()?;
-            listed(rt, alloc, pass, dir, known, line, query, Some(point))
+            listed(rt, alloc, pass, known, line, query, Some(point))
         }
         Start::Bad => Ok(refused(pass.client(), line, Reply::BadToken)),
     }
@@ -167,24 +164,22 @@ pub(crate) fn next_request<P: KeyPass, Rt: Wait>(
     rt: &Rt,
     alloc: Global,
     pass: &mut P,
-    dir: &Directory,
-    known: &KnownPrefixes,
+    known: &KnownPrefixes<'_>,
     line: u32,
     last: Option<&Reply>,
 ) -> Result<Placed, NoMemory>
     requires closed { (P.view pass.old).opened ≡ None }
-    requires known { AreKnown dir.now known.now }
-    requires in_range { ForSome (option_copied last) (HasPageInRange dir.now) }
-    ensures answers { IfOk result (λ placed. Answers dir.now (P.view pass.old) (P.view pass.new) (option_copied last.entry) (answered line Next placed)) }
-    ensures in_range { IfOk result (λ placed. HasPageInRange dir.now placed.reply) }
+    requires in_range { ForSome (option_copied last) (HasPageInRange known.now) }
+    ensures answers { IfOk result (λ placed. Answers known.now (P.view pass.old) (P.view pass.new) (option_copied last.entry) (answered line Next placed)) }
+    ensures in_range { IfOk result (λ placed. HasPageInRange known.now placed.reply) }
     ensures stopped { OnErr result (Stopped (P.view pass.old) (P.view pass.new)) }
     ensures home { P.home pass.new ≡ P.home pass.old }
 {
-    match resume(alloc, dir, last)? {
+    match resume(alloc, known.directory(), last)? {
         Some(next) => {
             let Resumption { query, point } = next;
             let query = Shared::new(alloc, query)?;
-            listed(rt, alloc, pass, dir, known, line, query, Some(point))
+            listed(rt, alloc, pass, known, line, query, Some(point))
         }
         None => Ok(refused(pass.client(), line, Reply::BadToken)),
     }
@@ -195,19 +190,17 @@ fn listed<P: KeyPass, Rt: Wait>(
     rt: &Rt,
     alloc: Global,
     pass: &mut P,
-    dir: &Directory,
-    known: &KnownPrefixes,
+    known: &KnownPrefixes<'_>,
     line: u32,
     query: Shared<ListQuery>,
     point: Option<TokenPoint>,
 ) -> Result<Placed, NoMemory>
     requires closed { (P.view pass.old).opened ≡ None }
-    requires known { AreKnown dir.now known.now }
-    ensures answer { IfOk result (ListedAs dir.now query point line (P.view pass.old) (P.view pass.new)) }
+    ensures answer { IfOk result (ListedAs known.now query point line (P.view pass.old) (P.view pass.new)) }
     ensures stopped { OnErr result (Stopped (P.view pass.old) (P.view pass.new)) }
     ensures home { P.home pass.new ≡ P.home pass.old }
 {
     let client = pass.client();
-    let (at, page) = list(rt, alloc, pass, dir, known, query.get(), point.as_ref())?;
+    let (at, page) = list(rt, alloc, pass, known, query.get(), point.as_ref())?;
     Ok(answer_at(client, line, at, Reply::Listed { query, page }))
 }

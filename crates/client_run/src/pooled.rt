@@ -8,7 +8,6 @@ ghost use Rattle.request_lines.specs.Session.{request_line, request_lines};
 ghost use Rattle.request_lines.specs.SessionLaws.{IsAskable, Rise};
 ghost use Rattle.slot_depot.specs.Depots.{IsSameSeat, IsSeatOf};
 ghost use Rattle.client_run.specs.Listing.{HasPageInRange};
-ghost use Rattle.page_rules.specs.PrefixRanks.{AreKnown};
 ghost use Rattle.client_run.specs.ClientRun.{IsLaterLine, Stopped};
 ghost use Rattle.client_run.specs.Pooling.{AnswersPooled, HasGrown, RanPooled};
 
@@ -63,7 +62,6 @@ pub fn run_pooled<P: PoolPass, G: Gate, Rt: Wait>(
             rt,
             alloc,
             pass,
-            dir,
             &known,
             asked,
             hint,
@@ -84,8 +82,7 @@ fn answer_pooled<P: PoolPass, Rt: Wait>(
     rt: &Rt,
     alloc: Global,
     pass: &mut P,
-    dir: &Directory,
-    known: &KnownPrefixes,
+    known: &KnownPrefixes<'_>,
     asked: &Asked,
     hint: usize,
     last: Option<&Reply>,
@@ -94,26 +91,25 @@ fn answer_pooled<P: PoolPass, Rt: Wait>(
     own: u32,
 ) -> Result<Placed, NoMemory>
     requires closed { (P.view pass.old).opened ≡ None }
-    requires known { AreKnown dir.now known.now }
-    requires askable { IsAskable dir.now (request_line asked.now) }
+    requires askable { IsAskable known.now (request_line asked.now) }
     requires calls { updates_in (request_line asked.now ∷ []) ≤ (P.view pass.old).left }
     requires later { IsLaterLine (P.view pass.old) asked.now.line }
     requires knows { KnowsOwn (P.view pass.old) }
-    requires in_range { ForSome (option_copied last) (HasPageInRange dir.now) }
+    requires in_range { ForSome (option_copied last) (HasPageInRange known.now) }
     requires seat { IsSeatOf depot.now seat.old }
     requires of { seat.old.book.terms.home ≡ P.home pass.old }
-    ensures answers { IfOk result (λ placed. AnswersPooled dir.now own (P.view pass.old) (P.view pass.new) (P.free_nodes pass.new) (option_copied last.entry) (record { asked = request_line asked.now; placed = placed }) seat.old.book seat.new.book) }
-    ensures in_range { IfOk result (λ placed. HasPageInRange dir.now placed.reply) }
+    ensures answers { IfOk result (λ placed. AnswersPooled known.now own (P.view pass.old) (P.view pass.new) (P.free_nodes pass.new) (option_copied last.entry) (record { asked = request_line asked.now; placed = placed }) seat.old.book seat.new.book) }
+    ensures in_range { IfOk result (λ placed. HasPageInRange known.now placed.reply) }
     ensures stopped { OnErr result (Stopped (P.view pass.old) (P.view pass.new)) }
     ensures grown { HasGrown seat.old.book seat.new.book }
     ensures seat { IsSameSeat seat.old seat.new }
     ensures home { P.home pass.new ≡ P.home pass.old }
 {
     if !is_update(&asked.request) {
-        return answer(rt, alloc, pass, dir, known, asked, hint, last);
+        return answer(rt, alloc, pass, known, asked, hint, last);
     }
     top_up(rt, pass, depot, seat);
-    let placed = answer(rt, alloc, pass, dir, known, asked, hint, last)?;
+    let placed = answer(rt, alloc, pass, known, asked, hint, last)?;
     hand_over(rt, pass, depot, seat, own);
     Ok(placed)
 }

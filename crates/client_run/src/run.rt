@@ -5,7 +5,6 @@ ghost use Rattle.bucket_terms.specs.LegalRun.{RequestLine, is_listing};
 ghost use Rattle.bucket_terms.specs.RunParts.{updates_in};
 ghost use Rattle.request_lines.specs.Session.{request_line, request_lines};
 ghost use Rattle.client_run.specs.Listing.{HasPageInRange};
-ghost use Rattle.page_rules.specs.PrefixRanks.{AreKnown};
 ghost use Rattle.client_run.specs.ClientRun.{Answers, RanClient, IsLaterLine, Stopped};
 ghost use Rattle.request_lines.specs.SessionLaws.{IsAskable, Rise};
 
@@ -46,7 +45,7 @@ pub fn run_client<P: KeyPass, G: Gate, Rt: Wait>(
         let hint = part.requests.rank(place);
         let last_reply = reply_at(&replies, last);
         gate.before(client, asked.line);
-        let placed = answer(rt, alloc, pass, dir, &known, asked, hint, last_reply)?;
+        let placed = answer(rt, alloc, pass, &known, asked, hint, last_reply)?;
         gate.after(client, asked.line);
         last = later_listing(last, &asked.request, place);
         replies.push(placed)?;
@@ -54,19 +53,19 @@ pub fn run_client<P: KeyPass, G: Gate, Rt: Wait>(
     Ok(replies)
 }
 
-/// The ranks of the prefixes that the client's listings name: each is looked for once.
-pub(crate) fn known_prefixes(
+/// The directory, with the ranks of the prefixes that the client's listings name: each is looked for once.
+pub(crate) fn known_prefixes<'a>(
     alloc: Global,
-    dir: &Directory,
+    dir: &'a Directory,
     part: &ClientPart,
-) -> Result<KnownPrefixes, NoMemory>
-    ensures { IfOk result (AreKnown dir.now) }
+) -> Result<KnownPrefixes<'a>, NoMemory>
+    ensures { IfOk result (λ known. known ≡ dir.now) }
 {
-    let mut known = KnownPrefixes::none(alloc);
+    let mut known = KnownPrefixes::none(alloc, dir);
     for asked in part.requests.as_slice() {
         match &asked.request {
-            Request::List(query) => known.note(alloc, dir, &query.get().prefix)?,
-            Request::ListV1(query) => known.note(alloc, dir, &query.get().prefix)?,
+            Request::List(query) => known.note(alloc, &query.get().prefix)?,
+            Request::ListV1(query) => known.note(alloc, &query.get().prefix)?,
             _ => (),
         }
     }
@@ -78,23 +77,22 @@ pub(crate) fn answer<P: KeyPass, Rt: Wait>(
     rt: &Rt,
     alloc: Global,
     pass: &mut P,
-    dir: &Directory,
-    known: &KnownPrefixes,
+    known: &KnownPrefixes<'_>,
     asked: &Asked,
     hint: usize,
     last: Option<&Reply>,
 ) -> Result<Placed, NoMemory>
     requires closed { (P.view pass.old).opened ≡ None }
-    requires known { AreKnown dir.now known.now }
-    requires askable { IsAskable dir.now (request_line asked.now) }
+    requires askable { IsAskable known.now (request_line asked.now) }
     requires calls { updates_in (request_line asked.now ∷ []) ≤ (P.view pass.old).left }
     requires later { IsLaterLine (P.view pass.old) asked.now.line }
-    requires in_range { ForSome (option_copied last) (HasPageInRange dir.now) }
-    ensures answers { IfOk result (λ placed. Answers dir.now (P.view pass.old) (P.view pass.new) (option_copied last.entry) (record { asked = request_line asked.now; placed = placed })) }
-    ensures in_range { IfOk result (λ placed. HasPageInRange dir.now placed.reply) }
+    requires in_range { ForSome (option_copied last) (HasPageInRange known.now) }
+    ensures answers { IfOk result (λ placed. Answers known.now (P.view pass.old) (P.view pass.new) (option_copied last.entry) (record { asked = request_line asked.now; placed = placed })) }
+    ensures in_range { IfOk result (λ placed. HasPageInRange known.now placed.reply) }
     ensures stopped { OnErr result (Stopped (P.view pass.old) (P.view pass.new)) }
     ensures home { P.home pass.new ≡ P.home pass.old }
 {
+    let dir = known.directory();
     match &asked.request {
         Request::Put { name, val } => {
             Ok(updates::put(rt, pass, dir, asked.line, name, hint, *val))
@@ -104,13 +102,11 @@ pub(crate) fn answer<P: KeyPass, Rt: Wait>(
         }
         Request::Delete { name } => Ok(updates::delete(rt, pass, dir, asked.line, name, hint)),
         Request::Head { name } => Ok(updates::head(rt, pass, dir, asked.line, name, hint)),
-        Request::List(query) => {
-            pages::list_request(rt, alloc, pass, dir, known, asked.line, query)
-        },
+        Request::List(query) => { pages::list_request(rt, alloc, pass, known, asked.line, query) },
         Request::ListV1(query) => {
-            v1_pages::v1_request(rt, alloc, pass, dir, known, asked.line, query)
+            v1_pages::v1_request(rt, alloc, pass, known, asked.line, query)
         },
-        Request::Next => pages::next_request(rt, alloc, pass, dir, known, asked.line, last),
+        Request::Next => pages::next_request(rt, alloc, pass, known, asked.line, last),
     }
 }
 

@@ -2,14 +2,13 @@
 ghost use Rattle.std.specs.Prelude.{◌≡◌, None, Option, IfOk, OnErr};
 ghost use Rattle.bucket_terms.specs.declared.request.Request.TheVariants.{ListV1};
 ghost use Rattle.bucket_terms.specs.declared.reply.Reply.{Reply};
-ghost use Rattle.page_rules.specs.PrefixRanks.{AreKnown};
 ghost use Rattle.client_run.specs.ClientRun.{answered, Answers, Stopped};
 ghost use Rattle.client_run.specs.Listing.{HasPageInRange, ListedV1As};
 
 use crate::list;
 use crate::updates::answer_at;
 use bucket_terms::{KeyPass, ListQuery, Placed, Reply, Shared, TokenPoint, V1Query};
-use key_names::{Directory, NoMemory};
+use key_names::NoMemory;
 use list_v1::{plain_query, point_of};
 use page_rules::KnownPrefixes;
 use std::alloc::Global;
@@ -20,15 +19,13 @@ pub(crate) fn v1_request<P: KeyPass, Rt: Wait>(
     rt: &Rt,
     alloc: Global,
     pass: &mut P,
-    dir: &Directory,
-    known: &KnownPrefixes,
+    known: &KnownPrefixes<'_>,
     line: u32,
     query: &Shared<V1Query>,
 ) -> Result<Placed, NoMemory>
     requires closed { (P.view pass.old).opened ≡ None }
-    requires known { AreKnown dir.now known.now }
-    ensures answers { IfOk result (λ placed. (last : Option Reply) → Answers dir.now (P.view pass.old) (P.view pass.new) last (answered line (ListV1 query.now) placed)) }
-    ensures in_range { IfOk result (λ placed. HasPageInRange dir.now placed.reply) }
+    ensures answers { IfOk result (λ placed. (last : Option Reply) → Answers known.now (P.view pass.old) (P.view pass.new) last (answered line (ListV1 query.now) placed)) }
+    ensures in_range { IfOk result (λ placed. HasPageInRange known.now placed.reply) }
     ensures stopped { OnErr result (Stopped (P.view pass.old) (P.view pass.new)) }
     ensures home { P.home pass.new ≡ P.home pass.old }
 {
@@ -36,7 +33,7 @@ pub(crate) fn v1_request<P: KeyPass, Rt: Wait>(
     let plain = plain_query(alloc, asked)?;
     let point = point_of(alloc, asked)?;
     let shown = query.share()?;
-    listed_v1(rt, alloc, pass, dir, known, line, shown, plain, point)
+    listed_v1(rt, alloc, pass, known, line, shown, plain, point)
 }
 
 // The reply that shows the query, with the page of the plain one, from a point on.
@@ -44,20 +41,18 @@ fn listed_v1<P: KeyPass, Rt: Wait>(
     rt: &Rt,
     alloc: Global,
     pass: &mut P,
-    dir: &Directory,
-    known: &KnownPrefixes,
+    known: &KnownPrefixes<'_>,
     line: u32,
     query: Shared<V1Query>,
     plain: ListQuery,
     point: Option<TokenPoint>,
 ) -> Result<Placed, NoMemory>
     requires closed { (P.view pass.old).opened ≡ None }
-    requires known { AreKnown dir.now known.now }
-    ensures answer { IfOk result (ListedV1As dir.now query plain point line (P.view pass.old) (P.view pass.new)) }
+    ensures answer { IfOk result (ListedV1As known.now query plain point line (P.view pass.old) (P.view pass.new)) }
     ensures stopped { OnErr result (Stopped (P.view pass.old) (P.view pass.new)) }
     ensures home { P.home pass.new ≡ P.home pass.old }
 {
     let client = pass.client();
-    let (at, page) = list(rt, alloc, pass, dir, known, &plain, point.as_ref())?;
+    let (at, page) = list(rt, alloc, pass, known, &plain, point.as_ref())?;
     Ok(answer_at(client, line, at, Reply::ListedV1 { query, page }))
 }

@@ -6,6 +6,7 @@ ghost use Rattle.shared_index.specs.Keys.{AreAllKeys, AreFresh};
 ghost use Rattle.client_threads.specs.ClientSlots.{IsNamable};
 ghost use Rattle.client_threads.specs.Sizes as spec;
 
+use crate::room::make_index_room;
 use key_map::PassSize;
 use key_names::NoMemory;
 use request_lines::ClientPart;
@@ -26,6 +27,10 @@ pub fn open_index(
     ensures fresh { IfOk result (λ opened. AreFresh 0 (spec.sizes_of slots clients.now) opened.1.items) }
 {
     let sizes = sizes_of(alloc, slots, clients)?;
+    // A client that is alone runs on this thread, and there alone what the opening gives back is allocated again.
+    if sizes.len() == 1 {
+        make_index_room(alloc, &sizes);
+    }
     match SharedIndex::open(alloc, &sizes) {
         Ok(opened) => Ok(opened),
         Err(OpenError::NoMemory) => Err(NoMemory),

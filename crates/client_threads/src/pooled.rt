@@ -12,7 +12,7 @@ ghost use Rattle.client_threads.specs.Runs.{CanRunEach, parts_of};
 ghost use Rattle.client_threads.specs.Threads.{CameOf};
 
 use crate::parts::{RanPart, take_apart};
-use crate::room::make_room;
+use crate::room::make_client_room;
 use bucket_terms::{KeyPass, Placed, PoolPass};
 use client_run::{Gate, run_pooled};
 use fork_join::map_vec;
@@ -152,7 +152,7 @@ fn pool_job<G: Gate, Rt: Wait>(
     let SeatedKey { key, mut seat } = job;
     let mut pass = index.attach(key);
     let part = &parts[pass.client() as usize];
-    make_room(alloc);
+    make_client_room(alloc);
     let replies = run_pooled(rt, alloc, &mut pass, part, dir, gate, depot, &mut seat, own)?;
     Ok(RanPart {
         key: pass.detach(),

@@ -9,7 +9,7 @@ ghost use Rattle.bucket_terms.specs.LegalRun.{lines_of};
 
 use crate::parts::{RanPart, take_apart};
 use crate::pooled::pool_each;
-use crate::room::make_room;
+use crate::room::make_client_room;
 use crate::runner::Runner;
 use bucket_terms::{KeyPass, Placed};
 use client_run::{Gate, OpenGate, run_client};
@@ -220,7 +220,7 @@ fn run_key<G: Gate, Rt: Wait>(
 {
     let mut pass = index.attach(key);
     let part = &parts[pass.client() as usize];
-    make_room(alloc);
+    make_client_room(alloc);
     let replies = run_client(rt, alloc, &mut pass, part, dir, gate)?;
     Ok(RanPart {
         key: pass.detach(),

@@ -9,7 +9,7 @@ use Rattle.page_rules.specs.PrefixRanks.{AreListed}
 use Rattle.page_rules.specs.declared.cursor.PageCursor.TheInside.{Inside}
 
 abbrev pub view_of : Inside → CursorView
-view_of c = record { dir = c.dir.now; query = c.query.now; entries = c.entries.items; next = c.next; truncated = c.truncated }
+view_of c = record { dir = c.dir.now; query = c.query.now; entries = c.entries; next = c.next; truncated = c.truncated }
 
 -- a page that is not settled: it may have entries, and no name from the next rank on is below the prefix
 pub record IsOpenAt (v : CursorView) (rank : ℕ) : Type 0 where

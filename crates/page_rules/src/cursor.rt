@@ -3,11 +3,12 @@
 ghost use Rattle.std.specs.Prelude.{◌≡◌, ◌++◌, ◌∷◌, [], OnOk, OnErr};
 ghost use Rattle.page_rules.specs.PrefixRanks.{AreListed};
 
+use crate::known_prefixes::KnownPrefixes;
 use crate::prefix_ranks::PrefixRanks;
 use crate::resume::{first_rank, rank_behind};
 use crate::rules::{entry_of, is_under};
-use bucket_terms::{ListQuery, Page, PageEntry, TokenPoint};
-use key_map::{Items, Pair};
+use bucket_terms::{ListQuery, Page, PageEntries, TokenPoint};
+use key_map::Pair;
 use key_names::{Directory, NoMemory};
 use std::alloc::Global;
 use std::marker::Model;
@@ -17,7 +18,7 @@ use std::marker::Model;
 ///
 /// ```
 /// // the page of a query from the pairs of a sorted list; of another map, its first pair from `rank` on
-/// let mut cursor = PageCursor::new(alloc, &dir, &query, None, None);
+/// let mut cursor = PageCursor::new(alloc, &dir, &query, None);
 /// while let Some(rank) = cursor.next_rank() {
 ///     match first_from(pairs, rank) {
 ///         Some(pair) => cursor.take(alloc, pair)?,
@@ -30,7 +31,7 @@ use std::marker::Model;
 pub struct PageCursor<'a> {
     dir: &'a Directory,
     query: &'a ListQuery,
-    entries: Vec<PageEntry>,
+    entries: PageEntries,
     next: Option<u64>,
     truncated: bool,
     // Where the listed names stand: from the start where the caller knows it, else once the page has so many entries that
@@ -63,9 +64,35 @@ impl<'a> PageCursor<'a> {
     ghost use Rattle.bucket_terms.specs.PageInRange.{IsInRange};
     ghost use Rattle.page_rules.specs.Cursor.{IsNew, IsOnWay, IsOver, Took, page_so_far};
 
-    /// A cursor for the page of the query, from a point on; `ranks` are those of the names with the query's prefix, where
-    /// the caller knows them. It takes no memory yet.
+    /// A cursor for the page of the query on the names of a directory, from a point on. It takes no memory yet.
     pub fn new(
+        alloc: Global,
+        dir: &'a Directory,
+        query: &'a ListQuery,
+        point: Option<&TokenPoint>,
+    ) -> PageCursor<'a>
+        ensures start { IsNew result dir.now query.now (option_copied point.entry) }
+        ensures on_way { (m : List Pair) → IsOnWay result (option_copied point.entry) m }
+    {
+        PageCursor::begun(alloc, dir, query, point, None)
+    }
+
+    /// As `new`, on the names of the directory whose prefixes are known: a known one is not searched for.
+    pub fn of_known(
+        alloc: Global,
+        known: &KnownPrefixes<'a>,
+        query: &'a ListQuery,
+        point: Option<&TokenPoint>,
+    ) -> PageCursor<'a>
+        ensures start { IsNew result known.now query.now (option_copied point.entry) }
+        ensures on_way { (m : List Pair) → IsOnWay result (option_copied point.entry) m }
+    {
+        let ranks = known.ranks(&query.prefix);
+        PageCursor::begun(alloc, known.directory(), query, point, ranks)
+    }
+
+    // A cursor that has taken no pair; `ranks` are those of the names with the query's prefix, where they are known.
+    fn begun(
         alloc: Global,
         dir: &'a Directory,
         query: &'a ListQuery,
@@ -84,7 +111,7 @@ impl<'a> PageCursor<'a> {
         PageCursor {
             dir,
             query,
-            entries: Vec::new(alloc),
+            entries: PageEntries::new(alloc),
             next,
             truncated: false,
             ranks,
@@ -115,7 +142,7 @@ impl<'a> PageCursor<'a> {
         } else if self.entries.len() < self.query.max_keys as usize {
             let entry = entry_of(self.dir, self.query, &pair);
             let most = self.query.max_keys as usize;
-            push_entry(&mut self.entries, entry, most.min(self.dir.len() as usize))?;
+            self.entries.push(entry, most.min(self.dir.len() as usize))?;
             self.next = Some(rank_behind(self.dir, self.query, &entry));
             self.ranks = later_ranks(self.dir, self.query, self.ranks, self.entries.len());
         } else {
@@ -147,7 +174,7 @@ impl<'a> PageCursor<'a> {
         let mut entries = self.entries;
         entries.shrink_to_fit();
         Page {
-            entries: Items::from_vec(entries),
+            entries,
             truncated: self.truncated,
         }
     }
@@ -168,18 +195,4 @@ fn later_ranks(
         return Some(PrefixRanks::of(dir, query.prefix.bytes()));
     }
     ranks
-}
-
-// Adds an entry. The first one takes room for as many as there will be at most, so that the entries are not moved as they
-// become more; what is left of it is given back with the page.
-#[inline(always)]
-fn push_entry(entries: &mut Vec<PageEntry>, entry: PageEntry, most: usize) -> Result<(), NoMemory>
-    ensures ok { OnOk result (entries.new.items ≡ entries.old.items ++ entry ∷ []) }
-    ensures err { OnErr result (entries.new.items ≡ entries.old.items) }
-{
-    if entries.is_empty() {
-        entries.reserve_exact(most)?;
-    }
-    entries.push(entry)?;
-    Ok(())
 }

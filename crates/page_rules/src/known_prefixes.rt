@@ -1,5 +1,5 @@
 // Prefixes whose ranks were looked for.
-ghost use Rattle.std.specs.Prelude.{ℕ, List, OnOk, IfOk, IfSome};
+ghost use Rattle.std.specs.Prelude.{◌≡◌, ℕ, List, IfOk, IfSome};
 ghost use Rattle.page_rules.specs.PrefixRanks.{AreOfPrefix, AreKnown};
 
 use crate::prefix_ranks::PrefixRanks;
@@ -11,10 +11,12 @@ use std::marker::Model;
 /// How many places there are for prefixes.
 const PLACES: usize = 1024;
 
-/// The ranks of prefixes in one directory, in a table of fixed size. Where a prefix has the place of another one that
-/// was noted before it, it is not kept: then its ranks are looked for as if there were no table.
+/// A directory, and the ranks of prefixes in it, in a table of fixed size. Where a prefix has the place of another one
+/// that was noted before it, it is not kept: then its ranks are looked for as if there were no table. Contracts see the
+/// names of the directory.
 #[derive(Drop)]
-pub struct KnownPrefixes {
+pub struct KnownPrefixes<'a> {
+    dir: &'a Directory,
     // No place before the first prefix.
     places: Vec<Option<KnownPrefix>>,
 }
@@ -26,45 +28,54 @@ pub(crate) struct KnownPrefix {
     ranks: PrefixRanks,
 }
 
-impl Model for KnownPrefixes {
-    ghost use Rattle.std.specs.Prelude.{List, Option};
-    ghost use Rattle.page_rules.specs.declared.known_prefixes.KnownPrefix.{KnownPrefix};
+impl<'a> Model for KnownPrefixes<'a> {
+    ghost use Rattle.std.specs.Prelude.{List, ℕ};
+    ghost use Rattle.page_rules.specs.PrefixRanks.{AreKnown};
     ghost use Rattle.page_rules.specs.declared.known_prefixes.KnownPrefixes.TheInside.{Inside};
 
-    ghost Value = { List (Option KnownPrefix) };
+    ghost Value = { List (List ℕ) };
 
-    ghost view = { λ (k : Inside). k.places.items };
+    ghost view = { λ (k : Inside). k.dir.now };
+
+    ghost invariant = { λ (k : Inside). AreKnown k.dir.now k.places.items };
 }
 
-impl KnownPrefixes {
-    /// No prefix is known. It takes no memory.
-    pub fn none(alloc: Global) -> KnownPrefixes
-        ensures { (dir : List (List ℕ)) → AreKnown dir result }
+impl<'a> KnownPrefixes<'a> {
+    /// The directory, and no known prefix. It takes no memory.
+    pub fn none(alloc: Global, dir: &'a Directory) -> KnownPrefixes<'a>
+        ensures { result ≡ dir.now }
     {
         KnownPrefixes {
+            dir,
             places: Vec::new(alloc),
         }
     }
 
+    /// The directory.
+    pub fn directory(&self) -> &'a Directory
+        ensures { result.now ≡ self.now }
+    {
+        self.dir
+    }
+
     /// Looks for the ranks of a prefix and keeps them, where its place is free. The first call takes the memory of
     /// the table.
-    pub fn note(&mut self, alloc: Global, dir: &Directory, prefix: &Text) -> Result<(), NoMemory>
-        requires { AreKnown dir.now self.old }
-        ensures { OnOk result (AreKnown dir.now self.new) }
+    pub fn note(&mut self, alloc: Global, prefix: &Text) -> Result<(), NoMemory>
+        ensures { self.new ≡ self.old }
     {
         if self.places.is_empty() {
             self.places = free_places(alloc)?;
         }
         let place = place_of(prefix);
         if place < self.places.len() && self.places[place].is_none() {
-            self.places[place] = Some(looked_for(alloc, dir, prefix)?);
+            self.places[place] = Some(looked_for(alloc, self.dir, prefix)?);
         }
         Ok(())
     }
 
     /// The ranks of the names that begin with the prefix: None where it was not kept.
     pub fn ranks(&self, prefix: &Text) -> Option<PrefixRanks>
-        ensures { (dir : List (List ℕ)) → AreKnown dir self.now → IfSome result (AreOfPrefix dir prefix.now) }
+        ensures { IfSome result (AreOfPrefix self.now prefix.now) }
     {
         match self.places.get(place_of(prefix)) {
             Some(Some(known)) if known.prefix.bytes() == prefix.bytes() => Some(known.ranks),

@@ -8,8 +8,8 @@ ghost use Rattle.bucket_terms.specs.PageInRange.{IsInRange};
 ghost use Rattle.page_rules.specs.PageLaw.{LeavesTheRest, BeginsAll, RiseByText};
 
 use crate::rules::{entry_of, is_admitted, is_same_group, is_under, name_at};
-use bucket_terms::{ListQuery, Page, PageEntry, TokenPoint};
-use key_map::{Items, Pair};
+use bucket_terms::{ListQuery, Page, PageEntries, PageEntry, TokenPoint};
+use key_map::Pair;
 use key_names::{Directory, NoMemory};
 use std::alloc::Global;
 
@@ -19,7 +19,7 @@ use std::alloc::Global;
 /// ```
 /// // the names a/1, a/2 and b, listed with the delimiter / and at most one entry
 /// let page = page_of_list(alloc, &dir, pairs, &query, None)?;
-/// assert_eq!(rt; page.entries.as_slice(), [PageEntry::Group { rank: 0, len: 2 }].as_slice());
+/// assert_eq!(rt; page.entries.at(0), PageEntry::Group { rank: 0, len: 2 });
 /// assert!(rt; page.truncated);
 /// ```
 pub fn page_of_list(
@@ -51,7 +51,7 @@ fn cut_at(max_keys: u32, mut entries: Vec<PageEntry>) -> Page
     let truncated = 0 < most && most < entries.len();
     entries.truncate(most);
     Page {
-        entries: Items::from_vec(entries),
+        entries: PageEntries::from_vec(entries),
         truncated,
     }
 }

@@ -38,9 +38,17 @@ fn one_entry(alloc: Global) -> Result<ListQuery, NoMemory> {
     })
 }
 
+// Whether the page has these entries alone, and is truncated or not.
+fn has_entries(page: &Page, entries: &[PageEntry], truncated: bool) -> bool {
+    let alike = entries.iter().enumerate().all(|(place, entry)| {
+        place < page.entries.len() && page.entries.at(place) == *entry
+    });
+    alike && page.entries.len() == entries.len() && page.truncated == truncated
+}
+
 // Whether the page has this entry alone, and is truncated or not.
 fn is_page(page: &Page, entry: PageEntry, truncated: bool) -> bool {
-    page.entries.as_slice() == [entry].as_slice() && page.truncated == truncated
+    has_entries(page, &[entry], truncated)
 }
 
 // Whether the pairs have such a page from the point on, by the definition and by look-ups.
@@ -97,7 +105,7 @@ fn asks_for_two(alloc: Global, cursor: &mut PageCursor<'_>) -> Result<bool, NoMe
 // Whether it gives the first page then.
 fn leaves_the_group_at_once(alloc: Global, dir: &Directory) -> Result<bool, NoMemory> {
     let query = one_entry(alloc)?;
-    let mut cursor = PageCursor::new(alloc, dir, &query, None, None);
+    let mut cursor = PageCursor::new(alloc, dir, &query, None);
     let has_asked = asks_for_two(alloc, &mut cursor)?;
     let entry = PageEntry::Group { rank: 0, len: 2 };
     Ok(has_asked && is_page(&cursor.finish(), entry, true))
@@ -123,14 +131,13 @@ fn names_below_a(alloc: Global) -> Result<ListQuery, NoMemory> {
 // Whether the known ranks lead to the page of both names, and no rank is known of another prefix.
 fn lists_two_known(alloc: Global, dir: &Directory) -> Result<bool, NoMemory> {
     let query = names_below_a(alloc)?;
-    let mut known = KnownPrefixes::none(alloc);
+    let mut known = KnownPrefixes::none(alloc, dir);
     let before = known.ranks(&query.prefix);
-    known.note(alloc, dir, &query.prefix)?;
-    let ranks = known.ranks(&query.prefix);
+    known.note(alloc, &query.prefix)?;
     let is_known = before.is_none()
-        && ranks.is_some()
+        && known.ranks(&query.prefix).is_some()
         && known.ranks(&Text::of(alloc, "b")?).is_none();
-    let mut cursor = PageCursor::new(alloc, dir, &query, None, ranks);
+    let mut cursor = PageCursor::of_known(alloc, &known, &query, None);
     for pair in PAIRS {
         if cursor.next_rank().is_some() {
             cursor.take(alloc, pair)?;
@@ -141,7 +148,7 @@ fn lists_two_known(alloc: Global, dir: &Directory) -> Result<bool, NoMemory> {
         PageEntry::Key { rank: 0, val: 9 },
         PageEntry::Key { rank: 1, val: 8 },
     ];
-    Ok(is_known && page.entries.as_slice() == listed.as_slice() && !page.truncated)
+    Ok(is_known && has_entries(&page, &listed, false))
 }
 
 #[test]

@@ -240,7 +240,7 @@ fn page_from(
 {
     // the call's clauses tell the proof that the keys rise
     let _keys = map.len();
-    let mut cursor = PageCursor::new(alloc, dir, query, point, None);
+    let mut cursor = PageCursor::new(alloc, dir, query, point);
     while let Some(rank) = cursor.next_rank() {
         match map.first_from(rank) {
             Some(pair) => cursor.take(alloc, pair)?,

@@ -1,10 +1,10 @@
 // The texts of entries that many pages show: each is made once, before the pieces.
 ghost use Rattle.std.specs.Prelude.{All, IfOk};
 ghost use Rattle.bucket_terms.specs.declared.reply.Placed.{Placed};
-ghost use Rattle.answer_text.specs.EntryTexts.{AreRight, AreWanted};
+ghost use Rattle.answer_text.specs.EntryTexts.{AreRight};
 ghost use Rattle.answer_text.specs.InRange.{IsPageOf, IsReplyOf};
 ghost use Rattle.run_text.specs.Pieces.{IsPieceOf};
-ghost use Rattle.run_text.specs.Texts.{IsPartRight};
+ghost use Rattle.run_text.specs.Texts.{IsPartRight, IsWantedOf};
 
 use crate::pieces::{Part, Piece};
 use answer_text::{EntryTexts, WantedTexts};
@@ -43,25 +43,25 @@ pub(crate) fn entry_texts<Rt: Threads + Sync>(
         return Ok(EntryTexts::none(alloc));
     }
     let wanted = wanted_texts(alloc, dir, records, pieces, times / MET)?;
-    made(rt, alloc, dir, records, &wanted, threads)
+    made(rt, alloc, &wanted, threads)
 }
 
 // The entries of one of so many pages, and the first rank with which a record is met there.
-fn wanted_texts(
+fn wanted_texts<'a>(
     alloc: Global,
-    dir: &Directory,
-    records: &[Record],
+    dir: &'a Directory,
+    records: &'a [Record],
     pieces: &[Piece<'_>],
     times: usize,
-) -> Result<WantedTexts, NoMemory>
+) -> Result<WantedTexts<'a>, NoMemory>
     requires { All (IsPieceOf dir.now records.now) pieces.now }
-    ensures { IfOk result (AreWanted dir.now) }
+    ensures { IfOk result (IsWantedOf dir.now records.now) }
 {
-    let mut wanted = WantedTexts::with_places(alloc, records.len())?;
+    let mut wanted = WantedTexts::none(alloc, dir, records)?;
     let mut pages = ChosenPages::one_of(times);
     for piece in pieces {
         if let Part::Replies(replies) = &piece.part {
-            want_all(&mut wanted, dir, records, replies, &mut pages);
+            want_all(&mut wanted, replies, &mut pages);
         }
     }
     Ok(wanted)
@@ -91,15 +91,12 @@ fn shares(alloc: Global, places: usize, threads: usize) -> Result<Vec<Share>, No
 fn made<Rt: Threads + Sync>(
     rt: &Rt,
     alloc: Global,
-    dir: &Directory,
-    records: &[Record],
-    wanted: &WantedTexts,
+    wanted: &WantedTexts<'_>,
     threads: usize,
 ) -> Result<EntryTexts, NoMemory>
-    requires { AreWanted dir.now wanted.now }
-    ensures { IfOk result (AreRight dir.now records.now) }
+    ensures { IfOk result (AreRight wanted.now.dir wanted.now.records) }
 {
-    let parts = made_apart(rt, alloc, dir, records, wanted, threads)?;
+    let parts = made_apart(rt, alloc, wanted, threads)?;
     let mut texts = EntryTexts::none(alloc);
     for part in parts {
         texts.append(part?)?;
@@ -111,18 +108,14 @@ fn made<Rt: Threads + Sync>(
 fn made_apart<Rt: Threads + Sync>(
     rt: &Rt,
     alloc: Global,
-    dir: &Directory,
-    records: &[Record],
-    wanted: &WantedTexts,
+    wanted: &WantedTexts<'_>,
     threads: usize,
 ) -> Result<Vec<Result<EntryTexts, NoMemory>>, NoMemory>
-    requires { AreWanted dir.now wanted.now }
-    ensures { IfOk result (λ parts. All (IsPartRight dir.now records.now) parts.items) }
+    ensures { IfOk result (λ parts. All (IsPartRight wanted.now.dir wanted.now.records) parts.items) }
 {
     let make = |share: Share| -> Result<EntryTexts, NoMemory>
-        requires { AreWanted dir.now wanted.now }
-        ensures { IsPartRight dir.entry.now records.entry.now result }
-    { wanted.texts(alloc, dir, records, share.from, share.to) };
+        ensures { IsPartRight wanted.entry.now.dir wanted.entry.now.records result }
+    { wanted.texts(alloc, share.from, share.to) };
     let shares = shares(alloc, wanted.len(), threads)?;
     Ok(map_vec(rt, shares, &make)?)
 }
@@ -179,48 +172,35 @@ fn shown_in(reply: &Reply) -> usize {
 }
 
 // Wants the texts of the entries of these replies.
-fn want_all(
-    wanted: &mut WantedTexts,
-    dir: &Directory,
-    records: &[Record],
-    replies: &[Placed],
-    pages: &mut ChosenPages,
-)
-    requires fine { All (λ (p : Placed). IsReplyOf dir.now records.now p.reply) replies.now }
-    requires wanted { AreWanted dir.now wanted.old }
-    ensures { AreWanted dir.now wanted.new }
+fn want_all(wanted: &mut WantedTexts<'_>, replies: &[Placed], pages: &mut ChosenPages)
+    requires { All (λ (p : Placed). IsReplyOf wanted.old.dir wanted.old.records p.reply) replies.now }
+    ensures { IsWantedOf wanted.old.dir wanted.old.records wanted.new }
 {
     for placed in replies {
         if shown_in(&placed.reply) > 0 && pages.is_next() {
-            want_reply(wanted, dir, records, &placed.reply);
+            want_reply(wanted, &placed.reply);
         }
     }
 }
 
 // Wants the texts of the entries of a page that shows them without escapes.
-fn want_reply(wanted: &mut WantedTexts, dir: &Directory, records: &[Record], reply: &Reply)
-    requires reply { IsReplyOf dir.now records.now reply.now }
-    requires wanted { AreWanted dir.now wanted.old }
-    ensures { AreWanted dir.now wanted.new }
+fn want_reply(wanted: &mut WantedTexts<'_>, reply: &Reply)
+    requires { IsReplyOf wanted.old.dir wanted.old.records reply.now }
+    ensures { IsWantedOf wanted.old.dir wanted.old.records wanted.new }
 {
     match reply {
-        Reply::Listed { query, page } if !query.get().url => {
-            want_page(wanted, dir, records, page);
-        }
-        Reply::ListedV1 { query, page } if !query.get().url => {
-            want_page(wanted, dir, records, page);
-        }
+        Reply::Listed { query, page } if !query.get().url => want_page(wanted, page),
+        Reply::ListedV1 { query, page } if !query.get().url => want_page(wanted, page),
         _ => (),
     }
 }
 
 // Wants the texts of the entries of this page.
-fn want_page(wanted: &mut WantedTexts, dir: &Directory, _records: &[Record], page: &Page)
-    requires page { IsPageOf dir.now _records.now page.now }
-    requires wanted { AreWanted dir.now wanted.old }
-    ensures { AreWanted dir.now wanted.new }
+fn want_page(wanted: &mut WantedTexts<'_>, page: &Page)
+    requires { IsPageOf wanted.old.dir wanted.old.records page.now }
+    ensures { IsWantedOf wanted.old.dir wanted.old.records wanted.new }
 {
-    for entry in page.entries.as_slice() {
-        wanted.want(dir, entry);
+    for place in 0..page.entries.len() {
+        wanted.want(&page.entries.at(place));
     }
 }

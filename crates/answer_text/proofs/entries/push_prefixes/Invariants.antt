@@ -5,7 +5,7 @@ use Rattle.serde_json.specs.Written.{items_text}
 use Rattle.answer_text.specs.Lines.{prefix_of}
 use Rattle.answer_text.proofs.entries.push_prefixes.Given as goal
 
-abbrev pub invariant-loop-entry : goal.invariant-loop-entry
-invariant-loop-entry l =
-    string_bytes l.out ++ items_text l.later (items_of (filter_map (prefix_of l.dir l.url) (drop l.entry-index l.entries)))
+abbrev pub invariant-loop-place : goal.invariant-loop-place
+invariant-loop-place l =
+    string_bytes l.out ++ items_text l.later (items_of (filter_map (prefix_of l.dir l.url) (drop l.place l.entries)))
     ≡ string_bytes l.fn.out ++ items_text false (items_of (filter_map (prefix_of l.dir l.url) l.entries))

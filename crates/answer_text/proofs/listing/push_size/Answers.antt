@@ -8,7 +8,7 @@ pub returns : goal.returns
 unfolding spec.size_text
 returns c =
     let count : string_bytes c.push_number.new.out ≡ string_bytes c.push_truth.new.out ++ (codes ",\"KeyCount\":" ++ decimal (length c.args.page.now.entries)) =
-    rw c.as_slice.ensures at c.in_ok-push_number.ensures in
+    rw c.len.ensures at c.in_ok-push_number.ensures in
     let line : string_bytes c.push_number-2.new.out ≡ string_bytes c.push_number.new.out ++ (codes ",\"Line\":" ++ decimal c.args.placed.now.line) =
     rw c.from.ensures at c.in_ok-push_number-2.ensures in
     on_ok_weaker c.push_number-3.result

@@ -40,5 +40,5 @@ returns-in-None-clause-page g c = λ at opened.
     c.finish.ensures.page (option_copied c.args.point) m (IsMap-after start.seen at)
     (over_is c.loop-rank.cursor c.in-Some.rank m (sym c.in-Some.ensures.next) (found_at start (g.P.KeyPass.view c.loop-rank.pass) c.in-Some.rank at None before.same opened c.in-None.ensures.first))
     (before.on_way at opened)
-    ∙ ap (λ d. page_of d c.loop-rank.cursor.query (option_copied c.args.point) m) before.dir_is
-    ∙ ap (λ (q : ListQuery). page_of c.args.dir.now q (option_copied c.args.point) m) before.query_is
+    ∙ ap (λ d. page_of d c.loop-rank.cursor.query (option_copied c.args.point) m) (before.dir_is ∙ c.of_known-cursor.ensures.start.dir_is)
+    ∙ ap (λ (q : ListQuery). page_of c.args.known.now q (option_copied c.args.point) m) before.query_is

@@ -17,7 +17,7 @@ pub record IsWalking (dir : List (List ℕ)) (query : ListQuery) (point : Option
 
 abbrev pub invariant-loop-rank : goal.invariant-loop-rank
 invariant-loop-rank g l =
-    IsWalking l.dir l.query (option_copied l.point) (g.P.KeyPass.view l.initial.pass) (g.P.KeyPass.view l.pass) l.cursor
+    IsWalking l.initial.cursor.dir l.query (option_copied l.point) (g.P.KeyPass.view l.initial.pass) (g.P.KeyPass.view l.pass) l.cursor
     × (g.P.Homed.home l.pass ≡ g.P.Homed.home l.initial.pass)
 
 abbrev pub decreases-loop-rank : goal.decreases-loop-rank

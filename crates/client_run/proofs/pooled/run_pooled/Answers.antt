@@ -30,7 +30,7 @@ pub answer_pooled-requires-clause-askable : goal.answer_pooled-requires-clause-a
 answer_pooled-requires-clause-askable g c =
     let d = c.asked-item.result in
     let here = line_here c.args.part.now.requests c.as_slice-asked-items.result.now c.loop-asked.asked-index d c.as_slice-asked-items.ensures c.loop-asked-test.true c.asked-item.is in
-    subst (λ (l : RequestLine). IsAskable c.args.dir.now l) here.1 (c.requires.askable c.loop-asked.asked-index (request_line d) here.0)
+    rw c.in_ok-known.ensures (subst (λ (l : RequestLine). IsAskable c.args.dir.now l) here.1 (c.requires.askable c.loop-asked.asked-index (request_line d) here.0))
 
 pub answer_pooled-requires-clause-calls : goal.answer_pooled-requires-clause-calls
 answer_pooled-requires-clause-calls g c =
@@ -78,11 +78,11 @@ loop-asked-preserved g c =
     let pushed : c.push.new.self.items ≡ replies ++ p ∷ [] = c.in_ok-push.ensures.items in
     let step : AnswersPooled dir own mid now free (last_listing (answered_lines (take i lines) replies)) (record { asked = get_or lines i (request_line d); placed = p }) written after =
     subst (λ (l : RequestLine). AnswersPooled dir own mid now free (last_listing (answered_lines (take i lines) replies)) (record { asked = l; placed = p }) written after) (sym here.1)
-    (subst (λ (o : Option Reply). AnswersPooled dir own mid now free o (record { asked = request_line d; placed = p }) written after) last_is c.in_ok-placed.ensures.answers) in
+    (subst (λ (o : Option Reply). AnswersPooled dir own mid now free o (record { asked = request_line d; placed = p }) written after) last_is (rw (← c.in_ok-known.ensures) c.in_ok-placed.ensures.answers)) in
     let more : Trading own (take (i + 1) lines) old now free book after (replies ++ p ∷ []) =
     subst (λ (ls : List RequestLine). Trading own ls old now free book after (replies ++ p ∷ [])) (sym (take_more lines i (request_line d) here.0))
     (trading_more dir own (take i lines) old mid now (g.P.PoolPass.free_nodes c.loop-asked.pass) free book written after replies (get_or lines i (request_line d)) p before.running trades grown step c.in_ok-placed.ensures.grown) in (
-      rw pushed (next_turn dir lines i (request_line d) (capped own old) (capped own mid) (capped own now) replies p last c.later_listing-last.result here.0 before c.requires.later c.requires.rising step.answers c.in_ok-placed.ensures.in_range later_is),
+      rw pushed (next_turn dir lines i (request_line d) (capped own old) (capped own mid) (capped own now) replies p last c.later_listing-last.result here.0 before c.requires.later c.requires.rising step.answers (rw (← c.in_ok-known.ensures) c.in_ok-placed.ensures.in_range) later_is),
       rw pushed more,
       grown_on book written after grown c.in_ok-placed.ensures.grown,
       record { id = c.in_ok-placed.ensures.seat.id ∙ same.id; terms = c.in_ok-placed.ensures.seat.terms ∙ same.terms },
@@ -100,4 +100,4 @@ returns-in_err-push-clause-stopped g c =
     let view = g.P.KeyPass.view in
     after_error c.from_residual-in_err-push.result
     (stopped_all c.args.own (view c.args.pass.now) (view c.answer_pooled.new.pass) (stopped_behind c.args.dir.now (capped c.args.own (view c.args.pass.now)) (capped c.args.own (view c.loop-asked.pass)) (capped c.args.own (view c.answer_pooled.new.pass)) (option_copied c.reply_at.result) (record { asked = request_line c.asked-item.result; placed = c.in_ok-placed.placed })
-    c.loop-asked.invariant.0.running.ran.continues c.in_ok-placed.ensures.answers.answers))
+    c.loop-asked.invariant.0.running.ran.continues (rw (← c.in_ok-known.ensures) c.in_ok-placed.ensures.answers.answers)))

@@ -1,5 +1,5 @@
-use Rattle.page_rules.specs.PrefixRanks.{AreKnown}
+use Rattle.std.proofs.Common.{◌≡◌}
 use Rattle.client_run.proofs.run.known_prefixes.Given as goal
 
 abbrev pub invariant-loop-asked : goal.invariant-loop-asked
-invariant-loop-asked l = AreKnown l.dir l.known
+invariant-loop-asked l = l.known ≡ l.dir

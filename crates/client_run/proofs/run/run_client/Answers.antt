@@ -19,7 +19,7 @@ pub answer-requires-clause-askable : goal.answer-requires-clause-askable
 answer-requires-clause-askable g c =
     let d = c.asked-item.result in
     let here = line_here c.args.part.now.requests c.as_slice-asked-items.result.now c.loop-asked.asked-index d c.as_slice-asked-items.ensures c.loop-asked-test.true c.asked-item.is in
-    subst (λ (l : RequestLine). IsAskable c.args.dir.now l) here.1 (c.requires.askable c.loop-asked.asked-index (request_line d) here.0)
+    rw c.in_ok-known.ensures (subst (λ (l : RequestLine). IsAskable c.args.dir.now l) here.1 (c.requires.askable c.loop-asked.asked-index (request_line d) here.0))
 
 pub answer-requires-clause-calls : goal.answer-requires-clause-calls
 answer-requires-clause-calls g c =
@@ -58,8 +58,9 @@ loop-asked-preserved g c =
     let pushed : c.push.new.self.items ≡ replies ++ p ∷ [] = c.in_ok-push.ensures.items in
     let answered : Answers c.args.dir.now mid now (last_listing (answered_lines (take i lines) replies)) (record { asked = get_or lines i (request_line d); placed = p }) =
     subst (λ (l : RequestLine). Answers c.args.dir.now mid now (last_listing (answered_lines (take i lines) replies)) (record { asked = l; placed = p })) (sym here.1)
-    (subst (λ (o : Option Reply). Answers c.args.dir.now mid now o (record { asked = request_line d; placed = p })) last_is c.in_ok-placed.ensures.answers) in (
-      rw pushed (next_turn c.args.dir.now lines i (request_line d) old mid now replies p last c.later_listing-last.result here.0 before c.requires.later c.requires.rising answered c.in_ok-placed.ensures.in_range later_is),
+    (subst (λ (o : Option Reply). Answers c.args.dir.now mid now o (record { asked = request_line d; placed = p })) last_is
+    (rw (← c.in_ok-known.ensures) c.in_ok-placed.ensures.answers)) in (
+      rw pushed (next_turn c.args.dir.now lines i (request_line d) old mid now replies p last c.later_listing-last.result here.0 before c.requires.later c.requires.rising answered (rw (← c.in_ok-known.ensures) c.in_ok-placed.ensures.in_range) later_is),
       c.in_ok-placed.ensures.home ∙ c.loop-asked.invariant.1,
     )
 
@@ -73,4 +74,4 @@ returns-in_err-push-clause-stopped g c =
     let view = g.P.KeyPass.view in
     after_error c.from_residual-in_err-push.result
     (stopped_behind c.args.dir.now (view c.args.pass.now) (view c.loop-asked.pass) (view c.answer.new.pass) (option_copied c.reply_at-last_reply.result) (record { asked = request_line c.asked-item.result; placed = c.in_ok-placed.placed })
-    c.loop-asked.invariant.0.running.ran.continues c.in_ok-placed.ensures.answers)
+    c.loop-asked.invariant.0.running.ran.continues (rw (← c.in_ok-known.ensures) c.in_ok-placed.ensures.answers))

@@ -9,5 +9,5 @@ sizes_of-requires c = record { few = part_few most_requests c.args.clients.now c
 
 pub unreachable-requires : goal.unreachable-requires
 unreachable-requires c =
-    let fits : FitTable c.deref.result.now = subst FitTable (sym (c.deref.ensures.value ∙ c.in_ok-sizes.ensures)) (fit c.args.slots c.args.clients.now c.requires.slots c.requires.few) in
+    let fits : FitTable c.deref-2.result.now = subst FitTable (sym (c.deref-2.ensures.value ∙ c.in_ok-sizes.ensures)) (fit c.args.slots c.args.clients.now c.requires.slots c.requires.few) in
     c.open.ensures.bad_sizes.0 (c.in-Err-BadSizes.is ∙ ap Err c.in-Err-BadSizes.field-0-is) fits

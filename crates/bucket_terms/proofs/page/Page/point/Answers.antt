@@ -6,6 +6,4 @@ use Rattle.bucket_terms.proofs.page.Page.point.Goals as goal
 pub returns-in_ok-point-in-Some-clause-point : goal.returns-in_ok-point-in-Some-clause-point
 returns-in_ok-point-in-Some-clause-point c =
     let page = c.args.self.now in
-    let last : Some c.in-Some.entry.now ≡ slice_get page.entries (length page.entries - 1) =
-    rw c.as_slice.ensures at c.in-Some.ensures.value in
-    ap (λ p. Some p) c.in_ok-point-in-Some.ensures.point ∙ sym (page_point-truncated c.args.dir.now page c.in-Some.entry.now c.if-not-self.false last)
+    ap (λ p. Some p) c.in_ok-point-in-Some.ensures.point ∙ sym (page_point-truncated c.args.dir.now page c.in-Some.entry c.if-not-self.false (sym c.in-Some.is ∙ c.last.ensures))

@@ -8,4 +8,4 @@ returns-clause-page c point m map over on =
     let v = view_of c.self.inside in
     let over' : IsOver v m = rw (← c.self.view_is) at over in
     let on' : IsOnWay v point m = rw (← c.self.view_is) at on in
-    rw (c.from_vec.ensures, c.shrink_to_fit.ensures.items, ← c.self.view_is) (over_is_page v point m c.self.invariant.0 map over' on')
+    rw (c.shrink_to_fit.ensures, ← c.self.view_is) (over_is_page v point m c.self.invariant.0 map over' on')

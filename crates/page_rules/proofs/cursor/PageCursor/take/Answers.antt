@@ -20,15 +20,15 @@ returns-then-not-lists-clause-took c =
     rw (← c.self.view_is) (took_ended v next.0 c.args.pair c.len-names.ensures.rising c.self.invariant.0.room next.1 (unsettled_at v next.0 c.self.invariant.0 next.1)
     (sym (rw (← c.self.view_is) at c.lists.ensures) ∙ c.if-not-lists.true))
 
-pub returns-in_ok-push_entry-clause-took : goal.returns-in_ok-push_entry-clause-took
-returns-in_ok-push_entry-clause-took c =
+pub returns-in_ok-push-clause-took : goal.returns-in_ok-push-clause-took
+returns-in_ok-push-clause-took c =
     let v = view_of c.self.inside in
     let next = next_rank v (rw (← c.self.view_is) at c.requires) in
     let entry = c.entry_of-entry.ensures.entry in
     let room : length v.entries < v.query.max_keys = omega (arith, c.len.ensures, c.if-len-self.true) in
     let goes = subst (λ e. GoesOnAt v.dir v.query (Some (entry_point v.dir e)) c.rank_behind.result) entry c.rank_behind.ensures in
-    let items = c.in_ok-push_entry.ensures.ok ∙ ap (λ e. v.entries ++ e ∷ []) entry in
-    rw (← c.self.view_is) (took_added v next.0 c.args.pair c.push_entry.new.entries.items c.rank_behind.result c.len-names.ensures.rising room next.1
+    let items = c.in_ok-push.ensures.ok ∙ ap (λ e. v.entries ++ e ∷ []) entry in
+    rw (← c.self.view_is) (took_added v next.0 c.args.pair c.push.new.self c.rank_behind.result c.len-names.ensures.rising room next.1
     (unsettled_at v next.0 c.self.invariant.0 next.1) (sym (rw (← c.self.view_is) at c.lists.ensures) ∙ c.if-not-lists.false) goes items)
 
 pub returns-else-len-self-clause-took : goal.returns-else-len-self-clause-took
