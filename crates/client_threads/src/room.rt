@@ -26,7 +26,7 @@ pub(crate) fn make_client_room(alloc: Global) {
 
 /// The same for as many bytes as the words of an index with these passes take, before it is opened. It is opened from a
 /// list of as many words, which is given back then: a list that is no larger than what was given back before is kept by
-/// glibc's allocator, and what the thread allocates next touches no new pages.
+/// glibc's allocator, and what the thread allocates next touches fewer new pages.
 pub(crate) fn make_index_room(alloc: Global, sizes: &[PassSize]) {
     let mut bytes = OTHER_BYTES;
     for size in sizes {

@@ -1,6 +1,6 @@
 // Four passes at work at once on threads over the table itself, which take in each other's notes. A fifth pass stays
 // inside its section: so the slots that the four have taken out wait, and there is something to look for.
-ghost use Rattle.std.specs.Prelude.{◌≡◌, IfSome};
+ghost use Rattle.std.specs.Prelude.{◌≡◌, ◌∷◌, [], IfSome};
 ghost use Rattle.std.specs.Thread.{IsSync};
 ghost use Rattle.table_steps.specs.Closes.{AreAllKeys};
 ghost use Rattle.table_steps.specs.Notes.{IsNoteOf};
@@ -194,23 +194,42 @@ fn seat_of(key: PassKey) -> Seat
     }
 }
 
+/// The keys of two passes.
+fn both(keys: Vec<PassKey>) -> Option<(PassKey, PassKey)>
+    ensures { IfSome result (λ two. keys.items ≡ two.0 ∷ two.1 ∷ []) }
+{
+    let mut keys = keys;
+    let second = keys.pop()?;
+    let first = keys.pop()?;
+    if !keys.is_empty() {
+        return None;
+    }
+    Some((first, second))
+}
+
+/// The seats of four keys.
+fn four_of(keys: Vec<PassKey>) -> Option<Four>
+    ensures { IfSome result (λ four. keys.items ≡ four.a.key ∷ four.b.key ∷ four.c.key ∷ four.d.key ∷ []) }
+{
+    let mut keys = keys;
+    let d = keys.pop()?;
+    let c = keys.pop()?;
+    let (a, b) = both(keys)?;
+    Some(Four {
+        a: seat_of(a),
+        b: seat_of(b),
+        c: seat_of(c),
+        d: seat_of(d),
+    })
+}
+
 /// The five passes of the keys.
 fn taken_up(keys: Vec<PassKey>) -> Option<(Four, PassKey)>
     ensures { IfSome result (λ five. keys.items ≡ keys_of five.0 five.1) }
 {
     let mut keys = keys;
-    let (Some(fifth), Some(d), Some(c)) = (keys.pop(), keys.pop(), keys.pop()) else {
-        return None;
-    };
-    let (Some(b), Some(a), None) = (keys.pop(), keys.pop(), keys.pop()) else {
-        return None;
-    };
-    let four = Four {
-        a: seat_of(a),
-        b: seat_of(b),
-        c: seat_of(c),
-        d: seat_of(d),
-    };
+    let fifth = keys.pop()?;
+    let four = four_of(keys)?;
     Some((four, fifth))
 }
 

@@ -22,9 +22,11 @@ pub(crate) fn both<T: Drop>(items: Vec<T>) -> Option<(T, T)>
     ensures { IfSome result (λ two. items.items ≡ two.0 ∷ two.1 ∷ []) }
 {
     let mut items = items;
-    let (Some(second), Some(first), None) = (items.pop(), items.pop(), items.pop()) else {
+    let second = items.pop()?;
+    let first = items.pop()?;
+    if !items.is_empty() {
         return None;
-    };
+    }
     Some((first, second))
 }
 

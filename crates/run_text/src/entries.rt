@@ -14,8 +14,8 @@ use key_names::{Directory, NoMemory};
 use std::alloc::Global;
 use std::thread::Threads;
 
-// How often a record has to be shown on average, so that the texts of entries are kept. A page keeps 16 bytes an entry,
-// and a text has some 200, so that the texts take little more than the pages.
+// How often a record has to be shown on average, so that the texts of entries are kept. A page keeps 8 bytes for a key,
+// and a text has some 200: so the texts take at most some three times what the pages take.
 const OFTEN: usize = 8;
 
 // How often a record is met on average in the pages that are looked at. One that is shown less often than others may

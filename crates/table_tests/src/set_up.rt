@@ -37,9 +37,11 @@ pub(crate) fn opened(
 pub(crate) fn both(mut keys: Vec<PassKey>) -> Option<(PassKey, PassKey)>
     ensures { IfSome result (λ two. keys.items ≡ two.0 ∷ two.1 ∷ []) }
 {
-    let (Some(second), Some(first), None) = (keys.pop(), keys.pop(), keys.pop()) else {
+    let second = keys.pop()?;
+    let first = keys.pop()?;
+    if !keys.is_empty() {
         return None;
-    };
+    }
     Some((first, second))
 }
 

@@ -1,4 +1,5 @@
 use Rattle.std.proofs.Common.{◌≡◌, [], ◌∷◌, ◌++◌, ◌+◌, ◌∙◌, sym, subst, inr}
+use Rattle.plan_laws.specs.Frames.{KeepsTry}
 use Rattle.plan_laws.specs.Looks.{KeepsLooks}
 use Rattle.plan_laws.specs.Tries.{CanLock, IsTrying}
 use Rattle.update_search.proofs.Odd.{node_there}
@@ -47,3 +48,13 @@ returns-clause-trying c =
     let on = locked_trying c.search_laws.ensures c.args.pass.now c.args.pass.now.number c.args.locks.now.items c.requires.trying c.args.node c.requires.searched can c.try_lock.new.self.view locks c.args.pass.now.number c.args.locks.now.items c.requires.trying in
     subst (λ n. IsTrying c.try_lock.new.self.view n c.push.new.self.items) (sym c.try_lock.ensures.same.number)
     (subst (IsTrying c.try_lock.new.self.view c.args.pass.now.number) (sym c.push.ensures.items) on)
+
+pub returns-then-not-try_lock-clause-keeps : goal.returns-then-not-try_lock-clause-keeps
+returns-then-not-try_lock-clause-keeps c =
+    let met = c.try_lock.ensures.busy c.if-not-try_lock.true in
+    subst (KeepsTry c.args.pass.now.view) (sym met.view) ((c.search_laws.ensures.steps c.args.pass.now.view).met (c.args.pass.now.number + 1) met.found)
+
+pub returns-clause-keeps : goal.returns-clause-keeps
+returns-clause-keeps c =
+    let locks = c.try_lock.ensures.locked c.if-not-try_lock.false in
+    subst (KeepsTry c.args.pass.now.view) (sym locks.view) ((c.search_laws.ensures.steps c.args.pass.now.view).locked c.args.node)

@@ -75,3 +75,17 @@ returns-clause-first c =
     let two = nothing_kept c.lock.new.pass.view c.lock-2.new.pass.view k c.lock-2.ensures.learns one in
     let three = nothing_kept c.lock-2.new.pass.view c.look_unmarked.new.pass.view k c.look_unmarked.ensures.learns two in
     nothing_apart c.args.found.now.at c.look_unmarked.new.pass.view c.look_leads.new.pass.view k c.look_leads.ensures.learns c.requires.found.1.apart three
+
+pub returns-in_err-look_unmarked-clause-trying : goal.returns-in_err-look_unmarked-clause-trying
+returns-in_err-look_unmarked-clause-trying c =
+    subst (λ n. IsTrying c.look_unmarked.new.pass.view n c.lock-2.new.locks.items) (sym c.look_unmarked.ensures.same.number) (c.look_unmarked.ensures.keeps.places.trying c.lock-2.new.pass.number c.lock-2.new.locks.items c.lock-2.ensures.trying)
+
+pub returns-in_err-look_leads-clause-trying : goal.returns-in_err-look_leads-clause-trying
+returns-in_err-look_leads-clause-trying c =
+    subst (λ n. IsTrying c.look_leads.new.pass.view n c.lock-2.new.locks.items) (sym (c.look_leads.ensures.same.number ∙ c.look_unmarked.ensures.same.number))
+    (c.look_leads.ensures.keeps.places.trying c.lock-2.new.pass.number c.lock-2.new.locks.items (c.look_unmarked.ensures.keeps.places.trying c.lock-2.new.pass.number c.lock-2.new.locks.items c.lock-2.ensures.trying))
+
+pub returns-clause-trying : goal.returns-clause-trying
+returns-clause-trying c =
+    subst (λ n. IsTrying c.look_leads.new.pass.view n c.lock-2.new.locks.items) (sym (c.look_leads.ensures.same.number ∙ c.look_unmarked.ensures.same.number))
+    (c.look_leads.ensures.keeps.places.trying c.lock-2.new.pass.number c.lock-2.new.locks.items (c.look_unmarked.ensures.keeps.places.trying c.lock-2.new.pass.number c.lock-2.new.locks.items c.lock-2.ensures.trying))

@@ -34,6 +34,15 @@ pub look_unmarked-requires-2-clause-locked : goal.look_unmarked-requires-2-claus
 look_unmarked-requires-2-clause-locked c =
     gap_locked c.look_unmarked.new.pass.view c.look_leads.new.pass.view c.args.found.now.node c.look_leads.ensures.keeps (gap_locked c.lock-2.new.pass.view c.look_unmarked.new.pass.view c.args.found.now.node c.look_unmarked.ensures.keeps (locked_in c.lock-2.new.pass.view c.lock-2.new.pass.number c.lock-2.new.locks.items c.args.found.now.node c.lock-2.ensures.trying (last_in c.lock.new.locks.items c.lock-2.new.locks.items c.args.found.now.node c.in_ok-lock-2.ensures.one_more)))
 
+pub returns-in_err-look_unmarked-clause-trying : goal.returns-in_err-look_unmarked-clause-trying
+returns-in_err-look_unmarked-clause-trying c =
+    subst (λ n. IsTrying c.look_unmarked.new.pass.view n c.lock-2.new.locks.items) (sym c.look_unmarked.ensures.same.number) (c.look_unmarked.ensures.keeps.places.trying c.lock-2.new.pass.number c.lock-2.new.locks.items c.lock-2.ensures.trying)
+
+pub returns-in_err-look_leads-clause-trying : goal.returns-in_err-look_leads-clause-trying
+returns-in_err-look_leads-clause-trying c =
+    subst (λ n. IsTrying c.look_leads.new.pass.view n c.lock-2.new.locks.items) (sym (c.look_leads.ensures.same.number ∙ c.look_unmarked.ensures.same.number))
+    (c.look_leads.ensures.keeps.places.trying c.lock-2.new.pass.number c.lock-2.new.locks.items (c.look_unmarked.ensures.keeps.places.trying c.lock-2.new.pass.number c.lock-2.new.locks.items c.lock-2.ensures.trying))
+
 pub returns-in_err-look_unmarked-2-clause-trying : goal.returns-in_err-look_unmarked-2-clause-trying
 returns-in_err-look_unmarked-2-clause-trying c =
     subst (λ n. IsTrying c.look_unmarked-2.new.pass.view n c.lock-2.new.locks.items) (sym (c.look_unmarked-2.ensures.same.number ∙ c.look_leads.ensures.same.number ∙ c.look_unmarked.ensures.same.number)) (c.look_unmarked-2.ensures.keeps.places.trying c.lock-2.new.pass.number c.lock-2.new.locks.items (c.look_leads.ensures.keeps.places.trying c.lock-2.new.pass.number c.lock-2.new.locks.items (c.look_unmarked.ensures.keeps.places.trying c.lock-2.new.pass.number c.lock-2.new.locks.items c.lock-2.ensures.trying)))

@@ -1,3 +1,5 @@
+use Rattle.std.proofs.Common.{◌∙◌, sym, subst}
+use Rattle.plan_laws.specs.Tries.{IsTrying}
 use Rattle.update_try.proofs.Found.{root_link}
 use Rattle.update_try.proofs.Holding.{gap_link, gap_null, last_in, locked_in, no_link, no_tag}
 use Rattle.update_try.proofs.LooksUnder.{gap_locked}
@@ -24,3 +26,17 @@ look_at_gap-requires-clause-first_link c = λ known.
 pub look_at_gap-requires-clause-first_tag : goal.look_at_gap-requires-clause-first_tag
 look_at_gap-requires-clause-first_tag c = λ known.
     no_tag c.args.pass.now.view c.args.pass.now.number c.args.locks.now.items c.requires.trying c.requires.none c.args.gap.at.node c.args.gap.at.side (c.lock.ensures.learns.tag c.args.gap.at.node c.args.gap.at.side (c.look_unmarked.ensures.learns.tag c.args.gap.at.node c.args.gap.at.side known))
+
+pub returns-in_err-look_unmarked-clause-trying : goal.returns-in_err-look_unmarked-clause-trying
+returns-in_err-look_unmarked-clause-trying c =
+    subst (λ n. IsTrying c.look_unmarked.new.pass.view n c.lock.new.locks.items) (sym c.look_unmarked.ensures.same.number) (c.look_unmarked.ensures.keeps.places.trying c.lock.new.pass.number c.lock.new.locks.items c.lock.ensures.trying)
+
+pub returns-in_err-look_at_gap-clause-trying : goal.returns-in_err-look_at_gap-clause-trying
+returns-in_err-look_at_gap-clause-trying c =
+    subst (λ n. IsTrying c.look_at_gap.new.pass.view n c.lock.new.locks.items) (sym (c.look_at_gap.ensures.same.number ∙ c.look_unmarked.ensures.same.number))
+    (c.look_at_gap.ensures.keeps.places.trying c.lock.new.pass.number c.lock.new.locks.items (c.look_unmarked.ensures.keeps.places.trying c.lock.new.pass.number c.lock.new.locks.items c.lock.ensures.trying))
+
+pub returns-clause-trying : goal.returns-clause-trying
+returns-clause-trying c =
+    subst (λ n. IsTrying c.look_at_gap.new.pass.view n c.lock.new.locks.items) (sym (c.look_at_gap.ensures.same.number ∙ c.look_unmarked.ensures.same.number))
+    (c.look_at_gap.ensures.keeps.places.trying c.lock.new.pass.number c.lock.new.locks.items (c.look_unmarked.ensures.keeps.places.trying c.lock.new.pass.number c.lock.new.locks.items c.lock.ensures.trying))

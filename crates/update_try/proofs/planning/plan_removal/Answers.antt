@@ -184,3 +184,18 @@ returns-clause-looked c =
     (c.hold_next.ensures.looks.looks (LinkLook (link_of found.node Right) c.args.right) kept) some_left some_right
     (c.in_ok-next-2.ensures.next key (next_found x c.hold_node.new.pass.number key found c.args.right walk e.at e.node e.turns f is))
     (λ here. let same = near x c.hold_node.new.pass.number key found c.args.right walk e.at e.node e.turns f is on_x (sym (ap (λ (l : Link). l.node) at.at) ∙ here) in (at.at ∙ same.0, at.node ∙ same.1))
+
+pub returns-in_err-look_leads-clause-trying : goal.returns-in_err-look_leads-clause-trying
+returns-in_err-look_leads-clause-trying c =
+    subst (λ n. IsTrying c.look_leads.new.pass.view n c.hold_node.new.locks.items) (sym c.look_leads.ensures.same.number)
+    (c.look_leads.ensures.keeps.places.trying c.hold_node.new.pass.number c.hold_node.new.locks.items c.hold_node.ensures.trying)
+
+pub returns-then-left-eq0-clause-trying : goal.returns-then-left-eq0-clause-trying
+returns-then-left-eq0-clause-trying c =
+    subst (λ n. IsTrying c.look_leads.new.pass.view n c.hold_node.new.locks.items) (sym c.look_leads.ensures.same.number)
+    (c.look_leads.ensures.keeps.places.trying c.hold_node.new.pass.number c.hold_node.new.locks.items c.hold_node.ensures.trying)
+
+pub returns-then-right-eq0-clause-trying : goal.returns-then-right-eq0-clause-trying
+returns-then-right-eq0-clause-trying c =
+    subst (λ n. IsTrying c.look_leads.new.pass.view n c.hold_node.new.locks.items) (sym c.look_leads.ensures.same.number)
+    (c.look_leads.ensures.keeps.places.trying c.hold_node.new.pass.number c.hold_node.new.locks.items c.hold_node.ensures.trying)
