@@ -51,6 +51,15 @@ impl Interner {
         }
     }
 
+    /// Makes room for so many more names, where it is to be had.
+    pub(crate) fn make_room(&mut self, count: usize)
+        ensures { self.new ≡ self.old }
+    {
+        // Without the room the lists grow as they are filled.
+        let _ = self.names.reserve(count);
+        let _ = self.order.reserve(count);
+    }
+
     /// Adds the name of the next line, and answers the number that it is kept under.
     pub(crate) fn push(&mut self, alloc: Global, name: &Text) -> Result<usize, LineError>
         ensures pushed { OnOk result (self.new ≡ self.old ++ name.now ∷ []) }
@@ -122,7 +131,7 @@ fn grouped(
     requires { All (λ (e : Numbered). e.number < length names.now) entries.now }
     ensures { IfOk result (λ found. AreGroups names.now entries.now found.0.items found.1.items) }
 {
-    let mut distinct = Vec::new(alloc);
+    let mut distinct = Vec::with_capacity(alloc, entries.len())?;
     let mut groups = Vec::with_capacity(alloc, entries.len())?;
     for entry in entries {
         let group = group_of(alloc, &mut distinct, &names[entry.number])?;

@@ -31,6 +31,8 @@ pub(crate) struct Reader {
     pub(crate) current: Requests,
     pub(crate) names: Interner,
     pub(crate) records: Vec<Record>,
+    /// About how many requests the whole input has, 0 where nobody has told.
+    expected: usize,
 }
 
 impl Reader {
@@ -45,7 +47,19 @@ impl Reader {
             current: Requests::new(alloc),
             names: Interner::new(alloc),
             records: Vec::new(alloc),
+            expected: 0,
         }
+    }
+
+    /// Makes room, where it is to be had, for what an input of about so many lines asks. A list that grows is moved from
+    /// time to time, and where the operating system moves it, all other threads have to be stopped for it.
+    pub(crate) fn make_room(&mut self, lines: usize)
+        ensures same { progress self.new ≡ progress self.old }
+    {
+        self.expected = lines;
+        self.names.make_room(lines);
+        // Without the room the list grows as it is filled.
+        let _ = self.records.reserve(lines);
     }
 
     /// Takes the next line, which has this number.
@@ -164,7 +178,9 @@ impl Reader {
         ensures begun { OnOk result (progress self.new ≡ record (progress self.old) { counts = counts; ended = all_ended (progress self.old); current = [] }) }
         ensures memory { IsOkUnless result OutOfMemory }
     {
-        let requests = mem::replace(&mut self.current, Requests::new(alloc));
+        let left = self.expected.saturating_sub(self.counts.requests as usize);
+        let mut requests = mem::replace(&mut self.current, Requests::with_room(alloc, left));
+        requests.shrink_to_fit();
         if 0 < self.counts.clients {
             self.ended.push(ClientPart { requests })?;
         }
@@ -194,6 +210,7 @@ impl Reader {
             current,
             names,
             records,
+            expected: _,
         } = self;
         if 0 < counts.clients {
             ended.push(ClientPart { requests: current })?;

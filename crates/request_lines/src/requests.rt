@@ -36,6 +36,17 @@ impl Requests {
         }
     }
 
+    /// No requests, and room for so many, where it is to be had.
+    pub(crate) fn with_room(alloc: Global, count: usize) -> Requests
+        ensures { result ≡ [] }
+    {
+        let mut requests = Requests::new(alloc);
+        // Without the room the lists grow as they are filled.
+        let _ = requests.asked.reserve(count);
+        let _ = requests.ranks.reserve(count);
+        requests
+    }
+
     /// The requests of a vector, whose memory is used on. A name of theirs is looked for at rank 0 first.
     pub fn from_vec(asked: Vec<Asked>) -> Requests
         ensures { result ≡ asked.items }
@@ -78,6 +89,14 @@ impl Requests {
         self.ranks.push(number)?;
         self.asked.push(asked)?;
         Ok(())
+    }
+
+    /// Gives back the room that no request has taken.
+    pub(crate) fn shrink_to_fit(&mut self)
+        ensures { self.new ≡ self.old }
+    {
+        self.asked.shrink_to_fit();
+        self.ranks.shrink_to_fit();
     }
 
     /// Puts the ranks of the names in place of their numbers.

@@ -30,6 +30,7 @@ pub(crate) fn take_rounds<Rt: Threads + Sync>(
     let mut said = empty_lists(alloc, most)?;
     let mut spare = empty_lists(alloc, most)?;
     read_all(rt, alloc, round_at(blocks, 0, most), &mut said);
+    reader.make_room(expected_lines(&said, blocks.len()));
     let mut number: u32 = 0;
     let mut done = 0;
     while done < blocks.len() {
@@ -42,6 +43,16 @@ pub(crate) fn take_rounds<Rt: Threads + Sync>(
         done += round.len();
     }
     Ok(number)
+}
+
+// About how many lines so many blocks have, if those of each round have as many as those that were read.
+fn expected_lines(said: &[Said], blocks: usize) -> usize {
+    let mut lines: usize = 0;
+    for block in said {
+        lines = lines.saturating_add(block.commands.len());
+    }
+    let rounds = blocks.div_ceil(said.len().max(1));
+    lines.saturating_mul(rounds)
 }
 
 // Takes the lines of a round, which were read into the first lists, and reads the next round into other lists meanwhile,

@@ -11,6 +11,9 @@ use key_names::NoMemory;
 use simdutf8::basic::from_utf8;
 use std::alloc::Global;
 
+// Room is made for as many lines as there are if each has so many bytes: a few more than are usual.
+const LINE_BYTES: usize = 64;
+
 /// What the lines of a block say, in a list that serves for the next block too.
 #[derive(Debug, Drop)]
 pub(crate) struct Said {
@@ -36,6 +39,8 @@ impl Said {
         ensures { IsRead (texts_of block.now) self.new }
     {
         self.commands.clear();
+        // Without the room the list grows as it is filled.
+        let _ = self.commands.reserve(block.len() / LINE_BYTES);
         self.cause = None;
         self.memory = match from_utf8(block) {
             Ok(text) => self.push_text(alloc, text),
