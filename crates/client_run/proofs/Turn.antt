@@ -1,11 +1,11 @@
 -- One turn of the loop over a client's lines.
-use Rattle.std.proofs.Common.{◌≡◌, ℕ, ◌+◌, ◌-◌, ◌<◌, ◌≤◌, Bool, true, false, cond, if◌then◌else◌, All, List, [], ◌∷◌, ◌++◌, Option, Some, None, inl, inr, length, get_or, take, drop, map, refl, sym, ap, ◌∙◌, subst, arith}
+use Rattle.std.proofs.Common.{◌≡◌, ℕ, zero, suc, ◌+◌, ◌-◌, ◌<◌, ◌≤◌, Bool, true, false, cond, if◌then◌else◌, All, List, [], ◌∷◌, ◌++◌, Option, Some, None, inl, inr, length, get_or, take, drop, map, refl, sym, ap, ◌∙◌, subst, arith}
 use Rattle.std.specs.List.{slice_get, sum_by}
 use Rattle.std.specs.Option.{option_map, option_and_then, ForSome}
 use Rattle.std.proofs.lemmas.Option.{same_Some, none-some}
 use Rattle.std.proofs.lemmas.Bool.{cases_Bool}
 use Rattle.std.proofs.lemmas.List.{length-take-le, get_or-take, take_more, take-append-drop, get_or_default, drop_more, get_or-map, length-map, length_push}
-use Rattle.std.proofs.lemmas.List.Elements.{All-push}
+use Rattle.std.proofs.lemmas.List.Elements.{All-head, All-tail, All-push}
 use Rattle.std.proofs.lemmas.List.Sums.{sum_by-append, sum_by-cons}
 use Rattle.bucket_terms.specs.declared.reply.Reply.{Reply}
 use Rattle.bucket_terms.specs.declared.reply.Placed.{Placed}
@@ -118,6 +118,18 @@ next_turn dir lines i d old mid now replies p last later below before rise_old r
       (place_turn (is_listing (get_or lines i d).request) (length replies) (length (replies ++ p ∷ [])) last (length_push replies p) before.place);
   in_range = All-push (λ (q : Placed). HasPageInRange dir q.reply) replies p before.in_range in_range;
 }
+
+-- the reply of the last listing has its page in range, as each reply has
+module _ (dir : List (List ℕ)) where
+  reply_in_range : (replies : List Placed) (k : ℕ) (x : Reply) → All (λ (p : Placed). HasPageInRange dir p.reply) replies
+      → option_map (λ (p : Placed). p.reply) (slice_get replies k) ≡ Some x → HasPageInRange dir x
+  reply_in_range [] k x all is = absurd (none-some x is)
+  reply_in_range (p ∷ replies) zero x all is = subst (HasPageInRange dir) (same_Some p.reply x is) (All-head (λ (q : Placed). HasPageInRange dir q.reply) p replies all)
+  reply_in_range (p ∷ replies) (suc k) x all is = reply_in_range replies k x (All-tail (λ (q : Placed). HasPageInRange dir q.reply) p replies all) is
+
+  pub last_in_range : (replies : List Placed) (last : Option ℕ) → All (λ (p : Placed). HasPageInRange dir p.reply) replies → ForSome (reply_at replies last) (HasPageInRange dir)
+  last_in_range replies None all = λ x is. absurd (none-some x is)
+  last_in_range replies (Some k) all = λ x is. reply_in_range replies k x all is
 
 -- the line that this turn answers
 pub line_here : (asked : List Asked) (shown : List Asked) (i : ℕ) (d : Asked) → shown ≡ asked → i < length shown → d ≡ get_or shown i d

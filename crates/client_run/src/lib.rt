@@ -4,6 +4,7 @@
 #![tactic(auto)]
 
 mod gate;
+mod hints;
 mod listing;
 mod pages;
 mod pool;

@@ -12,6 +12,7 @@ ghost use Rattle.client_run.specs.ClientRun.{IsLaterLine, Stopped};
 ghost use Rattle.client_run.specs.Pooling.{AnswersPooled, HasGrown, RanPooled};
 
 use crate::Gate;
+use crate::hints::{Hint, Hints};
 use crate::pool::{hand_over, top_up};
 use crate::run::{answer, known_prefixes, later_listing, reply_at};
 use bucket_terms::{Placed, PoolPass, Reply};
@@ -53,10 +54,11 @@ pub fn run_pooled<P: PoolPass, G: Gate, Rt: Wait>(
     let client = pass.client();
     let known = known_prefixes(alloc, dir, part)?;
     let mut replies: Vec<Placed> = Vec::new(alloc);
+    let mut hints = Hints::none();
     let mut last = None;
     for asked in part.requests.as_slice() {
         let place = replies.len();
-        let hint = part.requests.rank(place);
+        let hint = hints.at(dir, &part.requests, place);
         gate.before(client, asked.line);
         let placed = answer_pooled(
             rt,
@@ -84,7 +86,7 @@ fn answer_pooled<P: PoolPass, Rt: Wait>(
     pass: &mut P,
     known: &KnownPrefixes<'_>,
     asked: &Asked,
-    hint: usize,
+    hint: Hint,
     last: Option<&Reply>,
     depot: &Depot<P::Parcel>,
     seat: &mut DepotSeat<P::Parcel>,

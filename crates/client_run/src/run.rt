@@ -8,6 +8,7 @@ ghost use Rattle.client_run.specs.Listing.{HasPageInRange};
 ghost use Rattle.client_run.specs.ClientRun.{Answers, RanClient, IsLaterLine, Stopped};
 ghost use Rattle.request_lines.specs.SessionLaws.{IsAskable, Rise};
 
+use crate::hints::{Hint, Hints};
 use crate::{Gate, pages, updates, v1_pages};
 use bucket_terms::{KeyPass, Placed, Reply, Request};
 use key_names::{Directory, NoMemory};
@@ -39,10 +40,11 @@ pub fn run_client<P: KeyPass, G: Gate, Rt: Wait>(
     let client = pass.client();
     let known = known_prefixes(alloc, dir, part)?;
     let mut replies: Vec<Placed> = Vec::with_capacity(alloc, part.requests.len())?;
+    let mut hints = Hints::none();
     let mut last = None;
     for asked in part.requests.as_slice() {
         let place = replies.len();
-        let hint = part.requests.rank(place);
+        let hint = hints.at(dir, &part.requests, place);
         let last_reply = reply_at(&replies, last);
         gate.before(client, asked.line);
         let placed = answer(rt, alloc, pass, &known, asked, hint, last_reply)?;
@@ -79,7 +81,7 @@ pub(crate) fn answer<P: KeyPass, Rt: Wait>(
     pass: &mut P,
     known: &KnownPrefixes<'_>,
     asked: &Asked,
-    hint: usize,
+    hint: Hint,
     last: Option<&Reply>,
 ) -> Result<Placed, NoMemory>
     requires closed { (P.view pass.old).opened ≡ None }

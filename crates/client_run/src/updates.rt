@@ -8,6 +8,7 @@ ghost use Rattle.bucket_terms.specs.RunParts.{head_by};
 ghost use Rattle.client_run.specs.ClientRun.{answered, Answers, IsLaterLine};
 ghost use Rattle.client_run.specs.Listing.{HasPageInRange};
 
+use crate::hints::Hint;
 use bucket_terms::{KeyPass, Placed, Reply};
 use key_map::{New, Pair, PassError};
 use key_names::{Directory, Text};
@@ -20,7 +21,7 @@ pub(crate) fn put<P: KeyPass, Rt: Wait>(
     dir: &Directory,
     line: u32,
     name: &Text,
-    hint: usize,
+    hint: Hint,
     val: u64,
 ) -> Placed
     requires closed { (P.view pass.old).opened ≡ None }
@@ -46,7 +47,7 @@ pub(crate) fn put_new<P: KeyPass, Rt: Wait>(
     dir: &Directory,
     line: u32,
     name: &Text,
-    hint: usize,
+    hint: Hint,
     val: u64,
 ) -> Placed
     requires closed { (P.view pass.old).opened ≡ None }
@@ -74,7 +75,7 @@ pub(crate) fn delete<P: KeyPass, Rt: Wait>(
     dir: &Directory,
     line: u32,
     name: &Text,
-    hint: usize,
+    hint: Hint,
 ) -> Placed
     requires closed { (P.view pass.old).opened ≡ None }
     requires left { 0 < (P.view pass.old).left }
@@ -100,7 +101,7 @@ pub(crate) fn head<P: KeyPass, Rt: Wait>(
     dir: &Directory,
     line: u32,
     name: &Text,
-    hint: usize,
+    hint: Hint,
 ) -> Placed
     requires closed { (P.view pass.old).opened ≡ None }
     requires known { Contains dir.now name.now }
@@ -127,13 +128,12 @@ fn head_reply(key: u64, first: Option<Pair>) -> Reply
 }
 
 // The rank of a name that the directory has. It is searched for only where the hint is not the rank.
-fn rank_of(dir: &Directory, name: &Text, hint: usize) -> u64
+fn rank_of(dir: &Directory, name: &Text, hint: Hint) -> u64
     requires { Contains dir.now name.now }
     ensures { IsRank dir.now name.now result }
 {
-    let hint = hint as u64;
-    if hint < dir.len() && dir.name(hint).bytes() == name.bytes() {
-        return hint;
+    if let Some(rank) = hint.rank_of(dir, name) {
+        return rank;
     }
     match dir.rank(name.bytes()) {
         Some(rank) => rank,

@@ -122,6 +122,10 @@ fn by_ranks(alloc: Global, names: &[Text]) -> Result<(Vec<Text>, Vec<usize>), No
     Ok((distinct, ranks))
 }
 
+// The names of so many entries are looked at before the first of them is kept. Each may lie anywhere in memory, and the
+// waits for all of them are one then.
+const AHEAD: usize = 16;
+
 // The distinct names of the entries, in their order, and for each entry the place of its name among them.
 fn grouped(
     alloc: Global,
@@ -133,20 +137,42 @@ fn grouped(
 {
     let mut distinct = Vec::with_capacity(alloc, entries.len())?;
     let mut groups = Vec::with_capacity(alloc, entries.len())?;
-    for entry in entries {
-        let group = group_of(alloc, &mut distinct, &names[entry.number])?;
+    let mut lens = [0; AHEAD];
+    for (place, entry) in entries.iter().enumerate() {
+        if place % AHEAD == 0 {
+            lens = lens_from(names, entries, place);
+        }
+        let len = lens[place % AHEAD];
+        let group = group_of(alloc, &mut distinct, &names[entry.number], len)?;
         groups.push(group)?;
     }
     Ok((distinct, groups))
 }
 
-// The place of a name among the distinct ones, which it joins where it is not the last one.
-fn group_of(alloc: Global, distinct: &mut Vec<Text>, name: &Text) -> Result<usize, NoMemory>
+// How many bytes the names of the entries from this place on have.
+fn lens_from(names: &[Text], entries: &[Numbered], first: usize) -> [usize; AHEAD] {
+    let mut lens = [0; AHEAD];
+    for ahead in 0..AHEAD {
+        if let Some(entry) = entries.get(first.saturating_add(ahead)) {
+            lens[ahead] = names.get(entry.number).map_or(0, |name| name.bytes().len());
+        }
+    }
+    lens
+}
+
+// The place of a name among the distinct ones, which it joins where it is not the last one. It has so many bytes.
+fn group_of(
+    alloc: Global,
+    distinct: &mut Vec<Text>,
+    name: &Text,
+    len: usize,
+) -> Result<usize, NoMemory>
     ensures { IfOk result (IsKnownAs distinct.old.items distinct.new.items name.now) }
 {
     let count = distinct.len();
     if 0 < count {
-        if distinct[count - 1].bytes() == name.bytes() {
+        let last = distinct[count - 1].bytes();
+        if last.len() == len && last == name.bytes() {
             return Ok(count - 1);
         }
     }

@@ -52,7 +52,8 @@ impl Reader {
     }
 
     /// Makes room, where it is to be had, for what an input of about so many lines asks. A list that grows is moved from
-    /// time to time, and where the operating system moves it, all other threads have to be stopped for it.
+    /// time to time, and where the operating system moves it, every processor that runs another thread is interrupted,
+    /// and the mover waits until each of them has dropped what it knows of the old place.
     pub(crate) fn make_room(&mut self, lines: usize)
         ensures same { progress self.new ≡ progress self.old }
     {

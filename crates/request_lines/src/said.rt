@@ -7,12 +7,13 @@ use crate::Cause;
 use crate::command::{Command, command_of, command_of_text};
 use crate::line_error::LineError;
 use crate::read::{first_line, first_line_of_text};
+use crate::room::make_room;
 use key_names::NoMemory;
 use simdutf8::basic::from_utf8;
 use std::alloc::Global;
 
-// Room is made for as many lines as there are if each has so many bytes: a few more than are usual.
-const LINE_BYTES: usize = 64;
+// Room is made for as many lines as there are if each has so many bytes: few lines are shorter.
+const LINE_BYTES: usize = 16;
 
 /// What the lines of a block say, in a list that serves for the next block too.
 #[derive(Debug, Drop)]
@@ -41,6 +42,7 @@ impl Said {
         self.commands.clear();
         // Without the room the list grows as it is filled.
         let _ = self.commands.reserve(block.len() / LINE_BYTES);
+        make_text_room(alloc, block);
         self.cause = None;
         self.memory = match from_utf8(block) {
             Ok(text) => self.push_text(alloc, text),
@@ -91,6 +93,15 @@ impl Said {
         }
         Ok(())
     }
+}
+
+// Makes room for the texts that the block's lines may keep apart from the list: prefixes, and names of more bytes than a
+// text has in itself. An allocator that has given back no piece of this size before gives the first one back to the
+// operating system, and keeps the second.
+fn make_text_room(alloc: Global, block: &[u8]) {
+    let bytes = block.len().saturating_mul(2);
+    make_room(alloc, bytes);
+    make_room(alloc, bytes);
 }
 
 // What a line says; None where it is empty.

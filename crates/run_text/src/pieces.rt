@@ -20,6 +20,16 @@ pub(crate) enum Part<'a> {
     Updates { before: u64, updates: &'a [Update] },
 }
 
+impl<'a> Part<'a> {
+    /// How many lines tell it.
+    pub(crate) fn line_count(&self) -> usize {
+        match self {
+            Part::Replies(replies) => replies.len(),
+            Part::Updates { before: _, updates } => updates.len(),
+        }
+    }
+}
+
 /// What the lines of a piece tell, and how many bytes they are estimated to have.
 #[derive(Clone, Copy, Debug)]
 pub(crate) struct Piece<'a> {

@@ -21,6 +21,10 @@ use key_names::{Directory, NoMemory};
 use outside_io::Sink;
 use std::alloc::Global;
 
+// The names of so many updates are looked at before the line of the first of them is made. Each may lie anywhere in memory,
+// and the waits for all of them are one then.
+const AHEAD: usize = 16;
+
 /// The text of a piece, in buffers that serve for the next one too.
 #[derive(Drop)]
 pub(crate) struct Sheet {
@@ -32,12 +36,17 @@ pub(crate) struct Sheet {
 }
 
 impl Sheet {
-    pub(crate) fn new(alloc: Global) -> Sheet {
-        Sheet {
+    /// A sheet without a text. It has room for one of so many lines and bytes, where that is to be had.
+    pub(crate) fn with_room(alloc: Global, lines: usize, bytes: usize) -> Sheet {
+        let mut sheet = Sheet {
             text: String::new(alloc),
             ends: Vec::new(alloc),
             filled: Ok(()),
-        }
+        };
+        // Without the room the buffers grow as they are filled.
+        let _ = sheet.text.reserve(bytes);
+        let _ = sheet.ends.reserve(lines);
+        sheet
     }
 
     // Puts the text of the piece in the place of what the sheet had.
@@ -106,9 +115,25 @@ impl Sheet {
     {
         let mut place = before;
         for update in updates {
+            self.look_ahead(dir, updates, (place - before) as usize)?;
             place += 1;
             push_journal_line(&mut self.text, dir, place, update)?;
             self.ends.push(self.text.len())?;
+        }
+        Ok(())
+    }
+
+    // Looks at the names of the updates from this place on, where they are not near yet, and makes room for them.
+    fn look_ahead(
+        &mut self,
+        dir: &Directory,
+        updates: &[Update],
+        place: usize,
+    ) -> Result<(), NoMemory>
+        ensures { OnOk result (string_bytes self.new.text ≡ string_bytes self.old.text) }
+    {
+        if place % AHEAD == 0 {
+            self.text.reserve(names_len(dir, updates, place))?;
         }
         Ok(())
     }
@@ -126,4 +151,18 @@ impl Sheet {
             Err(_) => Err(Stop::NoMemory),
         }
     }
+}
+
+// How many bytes the names of the updates from this place on have.
+fn names_len(dir: &Directory, updates: &[Update], first: usize) -> usize {
+    let mut bytes: usize = 0;
+    for ahead in 0..AHEAD {
+        match updates.get(first.saturating_add(ahead)) {
+            Some(update) if update.key < dir.len() => {
+                bytes = bytes.saturating_add(dir.name(update.key).bytes().len());
+            },
+            _ => (),
+        }
+    }
+    bytes
 }

@@ -1,17 +1,18 @@
 use Rattle.std.proofs.Common.{◌≡◌, ℕ, ◌+◌, List, ◌≤◌, ◌++◌, ◌∷◌, [], Option, Some, length, get_or, take, sym, subst, ap, ◌∙◌, refl, arith, if◌then◌else◌}
-use Rattle.std.specs.Option.{option_copied}
+use Rattle.std.specs.Option.{option_copied, ForSome}
 use Rattle.bucket_terms.specs.declared.reply.Reply.{Reply}
 use Rattle.bucket_terms.specs.declared.reply.Placed.{Placed}
 use Rattle.bucket_terms.specs.LegalRun.{RequestLine, is_listing, last_listing, answered_lines}
 use Rattle.bucket_terms.specs.RunParts.{updates_in}
 use Rattle.request_lines.specs.Session.{request_line, request_lines}
 use Rattle.client_run.specs.ClientRun.{IsLaterLine}
+use Rattle.client_run.specs.Listing.{HasPageInRange}
 use Rattle.request_lines.specs.SessionLaws.{IsAskable}
 use Rattle.std.proofs.lemmas.List.{take_more}
 use Rattle.client_run.specs.Pooling.{capped, AnswersPooled}
 use Rattle.client_run.proofs.TradedAnswers.{continues_all, grown_same, grown_on, stopped_all}
 use Rattle.client_run.proofs.TradedRuns.{Trading, trading_none, trading_more}
-use Rattle.client_run.proofs.Turn.{later_at, call_at, line_here, first_turn, next_turn, reply_at}
+use Rattle.client_run.proofs.Turn.{later_at, call_at, line_here, first_turn, next_turn, reply_at, last_in_range}
 use Rattle.client_run.proofs.Stopping.{after_error, stopped_later, stopped_behind}
 use Rattle.client_run.proofs.pooled.run_pooled.Goals as goal
 
@@ -45,6 +46,12 @@ answer_pooled-requires-clause-later g c =
     let here = line_here c.args.part.now.requests c.as_slice-asked-items.result.now c.loop-asked.asked-index d c.as_slice-asked-items.ensures c.loop-asked-test.true c.asked-item.is in
     subst (λ (l : RequestLine). IsLaterLine (g.P.KeyPass.view c.loop-asked.pass) l.line) here.1
     (later_at c.args.dir.now (request_lines c.args.part.now) c.loop-asked.asked-index (request_line d) (capped c.args.own (g.P.KeyPass.view c.args.pass.now)) (capped c.args.own (g.P.KeyPass.view c.loop-asked.pass)) c.loop-asked.replies.items here.0 c.loop-asked.invariant.0.running c.requires.later c.requires.rising)
+
+pub answer_pooled-requires-clause-in_range : goal.answer_pooled-requires-clause-in_range
+answer_pooled-requires-clause-in_range g c =
+    let replies = c.loop-asked.replies.items in
+    let is : option_copied c.reply_at.result ≡ reply_at replies c.loop-asked.last = c.reply_at.ensures ∙ ap (λ (rs : List Placed). reply_at rs c.loop-asked.last) c.deref.ensures.value in
+    rw c.in_ok-known.ensures (subst (λ (o : Option Reply). ForSome o (HasPageInRange c.args.dir.now)) (sym is) (last_in_range c.args.dir.now replies c.loop-asked.last c.loop-asked.invariant.0.in_range))
 
 pub loop-asked-preserved : goal.loop-asked-preserved
 loop-asked-preserved g c =
