@@ -11,6 +11,7 @@ use crate::room::make_room;
 use key_names::NoMemory;
 use simdutf8::basic::from_utf8;
 use std::alloc::Global;
+use std::mem;
 
 // Room is made for as many lines as there are if each has so many bytes: few lines are shorter.
 const LINE_BYTES: usize = 16;
@@ -35,8 +36,19 @@ impl Said {
         }
     }
 
-    /// Puts what the lines of the block say in the place of what stood here.
+    /// Puts what the lines of the block say in the place of what stood here. The list is filled on the stack of its
+    /// thread: those of other threads stand beside it, and where two processors write into one line of their caches by
+    /// turns, each waits for the other at every write.
     pub(crate) fn read(&mut self, alloc: Global, block: &[u8])
+        ensures { IsRead (texts_of block.now) self.new }
+    {
+        let mut said = mem::replace(self, Said::new(alloc));
+        said.read_here(alloc, block);
+        *self = said;
+    }
+
+    // The same where the list stands.
+    fn read_here(&mut self, alloc: Global, block: &[u8])
         ensures { IsRead (texts_of block.now) self.new }
     {
         self.commands.clear();

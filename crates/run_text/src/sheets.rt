@@ -20,6 +20,7 @@ use key_map::Update;
 use key_names::{Directory, NoMemory};
 use outside_io::Sink;
 use std::alloc::Global;
+use std::mem;
 
 // The names of so many updates are looked at before the line of the first of them is made. Each may lie anywhere in memory,
 // and the waits for all of them are one then.
@@ -36,20 +37,27 @@ pub(crate) struct Sheet {
 }
 
 impl Sheet {
-    /// A sheet without a text. It has room for one of so many lines and bytes, where that is to be had.
-    pub(crate) fn with_room(alloc: Global, lines: usize, bytes: usize) -> Sheet {
-        let mut sheet = Sheet {
+    // A sheet without a text and without room. It takes no memory.
+    fn empty(alloc: Global) -> Sheet {
+        Sheet {
             text: String::new(alloc),
             ends: Vec::new(alloc),
             filled: Ok(()),
-        };
+        }
+    }
+
+    /// A sheet without a text. It has room for one of so many lines and bytes, where that is to be had.
+    pub(crate) fn with_room(alloc: Global, lines: usize, bytes: usize) -> Sheet {
+        let mut sheet = Sheet::empty(alloc);
         // Without the room the buffers grow as they are filled.
         let _ = sheet.text.reserve(bytes);
         let _ = sheet.ends.reserve(lines);
         sheet
     }
 
-    // Puts the text of the piece in the place of what the sheet had.
+    /// Puts the text of the piece in the place of what the sheet had. The sheet is filled on the stack of its thread: those
+    /// of other threads stand beside it, and where two processors write into one line of their caches by turns, each waits
+    /// for the other at every write.
     pub(crate) fn fill(
         &mut self,
         dir: &Directory,
@@ -61,9 +69,12 @@ impl Sheet {
         requires right { AreRight dir.now records.now texts.now }
         ensures { IsFilled dir.now records.now piece.now self.new }
     {
-        self.text.clear();
-        self.ends.clear();
-        self.filled = self.push_piece(dir, records, texts, piece);
+        let empty = Sheet::empty(*self.text.allocator());
+        let mut sheet = mem::replace(self, empty);
+        sheet.text.clear();
+        sheet.ends.clear();
+        sheet.filled = sheet.push_piece(dir, records, texts, piece);
+        *self = sheet;
     }
 
     fn push_piece(
