@@ -1,4 +1,5 @@
 pub mod ClientRun
 pub mod Listing
 pub mod Starts
+pub mod Hints
 pub mod Pooling

@@ -1,6 +1,7 @@
 // Where the directory may have the names of a client's requests.
-ghost use Rattle.std.specs.Prelude.{IfSome};
+ghost use Rattle.std.specs.Prelude.{◌≡◌, Some, IfSome};
 ghost use Rattle.key_names.specs.Names.{IsRank};
+ghost use Rattle.client_run.specs.Hints.{IsRightHint};
 
 use key_names::{Directory, Text};
 use request_lines::Requests;
@@ -17,7 +18,7 @@ pub(crate) struct Hint {
 }
 
 impl Hint {
-    // The first name, and that it has no byte, as no name does.
+    // A hint that is right for no name: each name has a byte at least.
     fn none() -> Hint {
         Hint { rank: 0, len: 0 }
     }
@@ -32,9 +33,10 @@ impl Hint {
         Hint::none()
     }
 
-    /// The rank, if the name there is this one.
+    /// The rank, if the name there is this one and has so many bytes.
     pub(crate) fn rank_of(&self, dir: &Directory, name: &Text) -> Option<u64>
-        ensures { IfSome result (IsRank dir.now name.now) }
+        ensures rank { IfSome result (IsRank dir.now name.now) }
+        ensures right { IsRightHint dir.now name.now self.now → result ≡ Some self.now.rank }
     {
         if self.len == name.bytes().len()
             && self.rank < dir.len()

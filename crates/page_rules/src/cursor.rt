@@ -6,8 +6,8 @@ ghost use Rattle.page_rules.specs.PrefixRanks.{AreListed};
 use crate::known_prefixes::KnownPrefixes;
 use crate::prefix_ranks::PrefixRanks;
 use crate::resume::{first_rank, rank_behind};
-use crate::rules::{entry_of, is_under};
-use bucket_terms::{ListQuery, Page, PageEntries, TokenPoint};
+use crate::rules::{entry_of, is_under, key_of};
+use bucket_terms::{ListQuery, Page, PageEntries, PageEntry, TokenPoint};
 use key_map::Pair;
 use key_names::{Directory, NoMemory};
 use std::alloc::Global;
@@ -55,13 +55,13 @@ impl<'a> Model for PageCursor<'a> {
 }
 
 impl<'a> PageCursor<'a> {
-    ghost use Rattle.std.specs.Prelude.{◌≡◌, ◌≤◌, List, length, Option, IsSome, IfSome, OnOk, OnErr};
+    ghost use Rattle.std.specs.Prelude.{◌≡◌, ◌<◌, ◌≤◌, true, List, length, Option, IsSome, IfSome, OnOk, OnErr};
     ghost use Rattle.std.specs.Option.{option_copied};
     ghost use Rattle.key_map.specs.Map.{IsMap};
     ghost use Rattle.key_map.specs.declared.pair.Pair.{Pair};
     ghost use Rattle.bucket_terms.specs.declared.token_point.TokenPoint.{TokenPoint};
-    ghost use Rattle.bucket_terms.specs.Listing.{is_under, page_of};
-    ghost use Rattle.bucket_terms.specs.PageInRange.{IsInRange};
+    ghost use Rattle.bucket_terms.specs.Listing.{is_under, entry_of, page_of};
+    ghost use Rattle.bucket_terms.specs.PageInRange.{IsInRange, IsEntryInRange};
     ghost use Rattle.page_rules.specs.Cursor.{IsNew, IsOnWay, IsOver, Took, page_so_far};
 
     /// A cursor for the page of the query on the names of a directory, from a point on. It takes no memory yet.
@@ -139,17 +139,49 @@ impl<'a> PageCursor<'a> {
         let _names = self.dir.len();
         if !self.lists(&pair) {
             self.next = None;
-        } else if self.entries.len() < self.query.max_keys as usize {
-            let entry = entry_of(self.dir, self.query, &pair);
-            let most = self.query.max_keys as usize;
-            self.entries.push(entry, most.min(self.dir.len() as usize))?;
-            self.next = Some(rank_behind(self.dir, self.query, &entry));
-            self.ranks = later_ranks(self.dir, self.query, self.ranks, self.entries.len());
-        } else {
+            return Ok(());
+        }
+        if self.entries.len() >= self.query.max_keys as usize {
             self.truncated = true;
             self.next = None;
+            return Ok(());
         }
+        if self.query.delimiter.bytes().is_empty() {
+            let entry = key_of(self.dir, self.query, &pair);
+            return self.add(&pair, entry);
+        }
+        let entry = entry_of(self.dir, self.query, &pair);
+        self.add(&pair, entry)
+    }
+
+    // Adds the entry of a listed pair, for which there is room. It is built into its callers: where there is no delimiter
+    // the compiler then knows that the entry is a key.
+    #[inline(always)]
+    fn add(&mut self, _pair: &Pair, entry: PageEntry) -> Result<(), NoMemory>
+        requires some { IsSome self.old.next }
+        requires listed { is_under self.old.dir self.old.query _pair.now ≡ true }
+        requires room { length self.old.entries < self.old.query.max_keys }
+        requires entry { entry ≡ entry_of self.old.dir self.old.query _pair.now }
+        requires in_range { IsEntryInRange self.old.dir entry }
+        ensures took { OnOk result (Took self.old self.new _pair.now) }
+        ensures unchanged { OnErr result (self.new ≡ self.old) }
+    {
+        let _names = self.dir.len();
+        let most = self.query.max_keys as usize;
+        self.entries.push(entry, most.min(self.dir.len() as usize))?;
+        self.next = Some(rank_behind(self.dir, self.query, &entry));
+        self.note_ranks();
         Ok(())
+    }
+
+    // Looks for the ranks of the listed names, where they are not known and the page has come to have so many entries.
+    #[inline(always)]
+    fn note_ranks(&mut self)
+        ensures { self.new ≡ self.old }
+    {
+        if self.ranks.is_none() && self.entries.len() == MANY {
+            self.ranks = Some(PrefixRanks::of(self.dir, self.query.prefix.bytes()));
+        }
     }
 
     // Whether the pair is listed.
@@ -178,21 +210,4 @@ impl<'a> PageCursor<'a> {
             truncated: self.truncated,
         }
     }
-}
-
-// The ranks of the listed names, which are looked for where the page has come to have so many entries.
-#[inline(always)]
-fn later_ranks(
-    dir: &Directory,
-    query: &ListQuery,
-    ranks: Option<PrefixRanks>,
-    entries: usize,
-) -> Option<PrefixRanks>
-    requires { AreListed dir.now query.now ranks }
-    ensures { AreListed dir.now query.now result }
-{
-    if ranks.is_none() && entries == MANY {
-        return Some(PrefixRanks::of(dir, query.prefix.bytes()));
-    }
-    ranks
 }

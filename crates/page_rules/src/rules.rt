@@ -52,13 +52,10 @@ pub(crate) fn entry_of(dir: &Directory, query: &ListQuery, pair: &Pair) -> PageE
     // the calls' clauses tell the proof that ranks have 32 bits, that names are short, and that names and delimiter are
     // UTF-8, so a group ends a character
     let _names = dir.len();
-    let rank = pair.key as u32;
     if query.delimiter.bytes().is_empty() {
-        return PageEntry::Key {
-            rank,
-            val: pair.val,
-        };
+        return key_of(dir, query, pair);
     }
+    let rank = pair.key as u32;
     match group_len(query, name_at(dir, pair.key)) {
         Some(len) => PageEntry::Group {
             rank,
@@ -68,6 +65,22 @@ pub(crate) fn entry_of(dir: &Directory, query: &ListQuery, pair: &Pair) -> PageE
             rank,
             val: pair.val,
         },
+    }
+}
+
+/// The entry of a pair whose key is a rank, where the query has no delimiter: its key.
+#[inline(always)]
+pub(crate) fn key_of(dir: &Directory, _query: &ListQuery, pair: &Pair) -> PageEntry
+    requires rank { pair.now.key < length dir.now }
+    requires no_delimiter { length _query.now.delimiter ≡ 0 }
+    ensures entry { result ≡ entry_of dir.now _query.now pair.now }
+    ensures in_range { IsEntryInRange dir.now result }
+{
+    // the call's clauses tell the proof that ranks have 32 bits
+    let _names = dir.len();
+    PageEntry::Key {
+        rank: pair.key as u32,
+        val: pair.val,
     }
 }
 

@@ -134,7 +134,7 @@ impl Sheet {
         Ok(())
     }
 
-    // Looks at the names of the updates from this place on, where they are not near yet, and makes room for them.
+    // At every sixteenth place looks at the names of the updates from there on, and makes room for them.
     fn look_ahead(
         &mut self,
         dir: &Directory,

@@ -59,8 +59,15 @@ fn write_pieces<K: Sink, Rt: Threads + Sync>(
     requires right { AreRight dir.now records.now texts.now }
     ensures { Writes (pieces_text dir.now records.now pieces.now) (K.taken sink.old) (K.taken sink.new) (K.faults sink.old) (K.faults sink.new) result }
 {
-    let mut filled = empty_sheets(alloc, most, pieces)?;
-    let mut spare = empty_sheets(alloc, most, pieces)?;
+    let room = most_room(pieces);
+    let mut filled = empty_sheets(alloc, most, room)?;
+    // Where one batch has all pieces, the others stay empty.
+    let spare_room = if pieces.len() > most {
+        room
+    } else {
+        Room::none()
+    };
+    let mut spare = empty_sheets(alloc, most, spare_room)?;
     fill_all(
         rt,
         dir,
@@ -93,28 +100,41 @@ fn batch_at<'a, 'b>(pieces: &'b [Piece<'a>], done: usize, most: usize) -> &'b [P
     batch
 }
 
-// So many sheets without a text, with room for that of any of the pieces. The caller makes the room, since the memory that
-// the run has given back is the caller's, and a thread that makes it takes new memory.
-fn empty_sheets(alloc: Global, count: usize, pieces: &[Piece<'_>]) -> Result<Vec<Sheet>, NoMemory>
+/// For how many lines and bytes a sheet has room.
+#[derive(Clone, Copy, Debug)]
+struct Room {
+    lines: usize,
+    bytes: usize,
+}
+
+impl Room {
+    fn none() -> Room {
+        Room { lines: 0, bytes: 0 }
+    }
+}
+
+// So many sheets without a text, with this room. The caller makes the room, since the memory that the run has given back is
+// the caller's, and a thread that makes it takes new memory.
+fn empty_sheets(alloc: Global, count: usize, room: Room) -> Result<Vec<Sheet>, NoMemory>
     ensures { IfOk result (λ sheets. length sheets.items ≡ count) }
 {
-    let (lines, bytes) = most_room(pieces);
     let mut sheets = Vec::new(alloc);
     for _ in 0..count {
-        sheets.push(Sheet::with_room(alloc, lines, bytes))?;
+        sheets.push(Sheet::with_room(alloc, room.lines, room.bytes))?;
     }
     Ok(sheets)
 }
 
 // The most lines that a piece has, and about the most bytes: an eighth more than they are estimated at.
-fn most_room(pieces: &[Piece<'_>]) -> (usize, usize) {
+fn most_room(pieces: &[Piece<'_>]) -> Room {
     let mut lines = 0;
     let mut bytes = 0;
     for piece in pieces {
         lines = piece.part.line_count().max(lines);
         bytes = piece.bytes.max(bytes);
     }
-    (lines, bytes.saturating_add(bytes / 8))
+    let bytes = bytes.saturating_add(bytes / 8);
+    Room { lines, bytes }
 }
 
 // How many pieces are put together at once.

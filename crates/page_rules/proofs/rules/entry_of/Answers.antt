@@ -2,19 +2,18 @@ use Rattle.std.proofs.Common.{[]}
 use Rattle.std.specs.Str.{IsUtf8}
 use Rattle.std.proofs.Common.{◌≡◌, length, Some, sym, ap, ◌∙◌, arith}
 use Rattle.std.proofs.lemmas.Bool.Decides.{nat_tests}
-use Rattle.bucket_terms.specs.Listing.{group_len, entry_by}
+use Rattle.bucket_terms.specs.Listing.{group_len}
 use Rattle.bucket_terms.specs.PageInRange.{IsGroupInRange}
 use Rattle.key_names.specs.Names.{name_at}
-use Rattle.page_rules.proofs.FirstEnd.{no_group-without}
 use Rattle.page_rules.proofs.InRange.{whole_group}
 use Rattle.page_rules.proofs.rules.entry_of.Goals as goal
 use Rattle.page_rules.proofs.rules.entry_of.Goals.{In-Some}
 
-pub returns-then-is_empty-clause-entry : goal.returns-then-is_empty-clause-entry
-returns-then-is_empty-clause-entry c =
+pub key_of-requires-clause-no_delimiter : goal.key_of-requires-clause-no_delimiter
+key_of-requires-clause-no_delimiter c =
     let is = ap length c.bytes.ensures.value in
     let empty : length c.bytes.result.now ≡ 0 = grind (arith, nat_tests, c.is_empty.ensures) in
-    sym (ap (λ o. entry_by o c.args.pair.now) (no_group-without c.args.query.now (name_at c.args.dir.now c.args.pair.now.key) (omega (arith, is, empty))))
+    omega (arith, is, empty)
 
 -- the group is in range
 in_range : (c : In-Some) → IsGroupInRange c.args.dir.now c.args.pair.now.key c.in-Some.len
