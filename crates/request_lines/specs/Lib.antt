@@ -9,6 +9,7 @@ pub mod Input
 pub mod InputParts
 pub mod Session
 pub mod Interned
+pub mod NameHints
 pub mod Left
 pub mod Said
 pub mod Pieces

@@ -43,6 +43,18 @@ pub(crate) enum Command {
     Next,
 }
 
+impl Command {
+    /// The name of the object that the line is about, where it is about one.
+    pub(crate) fn name(&self) -> Option<&Text> {
+        match self {
+            Command::Put { name, .. } | Command::Delete { name } | Command::Head { name } => {
+                Some(name)
+            }
+            Command::Client | Command::List(_) | Command::ListV1(_) | Command::Next => None,
+        }
+    }
+}
+
 /// What a line says, whatever came before it.
 #[tactic(auto, unfolding(crate::specs::Input::reading_of))]
 pub(crate) fn command_of(alloc: Global, text: &[u8]) -> Result<Command, LineError>

@@ -8,6 +8,7 @@ ghost use Rattle.request_lines.specs.Interned.{AreGroups, AreRanks, HaveNumbers,
 use crate::known::Known;
 use crate::leads::{Numbered, sorted};
 use crate::line_error::LineError;
+use crate::name_hints::NameHint;
 use crate::names::Names;
 use key_names::{NoMemory, Text};
 use std::alloc::{AllocError, Global};
@@ -60,17 +61,31 @@ impl Interner {
         let _ = self.order.reserve(count);
     }
 
-    /// Adds the name of the next line, and answers the number that it is kept under.
-    pub(crate) fn push(&mut self, alloc: Global, name: &Text) -> Result<usize, LineError>
+    /// The number that a name with this hash may have.
+    pub(crate) fn number_of(&self, hash: u64) -> Option<usize> {
+        self.known.number_of(hash)
+    }
+
+    /// How many bytes the name of this number has: 0 where there is none.
+    pub(crate) fn len_of(&self, number: usize) -> usize {
+        self.names.get(number).map_or(0, |name| name.bytes().len())
+    }
+
+    /// Adds the name of the next line, and answers the number that it is kept under. A hint for another name costs time
+    /// alone.
+    pub(crate) fn push(
+        &mut self,
+        alloc: Global,
+        name: &Text,
+        hint: NameHint,
+    ) -> Result<usize, LineError>
         ensures pushed { OnOk result (self.new ≡ self.old ++ name.now ∷ []) }
         ensures memory { IsOkUnless result OutOfMemory }
     {
         self.order.reserve(1)?;
-        let hash = self.known.hash_of(alloc, name)?;
-        let hint = self.known.number_of(hash);
-        let number = number_of(alloc, &mut self.names, name, hint)?;
+        self.known.make(alloc)?;
+        let number = number_of(alloc, &mut self.names, &mut self.known, name, hint)?;
         self.order.push_reserved(number);
-        self.known.note(hash, number);
         Ok(number)
     }
 
@@ -90,21 +105,43 @@ impl Interner {
     }
 }
 
-// The number of a name: the hint, where an equal name has it, or else the next one, which it then has.
+// The number of a name: that of the hint or the one that the table knows, where an equal name has it, or else the next
+// one, which it then has.
 fn number_of(
     alloc: Global,
     names: &mut Vec<Text>,
+    known: &mut Known,
     name: &Text,
-    hint: Option<usize>,
+    hint: NameHint,
 ) -> Result<usize, NoMemory>
     ensures known { IfOk result (IsKnownAs names.old.items names.new.items name.now) }
     ensures unchanged { OnErr result (names.new.items ≡ names.old.items) }
 {
-    if let Some(hint) = hint
-        && hint < names.len()
-        && names[hint].bytes() == name.bytes()
+    if let Some(number) = hint.number_of(names.as_slice(), name) {
+        return Ok(number);
+    }
+    // The table is asked again: the name may have been kept after the hint was made.
+    let hash = hint.hash();
+    let number = known_or_next(alloc, names, name, known.number_of(hash))?;
+    known.note(hash, number);
+    Ok(number)
+}
+
+// The same, where the hint has no number of an equal name.
+fn known_or_next(
+    alloc: Global,
+    names: &mut Vec<Text>,
+    name: &Text,
+    known: Option<usize>,
+) -> Result<usize, NoMemory>
+    ensures known { IfOk result (IsKnownAs names.old.items names.new.items name.now) }
+    ensures unchanged { OnErr result (names.new.items ≡ names.old.items) }
+{
+    if let Some(number) = known
+        && number < names.len()
+        && names[number].bytes() == name.bytes()
     {
-        return Ok(hint);
+        return Ok(number);
     }
     let count = names.len();
     names.push(name.copy(alloc)?)?;

@@ -29,17 +29,16 @@ impl Known {
         }
     }
 
-    /// The hash of a name. The first call takes the memory of the table.
-    pub(crate) fn hash_of(&mut self, alloc: Global, name: &Text) -> Result<u64, AllocError> {
+    /// Makes the table, where there is none yet.
+    pub(crate) fn make(&mut self, alloc: Global) -> Result<(), AllocError> {
         if self.kept.is_empty() {
             self.kept = nothing(alloc)?;
         }
-        let mut hasher = FoldHasher::default();
-        hasher.write(name.bytes());
-        Ok(hasher.finish())
+        Ok(())
     }
 
-    /// The number that a name with this hash may have: None where the last name of its place had another hash.
+    /// The number that a name with this hash may have: None where the last name of its place had another hash, and
+    /// before the table is made.
     pub(crate) fn number_of(&self, hash: u64) -> Option<usize> {
         match self.kept.get(place_of(hash)) {
             Some(kept) if kept.upper == upper_half(hash) => Some(kept.number as usize),
@@ -57,6 +56,13 @@ impl Known {
             }
         }
     }
+}
+
+/// The hash of a name.
+pub(crate) fn hash_of(name: &Text) -> u64 {
+    let mut hasher = FoldHasher::default();
+    hasher.write(name.bytes());
+    hasher.finish()
 }
 
 fn place_of(hash: u64) -> usize {

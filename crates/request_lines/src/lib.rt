@@ -13,6 +13,7 @@ mod known;
 mod leads;
 mod limits;
 mod line_error;
+mod name_hints;
 mod names;
 mod parameter;
 mod parts;

@@ -13,6 +13,7 @@ use crate::command::{Command, command_of};
 use crate::counts::Counts;
 use crate::interner::Interner;
 use crate::line_error::LineError;
+use crate::name_hints::NameHint;
 use crate::verb::PutWhen;
 use crate::{Asked, ClientPart, InputError, Requests, Session, SessionError};
 use bucket_terms::{Record, Request};
@@ -91,18 +92,25 @@ impl Reader {
         ensures within { OnOk result (IsWithin self.new.counts) }
     {
         let command = command_of(alloc, text)?;
-        self.admit(alloc, number, command)
+        let hint = NameHint::of(&command);
+        self.admit(alloc, number, command, hint)
     }
 
     // Takes the next line, which says this.
-    fn admit(&mut self, alloc: Global, number: u32, command: Command) -> Result<(), LineError>
+    fn admit(
+        &mut self,
+        alloc: Global,
+        number: u32,
+        command: Command,
+        hint: NameHint,
+    ) -> Result<(), LineError>
         requires within { IsWithin self.old.counts }
         requires fine { IsFineCommand command }
         ensures kept { KeepsReading (progress self.old) number (Ok command) (progress self.new) result }
         ensures within { OnOk result (IsWithin self.new.counts) }
     {
         let counts = self.counts.admitted(&command)?;
-        self.keep(alloc, number, command, counts)
+        self.keep(alloc, number, command, counts, hint)
     }
 
     /// Takes the next line, which has this number and says this, or is empty.
@@ -111,6 +119,7 @@ impl Reader {
         alloc: Global,
         number: u32,
         said: Option<Command>,
+        hint: NameHint,
     ) -> Result<(), SessionError>
         requires within { IsWithin self.old.counts }
         requires says { (text : List ℕ) × SaysLine text said }
@@ -120,7 +129,7 @@ impl Reader {
         let Some(command) = said else {
             return Ok(());
         };
-        match self.admit(alloc, number, command) {
+        match self.admit(alloc, number, command, hint) {
             Ok(()) => Ok(()),
             Err(error) => Err(error_at(number, error)),
         }
@@ -134,6 +143,7 @@ impl Reader {
         number: u32,
         command: Command,
         counts: Counts,
+        hint: NameHint,
     ) -> Result<(), LineError>
         requires { counts ≡ counted self.old.counts command }
         ensures kept { OnOk result (progress self.new ≡ kept (progress self.old) number (Ok command)) }
@@ -145,18 +155,18 @@ impl Reader {
             Command::Put { when, name, record } => {
                 let val = u64::from(self.counts.puts);
                 self.counts = counts;
-                let name_number = self.names.push(alloc, &name)?;
+                let name_number = self.names.push(alloc, &name, hint)?;
                 self.records.push(record)?;
                 self.ask(number, put_request(when, name, val), name_number)
             }
             Command::Delete { name } => {
                 self.counts = counts;
-                let name_number = self.names.push(alloc, &name)?;
+                let name_number = self.names.push(alloc, &name, hint)?;
                 self.ask(number, Request::Delete { name }, name_number)
             }
             Command::Head { name } => {
                 self.counts = counts;
-                let name_number = self.names.push(alloc, &name)?;
+                let name_number = self.names.push(alloc, &name, hint)?;
                 self.ask(number, Request::Head { name }, name_number)
             }
             Command::List(query) => {

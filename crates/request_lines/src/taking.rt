@@ -6,6 +6,7 @@ ghost use Rattle.request_lines.specs.Said.{IsRead, AreRead, texts_in};
 
 use crate::SessionError;
 use crate::line_error::LineError;
+use crate::name_hints::NameHints;
 use crate::reader::{Reader, error_at};
 use crate::said::Said;
 use std::alloc::Global;
@@ -20,9 +21,11 @@ impl Reader {
     {
         said.memory?;
         let mut number = before;
+        let mut hints = NameHints::none();
         for place in 0..said.commands.len() {
             number += 1;
-            self.take_said(alloc, number, said.commands[place].take())?;
+            let hint = hints.at(&self.names, said.commands.as_slice(), place);
+            self.take_said(alloc, number, said.commands[place].take(), hint)?;
         }
         match said.cause {
             Some(cause) => Err(error_at(number + 1, LineError::Faulty(cause))),
