@@ -8,7 +8,7 @@ ghost use Rattle.request_lines.specs.Interned.{AreGroups, AreRanks, HaveNumbers,
 use crate::known::Known;
 use crate::leads::{Numbered, sorted};
 use crate::line_error::LineError;
-use crate::name_hints::NameHint;
+use crate::name_hints::{NameHint, if_kept_as};
 use crate::names::Names;
 use key_names::{NoMemory, Text};
 use std::alloc::{AllocError, Global};
@@ -138,8 +138,7 @@ fn known_or_next(
     ensures unchanged { OnErr result (names.new.items ≡ names.old.items) }
 {
     if let Some(number) = known
-        && number < names.len()
-        && names[number].bytes() == name.bytes()
+        && let Some(number) = if_kept_as(names.as_slice(), name, number)
     {
         return Ok(number);
     }

@@ -1,7 +1,7 @@
 // Where the names of the next lines may have been kept.
-ghost use Rattle.std.specs.Prelude.{◌≡◌, IfSome};
+ghost use Rattle.std.specs.Prelude.{◌≡◌, Some, IfSome};
 ghost use Rattle.request_lines.specs.Interned.{IsKnownAs};
-ghost use Rattle.request_lines.specs.NameHints.{IsRightHint};
+ghost use Rattle.request_lines.specs.NameHints.{IsKeptAs, IsRightHint};
 
 use crate::command::Command;
 use crate::interner::Interner;
@@ -53,14 +53,23 @@ impl NameHint {
         ensures right { IsRightHint names.now name.now self.now → result ≡ self.now.number }
     {
         let number = self.number?;
-        if self.len == name.bytes().len()
-            && number < names.len()
-            && names[number].bytes() == name.bytes()
-        {
-            return Some(number);
+        if self.len == name.bytes().len() {
+            return if_kept_as(names, name, number);
         }
         None
     }
+}
+
+/// The number, if the name with this number is this one.
+pub(crate) fn if_kept_as(names: &[Text], name: &Text, number: usize) -> Option<usize>
+    ensures known { IfSome result (IsKnownAs names.now names.now name.now) }
+    ensures right { IsKeptAs names.now name.now number → result ≡ Some number }
+{
+    let kept = names.get(number)?;
+    if kept.bytes() == name.bytes() {
+        return Some(number);
+    }
+    None
 }
 
 /// The hints for some lines that follow one another.
