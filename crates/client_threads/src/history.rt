@@ -6,7 +6,8 @@ ghost use Rattle.client_threads.specs.ClientSlots.{IsNamable};
 ghost use Rattle.client_threads.specs.Pools.{named};
 ghost use Rattle.client_threads.specs.Runs.{CanRunEach, parts_of};
 ghost use Rattle.client_threads.specs.Behind.{RanBehindEach};
-ghost use Rattle.client_threads.specs.Sizes.{CanServe};
+ghost use Rattle.client_threads.specs.Sizes.{CanServe, sizes_of};
+ghost use Rattle.shared_index.specs.Keys.{AreAllKeys, AreFresh};
 ghost use Rattle.request_lines.specs.InputParts.{most_clients};
 
 use crate::node_slots::NodeSlots;
@@ -39,6 +40,29 @@ pub fn history_of<G: Gate + Sync, R: Runner<G>, Rt: Threads + Wait + Sync>(
     ensures runs { OnOk result (R.runs runner.new ≡ one_more (R.runs runner.old)) }
 {
     let (index, keys) = open_index(alloc, slots.named(), session.clients.as_slice())?;
+    history_over(rt, alloc, slots, index, keys, session, dir, gate, runner)
+}
+
+/// The same over an index that is open: all its keys are these, one for each client in order, with the slots that are
+/// named or that its lines ask for.
+pub fn history_over<G: Gate + Sync, R: Runner<G>, Rt: Threads + Wait + Sync>(
+    rt: &Rt,
+    alloc: Global,
+    slots: NodeSlots,
+    index: SharedIndex,
+    keys: Vec<PassKey>,
+    session: &Session,
+    dir: &Directory,
+    gate: &G,
+    runner: &mut R,
+) -> Result<Vec<Update>, NoMemory>
+    requires can { CanServe dir.now session.now }
+    requires slots { IsNamable (named slots) }
+    requires all { AreAllKeys index keys.items }
+    requires fresh { AreFresh 0 (sizes_of (named slots) session.now.clients) keys.items }
+    ensures ran { IfOk result (λ updates. RanSession dir.now (named slots) session.now.clients updates.items (R.replied runner.new)) }
+    ensures runs { OnOk result (R.runs runner.new ≡ one_more (R.runs runner.old)) }
+{
     let keys = run_keys(rt, alloc, slots, &index, keys, session, dir, gate, runner)?;
     match index.finish(alloc, keys) {
         Ok(updates) => Ok(updates),

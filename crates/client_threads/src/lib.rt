@@ -15,9 +15,9 @@ mod slots;
 mod threaded;
 
 pub use counting::summary_of;
-pub use history::history_of;
+pub use history::{history_of, history_over};
 pub use node_slots::NodeSlots;
-pub use opening::open_index;
+pub use opening::{open_index, open_sized};
 pub use runner::Runner;
 pub use slots::slots_suffice;
 pub use threaded::Threaded;

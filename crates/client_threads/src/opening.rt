@@ -31,7 +31,19 @@ pub fn open_index(
     if sizes.len() == 1 {
         make_index_room(alloc, &sizes);
     }
-    match SharedIndex::open(alloc, &sizes) {
+    open_sized(alloc, &sizes)
+}
+
+/// Opens an index with a pass of each of these sizes, which a table can have.
+pub fn open_sized(
+    alloc: Global,
+    sizes: &[PassSize],
+) -> Result<(SharedIndex, Vec<PassKey>), NoMemory>
+    requires fit { FitTable sizes.now }
+    ensures all { IfOk result (λ opened. AreAllKeys opened.0 opened.1.items) }
+    ensures fresh { IfOk result (λ opened. AreFresh 0 sizes.now opened.1.items) }
+{
+    match SharedIndex::open(alloc, sizes) {
         Ok(opened) => Ok(opened),
         Err(OpenError::NoMemory) => Err(NoMemory),
         Err(OpenError::BadSizes) => unreachable!(),

@@ -21,3 +21,4 @@ pub mod PieceLaws
 pub mod SampleQueries
 pub mod SampleLines
 pub mod SampleWalk
+pub mod SampleParts

@@ -1,5 +1,5 @@
 -- The generated input, read line by line: what is kept of its lines so far, and at its end its session.
-use Rattle.std.proofs.Common.{◌≡◌, ℕ, ◌+◌, ◌*◌, ◌/◌, ◌%◌, ◌<◌, ◌≤◌, Bool, true, false, List, [], ◌∷◌, ◌++◌, length, map, codes, refl, ap, ap₂, sym, subst, ◌∙◌, ◌&&◌, Option, Some, None, Ok, arith, inl, inr, append_assoc, append-nil, length-append, zero, suc}
+use Rattle.std.proofs.Common.{◌≡◌, ℕ, ◌+◌, ◌*◌, ◌/◌, ◌%◌, ◌^◌, ◌<◌, ◌≤◌, Bool, true, false, List, [], ◌∷◌, ◌++◌, length, map, codes, refl, ap, ap₂, sym, subst, ◌∙◌, ◌&&◌, Option, Some, None, Ok, arith, inl, inr, append_assoc, append-nil, length-append, zero, suc}
 use Rattle.std.specs.Prelude.{◌==◌, nat_lt, not, if◌then◌else◌}
 use Rattle.std.specs.Fmt.{decimal}
 use Rattle.std.specs.Str.Lines.{strip_carriage_return}
@@ -24,6 +24,7 @@ use Rattle.request_lines.specs.Sample.{sample_name, sample_line, sample_lines, s
 use Rattle.request_lines.specs.SampleSession.{sample_query, sample_record, one_if_put, sample_puts, sample_request, sample_requests, sample_named, sample_recorded, sample_names, sample_records, sample_clients_parts, sample_clients_names, sample_clients_records, sample_session}
 use Rattle.request_lines.proofs.LineCounts.{session_is}
 use Rattle.request_lines.proofs.InputLaws.{IsHalfway, halfway_start, halfway_more, halfway_end}
+use Rattle.request_lines.proofs.Sound.{IsSound, IsSoundSession, sound_start, sound_more, sound_session}
 use Rattle.request_lines.proofs.SampleLines.{IsInside, read_by_fields, inside_no_feeds, strip_plain, put_line, delete_line, inside_put, inside_delete, inside_list, name_length, put_reading, delete_reading}
 use Rattle.request_lines.proofs.SampleQueries.{list_line, list_reading}
 
@@ -34,23 +35,29 @@ texts_first text more inside some =
     ap (map strip_carriage_return) (slice_split_at (λ b. b == 10) text 10 more (inside_no_feeds text inside) refl)
     ∙ ap (λ first. first ∷ texts_of more) (strip_plain text inside some)
 
+-- what was kept so far is the beginning of the input's session, and what holds of every session that is read holds of it
+record IsRead (bytes : List ℕ) (p : Progress) (number : ℕ) (texts : List (List ℕ)) : Type 0 where
+  half : IsHalfway bytes p number texts
+  sound : IsSound p number
+
 -- a line that has no cause is kept
 line_kept : (bytes text : List ℕ) (texts : List (List ℕ)) (p : Progress) (number : ℕ) (command : Command) → 0 < length text
-    → reading_of text ≡ Ok command → limit_by_counts (counted p.counts command) command ≡ None
-    → IsHalfway bytes p number (text ∷ texts) → IsHalfway bytes (kept p number (Ok command)) (number + 1) texts
+    → reading_of text ≡ Ok command → limit_by_counts (counted p.counts command) command ≡ None → 0 < number → number ≤ 2 ^ 32
+    → IsRead bytes p number (text ∷ texts) → IsRead bytes (kept p number (Ok command)) (number + 1) texts
 unfolding taken error_of_text
-line_kept bytes text texts p number command some reading within half =
+line_kept bytes text texts p number command some reading within positive small read =
     let full : (length text == 0) ≡ false = grind (arith, nat_tests) in
     let right : error_of_text p number text ≡ None = rw (full, reading, within) refl in
     let is : taken p number text ≡ kept p number (Ok command) = rw (full, reading) refl in
-    subst (λ (q : Progress). IsHalfway bytes q (number + 1) texts) is (halfway_more bytes p number text texts right half)
+    subst (λ (q : Progress). IsRead bytes q (number + 1) texts) is
+    (record { half = halfway_more bytes p number text texts right read.half; sound = sound_more p number text right positive small read.sound })
 
 line_taken : (bytes text more : List ℕ) (p : Progress) (number next : ℕ) (command : Command) → IsInside text → 0 < length text
-    → reading_of text ≡ Ok command → limit_by_counts (counted p.counts command) command ≡ None → number + 1 ≡ next
-    → IsHalfway bytes p number (texts_of (text ++ 10 ∷ more)) → IsHalfway bytes (kept p number (Ok command)) next (texts_of more)
-line_taken bytes text more p number next command inside some reading within is half =
-    let first : IsHalfway bytes p number (text ∷ texts_of more) = subst (IsHalfway bytes p number) (texts_first text more inside some) half in
-    subst (λ k. IsHalfway bytes (kept p number (Ok command)) k (texts_of more)) is (line_kept bytes text (texts_of more) p number command some reading within first)
+    → reading_of text ≡ Ok command → limit_by_counts (counted p.counts command) command ≡ None → 0 < number → number ≤ 2 ^ 32 → number + 1 ≡ next
+    → IsRead bytes p number (texts_of (text ++ 10 ∷ more)) → IsRead bytes (kept p number (Ok command)) next (texts_of more)
+line_taken bytes text more p number next command inside some reading within positive small is read =
+    let first : IsRead bytes p number (text ∷ texts_of more) = subst (IsRead bytes p number) (texts_first text more inside some) read in
+    subst (λ k. IsRead bytes (kept p number (Ok command)) k (texts_of more)) is (line_kept bytes text (texts_of more) p number command some reading within positive small first)
 
 -- ---- limits
 
@@ -131,7 +138,7 @@ number_at n client i = client * (n + 1) + 2 + i
 record Reaches (bytes : List ℕ) (n client i : ℕ) (more : List ℕ) : Type 0 where
   p : Progress
   at : IsAt n client i p
-  half : IsHalfway bytes p (number_at n client i) (texts_of more)
+  read : IsRead bytes p (number_at n client i) (texts_of more)
 
 request_within : (n client i : ℕ) (so_far : Counts) (command : Command) → client < 4 → i < n → n ≤ 40000 → so_far.clients ≡ client + 1
     → so_far.requests ≡ client * n + i + 1 → so_far.entries ≡ client * sample_entries n + sample_entries (suc i) → limit_by_counts so_far command ≡ None
@@ -153,9 +160,10 @@ step_by : (bytes text : List ℕ) (n client i : ℕ) (more : List ℕ) (p : Prog
     → (kept p (number_at n client i) (Ok command)).current ≡ p.current ++ record { line = number_at n client i; request = sample_request p.counts.puts client i } ∷ []
     → (kept p (number_at n client i) (Ok command)).names ≡ p.names ++ sample_named client i
     → (kept p (number_at n client i) (Ok command)).records ≡ p.records ++ sample_recorded i
-    → IsHalfway bytes p (number_at n client i) (texts_of (text ++ 10 ∷ more)) → Reaches bytes n client (suc i) more
+    → IsRead bytes p (number_at n client i) (texts_of (text ++ 10 ∷ more)) → Reaches bytes n client (suc i) more
 unfolding kept
-step_by bytes text n client i more p command few before most inside some reading at clients requests puts entries ended current names records half =
+step_by bytes text n client i more p command few before most inside some reading at clients requests puts entries ended current names records read =
+    let lines = times client (n + 1) few in
     let within = request_within n client i (counted p.counts command) command few before most (clients ∙ at.clients) (omega (arith, requests, at.requests)) (omega (arith, entries, at.entries)) in
     record {
       p = kept p (number_at n client i) (Ok command);
@@ -169,7 +177,7 @@ step_by bytes text n client i more p command few before most inside some reading
         names = names ∙ ap (λ (front : List (List ℕ)). front ++ sample_named client i) at.names ∙ append_assoc (sample_clients_names n client) (sample_names client i) (sample_named client i);
         records = records ∙ ap (λ (front : List Record). front ++ sample_recorded i) at.records ∙ append_assoc (sample_clients_records n client) (sample_records i) (sample_recorded i);
       };
-      half = line_taken bytes text more p (number_at n client i) (number_at n client (suc i)) command inside some reading within (omega arith) half;
+      read = line_taken bytes text more p (number_at n client i) (number_at n client (suc i)) command inside some reading within (omega arith) (omega arith) (omega arith) read;
     }
 
 -- the lines of the text, cut at their ends
@@ -197,26 +205,26 @@ list_cut d more =
     left ∙ sym (ap (λ (text : List ℕ). codes "LIST prefix=s" ++ text) end)
 
 request_step : (bytes : List ℕ) (n client i : ℕ) (more : List ℕ) (p : Progress) → client < 4 → i < n → n ≤ 40000 → Kind i
-    → IsAt n client i p → IsHalfway bytes p (number_at n client i) (texts_of (sample_line client i ++ more)) → Reaches bytes n client (suc i) more
+    → IsAt n client i p → IsRead bytes p (number_at n client i) (texts_of (sample_line client i ++ more)) → Reaches bytes n client (suc i) more
 unfolding kept one_if_put sample_request sample_named sample_recorded entries_at sample_line
-request_step bytes n client i more p few before most (put a b) at half =
+request_step bytes n client i more p few before most (put a b) at read =
     let is : sample_line client i ++ more ≡ put_line client i ++ 10 ∷ more = rw (a, b) (put_cut (sample_name client i) (decimal i) more) in
     step_by bytes (put_line client i) n client i more p (says.Put Always (sample_name client i) (sample_record i)) few before most
     (inside_put client i (omega arith) (omega arith)) (omega arith) (put_reading client i (omega arith) (omega arith)) at
     refl refl (rw (a, b) refl) (rw (a, b) (omega arith)) refl (rw (a, b) refl) (rw (a, b) refl) (rw (a, b) refl)
-    (subst (λ (text : List ℕ). IsHalfway bytes p (number_at n client i) (texts_of text)) is half)
-request_step bytes n client i more p few before most (removal a) at half =
+    (subst (λ (text : List ℕ). IsRead bytes p (number_at n client i) (texts_of text)) is read)
+request_step bytes n client i more p few before most (removal a) at read =
     let is : sample_line client i ++ more ≡ delete_line client i ++ 10 ∷ more = rw a (delete_cut (sample_name client i) more) in
     step_by bytes (delete_line client i) n client i more p (says.Delete (sample_name client i)) few before most
     (inside_delete client i (omega arith)) (omega arith) (delete_reading client i (omega arith)) at
     refl refl (rw a (omega arith)) (rw a (omega arith)) refl (rw a refl) (rw a refl) (rw a refl)
-    (subst (λ (text : List ℕ). IsHalfway bytes p (number_at n client i) (texts_of text)) is half)
-request_step bytes n client i more p few before most (listing a b) at half =
+    (subst (λ (text : List ℕ). IsRead bytes p (number_at n client i) (texts_of text)) is read)
+request_step bytes n client i more p few before most (listing a b) at read =
     let is : sample_line client i ++ more ≡ list_line client ++ 10 ∷ more = rw (a, b) (list_cut (decimal client) more) in
     step_by bytes (list_line client) n client i more p (says.List (sample_query client)) few before most
     (inside_list client (omega arith)) (omega arith) (list_reading client few) at
     refl refl (rw (a, b) (omega arith)) (rw (a, b) refl) refl (rw (a, b) refl) (rw (a, b) refl) (rw (a, b) refl)
-    (subst (λ (text : List ℕ). IsHalfway bytes p (number_at n client i) (texts_of text)) is half)
+    (subst (λ (text : List ℕ). IsRead bytes p (number_at n client i) (texts_of text)) is read)
 
 -- ---- the lines of a client, and of all clients
 
@@ -237,9 +245,9 @@ client_walk bytes n client i zero more few all most reached =
     subst (λ k. Reaches bytes n client k more) (omega (arith, all)) reached
 client_walk bytes n client i (suc count) more few all most reached =
     let is : lines_on client i (suc count) ++ more ≡ sample_line client i ++ (lines_on client (suc i) count ++ more) = append_assoc (sample_line client i) (lines_on client (suc i) count) more in
-    let half = subst (λ (text : List ℕ). IsHalfway bytes reached.p (number_at n client i) (texts_of text)) is reached.half in
+    let read = subst (λ (text : List ℕ). IsRead bytes reached.p (number_at n client i) (texts_of text)) is reached.read in
     client_walk bytes n client (suc i) count more few (omega (arith, all)) most
-    (request_step bytes n client i (lines_on client (suc i) count ++ more) reached.p few (omega (arith, all)) most (kind_of i) reached.at half)
+    (request_step bytes n client i (lines_on client (suc i) count ++ more) reached.p few (omega (arith, all)) most (kind_of i) reached.at read)
 
 lines_walk : (bytes : List ℕ) (n client : ℕ) (more : List ℕ) → client < 4 → n ≤ 40000
     → Reaches bytes n client 0 (sample_lines client n ++ more) → Reaches bytes n client n more
@@ -261,13 +269,13 @@ client_reading : reading_of (codes "CLIENT") ≡ Ok says.Client
 unfolding read_line read_fields
 client_reading = read_by_fields (codes "CLIENT") (codes "CLIENT" ∷ []) refl refl
 
-first_client : (bytes : List ℕ) (n : ℕ) (more : List ℕ) → n ≤ 40000 → IsHalfway bytes no_progress 1 (texts_of (codes "CLIENT\n" ++ more)) → Reaches bytes n 0 0 more
+first_client : (bytes : List ℕ) (n : ℕ) (more : List ℕ) → n ≤ 40000 → IsRead bytes no_progress 1 (texts_of (codes "CLIENT\n" ++ more)) → Reaches bytes n 0 0 more
 unfolding kept
-first_client bytes n more most half = record {
+first_client bytes n more most read = record {
   p = kept no_progress 1 (Ok says.Client);
   at = record { clients = refl; requests = omega arith; puts = omega arith; entries = omega arith; ended = refl; current = refl; names = refl; records = refl };
-  half = line_taken bytes (codes "CLIENT") more no_progress 1 (number_at n 0 0) says.Client refl (omega arith) client_reading
-      (within_limits (counted no_progress.counts says.Client) says.Client (omega arith) (omega arith) (omega arith) (omega arith)) (omega arith) half;
+  read = line_taken bytes (codes "CLIENT") more no_progress 1 (number_at n 0 0) says.Client refl (omega arith) client_reading
+      (within_limits (counted no_progress.counts says.Client) says.Client (omega arith) (omega arith) (omega arith) (omega arith)) (omega arith) (omega arith) (omega arith) read;
 }
 
 next_times : (client n : ℕ) → client < 3 → suc client * n ≡ client * n + n
@@ -283,6 +291,7 @@ next_client bytes n client more few most reached =
     let at = reached.at in
     let some : (p.counts.clients == 0) ≡ false = grind (arith, nat_tests, at.clients) in
     let within : limit_by_counts (counted p.counts says.Client) says.Client ≡ no_cause = client_within n client p few most at in
+    let lines = times client (n + 1) (omega arith) in
     record {
       p = kept p (number_at n client n) (Ok says.Client);
       at = record {
@@ -295,8 +304,8 @@ next_client bytes n client more few most reached =
         names = append-nil p.names ∙ at.names ∙ sym (append-nil (sample_clients_names n (suc client)));
         records = append-nil p.records ∙ at.records ∙ sym (append-nil (sample_clients_records n (suc client)));
       };
-      half = line_taken bytes (codes "CLIENT") more p (number_at n client n) (number_at n (suc client) 0) says.Client refl (omega arith) client_reading within
-          (omega (arith, next_times client (n + 1) few)) reached.half;
+      read = line_taken bytes (codes "CLIENT") more p (number_at n client n) (number_at n (suc client) 0) says.Client refl (omega arith) client_reading within
+          (omega arith) (omega arith) (omega (arith, next_times client (n + 1) few)) reached.read;
     }
 
 -- one client after another
@@ -307,8 +316,9 @@ four_clients : (n : ℕ) → n ≤ 40000 → Reaches (sample_text n) n 3 n []
 four_clients n most =
     let bytes = sample_text n in
     let c = codes "CLIENT\n" in
-    let start : IsHalfway bytes no_progress 1 (texts_of (c ++ (sample_lines 0 n ++ (c ++ (sample_lines 1 n ++ (c ++ (sample_lines 2 n ++ (c ++ (sample_lines 3 n ++ []))))))))) =
-    subst (λ (text : List ℕ). IsHalfway bytes no_progress 1 (texts_of text)) (text_cut c (sample_lines 0 n) (sample_lines 1 n) (sample_lines 2 n) (sample_lines 3 n)) (halfway_start bytes) in
+    let start : IsRead bytes no_progress 1 (texts_of (c ++ (sample_lines 0 n ++ (c ++ (sample_lines 1 n ++ (c ++ (sample_lines 2 n ++ (c ++ (sample_lines 3 n ++ []))))))))) =
+    subst (λ (text : List ℕ). IsRead bytes no_progress 1 (texts_of text)) (text_cut c (sample_lines 0 n) (sample_lines 1 n) (sample_lines 2 n) (sample_lines 3 n))
+    (record { half = halfway_start bytes; sound = sound_start }) in
     let two = c ++ (sample_lines 3 n ++ []) in
     let one = c ++ (sample_lines 2 n ++ two) in
     let none = c ++ (sample_lines 1 n ++ one) in
@@ -317,19 +327,32 @@ four_clients n most =
     let third = lines_walk bytes n 2 two (omega arith) most (next_client bytes n 1 (sample_lines 2 n ++ two) (omega arith) most second) in
     lines_walk bytes n 3 [] (omega arith) most (next_client bytes n 2 (sample_lines 3 n ++ []) (omega arith) most third)
 
+-- behind the last line all clients have ended
+all_parts : (n : ℕ) (p : Progress) → IsAt n 3 n p → all_ended p ≡ sample_clients_parts n 4
+all_parts n p at =
+    let some : (p.counts.clients == 0) ≡ false = grind (arith, nat_tests, at.clients) in
+    rw some (ap₂ (λ (front : List ClientPart) (asked : List Asked). front ++ record { requests = asked } ∷ []) at.ended at.current)
+
 session_read : (n : ℕ) → n ≤ 40000 → Reaches (sample_text n) n 3 n [] → IsSessionOf (sample_text n) (sample_session n)
 unfolding taken error_of_text
 session_read n most reached =
     let p = reached.p in
     let at = reached.at in
-    let some : (p.counts.clients == 0) ≡ false = grind (arith, nat_tests, at.clients) in
-    let ended : all_ended p ≡ sample_clients_parts n 4 =
-    rw some (ap₂ (λ (front : List ClientPart) (asked : List Asked). front ++ record { requests = asked } ∷ []) at.ended at.current) in
-    let half : IsHalfway (sample_text n) p (number_at n 3 n + 1) [] = halfway_more (sample_text n) p (number_at n 3 n) [] [] refl reached.half in
-    session_is (sample_text n) (sample_session n) (halfway_end (sample_text n) p (number_at n 3 n + 1) (sample_session n) half (sym ended) (sym at.names) (sym at.records))
+    let half : IsHalfway (sample_text n) p (number_at n 3 n + 1) [] = halfway_more (sample_text n) p (number_at n 3 n) [] [] refl reached.read.half in
+    session_is (sample_text n) (sample_session n) (halfway_end (sample_text n) p (number_at n 3 n + 1) (sample_session n) half (sym (all_parts n p at)) (sym at.names) (sym at.records))
+
+session_sound : (n : ℕ) → n ≤ 40000 → Reaches (sample_text n) n 3 n [] → IsSoundSession (sample_session n)
+session_sound n most reached =
+    let p = reached.p in
+    let at = reached.at in
+    sound_session p (number_at n 3 n) (sample_session n) (omega arith) (omega (arith, at.clients)) (omega (arith, at.requests)) reached.read.sound
+    (sym (all_parts n p at)) (sym at.names) (sym at.records)
 
 pub sample_read : (n : ℕ) (bytes : List ℕ) → n ≤ 40000 → bytes ≡ sample_text n → IsSessionOf bytes (sample_session n)
 sample_read n bytes most is = subst (λ (text : List ℕ). IsSessionOf text (sample_session n)) (sym is) (session_read n most (four_clients n most))
+
+pub sample_sound : (n : ℕ) → n ≤ 40000 → IsSoundSession (sample_session n)
+sample_sound n most = session_sound n most (four_clients n most)
 
 -- ---- its length
 

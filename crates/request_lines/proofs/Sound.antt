@@ -27,7 +27,7 @@ use Rattle.request_lines.specs.declared.verb.PutWhen.TheVariants.{Always, IfAbse
 use Rattle.request_lines.specs.Input.{is_client, put_request, reading_of}
 use Rattle.request_lines.specs.Fine.{IsFineCommand}
 use Rattle.request_lines.specs.Counting.{IsWithin, counted, limit_by_counts, cause_by_counts}
-use Rattle.request_lines.specs.InputParts.{error_at, most_requests}
+use Rattle.request_lines.specs.InputParts.{error_at, most_clients, most_requests}
 use Rattle.request_lines.specs.Reading.{Progress, no_progress, all_ended, kept, taken, error_of_text, Reaches}
 use Rattle.request_lines.specs.Session.{request_line, request_lines}
 use Rattle.request_lines.specs.SessionLaws.{all_requests, requested_name, record_place, asked_name, asked_place, HasNames, HasRecords, IsFineRequest, IsServed, HasRequests, Rise, HasLineNumber, HasLines, IsSmall}
@@ -395,9 +395,9 @@ pub record IsSoundSession (s : Session) : Type 0 where
   pub lines : HasLines s
   pub small : IsSmall s
 
-sound_end : (p : Progress) (number : ℕ) (s : Session) → number ≤ 2 ^ 32 → IsWithin p.counts → IsSound p number
+pub sound_session : (p : Progress) (number : ℕ) (s : Session) → number ≤ 2 ^ 32 → p.counts.clients ≤ most_clients → p.counts.requests ≤ most_requests → IsSound p number
     → s.clients ≡ all_ended p → s.names ≡ p.names → s.records ≡ p.records → IsSoundSession s
-sound_end p number s below within sound clients names records =
+sound_session p number s below few_clients few_requests sound clients names records =
     let all : all_requests s.clients ≡ asked_so_far p = ap all_requests clients ∙ all_ended_requests p number sound in
     let rising : All IsPartRising (all_ended p) = all_ended_rising p number below sound in
     let count : length s.clients ≡ p.counts.clients = ap length clients ∙ all_ended_length p number sound in
@@ -409,10 +409,10 @@ sound_end p number s below within sound clients names records =
         rising = rw clients (All-weaker IsPartRising (λ (part : ClientPart). Rise (request_lines part)) (λ part rise. rise_of 0 (2 ^ 32) (request_lines part) rise) (all_ended p) rising);
         numbers = rw clients (All-weaker IsPartRising (λ (part : ClientPart). All HasLineNumber (request_lines part)) (λ part rise. numbers_of 0 (request_lines part) rise) (all_ended p) rising);
       };
-      small = record { clients = omega (arith, within.clients); requests = rw (all, sound.requests) (omega (arith, within.requests)) };
+      small = record { clients = omega arith; requests = rw (all, sound.requests) (omega arith) };
     }
 
 pub sound_answer : (p : Progress) (number : ℕ) (r : Result Session SessionError) → number ≤ 2 ^ 32 → IsWithin p.counts → IsSound p number
     → IfOk r (λ s. s.clients ≡ all_ended p) → IfOk r (λ s. s.names ≡ p.names) → IfOk r (λ s. s.records ≡ p.records) → IfOk r IsSoundSession
-sound_answer p number (Ok s) below within sound clients names records = sound_end p number s below within sound clients names records
+sound_answer p number (Ok s) below within sound clients names records = sound_session p number s below within.clients within.requests sound clients names records
 sound_answer p number (Err e) below within sound clients names records = tt

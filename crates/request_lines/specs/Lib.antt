@@ -23,3 +23,4 @@ pub mod CheckAnswers
 pub mod ReadAnswers
 pub mod Sample
 pub mod SampleSession
+pub mod Generated

@@ -52,13 +52,13 @@ impl Interner {
         }
     }
 
-    /// Makes room for so many more names, where it is to be had.
-    pub(crate) fn make_room(&mut self, count: usize)
+    /// Makes room for so many more names that are kept, and for those of so many more lines, where it is to be had.
+    pub(crate) fn make_room(&mut self, names: usize, lines: usize)
         ensures { self.new ≡ self.old }
     {
         // Without the room the lists grow as they are filled.
-        let _ = self.names.reserve(count);
-        let _ = self.order.reserve(count);
+        let _ = self.names.reserve(names);
+        let _ = self.order.reserve(lines);
     }
 
     /// The number that a name with this hash may have.
@@ -85,6 +85,22 @@ impl Interner {
         self.order.reserve(1)?;
         self.known.make(alloc)?;
         let number = number_of(alloc, &mut self.names, &mut self.known, name, hint)?;
+        self.order.push_reserved(number);
+        Ok(number)
+    }
+
+    /// Adds a name, and answers the number that it is kept under. The caller knows the number that an equal name may
+    /// have; that name is compared.
+    pub(crate) fn push_known(
+        &mut self,
+        alloc: Global,
+        name: &Text,
+        number: Option<usize>,
+    ) -> Result<usize, NoMemory>
+        ensures { OnOk result (self.new ≡ self.old ++ name.now ∷ []) }
+    {
+        self.order.reserve(1)?;
+        let number = known_or_next(alloc, &mut self.names, name, number)?;
         self.order.push_reserved(number);
         Ok(number)
     }
@@ -127,7 +143,7 @@ fn number_of(
     Ok(number)
 }
 
-// The same, where the hint has no number of an equal name.
+// The number of a name: the known one, where an equal name has it, or else the next one, which it then has.
 fn known_or_next(
     alloc: Global,
     names: &mut Vec<Text>,

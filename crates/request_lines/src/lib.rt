@@ -1,6 +1,7 @@
 //! A session's text, read line by line: which clients there are, what each of them asks, and the first fault.
 //! The layers above use `read_session` and `read_session_on_threads`, what `specs/SessionLaws.antt` says of every session, and the grammar of
-//! `specs/Input.antt`; and, for a session with a written text behind it, `read_check_input` and `line_len`.
+//! `specs/Input.antt`; and, for a session with a written text behind it, `read_check_input` and `line_len`. `sample_session`
+//! makes the generated session.
 #![tactic(auto)]
 
 mod blocks;
@@ -8,6 +9,7 @@ mod cause;
 mod check_input;
 mod command;
 mod counts;
+mod generated;
 mod interner;
 mod known;
 mod leads;
@@ -36,6 +38,7 @@ mod verb;
 
 pub use cause::Cause;
 pub use check_input::{CheckInput, line_len, read_check_input};
+pub use generated::sample_session;
 pub use limits::MAX_INPUT_BYTES;
 pub use names::Names;
 pub use read::read_session;

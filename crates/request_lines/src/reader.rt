@@ -1,5 +1,6 @@
 // What is kept of the lines so far.
 ghost use Rattle.std.specs.Prelude.{◌≡◌, ◌≤◌, ℕ, List, ◌∷◌, [], ◌++◌, length, Ok, OnOk, IfOk, IsOkUnless};
+ghost use Rattle.key_names.specs.Names.{most_names};
 ghost use Rattle.request_lines.specs.declared.line_error.LineError.TheVariants.{NoMemory as OutOfMemory};
 ghost use Rattle.request_lines.specs.declared.session_error.SessionError.TheVariants.{NoMemory as NoSession};
 ghost use Rattle.request_lines.specs.Counting.{IsWithin, counted};
@@ -18,7 +19,7 @@ use crate::verb::PutWhen;
 use crate::{Asked, ClientPart, InputError, Requests, Session, SessionError};
 use bucket_terms::{Record, Request};
 use key_map::Items;
-use key_names::Text;
+use key_names::{NoMemory, Text};
 use std::alloc::Global;
 use std::mem;
 
@@ -59,7 +60,7 @@ impl Reader {
         ensures same { progress self.new ≡ progress self.old }
     {
         self.expected = lines;
-        self.names.make_room(lines);
+        self.names.make_room(lines, lines);
         // Without the room the list grows as it is filled.
         let _ = self.records.reserve(lines);
     }
@@ -204,7 +205,8 @@ impl Reader {
         ensures asked { OnOk result (progress self.new ≡ record (progress self.old) { current = self.old.current ++ record { line = line; request = request } ∷ [] }) }
         ensures memory { IsOkUnless result OutOfMemory }
     {
-        self.current.push(Asked { line, request }, name_number)
+        self.current.push(Asked { line, request }, name_number)?;
+        Ok(())
     }
 
     /// The session of the lines so far, where no line is left.
@@ -226,14 +228,29 @@ impl Reader {
         if 0 < counts.clients {
             ended.push(ClientPart { requests: current })?;
         }
-        let (names, ranks) = names.ranked(alloc)?;
-        rank_names(&mut ended, &ranks);
-        Ok(Session {
-            clients: Items::from_vec(ended),
-            names,
-            records: Items::from_vec(records),
-        })
+        Ok(session_of(alloc, ended, names, records)?)
     }
+}
+
+/// The session with these parts, whose names have their numbers, these names and these records.
+pub(crate) fn session_of(
+    alloc: Global,
+    mut parts: Vec<ClientPart>,
+    names: Interner,
+    records: Vec<Record>,
+) -> Result<Session, NoMemory>
+    requires { length names ≤ most_names }
+    ensures clients { IfOk result (λ s. s.clients ≡ parts.items) }
+    ensures names { IfOk result (λ s. s.names ≡ names) }
+    ensures records { IfOk result (λ s. s.records ≡ records.items) }
+{
+    let (names, ranks) = names.ranked(alloc)?;
+    rank_names(&mut parts, &ranks);
+    Ok(Session {
+        clients: Items::from_vec(parts),
+        names,
+        records: Items::from_vec(records),
+    })
 }
 
 /// Why a session is not read whose line of this number is not.

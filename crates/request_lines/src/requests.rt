@@ -1,9 +1,8 @@
 // A client's requests, and which name of the session each of them is about.
-ghost use Rattle.std.specs.Prelude.{◌≡◌, ◌++◌, ◌∷◌, [], length, OnOk, IsOkUnless};
-ghost use Rattle.request_lines.specs.declared.line_error.LineError.TheVariants.{NoMemory as OutOfMemory};
+ghost use Rattle.std.specs.Prelude.{◌≡◌, ◌++◌, ◌∷◌, [], length, OnOk};
 
 use crate::Asked;
-use crate::line_error::LineError;
+use key_names::NoMemory;
 use std::alloc::Global;
 use std::marker::Model;
 
@@ -82,9 +81,8 @@ impl Requests {
     }
 
     /// Adds a request about the name of this number.
-    pub(crate) fn push(&mut self, asked: Asked, number: usize) -> Result<(), LineError>
-        ensures pushed { OnOk result (self.new ≡ self.old ++ asked ∷ []) }
-        ensures memory { IsOkUnless result OutOfMemory }
+    pub(crate) fn push(&mut self, asked: Asked, number: usize) -> Result<(), NoMemory>
+        ensures { OnOk result (self.new ≡ self.old ++ asked ∷ []) }
     {
         self.ranks.push(number)?;
         self.asked.push(asked)?;

@@ -10,7 +10,7 @@ use std::alloc::Global;
 use std::fmt::Write;
 
 /// How many clients the generated session has.
-const CLIENTS: u32 = 4;
+pub(crate) const CLIENTS: u32 = 4;
 
 /// The input of the generated session: four clients with `n` requests each, on names of their own.
 ///
@@ -84,8 +84,8 @@ fn push_list(text: &mut String, client: u32) -> Result<(), NoMemory>
     }
 }
 
-// The name in a request: 1,001 names come in turn.
-fn push_name(text: &mut String, client: u32, i: u32) -> Result<(), NoMemory>
+/// The name in a request: 1,001 names come in turn.
+pub(crate) fn push_name(text: &mut String, client: u32, i: u32) -> Result<(), NoMemory>
     ensures { OnOk result (string_bytes text.new ≡ string_bytes text.old ++ sample_name client i) }
 {
     let x = 389 * u64::from(i) % 1001;

@@ -4,6 +4,7 @@ pub mod Lines
 pub mod Sessions
 pub mod Sent
 pub mod Sampled
+pub mod SampleSizes
 pub mod Forms
 pub mod VerdictLines
 -- The text of an input of one client is determined, and so is the refusal of an input.

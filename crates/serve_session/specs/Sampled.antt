@@ -1,11 +1,16 @@
 -- Helper: the headline does not rest on this file.
 -- What a run of the generated session is.
-use Rattle.std.specs.Prelude.{ℕ, List, map}
+use Rattle.std.specs.Prelude.{◌≡◌, ℕ, zero, suc, ◌+◌, ◌%◌, ◌==◌, List, [], ◌∷◌, None, map, if◌then◌else◌}
+use Rattle.key_map.specs.declared.pass.PassSize.{PassSize}
 use Rattle.key_names.specs.Names.{HoldsEachOnce}
 use Rattle.bucket_terms.specs.LegalRun.{Run, IsLegal, slots_of}
 use Rattle.request_lines.specs.declared.session.Session.{Session}
+use Rattle.request_lines.specs.Input.{IsSessionOf}
+use Rattle.request_lines.specs.Sample.{sample_text}
 use Rattle.request_lines.specs.SampleSession.{sample_session}
+use Rattle.request_lines.specs.SessionLaws.{HasNames, HasRequests, HasLines, IsSmall}
 use Rattle.request_lines.specs.Session.{request_lines}
+use Rattle.client_threads.specs.Sizes.{size_for}
 
 -- this is true of one legal run of the session. The session's names, each once and in byte order, are the directory.
 pub record HoldsOfRunOf (session : Session) (P : Run → Type 0) : Type 0 where
@@ -18,3 +23,23 @@ pub record HoldsOfRunOf (session : Session) (P : Run → Type 0) : Type 0 where
 -- this is true of one legal run of the generated session with `n` requests of each client
 abbrev pub HoldsOfSampleRun : ℕ → (Run → Type 0) → Type 0
 HoldsOfSampleRun n P = HoldsOfRunOf (sample_session n) P
+
+-- the session is the generated one, and that of the generated input
+pub record IsSampleSession (n : ℕ) (session : Session) : Type 0 where
+  pub is : session ≡ sample_session n
+  pub of_text : IsSessionOf (sample_text n) (sample_session n)
+  pub names : HasNames session
+  pub requests : HasRequests session
+  pub lines : HasLines session
+  pub small : IsSmall session
+
+-- how many of a client's first requests are puts and removals: all but the listings
+abbrev pub sample_updates : ℕ → ℕ
+sample_updates zero = 0
+sample_updates (suc i) = sample_updates i + (if i % 4 == 3 then 0 else 1)
+
+-- the sizes of the four passes
+abbrev pub sample_sizes : ℕ → List PassSize
+sample_sizes n =
+    let size = size_for None (sample_updates n) in
+    size ∷ size ∷ size ∷ size ∷ []

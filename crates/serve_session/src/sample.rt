@@ -1,14 +1,14 @@
 // The run of the generated session.
-ghost use Rattle.std.specs.Prelude.{◌≡◌, ◌<◌, ◌≤◌, ◌⊎◌, IfOk, OnOk, IsErrOf};
+ghost use Rattle.std.specs.Prelude.{◌≡◌, ◌<◌, ◌≤◌, ◌⊎◌, IfOk, OnOk, IsErrOf, None};
 ghost use Rattle.outside_io.specs.Streams.{one_more, IsTaken, TakesStart};
 ghost use Rattle.request_lines.specs.SampleSession.{most_sample_requests};
-ghost use Rattle.request_lines.specs.Input.{IsSessionOf};
-ghost use Rattle.request_lines.specs.Sample.{sample_text};
 ghost use Rattle.request_lines.specs.SampleSession as spec;
-ghost use Rattle.request_lines.specs.SessionLaws.{HasNames, HasRequests, HasLines, IsSmall};
 ghost use Rattle.sample_laws.specs.Sample.{sample_summary};
 ghost use Rattle.serve_session.specs.declared.status.Status.TheVariants.{Done as IsDone};
-ghost use Rattle.serve_session.specs.Sampled.{HoldsOfSampleRun};
+ghost use Rattle.index_words.specs.Sizes.{FitTable};
+ghost use Rattle.shared_index.specs.Keys.{AreAllKeys, AreFresh};
+ghost use Rattle.client_threads.specs.Sizes.{size_for};
+ghost use Rattle.serve_session.specs.Sampled.{HoldsOfSampleRun, IsSampleSession, sample_sizes, sample_updates};
 ghost use Rattle.serve_session.specs.Served.{HoldsOfSample, IsRunOf};
 ghost use Rattle.serve_session.specs.Summaries.{summary_text};
 
@@ -16,14 +16,16 @@ use crate::Status;
 use crate::summary::summary_line;
 use bucket_terms::Summary;
 use client_run::Gate;
-use client_threads::{NodeSlots, Runner, history_of, summary_of};
+use client_threads::{NodeSlots, Runner, history_over, open_sized, summary_of};
+use key_map::PassSize;
 use key_names::NoMemory;
 use outside_io::{Sink, write_all};
-use request_lines::{Session, SessionError, read_session_on_threads, sample_input};
+use request_lines::{Session, sample_session};
 use run_text::Stop;
+use shared_index::{PassKey, SharedIndex};
 use std::alloc::Global;
 use std::sync::Wait;
-use std::thread::Threads;
+use std::thread::{Threads, join_mut};
 
 /// Runs the generated session with `n` requests of each client, and writes the line of its summary.
 pub(crate) fn serve_sample<K: Sink, G: Gate + Sync, R: Runner<G>, Rt: Threads + Wait + Sync>(
@@ -70,11 +72,65 @@ fn run_sample<K: Sink, G: Gate + Sync, R: Runner<G>, Rt: Threads + Wait + Sync>(
     ensures fault { IsErrOf result Stop.Fault → K.faults sink.new ≡ one_more (K.faults sink.old) }
     ensures quiet { ¬ (IsErrOf result Stop.Fault) → K.faults sink.new ≡ K.faults sink.old }
 {
-    let session = sample_session(rt, alloc, n)?;
-    let summary = run_summed(rt, alloc, n, session, gate, runner)?;
+    let made = made_beside(rt, alloc, n)?;
+    let summary = run_summed(rt, alloc, n, made, gate, runner)?;
     let line = summary_line(alloc, &summary)?;
     write_all(sink, line.bytes())?;
     Ok(())
+}
+
+// The generated session, and the index for its clients.
+#[derive(Drop)]
+struct Made {
+    session: Session,
+    index: SharedIndex,
+    keys: Vec<PassKey>,
+}
+
+// The session and its index, which are made at once, where a thread can be started.
+fn made_beside<Rt: Threads + Sync>(rt: &Rt, alloc: Global, n: u32) -> Result<Made, NoMemory>
+    requires some { 0 < n }
+    requires most { n ≤ most_sample_requests }
+    ensures session { IfOk result (λ made. IsSampleSession n made.session) }
+    ensures all { IfOk result (λ made. AreAllKeys made.index made.keys.items) }
+    ensures fresh { IfOk result (λ made. AreFresh 0 (sample_sizes n) made.keys.items) }
+{
+    let sizes = [size_of_pass(n); 4];
+    let mut open = || -> Result<(SharedIndex, Vec<PassKey>), NoMemory>
+        requires { FitTable sizes }
+        ensures { IfOk result (λ opened. AreAllKeys opened.0 opened.1.items × AreFresh 0 sizes opened.1.items) }
+    { open_sized(alloc, &sizes) };
+    let mut make = || -> Result<Session, NoMemory>
+        requires { (0 < n) × (n ≤ most_sample_requests) }
+        ensures { IfOk result (IsSampleSession n) }
+    { sample_session(alloc, n) };
+    let (opened, session) = join_mut(rt, &mut open, &mut make);
+    let (index, keys) = opened?;
+    let session = session?;
+    Ok(Made {
+        session,
+        index,
+        keys,
+    })
+}
+
+// The size of the pass of each client: a call for each PUT and DELETE, one node slot more, and four entry slots for each.
+fn size_of_pass(n: u32) -> PassSize
+    requires most { n ≤ most_sample_requests }
+    ensures size { result ≡ size_for None (sample_updates n) }
+    ensures fit { FitTable (sample_sizes n) }
+{
+    let mut updates: u32 = 0;
+    for i in 0..n {
+        if i % 4 != 3 {
+            updates += 1;
+        }
+    }
+    PassSize {
+        nodes: updates + 1,
+        entries: 4 * (updates + 1),
+        calls: updates,
+    }
 }
 
 // Runs the session, which is the generated one: the summary of its run.
@@ -82,42 +138,27 @@ fn run_summed<G: Gate + Sync, R: Runner<G>, Rt: Threads + Wait + Sync>(
     rt: &Rt,
     alloc: Global,
     n: u32,
-    mut session: Session,
+    made: Made,
     gate: &G,
     runner: &mut R,
 ) -> Result<Summary, NoMemory>
     requires some { 0 < n }
     requires most { n ≤ most_sample_requests }
-    requires session { session ≡ spec.sample_session n }
-    requires names { HasNames session }
-    requires requests { HasRequests session }
-    requires lines { HasLines session }
-    requires small { IsSmall session }
+    requires session { IsSampleSession n made.session }
+    requires all { AreAllKeys made.index made.keys.items }
+    requires fresh { AreFresh 0 (sample_sizes n) made.keys.items }
     ensures summary { IfOk result (λ summary. summary ≡ sample_summary n) }
     ensures ran { OnOk result (HoldsOfSampleRun n (IsRunOf (R.runs runner.old) (R.runs runner.new) (R.replied runner.new))) }
 {
+    let Made {
+        mut session,
+        index,
+        keys,
+    } = made;
     let dir = session.take_directory();
-    let updates = history_of(rt, alloc, NodeSlots::AsAsked, &session, &dir, gate, runner)?;
+    let slots = NodeSlots::AsAsked;
+    let updates = history_over(rt, alloc, slots, index, keys, &session, &dir, gate, runner)?;
     // The summary is the same in every schedule.
     sample_laws::sample_session();
     summary_of::<G, R>(alloc, session.clients.len() as u32, runner, &updates)
-}
-
-// The generated session. Its text has no faulty line.
-fn sample_session<Rt: Threads + Sync>(rt: &Rt, alloc: Global, n: u32) -> Result<Session, NoMemory>
-    requires some { 0 < n }
-    requires most { n ≤ most_sample_requests }
-    ensures session { IfOk result (λ session. session ≡ spec.sample_session n) }
-    ensures of_text { OnOk result (IsSessionOf (sample_text n) (spec.sample_session n)) }
-    ensures names { IfOk result HasNames }
-    ensures requests { IfOk result HasRequests }
-    ensures lines { IfOk result HasLines }
-    ensures small { IfOk result IsSmall }
-{
-    let input = sample_input(alloc, n)?;
-    match read_session_on_threads(rt, alloc, &input) {
-        Ok(session) => Ok(session),
-        Err(SessionError::NoMemory) => Err(NoMemory),
-        Err(SessionError::Input(_)) => unreachable!(),
-    }
 }

@@ -1,4 +1,4 @@
-use Rattle.std.proofs.Common.{sym, ap, ◌∙◌, subst, Err}
+use Rattle.std.proofs.Common.{sym, ◌∙◌, subst}
 use Rattle.index_words.specs.Sizes.{FitTable}
 use Rattle.request_lines.specs.InputParts.{most_requests}
 use Rattle.client_threads.proofs.SizesFit.{part_few, fit}
@@ -7,7 +7,5 @@ use Rattle.client_threads.proofs.opening.open_index.Goals as goal
 pub sizes_of-requires : goal.sizes_of-requires
 sizes_of-requires c = record { few = part_few most_requests c.args.clients.now c.requires.few.requests; slots = c.requires.slots }
 
-pub unreachable-requires : goal.unreachable-requires
-unreachable-requires c =
-    let fits : FitTable c.deref-2.result.now = subst FitTable (sym (c.deref-2.ensures.value ∙ c.in_ok-sizes.ensures)) (fit c.args.slots c.args.clients.now c.requires.slots c.requires.few) in
-    c.open.ensures.bad_sizes.0 (c.in-Err-BadSizes.is ∙ ap Err c.in-Err-BadSizes.field-0-is) fits
+pub open_sized-requires : goal.open_sized-requires
+open_sized-requires c = record { fit = subst FitTable (sym (c.deref-2.ensures.value ∙ c.in_ok-sizes.ensures)) (fit c.args.slots c.args.clients.now c.requires.slots c.requires.few) }

@@ -1,0 +1,6 @@
+use Rattle.std.proofs.Common.{◌≡◌, ◌≤◌}
+use Rattle.serve_session.specs.Sampled.{sample_updates}
+use Rattle.serve_session.proofs.sample.size_of_pass.Given as goal
+
+abbrev pub invariant-loop-i : goal.invariant-loop-i
+invariant-loop-i l = (l.updates ≡ sample_updates l.i) × (l.updates ≤ l.i)
