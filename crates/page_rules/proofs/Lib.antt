@@ -1,6 +1,7 @@
 pub mod Admission
 pub mod FirstEnd
 pub mod Groups
+pub mod GroupEnd
 pub mod InRange
 pub mod Law
 pub mod Listing

@@ -38,6 +38,11 @@ pub begins_itself : (a : List ℕ) → begins_with a a ≡ true
 begins_itself [] = refl
 begins_itself (x ∷ a) = grind (arith, nat_tests, begins_itself a)
 
+pub begins_front : (n : ℕ) (text : List ℕ) → begins_with text (take n text) ≡ true
+begins_front zero text = refl
+begins_front (suc n) [] = refl
+begins_front (suc n) (x ∷ text) = grind (arith, nat_tests, begins_front n text)
+
 -- a text that begins with another is not below it
 pub begins_not_below : (text front : List ℕ) → begins_with text front ≡ true → is_above front text ≡ false
 begins_not_below [] [] h = refl

@@ -5,6 +5,7 @@
 #![tactic(auto)]
 
 mod cursor;
+mod group_end;
 mod known_prefixes;
 mod list_page;
 mod look_ups;

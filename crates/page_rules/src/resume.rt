@@ -8,6 +8,7 @@ ghost use Rattle.page_rules.specs.PageLaw.{entry_text};
 ghost use Rattle.page_rules.specs.Cursor.{GoesOnAt};
 ghost use Rattle.page_rules.specs.PrefixRanks.{AreListed};
 
+use crate::group_end::group_end;
 use crate::prefix_ranks::{PrefixRanks, start_of};
 use crate::rules::group_text;
 use bucket_terms::{ListQuery, PageEntry, TokenPoint};
@@ -39,7 +40,9 @@ pub(crate) fn rank_behind(dir: &Directory, query: &ListQuery, entry: &PageEntry)
     let _names = dir.len();
     match *entry {
         PageEntry::Key { rank, .. } => u64::from(rank) + 1,
-        PageEntry::Group { rank, len } => dir.past_prefix(group_text(dir, rank, len)),
+        PageEntry::Group { rank, len } => {
+            group_end(dir, u64::from(rank), group_text(dir, rank, len))
+        }
     }
 }
 

@@ -1,0 +1,61 @@
+// Where a group ends in the directory.
+ghost use Rattle.std.specs.Prelude.{◌≡◌, ◌<◌, ◌≤◌, true, length};
+ghost use Rattle.key_names.specs.Names.{name_at, begins_with};
+ghost use Rattle.key_names.specs.Ranks.{is_upto_prefix, StandFirst};
+ghost use Rattle.page_rules.specs.GroupEnd.{AreAroundEnd};
+
+use key_names::Directory;
+
+/// The rank of the first name behind those that begin with these bytes, as the name at `rank` does: what
+/// `Directory::past_prefix` answers. It is found in steps that double, so that a group of few names is left by few
+/// comparisons, with names that stand near one another, however many names there are.
+pub(crate) fn group_end(dir: &Directory, rank: u64, group: &[u8]) -> u64
+    requires rank { rank < length dir.now }
+    requires begins { begins_with (name_at dir.now rank) group.now ≡ true }
+    ensures within { result ≤ length dir.now }
+    ensures first { StandFirst (λ name. is_upto_prefix name group.now) dir.now result }
+{
+    // the call's clauses tell the proof that the names rise
+    let _names = dir.len();
+    let (mut inside, mut outside) = around_end(dir, rank, group);
+    while inside + 1 < outside {
+        let middle = inside + (outside - inside) / 2;
+        if is_in(dir, middle, group) {
+            inside = middle;
+        } else {
+            outside = middle;
+        }
+    }
+    outside
+}
+
+// A rank within the group, and one behind it.
+fn around_end(dir: &Directory, rank: u64, group: &[u8]) -> (u64, u64)
+    requires rank { rank < length dir.now }
+    requires begins { begins_with (name_at dir.now rank) group.now ≡ true }
+    ensures { AreAroundEnd dir.now group.now result.0 result.1 }
+{
+    let mut inside = rank;
+    let mut step = 1;
+    while step < dir.len() - inside {
+        let next = inside + step;
+        if !is_in(dir, next, group) {
+            return (inside, next);
+        }
+        inside = next;
+        step *= 2;
+    }
+    (inside, dir.len())
+}
+
+// Whether the name at a rank begins with these bytes.
+fn is_in(dir: &Directory, rank: u64, group: &[u8]) -> bool
+    requires { rank < length dir.now }
+    ensures { result ≡ begins_with (name_at dir.now rank) group.now }
+{
+    let name = dir.name(rank).bytes();
+    match name.get(..group.len()) {
+        Some(start) => start == group,
+        None => false,
+    }
+}
