@@ -1,5 +1,5 @@
 //! The way of a search down the open snapshot's tree, from which later searches of the same snapshot go on.
-ghost use Rattle.std.specs.Prelude.{◌≡◌, ℕ, ◌<◌, length, true};
+ghost use Rattle.std.specs.Prelude.{◌≡◌, ℕ, ◌<◌, nat_eq, length, true};
 ghost use Rattle.index_words.specs.declared.view.View.{View};
 ghost use Rattle.key_map.specs.Lists.{Every};
 ghost use Rattle.snapshot_read.specs.Ways.{Covers, IsOnWay, IsKeptWay, IsTaken, root, right_of};
@@ -50,6 +50,13 @@ impl Search {
             low: key + 1,
             best,
         }
+    }
+
+    /// Whether it begins at the root.
+    pub(crate) fn is_at_root(&self) -> bool
+        ensures { result ≡ nat_eq self.now.at.node 0 }
+    {
+        self.at.node == 0
     }
 
     /// Whether the first pair from the key on may be looked for here.

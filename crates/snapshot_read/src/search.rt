@@ -72,7 +72,13 @@ pub(crate) fn look_on(pass: &mut TablePass<'_>, at: u64, key: u64, way: &mut Way
 {
     pass.facts();
     let mut search = way.take(key);
+    let from_root = search.is_at_root();
     'down: loop {
+        if from_root {
+            // The child that the bundle tells is mostly this one. The waits for its key and for the bundle's entry, which
+            // tells it, are one then. A search that goes on from a kept one has few levels, most of them near.
+            pass.fetch_child(search.at.node, search.at.side);
+        }
         let Some(child) = child_at(pass, at, search.at) else {
             return Look::Pending;
         };

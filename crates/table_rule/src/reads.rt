@@ -36,10 +36,27 @@ impl RuledTable {
     /// so a search that loads the one then finds the others near. Where there is no such node it does nothing. Nothing
     /// is known from it.
     pub fn fetch_links(&self, node: u32) {
-        let word = Word::Node(Field::Link(Side::Right), node);
-        if self.layout.is_there(word) {
-            let at = self.layout.address(word) as usize;
-            self.table.shared.peek(at);
+        self.glance(Word::Node(Field::Link(Side::Right), node));
+    }
+
+    /// Loads the key of the node behind a plain link into the processor's cache, where there is one. Nothing is known
+    /// from it: it need not be the child that a bundle tells.
+    #[inline(always)]
+    pub fn fetch_child(&self, node: u32, side: Side) {
+        if let Some(child) = self.glance(Word::Node(Field::Link(side), node))
+            && let Ok(child) = u32::try_from(child)
+        {
+            self.glance(Word::Node(Field::Key, child));
         }
+    }
+
+    // What stands in the word, if there is such a word.
+    #[inline(always)]
+    fn glance(&self, word: Word) -> Option<u64> {
+        if !self.layout.is_there(word) {
+            return None;
+        }
+        let at = self.layout.address(word) as usize;
+        Some(self.table.shared.peek(at))
     }
 }

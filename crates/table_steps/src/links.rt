@@ -20,6 +20,14 @@ impl<'t> TablePass<'t> {
         table.ruled.fetch_links(node);
     }
 
+    /// Loads the key of the node behind a plain link into the processor's cache. It is no event, it changes nothing, and
+    /// nothing is known from it.
+    #[inline(always)]
+    pub fn fetch_child(&self, node: u32, side: Side) {
+        let table = self.table;
+        table.ruled.fetch_child(node, side);
+    }
+
     /// Loads a plain link: the child, or 0 for none. The pass has locked the node, or its search stands there; then the
     /// search goes on by the link.
     pub fn load_link(&mut self, node: u32, side: Side) -> u32
