@@ -34,11 +34,12 @@ impl<'a> Pieces<'a> {
     {
         let mut left = replies;
         while !left.is_empty() {
-            let (count, bytes) = first_piece(left, self.name_bytes);
-            let (front, rest) = left.split_at(count);
+            let first = first_piece(left, self.name_bytes);
+            let (front, rest) = left.split_at(first.count);
             self.pieces.push(Piece {
                 part: Part::Replies(front),
-                bytes,
+                bytes: first.bytes,
+                entries: first.entries,
             })?;
             left = rest;
         }
@@ -61,6 +62,7 @@ impl<'a> Pieces<'a> {
                     updates: front,
                 },
                 bytes: front.len().saturating_mul(line_bytes),
+                entries: 0,
             })?;
             before += front.len() as u64;
             left = rest;
@@ -69,33 +71,56 @@ impl<'a> Pieces<'a> {
     }
 }
 
-// How many of the first replies make a piece, and the bytes of their lines.
-fn first_piece(replies: &[Placed], name_bytes: usize) -> (usize, usize)
-    requires { 0 < length replies.now }
-    ensures some { 0 < result.0 }
-    ensures most { result.0 ≤ length replies.now }
-{
-    let mut count = 0;
-    let mut bytes: usize = 0;
-    for placed in replies {
-        count += 1;
-        bytes = bytes.saturating_add(line_bytes(placed, name_bytes));
-        if bytes >= PIECE_BYTES {
-            return (count, bytes);
-        }
-    }
-    (count, bytes)
+/// The first replies that make a piece: how many there are, the bytes of their lines, and the entries of their pages.
+#[derive(Clone, Copy, Debug)]
+struct First {
+    count: usize,
+    bytes: usize,
+    entries: usize,
 }
 
-// The bytes of a reply's line.
-fn line_bytes(placed: &Placed, name_bytes: usize) -> usize {
-    match &placed.reply {
-        Reply::Listed { page, .. } | Reply::ListedV1 { page, .. } => page
-            .entries
-            .len()
-            .saturating_mul(ENTRY_BYTES.saturating_add(name_bytes))
-            .saturating_add(LISTING_BYTES),
-        _ => REPLY_BYTES,
+fn first_piece(replies: &[Placed], name_bytes: usize) -> First
+    requires { 0 < length replies.now }
+    ensures some { 0 < result.count }
+    ensures most { result.count ≤ length replies.now }
+{
+    let mut first = First {
+        count: 0,
+        bytes: 0,
+        entries: 0,
+    };
+    for placed in replies {
+        first.count += 1;
+        first.add(&placed.reply, name_bytes);
+        if first.bytes >= PIECE_BYTES {
+            return first;
+        }
+    }
+    first
+}
+
+impl First {
+    // Adds the bytes of a reply's line, and its entries.
+    fn add(&mut self, reply: &Reply, name_bytes: usize)
+        ensures { self.new.count ≡ self.old.count }
+    {
+        let entries = shown_in(reply);
+        let bytes = match reply {
+            Reply::Listed { .. } | Reply::ListedV1 { .. } => entries
+                .saturating_mul(ENTRY_BYTES.saturating_add(name_bytes))
+                .saturating_add(LISTING_BYTES),
+            _ => REPLY_BYTES,
+        };
+        self.bytes = self.bytes.saturating_add(bytes);
+        self.entries = self.entries.saturating_add(entries);
+    }
+}
+
+/// How many entries the page of a listing shows.
+pub(crate) fn shown_in(reply: &Reply) -> usize {
+    match reply {
+        Reply::Listed { page, .. } | Reply::ListedV1 { page, .. } => page.entries.len(),
+        _ => 0,
     }
 }
 

@@ -6,6 +6,7 @@ ghost use Rattle.answer_text.specs.InRange.{IsPageOf, IsReplyOf};
 ghost use Rattle.run_text.specs.Pieces.{IsPieceOf};
 ghost use Rattle.run_text.specs.Texts.{IsPartRight, IsWantedOf};
 
+use crate::cutting::shown_in;
 use crate::pieces::{Part, Piece};
 use answer_text::{EntryTexts, WantedTexts};
 use bucket_terms::{Page, Placed, Record, Reply};
@@ -148,27 +149,9 @@ impl ChosenPages {
 fn shown(pieces: &[Piece<'_>]) -> usize {
     let mut entries: usize = 0;
     for piece in pieces {
-        if let Part::Replies(replies) = &piece.part {
-            entries = entries.saturating_add(shown_by(replies));
-        }
+        entries = entries.saturating_add(piece.entries);
     }
     entries
-}
-
-fn shown_by(replies: &[Placed]) -> usize {
-    let mut entries: usize = 0;
-    for placed in replies {
-        entries = entries.saturating_add(shown_in(&placed.reply));
-    }
-    entries
-}
-
-// How many entries the page of a listing shows.
-fn shown_in(reply: &Reply) -> usize {
-    match reply {
-        Reply::Listed { page, .. } | Reply::ListedV1 { page, .. } => page.entries.len(),
-        _ => 0,
-    }
 }
 
 // Wants the texts of the entries of these replies.

@@ -30,11 +30,12 @@ impl<'a> Part<'a> {
     }
 }
 
-/// What the lines of a piece tell, and how many bytes they are estimated to have.
+/// What the lines of a piece tell, how many bytes they are estimated to have, and how many entries their pages show.
 #[derive(Clone, Copy, Debug)]
 pub(crate) struct Piece<'a> {
     pub(crate) part: Part<'a>,
     pub(crate) bytes: usize,
+    pub(crate) entries: usize,
 }
 
 /// The pieces of a text, in order: replies and a journal, as they were added. `write` writes their lines.
