@@ -1,5 +1,5 @@
 -- The sizes of the passes of the generated session's clients.
-use Rattle.std.proofs.Common.{◌≡◌, ℕ, zero, suc, ◌+◌, ◌%◌, ◌≤◌, Bool, false, cond, All, List, [], ◌∷◌, None, map, refl, ap, ◌∙◌, inl, inr, arith}
+use Rattle.std.proofs.Common.{◌≡◌, ℕ, zero, suc, ◌+◌, ◌%◌, ◌≤◌, Bool, false, cond, All, List, [], ◌∷◌, None, map, refl, ap, subst, ◌∙◌, inl, inr, arith}
 use Rattle.std.specs.Prelude.{◌==◌}
 use Rattle.std.proofs.lemmas.Bool.{cases_Bool}
 use Rattle.std.proofs.lemmas.Bool.Decides.{nat_tests}
@@ -14,7 +14,7 @@ use Rattle.request_lines.specs.declared.session.Session.{Session}
 use Rattle.request_lines.specs.SampleSession.{sample_asked, sample_request, sample_requests, sample_session}
 use Rattle.request_lines.specs.Session.{request_line}
 use Rattle.client_threads.specs.Sizes.{size_for, sizes_of}
-use Rattle.serve_session.specs.Sampled.{sample_updates, sample_sizes}
+use Rattle.serve_session.specs.Sampled.{sample_sizes}
 
 abbrev lines_to : ℕ → ℕ → ℕ → List RequestLine
 lines_to n c i = map request_line (sample_requests n c i)
@@ -41,7 +41,11 @@ update_at r c i = elim (cases_Bool (i % 4 == 2)) [
   ]
 ]
 
--- the updates that a client's first requests may make
+-- how many of a client's first requests are puts and removals: all but the listings
+abbrev pub sample_updates : ℕ → ℕ
+sample_updates zero = 0
+sample_updates (suc i) = sample_updates i + one_unless (i % 4 == 3)
+
 updates_first : (n c i : ℕ) → updates_in (lines_to n c i) ≡ sample_updates i
 updates_first n c zero = refl
 updates_first n c (suc i) =
@@ -52,28 +56,34 @@ updates_first n c (suc i) =
 size_is : (n c : ℕ) → size_for None (updates_in (lines_to n c n)) ≡ size_for None (sample_updates n)
 size_is n c = ap (size_for None) (updates_first n c n)
 
--- these are the sizes of its clients' passes
-pub sizes_are : (n : ℕ) → sizes_of None (sample_session n).clients ≡ sample_sizes n
-sizes_are n = rw (size_is n 0, size_is n 1, size_is n 2, size_is n 3) refl
+abbrev four_of : PassSize → List PassSize
+four_of size = size ∷ size ∷ size ∷ size ∷ []
+
+-- each client's pass has the size for so many
+pub sizes_are : (n updates : ℕ) → updates ≡ sample_updates n → four_of (size_for None updates) ≡ sample_sizes n
+sizes_are n updates counted = rw (counted, size_is n 0, size_is n 1, size_is n 2, size_is n 3) refl
 
 pub sizes_are_of : (n : ℕ) (session : Session) → session ≡ sample_session n → sizes_of None session.clients ≡ sample_sizes n
-sizes_are_of n session is = ap (λ (s : Session). sizes_of None s.clients) is ∙ sizes_are n
+sizes_are_of n session is = ap (λ (s : Session). sizes_of None s.clients) is
 
 none_each : All IsPassSize []
 none_each k d below = absurd (omega arith)
 
-four_each : (size : PassSize) → IsPassSize size → All IsPassSize (size ∷ size ∷ size ∷ size ∷ [])
+four_each : (size : PassSize) → IsPassSize size → All IsPassSize (four_of size)
 four_each size is =
     All-cons IsPassSize size (size ∷ size ∷ size ∷ []) is
     (All-cons IsPassSize size (size ∷ size ∷ []) is (All-cons IsPassSize size (size ∷ []) is (All-cons IsPassSize size [] is none_each)))
 
--- a table takes them
-pub sizes_fit : (n : ℕ) → sample_updates n ≤ 40000 → FitTable (sample_sizes n)
-sizes_fit n few = record {
+-- a table takes four such passes
+four_fit : (updates : ℕ) → updates ≤ 40000 → FitTable (four_of (size_for None updates))
+four_fit updates few = record {
   some = omega arith;
   few = omega arith;
-  each = four_each (size_for None (sample_updates n)) (omega arith, omega arith);
+  each = four_each (size_for None updates) (omega arith, omega arith);
   nodes = omega (arith, few);
   entries = omega (arith, few);
   calls = omega (arith, few);
 }
+
+pub sizes_fit : (n updates : ℕ) → updates ≡ sample_updates n → updates ≤ 40000 → FitTable (sample_sizes n)
+sizes_fit n updates counted few = subst FitTable (sizes_are n updates counted) (four_fit updates few)

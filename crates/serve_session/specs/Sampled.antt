@@ -1,6 +1,6 @@
 -- Helper: the headline does not rest on this file.
 -- What a run of the generated session is.
-use Rattle.std.specs.Prelude.{◌≡◌, ℕ, zero, suc, ◌+◌, ◌%◌, ◌==◌, List, [], ◌∷◌, None, map, if◌then◌else◌}
+use Rattle.std.specs.Prelude.{◌≡◌, ℕ, List, None, map}
 use Rattle.key_map.specs.declared.pass.PassSize.{PassSize}
 use Rattle.key_names.specs.Names.{HoldsEachOnce}
 use Rattle.bucket_terms.specs.LegalRun.{Run, IsLegal, slots_of}
@@ -10,7 +10,7 @@ use Rattle.request_lines.specs.Sample.{sample_text}
 use Rattle.request_lines.specs.SampleSession.{sample_session}
 use Rattle.request_lines.specs.SessionLaws.{HasNames, HasRequests, HasLines, IsSmall}
 use Rattle.request_lines.specs.Session.{request_lines}
-use Rattle.client_threads.specs.Sizes.{size_for}
+use Rattle.client_threads.specs.Sizes.{sizes_of}
 
 -- this is true of one legal run of the session. The session's names, each once and in byte order, are the directory.
 pub record HoldsOfRunOf (session : Session) (P : Run → Type 0) : Type 0 where
@@ -33,13 +33,6 @@ pub record IsSampleSession (n : ℕ) (session : Session) : Type 0 where
   pub lines : HasLines session
   pub small : IsSmall session
 
--- how many of a client's first requests are puts and removals: all but the listings
-abbrev pub sample_updates : ℕ → ℕ
-sample_updates zero = 0
-sample_updates (suc i) = sample_updates i + (if i % 4 == 3 then 0 else 1)
-
--- the sizes of the four passes
+-- the sizes of the passes of its clients
 abbrev pub sample_sizes : ℕ → List PassSize
-sample_sizes n =
-    let size = size_for None (sample_updates n) in
-    size ∷ size ∷ size ∷ size ∷ []
+sample_sizes n = sizes_of None (sample_session n).clients

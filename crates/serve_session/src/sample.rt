@@ -1,5 +1,5 @@
 // The run of the generated session.
-ghost use Rattle.std.specs.Prelude.{◌≡◌, ◌<◌, ◌≤◌, ◌⊎◌, IfOk, OnOk, IsErrOf, None};
+ghost use Rattle.std.specs.Prelude.{◌≡◌, ◌<◌, ◌≤◌, ◌⊎◌, ◌∷◌, [], IfOk, OnOk, IsErrOf};
 ghost use Rattle.outside_io.specs.Streams.{one_more, IsTaken, TakesStart};
 ghost use Rattle.request_lines.specs.SampleSession.{most_sample_requests};
 ghost use Rattle.request_lines.specs.SampleSession as spec;
@@ -7,8 +7,7 @@ ghost use Rattle.sample_laws.specs.Sample.{sample_summary};
 ghost use Rattle.serve_session.specs.declared.status.Status.TheVariants.{Done as IsDone};
 ghost use Rattle.index_words.specs.Sizes.{FitTable};
 ghost use Rattle.shared_index.specs.Keys.{AreAllKeys, AreFresh};
-ghost use Rattle.client_threads.specs.Sizes.{size_for};
-ghost use Rattle.serve_session.specs.Sampled.{HoldsOfSampleRun, IsSampleSession, sample_sizes, sample_updates};
+ghost use Rattle.serve_session.specs.Sampled.{HoldsOfSampleRun, IsSampleSession, sample_sizes};
 ghost use Rattle.serve_session.specs.Served.{HoldsOfSample, IsRunOf};
 ghost use Rattle.serve_session.specs.Summaries.{summary_text};
 
@@ -117,7 +116,7 @@ fn made_beside<Rt: Threads + Sync>(rt: &Rt, alloc: Global, n: u32) -> Result<Mad
 // The size of the pass of each client: a call for each PUT and DELETE, one node slot more, and four entry slots for each.
 fn size_of_pass(n: u32) -> PassSize
     requires most { n ≤ most_sample_requests }
-    ensures size { result ≡ size_for None (sample_updates n) }
+    ensures sizes { result ∷ result ∷ result ∷ result ∷ [] ≡ sample_sizes n }
     ensures fit { FitTable (sample_sizes n) }
 {
     let mut updates: u32 = 0;
