@@ -8,7 +8,8 @@ The session is the first of rows.txt, whose whole text stands there, worked out 
 - Pieces: the text does not depend on how many bytes a read gives.
 - Reads: the input fails behind each piece, also behind the last one. Nothing is written then.
 - Writes: the output takes so many bytes and no more, for each number of them. Just these were written.
-- Lines: they are kept back until there are some kilobytes of them, and all have been written at the end.
+- Lines: they are kept back until there are some kilobytes of them, and all have been written at the end. Those of a
+  piece of a long text come by one write.
 - Check: the same pieces, reads and writes where the session and its text are checked.
 - Several pieces: the same of texts that are put together in several pieces, on threads. The output fails at each line,
   at its first byte and in its middle.
@@ -105,6 +106,12 @@ def are_few(writes, text):
     return b"".join(writes) == text and all(one + next >= 4096 for one, next in zip(sizes[:-2], sizes[1:-1]))
 
 
+def come_in_pieces(writes, text):
+    """Whether the writes give the text, and few of them end within a page: a write has many long lines."""
+    ends = sum(len(write) != 4096 for write in writes)
+    return b"".join(writes) == text and ends <= len(text) // 2**19 + 2
+
+
 def rooms_of_lines(text):
     """How much is written where the write of a line fails, or ends in the middle of the line."""
     start = 0
@@ -137,6 +144,7 @@ def compared(program):
     raw, text = short_lines()
     yield "few writes, in several pieces", are_few(writes_of(program, raw), text), True
     raw, text = long_lines()
+    yield "long lines, in several pieces", come_in_pieces(writes_of(program, raw), text), True
     for room in rooms_of_lines(text):
         yield "several pieces and room for %d bytes" % room, into_room(program, raw, room), (WRITE_FAULT, text[:room])
     yield "several pieces and room for all bytes", into_room(program, raw, len(text)), (DONE, text)

@@ -21,4 +21,10 @@ pub trait Sink {
         ensures failed { OnErr result (faults self.new ≡ one_more (faults self.old)) }
         ensures unchanged { OnErr result (taken self.new ≡ taken self.old) }
         ensures counted { faults self.old ≤ faults self.new };
+
+    /// Whether it keeps small pieces back, so that nobody sees where one ends. Then a text of many lines may come as one
+    /// piece, which spares a call of the operating system for each long line.
+    fn is_buffered(&self) -> bool {
+        false
+    }
 }

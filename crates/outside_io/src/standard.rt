@@ -105,4 +105,8 @@ impl Sink for StdSink {
     {
         write_counted(&mut self.output, &mut self.faults, bytes)
     }
+
+    fn is_buffered(&self) -> bool {
+        true
+    }
 }

@@ -5,7 +5,7 @@ ghost use Rattle.outside_io.specs.Streams.{one_more, IsTaken, TakesStart};
 use outside_io::{Sink, WriteFault, write_all};
 
 /// Writes the text, one write a line: `ends` has the place behind each line. What stands behind the last one is written
-/// too.
+/// too. A sink with a buffer is handed the whole text at once.
 pub(crate) fn write_lines<K: Sink>(
     sink: &mut K,
     text: &[u8],
@@ -16,6 +16,9 @@ pub(crate) fn write_lines<K: Sink>(
     ensures quiet { OnOk result (K.faults sink.new ≡ K.faults sink.old) }
     ensures fault_only_where_faulted { OnErr result (K.faults sink.new ≡ one_more (K.faults sink.old)) }
 {
+    if sink.is_buffered() {
+        return write_all(sink, text);
+    }
     let mut done = 0;
     for end in ends {
         let (_, left) = text.split_at(done);
