@@ -40,7 +40,7 @@ impl Hint {
     {
         if self.len == name.bytes().len()
             && self.rank < dir.len()
-            && dir.name(self.rank).bytes() == name.bytes()
+            && dir.name(self.rank).as_str() == name.as_str()
         {
             return Some(self.rank);
         }

@@ -99,6 +99,15 @@ impl Directory {
         self.names.partition_point(|here| stands_up_to(here, name)) as u64
     }
 
+    /// As `after`, of a text, which is compared faster than bytes of which nothing is known.
+    pub fn after_text(&self, text: &Text) -> u64
+        ensures count { result ≡ count_by (λ here. is_upto here text.now) self.now }
+        ensures first { StandFirst (λ here. is_upto here text.now) self.now result }
+    {
+        self.names
+            .partition_point(|here| stands_up_to_text(here, text)) as u64
+    }
+
     /// The number of names that are below `prefix` or begin with it. The names that begin with it stand
     /// together, from `at_or_after` up to this rank.
     ///
@@ -150,6 +159,12 @@ fn stands_up_to(name: &Text, bytes: &[u8]) -> bool
     ensures { result ≡ is_upto name.now bytes.now }
 {
     order(name, bytes).is_le()
+}
+
+fn stands_up_to_text(name: &Text, text: &Text) -> bool
+    ensures { result ≡ is_upto name.now text.now }
+{
+    name.as_str().cmp(text.as_str()).is_le()
 }
 
 fn stands_up_to_prefix(name: &Text, prefix: &[u8]) -> bool

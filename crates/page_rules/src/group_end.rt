@@ -6,10 +6,11 @@ ghost use Rattle.page_rules.specs.GroupEnd.{AreAroundEnd};
 
 use key_names::Directory;
 
-/// The rank of the first name behind those that begin with these bytes, as the name at `rank` does: what
+/// The rank of the first name behind those that begin with this text, as the name at `rank` does: what
 /// `Directory::past_prefix` answers. It is found in steps that double, so that a group of few names is left by few
 /// comparisons, with names that stand near one another, however many names there are.
-pub(crate) fn group_end(dir: &Directory, rank: u64, group: &[u8]) -> u64
+#[inline(never)]
+pub(crate) fn group_end(dir: &Directory, rank: u64, group: &str) -> u64
     requires rank { rank < length dir.now }
     requires begins { begins_with (name_at dir.now rank) group.now ≡ true }
     ensures within { result ≤ length dir.now }
@@ -30,7 +31,7 @@ pub(crate) fn group_end(dir: &Directory, rank: u64, group: &[u8]) -> u64
 }
 
 // A rank within the group, and one behind it.
-fn around_end(dir: &Directory, rank: u64, group: &[u8]) -> (u64, u64)
+fn around_end(dir: &Directory, rank: u64, group: &str) -> (u64, u64)
     requires rank { rank < length dir.now }
     requires begins { begins_with (name_at dir.now rank) group.now ≡ true }
     ensures { AreAroundEnd dir.now group.now result.0 result.1 }
@@ -48,14 +49,10 @@ fn around_end(dir: &Directory, rank: u64, group: &[u8]) -> (u64, u64)
     (inside, dir.len())
 }
 
-// Whether the name at a rank begins with these bytes.
-fn is_in(dir: &Directory, rank: u64, group: &[u8]) -> bool
+// Whether the name at a rank begins with this text.
+fn is_in(dir: &Directory, rank: u64, group: &str) -> bool
     requires { rank < length dir.now }
     ensures { result ≡ begins_with (name_at dir.now rank) group.now }
 {
-    let name = dir.name(rank).bytes();
-    match name.get(..group.len()) {
-        Some(start) => start == group,
-        None => false,
-    }
+    dir.name(rank).as_str().starts_with(group)
 }

@@ -10,7 +10,7 @@ ghost use Rattle.page_rules.specs.PrefixRanks.{AreListed};
 
 use crate::group_end::group_end;
 use crate::prefix_ranks::{PrefixRanks, start_of};
-use crate::rules::group_text;
+use crate::rules::group_str;
 use bucket_terms::{ListQuery, PageEntry, TokenPoint};
 use key_names::Directory;
 
@@ -41,7 +41,7 @@ pub(crate) fn rank_behind(dir: &Directory, query: &ListQuery, entry: &PageEntry)
     match *entry {
         PageEntry::Key { rank, .. } => u64::from(rank) + 1,
         PageEntry::Group { rank, len } => {
-            group_end(dir, u64::from(rank), group_text(dir, rank, len))
+            group_end(dir, u64::from(rank), group_str(dir, rank, len))
         }
     }
 }
@@ -53,8 +53,8 @@ fn first_admitted(dir: &Directory, query: &ListQuery, point: Option<&TokenPoint>
 {
     match point {
         None if query.start_after.bytes().is_empty() => 0,
-        None => dir.after(query.start_after.bytes()),
-        Some(TokenPoint::Key(key)) => dir.after(key.bytes()),
+        None => dir.after_text(&query.start_after),
+        Some(TokenPoint::Key(key)) => dir.after_text(key),
         Some(TokenPoint::Group(group)) => dir.past_prefix(group.bytes()),
     }
 }

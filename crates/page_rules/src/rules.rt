@@ -3,7 +3,7 @@
 ghost use Rattle.std.specs.Prelude.{◌≡◌, ◌<◌, length, take};
 ghost use Rattle.std.specs.Option.{option_copied};
 ghost use Rattle.key_names.specs.Names.{name_at};
-ghost use Rattle.bucket_terms.specs.PageInRange.{IsEntryInRange};
+ghost use Rattle.bucket_terms.specs.PageInRange.{IsEntryInRange, IsGroupInRange};
 ghost use Rattle.bucket_terms.specs.Listing.{is_above, is_admitted, is_under, group_len, entry_of, is_same_group};
 
 use bucket_terms::{ListQuery, PageEntry, TokenPoint};
@@ -108,11 +108,20 @@ fn is_above(name: &[u8], other: &[u8]) -> bool
 }
 
 // The first `len` bytes of the name at a rank.
-pub(crate) fn group_text(dir: &Directory, rank: u32, len: u32) -> &[u8]
+fn group_text(dir: &Directory, rank: u32, len: u32) -> &[u8]
     ensures { result.now ≡ take len (name_at dir.now rank) }
 {
     let name = name_at(dir, u64::from(rank));
     name.get(..len as usize).unwrap_or(name)
+}
+
+/// The same as a text. The group ends a character of the name.
+pub(crate) fn group_str(dir: &Directory, rank: u32, len: u32) -> &str
+    requires { IsGroupInRange dir.now rank len }
+    ensures { result.now ≡ take len (name_at dir.now rank) }
+{
+    let name = dir.name(u64::from(rank)).as_str();
+    &name[..len as usize]
 }
 
 /// The length of the common prefix into which the name is rolled up: it ends with the first delimiter at or after the

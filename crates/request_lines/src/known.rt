@@ -61,7 +61,12 @@ impl Known {
 /// The hash of a name.
 pub(crate) fn hash_of(name: &Text) -> u64 {
     let mut hasher = FoldHasher::default();
-    hasher.write(name.bytes());
+    let mut rest = name.bytes();
+    'words: while let Some((word, behind)) = rest.split_first_chunk::<8>() {
+        hasher.write_u64(u64::from_le_bytes(*word));
+        rest = behind;
+    }
+    hasher.write(rest);
     hasher.finish()
 }
 

@@ -66,7 +66,7 @@ pub(crate) fn if_kept_as(names: &[Text], name: &Text, number: usize) -> Option<u
     ensures right { IsKeptAs names.now name.now number → result ≡ Some number }
 {
     let kept = names.get(number)?;
-    if kept.bytes() == name.bytes() {
+    if kept.as_str() == name.as_str() {
         return Some(number);
     }
     None

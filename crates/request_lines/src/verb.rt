@@ -27,14 +27,14 @@ impl Verb {
         ensures { result ≡ verb_of text.now }
     {
         match text {
-            "CLIENT" => Some(Verb::Client),
-            "PUT" => Some(Verb::Put(PutWhen::Always)),
-            "PUTNEW" => Some(Verb::Put(PutWhen::IfAbsent)),
-            "DELETE" => Some(Verb::Delete),
             "HEAD" => Some(Verb::Head),
+            "PUT" => Some(Verb::Put(PutWhen::Always)),
             "LIST" => Some(Verb::List(Version::V2)),
-            "LISTV1" => Some(Verb::List(Version::V1)),
+            "DELETE" => Some(Verb::Delete),
             "NEXT" => Some(Verb::Next),
+            "PUTNEW" => Some(Verb::Put(PutWhen::IfAbsent)),
+            "LISTV1" => Some(Verb::List(Version::V1)),
+            "CLIENT" => Some(Verb::Client),
             _ => None,
         }
     }

@@ -1,10 +1,10 @@
-use Rattle.std.proofs.Common.{◌≡◌, ℕ, ◌+◌, ◌<◌, List, length, false, Some, sym, subst}
+use Rattle.std.proofs.Common.{◌≡◌, ℕ, ◌+◌, List, false, Some, sym, subst}
 use Rattle.key_names.specs.Names.{name_at}
 use Rattle.key_names.specs.Ranks.{is_before, is_upto_prefix, StandFirst}
 use Rattle.bucket_terms.specs.declared.page.PageEntry.{PageEntry}
 use Rattle.bucket_terms.specs.declared.page.PageEntry.TheVariants.{Group}
 use Rattle.bucket_terms.specs.Listing.{group_text, entry_point}
-use Rattle.bucket_terms.specs.PageInRange.{IsEntryInRange}
+use Rattle.bucket_terms.specs.PageInRange.{IsEntryInRange, IsGroupInRange}
 use Rattle.page_rules.specs.Cursor.{GoesOnAt}
 use Rattle.page_rules.specs.PageLaw.{entry_text}
 use Rattle.page_rules.proofs.NextRank.{behind_key, behind_group}
@@ -21,17 +21,20 @@ returns-in-Key c =
     (subst (λ e. GoesOnAt dir query (Some (entry_point dir e)) (c.in-Key.rank + 1)) (sym c.in-Key.is)
     (behind_key dir query c.in-Key.rank c.len-names.ensures.rising below high))
 
--- the first name of the group
-below_group : (dir : List (List ℕ)) (entry : PageEntry) (rank len : ℕ) → entry ≡ Group rank len → IsEntryInRange dir entry → rank < length dir
-below_group dir entry rank len is within = (subst (IsEntryInRange dir) is within).below
+-- the entry's name and the length of its group
+group_in_range : (dir : List (List ℕ)) (entry : PageEntry) (rank len : ℕ) → entry ≡ Group rank len → IsEntryInRange dir entry → IsGroupInRange dir rank len
+group_in_range dir entry rank len is within = subst (IsEntryInRange dir) is within
+
+pub group_str-requires : goal.group_str-requires
+group_str-requires c = group_in_range c.args.dir.now c.args.entry.now c.in-Group.rank c.in-Group.len c.in-Group.is c.requires.in_range
 
 pub group_end-requires-clause-rank : goal.group_end-requires-clause-rank
 group_end-requires-clause-rank c =
-    rw c.from-in-Group.ensures (below_group c.args.dir.now c.args.entry.now c.in-Group.rank c.in-Group.len c.in-Group.is c.requires.in_range)
+    rw c.from-in-Group.ensures (group_in_range c.args.dir.now c.args.entry.now c.in-Group.rank c.in-Group.len c.in-Group.is c.requires.in_range).below
 
 pub group_end-requires-clause-begins : goal.group_end-requires-clause-begins
 group_end-requires-clause-begins c =
-    rw (c.from-in-Group.ensures, c.group_text.ensures) (begins_front c.in-Group.len (name_at c.args.dir.now c.in-Group.rank))
+    rw (c.from-in-Group.ensures, c.group_str.ensures) (begins_front c.in-Group.len (name_at c.args.dir.now c.in-Group.rank))
 
 pub returns-in-Group : goal.returns-in-Group
 returns-in-Group c =
@@ -39,5 +42,5 @@ returns-in-Group c =
     let query = c.args.query.now in
     let group = group_text dir c.in-Group.rank c.in-Group.len in
     let high = subst (λ e. is_before (entry_text dir e) query.prefix ≡ false) c.in-Group.is c.requires.listed in
-    let first = subst (λ g. StandFirst (λ name. is_upto_prefix name g) dir c.group_end.result) c.group_text.ensures c.group_end.ensures.first in
+    let first = subst (λ g. StandFirst (λ name. is_upto_prefix name g) dir c.group_end.result) c.group_str.ensures c.group_end.ensures.first in
     subst (λ e. GoesOnAt dir query (Some (entry_point dir e)) c.group_end.result) (sym c.in-Group.is) (behind_group dir query group c.group_end.result c.group_end.ensures.within high first)
