@@ -1,7 +1,7 @@
 // One caller's way to the map. A pass is used by one caller at a time. Other passes of the same index may
 // change the map between two of its calls and during them; an open snapshot stays as it is.
 ghost use Rattle.std.specs.Prelude.{◌≡◌, ◌↔◌, ℕ, None, Some, IsSome, IfOk, OnErr, IsErrOf};
-ghost use Rattle.key_map.specs.Map.{first_from};
+ghost use Rattle.key_map.specs.Map.{first_from, value_at};
 ghost use Rattle.key_map.specs.History.{after};
 ghost use Rattle.bucket_terms.specs.PassView.{PassView, MadePut, AnsweredPutNew, AnsweredRemoval, Began, KnowsOwn, IsOutOfSlots};
 
@@ -63,6 +63,19 @@ pub trait KeyPass: Homed {
         ensures first { (at : ℕ) → (view self.old).opened ≡ Some at → result ≡ first_from key (after (view self.old).seen at) }
         ensures same { view self.new ≡ view self.old }
         ensures home { Self.home self.new ≡ Self.home self.old };
+
+    /// The value that the key has in the open snapshot. None where the key is not there.
+    fn value_of<Rt: Wait>(&mut self, rt: &Rt, key: u64) -> Option<u64>
+        requires { IsSome (view self.old).opened }
+        ensures value { (at : ℕ) → (view self.old).opened ≡ Some at → result ≡ value_at key (first_from key (after (view self.old).seen at)) }
+        ensures same { view self.new ≡ view self.old }
+        ensures home { Self.home self.new ≡ Self.home self.old }
+    {
+        match self.next_from(rt, key) {
+            Some(pair) if pair.key == key => Some(pair.val),
+            _ => None,
+        }
+    }
 
     /// Closes the snapshot.
     fn end(&mut self)

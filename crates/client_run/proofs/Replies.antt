@@ -2,7 +2,6 @@
 use Rattle.std.proofs.Common.{◌≡◌, ℕ, zero, suc, All, MatchBool, length, get_or, ◌++◌, ◌+◌, ◌<◌, ◌≤◌, Bool, true, false, not, List, Option, Some, None, inl, inr, refl, sym, ap, ◌∙◌, subst, arith, ◌==◌, ◌&&◌}
 use Rattle.std.proofs.lemmas.Bool.Decides.{nat_tests}
 use Rattle.key_names.specs.Names.{IsRank}
-use Rattle.key_map.specs.declared.pair.Pair.{Pair}
 use Rattle.key_map.specs.declared.pass.Done.{Done}
 use Rattle.key_map.specs.declared.update.Change.TheVariants.{Put as PutVal, Remove}
 use Rattle.key_map.specs.Map.{map_get, first_from, value_at}
@@ -151,12 +150,12 @@ looked_closed old new at looked = record {
 }
 
 -- a head was answered in a snapshot that is closed again
-pub head_answers : (dir : List (List ℕ)) (old opened new : PassView) (last : Option Reply) (line key at : ℕ) (name : List ℕ) (first : Option Pair)
-    → KnowsOwn old → IsRank dir name key → Began old opened at → new ≡ closed_view opened → first ≡ first_from key (after opened.seen at)
-    → Answers dir old new last (answered line (Head name) (record { client = old.number; line = line; at = Some at; reply = head_by (value_at key first) }))
-head_answers dir old opened new last line key at name first knows rank began closed is_first =
-    subst (λ (v : PassView). Answers dir old v last (answered line (Head name) (record { client = old.number; line = line; at = Some at; reply = head_by (value_at key first) }))) (sym closed)
-    (by_value (value_at key first) (ap (λ (f : Option Pair). value_at key f) is_first ∙ sym (map_get-first_from key 0 (after opened.seen at) (IsMap-after opened.seen at))))
+pub head_answers : (dir : List (List ℕ)) (old opened new : PassView) (last : Option Reply) (line key at : ℕ) (name : List ℕ) (found : Option ℕ)
+    → KnowsOwn old → IsRank dir name key → Began old opened at → new ≡ closed_view opened → found ≡ value_at key (first_from key (after opened.seen at))
+    → Answers dir old new last (answered line (Head name) (record { client = old.number; line = line; at = Some at; reply = head_by found }))
+head_answers dir old opened new last line key at name found knows rank began closed is_found =
+    subst (λ (v : PassView). Answers dir old v last (answered line (Head name) (record { client = old.number; line = line; at = Some at; reply = head_by found }))) (sym closed)
+    (by_value found (is_found ∙ sym (map_get-first_from key 0 (after opened.seen at) (IsMap-after opened.seen at))))
   where
     by_value : (val : Option ℕ) → val ≡ map_get key (after opened.seen at)
         → Answers dir old (closed_view opened) last (answered line (Head name) (record { client = old.number; line = line; at = Some at; reply = head_by val }))

@@ -1,7 +1,6 @@
 // PUT, PUTNEW, DELETE and HEAD, each answered by calls of the pass.
 ghost use Rattle.std.specs.Prelude.{◌≡◌, ◌<◌, None, Some, Option, Contains};
 ghost use Rattle.key_names.specs.Names.{IsRank};
-ghost use Rattle.key_map.specs.Map.{value_at};
 ghost use Rattle.bucket_terms.specs.declared.request.Request.TheVariants.{Put, PutNew, Delete, Head};
 ghost use Rattle.bucket_terms.specs.declared.reply.Reply.{Reply};
 ghost use Rattle.bucket_terms.specs.RunParts.{head_by};
@@ -10,7 +9,7 @@ ghost use Rattle.client_run.specs.Listing.{HasPageInRange};
 
 use crate::hints::Hint;
 use bucket_terms::{KeyPass, Placed, Reply};
-use key_map::{New, Pair, PassError};
+use key_map::{New, PassError};
 use key_names::{Directory, Text};
 use std::sync::Wait;
 
@@ -112,18 +111,18 @@ pub(crate) fn head<P: KeyPass, Rt: Wait>(
     let client = pass.client();
     let key = rank_of(dir, name, hint);
     let at = pass.begin();
-    let first = pass.next_from(rt, key);
+    let found = pass.value_of(rt, key);
     pass.end();
-    answer_at(client, line, at, head_reply(key, first))
+    answer_at(client, line, at, head_reply(found))
 }
 
-// The answer of a HEAD of this key, where `first` is the first pair from the key on.
-fn head_reply(key: u64, first: Option<Pair>) -> Reply
-    ensures { result ≡ head_by (value_at key first) }
+// The answer of a HEAD that found this value.
+fn head_reply(found: Option<u64>) -> Reply
+    ensures { result ≡ head_by found }
 {
-    match first {
-        Some(pair) if pair.key == key => Reply::Found { val: pair.val },
-        _ => Reply::Missing,
+    match found {
+        Some(val) => Reply::Found { val },
+        None => Reply::Missing,
     }
 }
 

@@ -93,6 +93,13 @@ impl<'t> KeyPass for IndexPass<'t> {
         snapshot_read::next_on(&mut self.pass, rt, &mut self.way, key)
     }
 
+    fn value_of<Rt: Wait>(&mut self, rt: &Rt, key: u64) -> Option<u64> {
+        match snapshot_read::next_from(&mut self.pass, rt, key) {
+            Some(pair) if pair.key == key => Some(pair.val),
+            _ => None,
+        }
+    }
+
     fn end(&mut self) {
         snapshot_read::end(&mut self.pass);
     }

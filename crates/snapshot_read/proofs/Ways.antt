@@ -1,5 +1,6 @@
 -- The way of a search down the snapshot's tree: where it begins, one level down, and what it ends with.
-use Rattle.std.proofs.Common.{◌≡◌, ℕ, ◌+◌, ◌<◌, ◌≤◌, List, [], ◌∷◌, ◌++◌, length, arith, refl, ap, ◌∙◌, sym, subst, inl, inr, Option, Some, None, append-nil, append_assoc}
+use Rattle.std.proofs.Common.{◌≡◌, ℕ, ◌+◌, ◌^◌, ◌<◌, ◌≤◌, List, [], ◌∷◌, ◌++◌, length, arith, refl, ap, ◌∙◌, sym, subst, inl, inr, Option, Some, None, append-nil, append_assoc}
+use Rattle.std.specs.Prelude.{IfSome}
 use Rattle.std.specs.Option.{option_or}
 use Rattle.key_map.specs.declared.pair.Pair.{Pair}
 use Rattle.key_map.specs.History.{after}
@@ -20,10 +21,12 @@ use Rattle.core_trees.proofs.Updates.{search_from-left, search_from-right}
 use Rattle.core_updates.specs.Plans.{link_of}
 use Rattle.bundle_reads.specs.Links.{LeadsThere}
 use Rattle.bundle_reads.specs.Reads.{HasRead}
-use Rattle.snapshot_read.specs.Snapshots.{IsSnapshotTree}
-use Rattle.snapshot_read.specs.Ways.{high_of, keys_left, Covers, OnWay, IsOnWay, root, right_of}
+use Rattle.snapshot_read.specs.Snapshots.{IsSnapshotTree, ReadsAt}
+use Rattle.snapshot_read.specs.Looks.{told, IsAnswer}
+use Rattle.snapshot_read.specs.declared.looks.Look.{Look}
+use Rattle.snapshot_read.specs.Ways.{high_of, keys_left, Covers, OnWay, IsOnWay, IsKeptWay, root, right_of}
 use Rattle.snapshot_read.specs.declared.kept_way.Search.{Search}
-use Rattle.snapshot_read.proofs.SnapshotMoves.{tree_before, tree_after}
+use Rattle.snapshot_read.proofs.SnapshotMoves.{reads_on, tree_before, tree_after}
 
 -- where a search goes on to the left of a node with this slot and pair
 abbrev pub left_of : ℕ → ℕ → ℕ → ℕ → Search
@@ -49,6 +52,10 @@ at_root v t = λ tree is. record {
   within = is.lawful;
   rest = λ key covers. or_none (search_from key tree);
 }
+
+-- and looks for each key
+pub root_covers : (key : ℕ) → key < 2 ^ 64 → Covers key root
+root_covers key fits = (omega arith, omega (arith, fits))
 
 -- an item in the middle of a list
 pub item_middle : {X : Type 0} (xs ys : List X) (x : X) → IsItem (xs ++ x ∷ ys) (length xs) x
@@ -158,6 +165,28 @@ way_ends v t key s tree is on covers leads =
     let null : way.below ≡ Null = null_top tree s way is.some way.below refl (way.hangs 0 (leads tree is.nodes_are)) in
     ap (λ b. option_or (search_from key b) s.best) (sym null) ∙ way.rest key covers ∙ search_contents key tree is.lawful ∙ ap (first_from key) is.contents_are
 
+-- no key of the tree is as high
+search_none : (key low high : ℕ) (tree : NamedTree) → IsWithin low high tree → high ≤ key → search_from key tree ≡ None
+search_none key low high Null h past = refl
+search_none key low high (Branch slot k v l r) h past =
+    let below : k < high = h.1 in
+    search_from-right key slot k v l r (omega (arith, below, past)) ∙ search_none key (k + 1) high r h.3 past
+
+-- the key of a pair, where there is one
+abbrev pub key_or : Option Pair → ℕ
+key_or None = 0
+key_or (Some p) = p.key
+
+-- at the node of the key the search ends too
+pub way_meets : (v : View) (t key : ℕ) (s : Search) (tree : NamedTree) → IsSnapshotTree v t tree → IsOnWay v t s → Covers key s
+    → (here : Pair) → s.best ≡ Some here → here.key ≡ key → Some here ≡ first_from key (after v.history.seen t)
+way_meets v t key s tree is on covers here best met =
+    let way = on tree is in
+    let high : high_of s.best ≡ key = ap high_of best ∙ met in
+    let none : search_from key way.below ≡ None = search_none key s.low (high_of s.best) way.below way.within (omega (arith, high)) in
+    sym best
+    ∙ ap (λ o. option_or o s.best) (sym none) ∙ way.rest key covers ∙ search_contents key tree is.lawful ∙ ap (first_from key) is.contents_are
+
 -- what is kept
 
 -- each item but the last, and the last one
@@ -183,3 +212,23 @@ some_same a b is = ap (λ (o : Option ℕ). some_or o a) is
 
 pub every_before : (v w : View) (t : ℕ) (kept : List Search) → HasRead v w → Every (IsOnWay w t) kept → Every (IsOnWay v t) kept
 every_before v w t kept read = every_weaker (IsOnWay w t) (IsOnWay v t) kept (λ s on. λ tree is. on tree (tree_after v w t tree read is))
+
+-- what is kept is kept behind other loads
+pub kept_on : (v w : View) (t : ℕ) (kept : List Search) → HasRead v w → ReadsAt v t → Every (IsOnWay v t) kept → IsKeptWay w kept
+kept_on v w t kept read reads every = λ n opened.
+    subst (λ k. Every (IsOnWay w k) kept) (some_same t n (sym (reads_on v w t read reads).opened ∙ opened)) (every_on v w t kept read every)
+
+-- the best pair so far is the answer where it is the first one
+pub answer_is : (look : Look) (best first : Option Pair) → told look ≡ Some best → best ≡ first → IsAnswer look first
+answer_is look best first is same = subst (λ (t : Option (Option Pair)). IfSome t (λ answer. answer ≡ first)) (sym is) same
+
+-- what is known is the answer
+known_is : (look : Look) (known first : Option Pair) → told look ≡ Some known → IsAnswer look first → known ≡ first
+known_is look known first is answer = subst (λ (t : Option (Option Pair)). IfSome t (λ a. a ≡ first)) is answer
+
+pub known_first : (v w : View) (look : Look) (known : Option Pair) (key at : ℕ) → HasRead v w → told look ≡ Some known
+    → ((t : ℕ) → w.reading.opened ≡ Some t → IsAnswer look (first_from key (after w.history.seen t)))
+    → v.reading.opened ≡ Some at → known ≡ first_from key (after v.history.seen at)
+known_first v w look known key at read is first opened =
+    known_is look known (first_from key (after w.history.seen at)) is (first at (ap (λ (u : View). u.reading.opened) read.view ∙ opened))
+    ∙ ap (λ (u : View). first_from key (after u.history.seen at)) read.view

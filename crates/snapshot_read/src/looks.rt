@@ -1,3 +1,6 @@
+ghost use Rattle.std.specs.Prelude.{◌≡◌, Some};
+ghost use Rattle.snapshot_read.specs.Looks.{told};
+
 use index_words::Pair;
 
 /// What one look into the open snapshot comes to.
@@ -9,4 +12,27 @@ pub enum Look {
     Nothing,
     /// An entry had no stamp yet: another pass has it pending. Nothing is known; a later look may tell.
     Pending,
+}
+
+impl Look {
+    // Where a search ends: the best pair that it has met is the first one.
+    pub(crate) fn of_best(best: Option<Pair>) -> Look
+        ensures { told result ≡ Some best }
+    {
+        match best {
+            Some(pair) => Look::Found(pair),
+            None => Look::Nothing,
+        }
+    }
+
+    // What it tells of the first pair. None where nothing is known.
+    pub(crate) fn known(self) -> Option<Option<Pair>>
+        ensures { result ≡ told self }
+    {
+        match self {
+            Look::Found(pair) => Some(Some(pair)),
+            Look::Nothing => Some(None),
+            Look::Pending => None,
+        }
+    }
 }

@@ -11,7 +11,7 @@ ghost use Rattle.snapshot_read.specs.Ways.{IsKeptWay};
 
 use crate::kept_way::Way;
 use crate::looks::Look;
-use crate::search::look_on;
+use crate::search::{look_from, look_on};
 use index_words::Pair;
 use std::sync::Wait;
 use std::thread::yield_now;
@@ -69,8 +69,10 @@ pub fn try_next_from(pass: &mut TablePass<'_>, key: u64) -> Look
     ensures alone { IsAlone pass.old.view → IsKnown result }
     ensures reads { IsReading pass.new.view }
 {
-    let mut way = Way::new();
-    try_next_on(pass, &mut way, key)
+    let Some(at) = pass.opened() else {
+        unreachable!()
+    };
+    look_from(pass, at, key)
 }
 
 /// The first pair of the open snapshot whose key is at least `key`. Where an entry has no stamp yet it tries again,
@@ -86,16 +88,15 @@ pub fn next_on<R: Wait>(pass: &mut TablePass<'_>, rt: &R, way: &mut Way, key: u6
     ensures kept { IsKeptWay pass.new.view way.new }
 {
     'tries: for _ in rt.forever() {
-        match try_next_on(pass, way, key) {
-            Look::Found(pair) => return Some(pair),
-            Look::Nothing => return None,
-            Look::Pending => yield_now(),
+        if let Some(first) = try_next_on(pass, way, key).known() {
+            return first;
         }
+        yield_now();
     }
     unreachable!()
 }
 
-/// As `next_on`, from the root of the tree on.
+/// As `next_on`, from the root of the tree on, and no search is kept: for a caller that looks for one pair.
 pub fn next_from<R: Wait>(pass: &mut TablePass<'_>, rt: &R, key: u64) -> Option<Pair>
     requires reads { IsReading pass.old.view }
     ensures same { IsSamePass pass.old pass.new }
@@ -103,6 +104,11 @@ pub fn next_from<R: Wait>(pass: &mut TablePass<'_>, rt: &R, key: u64) -> Option<
     ensures read { HasRead pass.old.view pass.new.view }
     ensures reads { IsReading pass.new.view }
 {
-    let mut way = Way::new();
-    next_on(pass, rt, &mut way, key)
+    'tries: for _ in rt.forever() {
+        if let Some(first) = try_next_from(pass, key).known() {
+            return first;
+        }
+        yield_now();
+    }
+    unreachable!()
 }

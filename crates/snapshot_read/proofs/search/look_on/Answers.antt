@@ -1,10 +1,12 @@
-use Rattle.std.proofs.Common.{refl, sym, ◌∙◌, subst}
+use Rattle.std.proofs.Common.{refl, ◌∙◌, subst}
+use Rattle.key_map.specs.History.{after}
+use Rattle.key_map.specs.Map.{first_from}
 use Rattle.bundle_reads.specs.Links.{LeadsThere}
 use Rattle.snapshot_read.proofs.SnapshotMoves.{tree_after}
 use Rattle.bundle_reads.proofs.ReadMoves.{read_nothing, read_more, inside_on, same_pass, same_more, leads_before}
 use Rattle.snapshot_read.proofs.SnapshotTrees.{reader}
 use Rattle.snapshot_read.proofs.Levels.{way_link}
-use Rattle.snapshot_read.proofs.Ways.{way_ends, every_on, every_before}
+use Rattle.snapshot_read.proofs.Ways.{way_ends, every_on, every_before, kept_on, answer_is}
 use Rattle.snapshot_read.proofs.search.look_on.Goals as goal
 
 pub down-init : goal.down-init
@@ -39,18 +41,18 @@ child_at-requires-clause-link c =
     let known = reader v c.args.at c.facts.ensures c.requires.reads in
     way_link v c.down.pass.view c.args.at c.down.search known.tree known.is c.down.invariant.0 (c.down.invariant.3 known.tree known.is)
 
-pub returns-in-Some-best-clause-first : goal.returns-in-Some-best-clause-first
-returns-in-Some-best-clause-first c =
+pub returns-then-child-eq0-clause-first : goal.returns-then-child-eq0-clause-first
+returns-then-child-eq0-clause-first c =
     let v = c.args.pass.now.view in
+    let t = c.args.at in
     let s = c.down.search in
-    let known = reader v c.args.at c.facts.ensures c.requires.reads in
+    let known = reader v t c.facts.ensures c.requires.reads in
     let null : LeadsThere c.down.pass.view s.at 0 = subst (LeadsThere c.down.pass.view s.at) c.if-child-eq0.true c.in-Some.ensures.leads in
-    sym c.in-Some-best.is ∙ way_ends v c.args.at c.args.key s known.tree known.is c.down.invariant.3 c.down.invariant.4 (leads_before v c.down.pass.view s.at 0 c.down.invariant.0 null)
+    answer_is c.of_best.result s.best (first_from c.args.key (after v.history.seen t)) c.of_best.ensures
+    (way_ends v t c.args.key s known.tree known.is c.down.invariant.3 c.down.invariant.4 (leads_before v c.down.pass.view s.at 0 c.down.invariant.0 null))
 
-pub returns-in-None-clause-first : goal.returns-in-None-clause-first
-returns-in-None-clause-first c =
+pub returns-then-child-eq0-clause-kept : goal.returns-then-child-eq0-clause-kept
+returns-then-child-eq0-clause-kept c =
     let v = c.args.pass.now.view in
-    let s = c.down.search in
-    let known = reader v c.args.at c.facts.ensures c.requires.reads in
-    let null : LeadsThere c.down.pass.view s.at 0 = subst (LeadsThere c.down.pass.view s.at) c.if-child-eq0.true c.in-Some.ensures.leads in
-    sym c.in-None.is ∙ way_ends v c.args.at c.args.key s known.tree known.is c.down.invariant.3 c.down.invariant.4 (leads_before v c.down.pass.view s.at 0 c.down.invariant.0 null)
+    let p = c.child_at.new.pass.view in
+    kept_on v p c.args.at c.down.way (read_more v c.down.pass.view p c.down.invariant.0 c.child_at.ensures.read) c.requires.reads c.down.invariant.5

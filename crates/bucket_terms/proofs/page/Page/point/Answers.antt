@@ -1,5 +1,4 @@
-use Rattle.std.proofs.Common.{◌≡◌, Some, length, ◌-◌, sym, ap, ◌∙◌}
-use Rattle.std.specs.List.{slice_get}
+use Rattle.std.proofs.Common.{Some, sym, ap, ◌∙◌}
 use Rattle.bucket_terms.proofs.PagePoints.{page_point-truncated}
 use Rattle.bucket_terms.proofs.page.Page.point.Goals as goal
 
