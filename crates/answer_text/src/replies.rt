@@ -87,10 +87,10 @@ fn push_reply(
         Reply::Found { val } => push_found(out, placed, &records[*val as usize]),
         Reply::Missing => push_short(out, placed, None, 404),
         Reply::Listed { query, page } => {
-            push_listing(out, dir, records, texts, placed, query.get(), page)
+            push_listing(out, dir, records, texts, placed, query.get(), page.get())
         }
         Reply::ListedV1 { query, page } => {
-            push_v1_listing(out, dir, records, texts, placed, query.get(), page)
+            push_v1_listing(out, dir, records, texts, placed, query.get(), page.get())
         }
         Reply::BadToken => push_short(out, placed, None, 400),
         Reply::NoSlot => push_short(out, placed, None, 503),

@@ -20,12 +20,12 @@ pub enum Reply {
     /// 200. The query that was answered, with the token that it went on from, and its page.
     Listed {
         query: Shared<ListQuery>,
-        page: Page,
+        page: Shared<Page>,
     },
     /// 200. The query of version 1 that was answered, and its page.
     ListedV1 {
         query: Shared<V1Query>,
-        page: Page,
+        page: Shared<Page>,
     },
     /// 400. The continuation token is the text of no token, or of one with another prefix or delimiter; or
     /// there is no page to go on from.

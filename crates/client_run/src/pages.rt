@@ -70,7 +70,7 @@ fn behind_reply(
     ensures { IfOk result (λ next. option_map resumed next ≡ next_of dir.now (Some reply.now)) }
 {
     match reply {
-        Reply::Listed { query, page } => behind(alloc, dir, query.get(), page),
+        Reply::Listed { query, page } => behind(alloc, dir, query.get(), page.get()),
         _ => Ok(None),
     }
 }
@@ -202,5 +202,6 @@ fn listed<P: KeyPass, Rt: Wait>(
 {
     let client = pass.client();
     let (at, page) = list(rt, alloc, pass, known, query.get(), point.as_ref())?;
+    let page = Shared::new(alloc, page)?;
     Ok(answer_at(client, line, at, Reply::Listed { query, page }))
 }

@@ -54,5 +54,6 @@ fn listed_v1<P: KeyPass, Rt: Wait>(
 {
     let client = pass.client();
     let (at, page) = list(rt, alloc, pass, known, &plain, point.as_ref())?;
+    let page = Shared::new(alloc, page)?;
     Ok(answer_at(client, line, at, Reply::ListedV1 { query, page }))
 }

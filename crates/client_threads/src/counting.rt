@@ -108,7 +108,10 @@ fn listed_in(reply: &Reply) -> u64
     ensures { result ≡ listed_in reply.now }
 {
     match reply {
-        Reply::Listed { page, .. } | Reply::ListedV1 { page, .. } => page.entries.len() as u64,
+        Reply::Listed { page, .. } | Reply::ListedV1 { page, .. } => page
+            .get()
+            .entries
+            .len() as u64,
         _ => 0,
     }
 }

@@ -206,7 +206,10 @@ fn listed(
     ensures page { IfOk result (λ reply. reply ≡ Listed query (page_of dir.now query point map.now)) }
     ensures in_range { IfOk result (HasPageInRange dir.now) }
 {
-    let page = page_from(alloc, dir, map, query.get(), point.as_ref())?;
+    let page = Shared::new(
+        alloc,
+        page_from(alloc, dir, map, query.get(), point.as_ref())?,
+    )?;
     Ok(Reply::Listed { query, page })
 }
 
@@ -223,7 +226,7 @@ fn of_v1(
     let plain = plain_query(alloc, asked)?;
     let point = point_of(alloc, asked)?;
     let query = query.share()?;
-    let page = page_from(alloc, dir, map, &plain, point.as_ref())?;
+    let page = Shared::new(alloc, page_from(alloc, dir, map, &plain, point.as_ref())?)?;
     Ok(Reply::ListedV1 { query, page })
 }
 

@@ -119,7 +119,7 @@ impl First {
 /// How many entries the page of a listing shows.
 pub(crate) fn shown_in(reply: &Reply) -> usize {
     match reply {
-        Reply::Listed { page, .. } | Reply::ListedV1 { page, .. } => page.entries.len(),
+        Reply::Listed { page, .. } | Reply::ListedV1 { page, .. } => page.get().entries.len(),
         _ => 0,
     }
 }

@@ -172,8 +172,8 @@ fn want_reply(wanted: &mut WantedTexts<'_>, reply: &Reply)
     ensures { IsWantedOf wanted.old.dir wanted.old.records wanted.new }
 {
     match reply {
-        Reply::Listed { query, page } if !query.get().url => want_page(wanted, page),
-        Reply::ListedV1 { query, page } if !query.get().url => want_page(wanted, page),
+        Reply::Listed { query, page } if !query.get().url => want_page(wanted, page.get()),
+        Reply::ListedV1 { query, page } if !query.get().url => want_page(wanted, page.get()),
         _ => (),
     }
 }
