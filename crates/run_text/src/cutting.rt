@@ -79,6 +79,7 @@ struct First {
     entries: usize,
 }
 
+// As many of the first replies as a piece has, by the estimate of their bytes: at least one, however long its line is.
 fn first_piece(replies: &[Placed], name_bytes: usize) -> First
     requires { 0 < length replies.now }
     ensures some { 0 < result.count }

@@ -149,7 +149,7 @@ impl Sheet {
         Ok(())
     }
 
-    /// Writes the text that is on the sheet, one write a line.
+    /// Writes the text that is on the sheet, one write a line, or at once where the sink has a buffer.
     pub(crate) fn write<K: Sink>(&self, sink: &mut K) -> Result<(), Stop>
         ensures taken { OnOk result (IsTaken (K.taken sink.old) (K.taken sink.new) (string_bytes self.now.text)) }
         ensures filled { OnOk result (self.now.filled ≡ Ok tt) }
