@@ -26,6 +26,7 @@ impl Verb {
     pub(crate) fn of(text: &str) -> Option<Verb>
         ensures { result ≡ verb_of text.now }
     {
+        // They are compared one after another: those that most lines have stand first.
         match text {
             "HEAD" => Some(Verb::Head),
             "PUT" => Some(Verb::Put(PutWhen::Always)),

@@ -126,7 +126,7 @@ pub(crate) fn look_from(pass: &mut TablePass<'_>, at: u64, key: u64) -> Look
     pass.facts();
     let mut search = Search::root();
     'down: loop {
-        // As in `look_on`.
+        // The waits for the key and for the bundle's entry are one, as where `look_on` begins at the root.
         pass.fetch_child(search.at.node, search.at.side);
         let Some(child) = child_at(pass, at, search.at) else {
             return Look::Pending;
