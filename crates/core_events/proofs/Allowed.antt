@@ -53,8 +53,7 @@ not_none len e = grind (arith, nat_tests)
 as_many : (value len : ℕ) (a b c : Bool) → eqb value 0 ≡ a → eqb value 1 ≡ b → eqb len 0 ≡ c → (a || (b && not c)) ≡ true → value ≤ len
 as_many value len true b c e f g met = let none : value ≡ 0 = eqb-true value 0 e in omega arith
 as_many value len false true false e f g met = let one : value ≡ 1 = eqb-true value 1 f in omega (arith, not_none len g)
-as_many value len false true true e f g met = absurd (never met)
-as_many value len false false c e f g met = absurd (never met)
+as_many value len _ _ _ e f g met = absurd (never met)
 
 pub split_few : (t : Table) (e : Event) (w : Word) → allowed_at t e (slice_get t.views e.seat) (Some w) ≡ true → e.kind ≡ SplitSeat → e.value ≤ 1
 split_few t e w met is =
@@ -110,10 +109,7 @@ raises_at t e Stamp v is met =
   where
     some_left : (n : ℕ) → not (eqb n 0) ≡ true → 0 < n
     some_left n p = grind (arith, nat_tests)
-raises_at t e (Section i) v is met = absurd (never met)
-raises_at t e (Announced i) v is met = absurd (never met)
-raises_at t e (Node f k) v is met = absurd (never met)
-raises_at t e (Entry p k) v is met = absurd (never met)
+raises_at t e _ v is met = absurd (never met)
 
 -- what the needs of a raise say of the seat's view, and of its update
 raise_met : (t : Table) (e : Event) (w : Word) (v : View) → needs e.kind t.layout (held_by t) t.views e.seat v w e.value e.update ≡ true → e.kind ≡ Raise

@@ -64,7 +64,4 @@ entry_there z n e p found =
 -- a load of the stamp is one at the stamp
 pub stamp_named : (w : Word) → is_stamp w ≡ true → w ≡ Stamp
 stamp_named Stamp is = refl
-stamp_named (Section i) is = absurd (never is)
-stamp_named (Announced i) is = absurd (never is)
-stamp_named (Node f k) is = absurd (never is)
-stamp_named (Entry p e) is = absurd (never is)
+stamp_named _ is = absurd (never is)

@@ -128,9 +128,7 @@ place_known x (Gap node side) = Gap node side
 -- stands may be in no bundle any more
 abbrev pub is_watching : View → Place → Bool
 is_watching v (Entry node side entry found) = is_some v.reading.section || locks node v.held.nodes
-is_watching v Nowhere = false
-is_watching v (Node node key) = false
-is_watching v (Gap node side) = false
+is_watching v _ = false
 
 -- no number was found, at an entry of a bundle that the seat watches, which it has not pending itself
 abbrev pub meets_pending : View → ℕ → ℕ → Bool
@@ -153,9 +151,7 @@ is_selected _ _ locked = false
 abbrev pub child_links : View → Place → ℕ → List Link
 child_links v (Entry node side entry found) child =
     remembered_if (is_selected v.reading.section found (locks node v.held.nodes)) v.reading.links (bundle_link node side child entry)
-child_links v Nowhere child = v.reading.links
-child_links v (Node node key) child = v.reading.links
-child_links v (Gap node side) child = v.reading.links
+child_links v _ child = v.reading.links
 
 -- load of a child: the link is remembered at the selected entry
 abbrev pub ptr_loaded : View → ℕ → View
@@ -181,9 +177,7 @@ abbrev pub next_at : View → Place → ℕ → ℕ → View
 next_at v (Entry node side entry found) e next =
     with_place (with_held v v.held.nodes (next_nexts v node e found next)) (Entry node side next None) found
     (remembered_if (next == 0 && is_above v e found) v.reading.links (bundle_link node side 0 0))
-next_at v Nowhere e next = v
-next_at v (Node node key) e next = v
-next_at v (Gap node side) e next = v
+next_at v _ e next = v
 
 abbrev pub next_loaded : View → ℕ → ℕ → View
 next_loaded v e next = next_at v v.reading.place e next

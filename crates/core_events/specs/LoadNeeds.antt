@@ -44,9 +44,7 @@ may_load_head v _ value = false
 -- the seat stands at the entry
 abbrev pub stands_at : Place → ℕ → Bool
 stands_at (AtEntry node side entry found) e = entry == e
-stands_at Nowhere e = false
-stands_at (AtNode node key) e = false
-stands_at (Gap node side) e = false
+stands_at _ e = false
 
 abbrev pub is_part : Part → Part → Bool
 is_part Child Child = true
@@ -62,9 +60,7 @@ may_load_part part v _ value = false
 -- the entry's number is above the seat's, or the seat has locked the node
 abbrev pub may_go_on : View → Place → ℕ → Bool
 may_go_on v (AtEntry node side entry found) e = locks node v.held.nodes || is_above v e found
-may_go_on v Nowhere e = false
-may_go_on v (AtNode node key) e = false
-may_go_on v (Gap node side) e = false
+may_go_on v _ e = false
 
 abbrev pub may_load_next : View → Word → ℕ → Bool
 may_load_next v (Entry p e) value = may_load_part Next v (Entry p e) value && may_go_on v v.reading.place e

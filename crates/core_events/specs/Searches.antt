@@ -44,8 +44,7 @@ goes_on_at r (Some key) = is_between (turn_key r.right_turn) (turn_key r.left_tu
 abbrev pub searches_at : Reading → Place → ℕ → Side → Bool
 searches_at r Nowhere k side = k == 0 && same_side side Right
 searches_at r (AtNode node key) k side = node == k && goes_on_at r key
-searches_at r (AtEntry node at entry found) k side = false
-searches_at r (Gap node at) k side = false
+searches_at r _ k side = false
 
 -- the node at which the search stands becomes the turn; the root is none
 abbrev pub turned : Place → Option Turn → Option Turn

@@ -43,8 +43,7 @@ linked-two b k j e (x ∷ ks) apart some other =
 both_sides : (b : Bundles) (s side : Side) (k e : ℕ) → (s ≡ side → ⊥) → count e (b.bundle s k) + count e (b.bundle side k) ≡ count e (entries_of b k)
 both_sides b Left Right k e other = sym (count-append e (b.bundle Left k) (b.bundle Right k))
 both_sides b Right Left k e other = omega (arith, count-append e (b.bundle Left k) (b.bundle Right k))
-both_sides b Left Left k e other = absurd (other refl)
-both_sides b Right Right k e other = absurd (other refl)
+both_sides b _ _ k e other = absurd (other refl)
 
 module _ (z : Layout) (vs : List View) (g : Meaning) (rule : SlotRule z (linked_by g) HoldsNode (HoldsEntry g.bundles) vs) where
   -- a slot that some view owns has no entry that is linked

@@ -43,47 +43,32 @@ module _ (m : Memory) (free : Slots) (u : Updating) where
   pub stamp_apart : (x : ℕ) (w : Word) → IsOwnSlotWord free u w → written m Stamp x w ≡ m w
   stamp_apart x (Node f k) own = refl
   stamp_apart x (Entry p e) own = refl
-  stamp_apart x Stamp own = absurd own
-  stamp_apart x (Section i) own = absurd own
-  stamp_apart x (Announced i) own = absurd own
+  stamp_apart x _ own = absurd own
 
   pub section_apart : (n x : ℕ) (w : Word) → IsOwnSlotWord free u w → written m (Section n) x w ≡ m w
   section_apart n x (Node f k) own = refl
   section_apart n x (Entry p e) own = refl
-  section_apart n x Stamp own = absurd own
-  section_apart n x (Section i) own = absurd own
-  section_apart n x (Announced i) own = absurd own
+  section_apart n x _ own = absurd own
 
   pub announced_apart : (n x : ℕ) (w : Word) → IsOwnSlotWord free u w → written m (Announced n) x w ≡ m w
   announced_apart n x (Node f k) own = refl
   announced_apart n x (Entry p e) own = refl
-  announced_apart n x Stamp own = absurd own
-  announced_apart n x (Section i) own = absurd own
-  announced_apart n x (Announced i) own = absurd own
+  announced_apart n x _ own = absurd own
 
   lock_field : (k x j : ℕ) (f : Field) → IsOwnSlotWord free u (Node f j) → written m (Node Lock k) x (Node f j) ≡ m (Node f j)
-  lock_field k x j Key own = refl
-  lock_field k x j Val own = refl
   lock_field k x j Lock own = cc
-  lock_field k x j Mark own = refl
-  lock_field k x j (Head s) own = refl
-  lock_field k x j (Link s) own = refl
-  lock_field k x j (Tag s) own = refl
+  lock_field k x j _ own = refl
 
   pub lock_apart : (k x : ℕ) (w : Word) → IsOwnSlotWord free u w → written m (Node Lock k) x w ≡ m w
   lock_apart k x (Node f j) own = lock_field k x j f own
   lock_apart k x (Entry p e) own = refl
-  lock_apart k x Stamp own = absurd own
-  lock_apart k x (Section i) own = absurd own
-  lock_apart k x (Announced i) own = absurd own
+  lock_apart k x _ own = absurd own
 
   -- a store to a word of a node that is not free here
   pub node_apart : (f : Field) (k x : ℕ) → (0 < count k free.nodes → ⊥) → (w : Word) → IsOwnSlotWord free u w → written m (Node f k) x w ≡ m w
   node_apart f k x apart (Node h j) own = node_other m f h k j x (λ same. apart (subst (λ y. 0 < count y free.nodes) same own.1))
   node_apart f k x apart (Entry p e) own = refl
-  node_apart f k x apart Stamp own = absurd own
-  node_apart f k x apart (Section i) own = absurd own
-  node_apart f k x apart (Announced i) own = absurd own
+  node_apart f k x apart _ own = absurd own
 
   -- a store to a word of an entry that is neither free nor pending here
   pub entry_apart : (p : Part) (e x : ℕ) → (0 < count e free.entries → ⊥) → (0 < count e u.pending → ⊥) → (w : Word) → IsOwnSlotWord free u w → written m (Entry p e) x w ≡ m w
@@ -93,29 +78,22 @@ module _ (m : Memory) (free : Slots) (u : Updating) where
         | inl here ↦ apart (subst (λ y. 0 < count y free.entries) same here)
         | inr yet ↦ unpending (subst (λ y. 0 < count y u.pending) same yet.1)
       ])
-  entry_apart p e x apart unpending Stamp own = absurd own
-  entry_apart p e x apart unpending (Section i) own = absurd own
-  entry_apart p e x apart unpending (Announced i) own = absurd own
+  entry_apart p e x apart unpending _ own = absurd own
 
 -- a word is the same as itself
 field-refl : (f : Field) → same_field f f ≡ true
-field-refl Key = refl
-field-refl Val = refl
-field-refl Lock = refl
-field-refl Mark = refl
 field-refl (Head s) = same_side-refl s
 field-refl (Link s) = same_side-refl s
 field-refl (Tag s) = same_side-refl s
+field-refl _ = refl
 
 part-refl : (p : Part) → same_part p p ≡ true
 part-refl Child = refl
-part-refl Number = refl
-part-refl Next = refl
+part-refl _ = refl
 
 both : (a b : Bool) → a ≡ true → b ≡ true → (a && b) ≡ true
 both true true p q = refl
-both true false p q = cc
-both false b p q = cc
+both _ _ p q = cc
 
 pub word-refl : (w : Word) → same_word w w ≡ true
 word-refl Stamp = refl

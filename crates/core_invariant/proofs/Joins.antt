@@ -94,14 +94,13 @@ ended_append n place (x ∷ xs) ys = omega (arith, ended_append n place xs ys)
 
 given_by : (n place k : ℕ) (b : Bool) (mine : List ℕ) → eqb k n ≡ b
     → ended_place n place (map (λ (p : ℕ). record { pass = k; at = p }) mine) ≡ cond b (count place mine) 0
-given_by n place k true [] e = refl
-given_by n place k false [] e = refl
 given_by n place k true (p ∷ mine) e =
     let one : 0 + cond (eqb k n && eqb p place) 1 0 ≡ 0 + cond (eqb p place) 1 0 = ap (λ (c : Bool). 0 + cond (c && eqb p place) 1 0) e in
     omega (arith, one, given_by n place k true mine e)
 given_by n place k false (p ∷ mine) e =
     let none : 0 + cond (eqb k n && eqb p place) 1 0 ≡ 0 = ap (λ (c : Bool). 0 + cond (c && eqb p place) 1 0) e in
     omega (arith, none, given_by n place k false mine e)
+given_by n place k _ _ e = refl
 
 pub ended_own : (n place : ℕ) (number : Option ℕ) (mine : List ℕ) → ended_place n place (own_ended number mine) ≡ own_place n place number mine
 ended_own n place None mine = refl

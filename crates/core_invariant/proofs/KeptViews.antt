@@ -64,180 +64,90 @@ looked_part passes v pass word =
 
 look_part : (z : Layout) (v : View) (w : Word) (x : ℕ) → part_of (look_from z v w x) ≡ part_of v
 look_part z v (Section pass) x = either_part (has_no_lock v) (part_of v) (looked z.passes v pass x) (looked_waiting v pass x) (looked_part z.passes v pass x) refl
-look_part z v Stamp x = refl
-look_part z v (Announced k) x = refl
-look_part z v (Node f k) x = refl
-look_part z v (Entry p e) x = refl
+look_part z v _ x = refl
 
 head_at_part : (v : View) (f : Field) (k x number : ℕ) → part_of (head_at v f k x number) ≡ part_of v
 head_at_part v (Head side) k x number = refl
-head_at_part v Key k x number = refl
-head_at_part v Val k x number = refl
-head_at_part v Lock k x number = refl
-head_at_part v Mark k x number = refl
-head_at_part v (Link side) k x number = refl
-head_at_part v (Tag side) k x number = refl
+head_at_part v _ k x number = refl
 
 head_part : (v : View) (w : Word) (x number : ℕ) → part_of (head_from v w x number) ≡ part_of v
 head_part v (Node f k) x number = head_at_part v f k x number
-head_part v Stamp x number = refl
-head_part v (Section k) x number = refl
-head_part v (Announced k) x number = refl
-head_part v (Entry p e) x number = refl
+head_part v _ x number = refl
 
 ts_part : (v : View) (w : Word) (x : ℕ) → part_of (ts_from v w x) ≡ part_of v
 ts_part v (Entry p e) x = refl
-ts_part v Stamp x = refl
-ts_part v (Section k) x = refl
-ts_part v (Announced k) x = refl
-ts_part v (Node f k) x = refl
+ts_part v _ x = refl
 
 ptr_part : (v : View) (w : Word) (x : ℕ) → part_of (ptr_from v w x) ≡ part_of v
 ptr_part v (Entry p e) x = refl
-ptr_part v Stamp x = refl
-ptr_part v (Section k) x = refl
-ptr_part v (Announced k) x = refl
-ptr_part v (Node f k) x = refl
+ptr_part v _ x = refl
 
 next_at_part : (v : View) (place : Place) (e x : ℕ) → part_of (next_at v place e x) ≡ part_of v
 next_at_part v (AtEntry node side entry found) e x = refl
-next_at_part v Nowhere e x = refl
-next_at_part v (AtNode node key) e x = refl
-next_at_part v (Gap node side) e x = refl
+next_at_part v _ e x = refl
 
 next_part : (v : View) (w : Word) (x : ℕ) → part_of (next_from v w x) ≡ part_of v
 next_part v (Entry p e) x = next_at_part v v.reading.place e x
-next_part v Stamp x = refl
-next_part v (Section k) x = refl
-next_part v (Announced k) x = refl
-next_part v (Node f k) x = refl
+next_part v _ x = refl
 
 prepared_at_part : (v : View) (f : Field) (k e : ℕ) → part_of (prepared_at v f k e) ≡ part_of v
 prepared_at_part v (Head side) k e = refl
-prepared_at_part v Key k e = refl
-prepared_at_part v Val k e = refl
-prepared_at_part v Lock k e = refl
-prepared_at_part v Mark k e = refl
-prepared_at_part v (Link side) k e = refl
-prepared_at_part v (Tag side) k e = refl
+prepared_at_part v _ k e = refl
 
 prepared_part : (v : View) (w : Word) (e : ℕ) → part_of (prepared_from v w e) ≡ part_of v
 prepared_part v (Node f k) e = prepared_at_part v f k e
-prepared_part v Stamp e = refl
-prepared_part v (Section k) e = refl
-prepared_part v (Announced k) e = refl
-prepared_part v (Entry p k) e = refl
+prepared_part v _ e = refl
 
 finalised_part : (v : View) (w : Word) → part_of (finalised_from v w) ≡ part_of v
 finalised_part v (Entry p e) = refl
-finalised_part v Stamp = refl
-finalised_part v (Section k) = refl
-finalised_part v (Announced k) = refl
-finalised_part v (Node f k) = refl
+finalised_part v _ = refl
 
 tried_part : (v : View) (w : Word) (own x : ℕ) → part_of (tried_from v w own x) ≡ part_of v
 tried_part v (Node f k) own x = either_part (eqb x 0) (part_of v) (locked_view v k) (met_lock v own x) refl refl
-tried_part v Stamp own x = refl
-tried_part v (Section k) own x = refl
-tried_part v (Announced k) own x = refl
-tried_part v (Entry p e) own x = refl
+tried_part v _ own x = refl
 
 unlocked_part : (v : View) (w : Word) → part_of (unlocked_from v w) ≡ part_of v
 unlocked_part v (Node f k) = refl
-unlocked_part v Stamp = refl
-unlocked_part v (Section k) = refl
-unlocked_part v (Announced k) = refl
-unlocked_part v (Entry p e) = refl
+unlocked_part v _ = refl
 
 mark_part : (v : View) (w : Word) (x : ℕ) → part_of (mark_from v w x) ≡ part_of v
 mark_part v (Node f k) x = refl
-mark_part v Stamp x = refl
-mark_part v (Section k) x = refl
-mark_part v (Announced k) x = refl
-mark_part v (Entry p e) x = refl
+mark_part v _ x = refl
 
 marked_part : (v : View) (w : Word) → part_of (marked_from v w) ≡ part_of v
 marked_part v (Node f k) = refl
-marked_part v Stamp = refl
-marked_part v (Section k) = refl
-marked_part v (Announced k) = refl
-marked_part v (Entry p e) = refl
+marked_part v _ = refl
 
 pair_part : (v : View) (w : Word) (x : ℕ) → part_of (pair_from v w x) ≡ part_of v
 pair_part v (Node f k) x = refl
-pair_part v Stamp x = refl
-pair_part v (Section k) x = refl
-pair_part v (Announced k) x = refl
-pair_part v (Entry p e) x = refl
+pair_part v _ x = refl
 
 filled_part : (v : View) (w : Word) (value : ℕ) → part_of (filled_view v w value) ≡ part_of v
 filled_part v w value = either_part (is_even v.section_word) (part_of v) (used_view v w) (with_filled (used_view v w) (filled_with (known_before v w) w value)) refl refl
 
 ann_part : (v : View) (w : Word) (x : ℕ) → part_of (ann_from v w x) ≡ part_of v
 ann_part v (Announced k) x = refl
-ann_part v Stamp x = refl
-ann_part v (Section k) x = refl
-ann_part v (Node f k) x = refl
-ann_part v (Entry p e) x = refl
+ann_part v _ x = refl
 
 cut_part : (z : Layout) (m : Memory) (v : View) (w : Word) → part_of (cut_from z m v w) ≡ part_of v
 cut_part z m v (Entry p e) = refl
-cut_part z m v Stamp = refl
-cut_part z m v (Section k) = refl
-cut_part z m v (Announced k) = refl
-cut_part z m v (Node f k) = refl
+cut_part z m v _ = refl
 
 link_part : (v : View) (w : Word) (x : ℕ) → part_of (link_from v w x) ≡ part_of v
 link_part v (Node Key k) x = refl
-link_part v (Node Val k) x = refl
-link_part v (Node Lock k) x = refl
-link_part v (Node Mark k) x = refl
-link_part v (Node (Head s) k) x = refl
-link_part v (Node (Link s) k) x = refl
-link_part v (Node (Tag s) k) x = refl
-link_part v Stamp x = refl
-link_part v (Section k) x = refl
-link_part v (Announced k) x = refl
-link_part v (Entry p e) x = refl
+link_part v _ x = refl
 
 set_part : (v : View) (w : Word) (x : ℕ) → part_of (set_from v w x) ≡ part_of v
 set_part v (Node Key k) x = refl
-set_part v (Node Val k) x = refl
-set_part v (Node Lock k) x = refl
-set_part v (Node Mark k) x = refl
-set_part v (Node (Head s) k) x = refl
-set_part v (Node (Link s) k) x = refl
-set_part v (Node (Tag s) k) x = refl
-set_part v Stamp x = refl
-set_part v (Section k) x = refl
-set_part v (Announced k) x = refl
-set_part v (Entry p e) x = refl
+set_part v _ x = refl
 
 tag_part : (v : View) (w : Word) (x : ℕ) → part_of (tag_from v w x) ≡ part_of v
 tag_part v (Node Key k) x = refl
-tag_part v (Node Val k) x = refl
-tag_part v (Node Lock k) x = refl
-tag_part v (Node Mark k) x = refl
-tag_part v (Node (Head s) k) x = refl
-tag_part v (Node (Link s) k) x = refl
-tag_part v (Node (Tag s) k) x = refl
-tag_part v Stamp x = refl
-tag_part v (Section k) x = refl
-tag_part v (Announced k) x = refl
-tag_part v (Entry p e) x = refl
+tag_part v _ x = refl
 
 raised_tag_part : (v : View) (w : Word) (x : ℕ) → part_of (raised_tag_from v w x) ≡ part_of v
 raised_tag_part v (Node Key k) x = refl
-raised_tag_part v (Node Val k) x = refl
-raised_tag_part v (Node Lock k) x = refl
-raised_tag_part v (Node Mark k) x = refl
-raised_tag_part v (Node (Head s) k) x = refl
-raised_tag_part v (Node (Link s) k) x = refl
-raised_tag_part v (Node (Tag s) k) x = refl
-raised_tag_part v Stamp x = refl
-raised_tag_part v (Section k) x = refl
-raised_tag_part v (Announced k) x = refl
-raised_tag_part v (Entry p e) x = refl
+raised_tag_part v _ x = refl
 
 -- what a raise leaves of it
 record RaisedPart (v w : View) : Type 0 where
@@ -288,11 +198,7 @@ module _ (z : Layout) (m : Memory) (vs : List View) (v : View) (w : Word) (x val
   still_kept SetLink still = set_part v w value
   still_kept LoadTag still = tag_part v w x
   still_kept SetTag still = raised_tag_part v w value
-  still_kept Enter still = cc
-  still_kept Leave still = cc
-  still_kept LoadStamp still = cc
-  still_kept Raise still = cc
-  still_kept Announce still = cc
+  still_kept _ still = cc
 
   -- no event changes what a seat is
   owner_by : (kind : Kind) (still : Bool) → is_still kind ≡ still → owner_of (moved kind) ≡ owner_of v

@@ -34,9 +34,7 @@ some_top k top Nowhere some = omega (arith, none k some)
   where
     none : (k : ℕ) → 0 < k → count k (0 ∷ []) ≡ 0
     none k some = grind (arith, nat_tests)
-some_top k top (AtNode node key) some = omega arith
-some_top k top (Gap node side) some = omega arith
-some_top k top (AtEntry node side entry found) some = omega arith
+some_top k top _ some = omega arith
 
 module _ (z : Layout) (m : Memory) (vs : List View) (g : Meaning) (rule : Rule z m vs g) (i : ℕ) (v : View) (at : IsItem vs i v) (graph : Graph) (reach : ReachesRight z graph vs v) (inside : is_even v.section_word ≡ false) where
   -- the root is no slot

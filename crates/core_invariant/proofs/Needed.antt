@@ -72,12 +72,10 @@ pub record Standing (v : View) (e : ℕ) : Type 0 where
   pub here : v.reading.place ≡ AtEntry node side e found
 
 standing_by : (v : View) (e : ℕ) (p : Place) → v.reading.place ≡ p → stands_at p e ≡ true → Standing v e
-standing_by v e Nowhere is at = cc
-standing_by v e (AtNode n key) is at = cc
-standing_by v e (Gap n s) is at = cc
 standing_by v e (AtEntry n s d f) is at =
     let same : d ≡ e = eqb-true d e at in
     record { node = n; side = s; found = f; here = is ∙ ap (λ x. AtEntry n s x f) same }
+standing_by v e _ is at = cc
 
 pub standing : (v : View) (e : ℕ) → stands_at v.reading.place e ≡ true → Standing v e
 standing v e at = standing_by v e v.reading.place refl at

@@ -126,11 +126,8 @@ module _ (m : Memory) (slot : ℕ) where
 
   -- where the link to a successor leads after the update, and before it
   pub far_asked : (n : ℕ) (d : Side) (t : NamedTree) → Every (λ (u : UnsetLink). IsChildAt n d (remove_here slot t) u.node u.side u.child) (removed_links m t)
-  far_asked n d Null = tt
-  far_asked n d (Branch s kk v Null r) = tt
-  far_asked n d (Branch s kk v (Branch ls lk lv ll lr) Null) = tt
-  far_asked n d (Branch s kk v (Branch ls lk lv ll lr) (Branch rs rk rv Null rr)) = tt
   far_asked n d (Branch s kk v (Branch ls lk lv ll lr) (Branch rs rk rv (Branch fs fk fv fl fr) rr)) = (inr (inr (inr (inl (rest_leads rs fs fk fv fl fr)))), tt)
+  far_asked n d _ = tt
 
 -- the link leads to a node
 pub record LeadsOn (root : ℕ) (top : Side) (tree : NamedTree) (k : ℕ) (side : Side) : Type 0 where
@@ -139,10 +136,6 @@ pub record LeadsOn (root : ℕ) (top : Side) (tree : NamedTree) (k : ℕ) (side 
   pub some : 0 < child
 
 pub far_led : (m : Memory) (g : Graph) (c n : ℕ) (d : Side) (t : NamedTree) → IsSpelled g c t → Every (λ (u : UnsetLink). LeadsOn n d t u.node u.side) (removed_links m t)
-far_led m g c n d Null spelled = tt
-far_led m g c n d (Branch s kk v Null r) spelled = tt
-far_led m g c n d (Branch s kk v (Branch ls lk lv ll lr) Null) spelled = tt
-far_led m g c n d (Branch s kk v (Branch ls lk lv ll lr) (Branch rs rk rv Null rr)) spelled = tt
 far_led m g c n d (Branch s kk v (Branch ls lk lv ll lr) (Branch rs rk rv (Branch fs fk fv fl fr) rr)) spelled = (
   record {
     child = first_node fs fl;
@@ -151,10 +144,8 @@ far_led m g c n d (Branch s kk v (Branch ls lk lv ll lr) (Branch rs rk rv (Branc
   },
   tt,
 )
+far_led m g c n d _ spelled = tt
 
 pub far_inside : (m : Memory) (t : NamedTree) → Every (λ (u : UnsetLink). 0 < occurs u.node t) (removed_links m t)
-far_inside m Null = tt
-far_inside m (Branch s kk v Null r) = tt
-far_inside m (Branch s kk v (Branch ls lk lv ll lr) Null) = tt
-far_inside m (Branch s kk v (Branch ls lk lv ll lr) (Branch rs rk rv Null rr)) = tt
 far_inside m (Branch s kk v (Branch ls lk lv ll lr) (Branch rs rk rv (Branch fs fk fv fl fr) rr)) = (omega (arith, parent_there rs fs fk fv fl fr), tt)
+far_inside m _ = tt

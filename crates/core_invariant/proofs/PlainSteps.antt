@@ -121,10 +121,6 @@ every_null P Q (u ∷ us) step all = by (every_null P Q us step all.1) (eqb u.ch
 
 -- a link of a node that is not in the tree, and that to the successor in it, are different links
 once_by : (m : Memory) (k : ℕ) (side : Side) (u : UnsetLink) (t : NamedTree) → occurs u.node t ≡ 0 → length (filter (is_link_of k side) (u ∷ removed_links m t)) ≤ 1
-once_by m k side u Null none = one_most (is_link_of k side u) u
-once_by m k side u (Branch s kk v Null r) none = one_most (is_link_of k side u) u
-once_by m k side u (Branch s kk v (Branch ls lk lv ll lr) Null) none = one_most (is_link_of k side u) u
-once_by m k side u (Branch s kk v (Branch ls lk lv ll lr) (Branch rs rk rv Null rr)) none = one_most (is_link_of k side u) u
 once_by m k side u (Branch s kk v (Branch ls lk lv ll lr) (Branch rs rk rv (Branch fs fk fv fl fr) rr)) none =
     let t : NamedTree = Branch s kk v (Branch ls lk lv ll lr) (Branch rs rk rv (Branch fs fk fv fl fr) rr) in
     let w : UnsetLink = unset_at m (first_parent rs fs fl) Left (first_rest fl fr) in
@@ -133,13 +129,11 @@ once_by m k side u (Branch s kk v (Branch ls lk lv ll lr) (Branch rs rk rv (Bran
     let node : u.node ≡ k = eqb-true u.node k (and_parts (eqb u.node k) (same_side u.side side) one).0 in
     let far : w.node ≡ k = eqb-true w.node k (and_parts (eqb w.node k) (same_side w.side side) two).0 in
     omega (arith, none, subst (λ x. 0 < occurs x t) (far ∙ sym node) (far_inside m t).0))
+once_by m k side u _ none = one_most (is_link_of k side u) u
 
 far_was : (m : Memory) (t : NamedTree) → Every (λ (u : UnsetLink). m (Node (Link u.side) u.node) ≡ u.was) (removed_links m t)
-far_was m Null = tt
-far_was m (Branch s kk v Null r) = tt
-far_was m (Branch s kk v (Branch ls lk lv ll lr) Null) = tt
-far_was m (Branch s kk v (Branch ls lk lv ll lr) (Branch rs rk rv Null rr)) = tt
 far_was m (Branch s kk v (Branch ls lk lv ll lr) (Branch rs rk rv (Branch fs fk fv fl fr) rr)) = (refl, tt)
+far_was m _ = tt
 
 -- each link holds what it is remembered to hold
 pub set_was : (m : Memory) (c : Change) (key slot : ℕ) (tree : NamedTree) → Every (λ (u : UnsetLink). m (Node (Link u.side) u.node) ≡ u.was) (plain_move m c key slot tree).unset

@@ -72,9 +72,6 @@ module _ (z : Layout) (m : Memory) (vs : List View) (g : Meaning) (rule : Rule z
         passed_by (Some t) (inr above) = inr above
 
     pub place_back : above ≡ v.reading.above → (p : Place) → PlaceRight z (λ e. m (Entry Number e)) g.bundles v p → PlaceRight z (λ e. m (Entry Number e)) g.bundles w p
-    place_back left_same Nowhere right = tt
-    place_back left_same (AtNode k key) right = tt
-    place_back left_same (Gap k side) right = tt
     place_back left_same (AtEntry k side e found) right = record {
       reach = reach_back k right.reach;
       stands = λ some watched.
@@ -88,6 +85,7 @@ module _ (z : Layout) (m : Memory) (vs : List View) (g : Meaning) (rule : Rule z
             falls = subst (IsBelow (λ d. m (Entry Number d)) e) (sym left_same) stood.falls;
           };
     }
+    place_back left_same _ right = tt
 
     moved_holds : HoldsFrom z (linked_by g) HoldsNode (HoldsEntry g.bundles) v w
     moved_holds = record { nodes = λ k holds. inl (holds_same k holds); entries = λ x holds. inl (entries_by x holds) }

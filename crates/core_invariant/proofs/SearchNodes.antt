@@ -119,9 +119,7 @@ place_top a top top' Nowhere some = one_of (eqb top a) refl some
     one_of : (b : Bool) → eqb top a ≡ b → 0 < cond b 1 0 + 0 → (a ≡ top) ⊎ (0 < count a (top' ∷ []))
     one_of true is here = inl (sym (eqb-true top a is))
     one_of false is here = absurd (omega (arith, here))
-place_top a top top' (AtNode node key) some = inr some
-place_top a top top' (Gap node side) some = inr some
-place_top a top top' (AtEntry node side entry found) some = inr some
+place_top a top top' _ some = inr some
 
 -- a node of a search is the root's child, or one whatever that is
 pub search_top : (a top top' : ℕ) (r : Reading) → 0 < count a (search_nodes top r) → (a ≡ top) ⊎ (0 < count a (search_nodes top' r))

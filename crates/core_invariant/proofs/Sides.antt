@@ -11,15 +11,13 @@ same_side-refl Left = refl
 same_side-refl Right = refl
 
 pub same_side-true : (s t : Side) → same_side s t ≡ true → s ≡ t
-same_side-true Left Left e = refl
-same_side-true Right Right e = refl
 same_side-true Left Right e = cc
 same_side-true Right Left e = cc
+same_side-true _ _ e = refl
 
 not_both : (a b : Bool) → (a && b) ≡ false → a ≡ true → b ≡ true → ⊥
 not_both true true off one two = cc
-not_both true false off one two = cc
-not_both false b off one two = cc
+not_both _ _ off one two = cc
 
 -- where one link's bundle is another list: what holds of that list, and of each other link's bundle
 pub by_link : (P : Side → ℕ → List ℕ → Type 0) (bundle : Side → ℕ → List ℕ) (side : Side) (k : ℕ) (es : List ℕ) → P side k es

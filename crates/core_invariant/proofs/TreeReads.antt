@@ -116,9 +116,8 @@ fold_length [] ps = omega arith
 fold_length (u ∷ us) ps = omega (arith, fold_length us (updated ps u), changed_length u.key u.change ps)
 
 take_length : (t : ℕ) (us : List Update) → length (take t us) ≤ t
-take_length zero us = omega arith
-take_length (suc t) [] = omega arith
 take_length (suc t) (u ∷ us) = omega (arith, take_length t us)
+take_length _ _ = omega arith
 
 -- the map after so many updates has no more pairs
 pub after_length : (us : List Update) (t : ℕ) → length (after us t) ≤ t

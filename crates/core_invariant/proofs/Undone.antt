@@ -79,12 +79,10 @@ bypasses_is (n ∷ s ∷ []) added k is = inr (n, ap (λ x. n ∷ x ∷ []) (eqb
 bypasses_is (n ∷ s ∷ t ∷ ts) added k is = absurd (never is)
 
 pub copies_is : (taken : List ℕ) (n s : ℕ) → copies taken n s ≡ true → taken ≡ n ∷ s ∷ []
-copies_is [] n s is = absurd (never is)
-copies_is (a ∷ []) n s is = absurd (never is)
 copies_is (a ∷ b ∷ []) n s is =
     let parts = and_parts (eqb a n) (eqb b s) is in
     ap (λ x. x ∷ b ∷ []) (eqb-true a n parts.0) ∙ ap (λ x. n ∷ x ∷ []) (eqb-true b s parts.1)
-copies_is (a ∷ b ∷ c ∷ cs) n s is = absurd (never is)
+copies_is _ n s is = absurd (never is)
 
 -- a link of a copy that passes over the successor
 pub record PassesAt (taken : List ℕ) (unlinking : Option Unlinking) (us : List UnsetLink) (right : ℕ → ℕ) (k : ℕ) (side : Side) (was child : ℕ) : Type 0 where

@@ -58,11 +58,9 @@ pub record EntryPlace (reachable watched : Type 0) (stamp : ℕ → ℕ) (es : L
 
 -- where the seat stands, over the stamps of entries
 abbrev pub PlaceRight : Layout → (ℕ → ℕ) → Bundles → View → Place → Type 0
-PlaceRight z stamp b v Nowhere = Unit {0}
 PlaceRight z stamp b v (Entry node side entry found) =
     EntryPlace (IsReachable z v node) (IsWatched v node) stamp (b.bundle side node) entry found v.reading.above (IsPassed b.number v node)
-PlaceRight z stamp b v (Node node key) = Unit {0}
-PlaceRight z stamp b v (Gap node side) = Unit {0}
+PlaceRight z stamp b v _ = Unit {0}
 
 -- a link is remembered with the entry that the section number selects, and with its child; without a section
 -- number with neither

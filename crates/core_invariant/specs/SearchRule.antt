@@ -42,8 +42,7 @@ ClaimsAt g vs plain v low high node = ClaimsInTurns g (IsBypassed (undone g vs))
 abbrev pub PlaceClaims : (Option ℕ → Option ℕ → ℕ → Type 0) → Option ℕ → Option ℕ → Place → Type 0
 PlaceClaims claims low high (AtNode node key) = claims low high node
 PlaceClaims claims low high (Gap node side) = claims low high node
-PlaceClaims claims low high Nowhere = Unit {0}
-PlaceClaims claims low high (AtEntry node side entry found) = Unit {0}
+PlaceClaims claims low high _ = Unit {0}
 
 -- and of the node of each null link that it remembers, with the turns that are kept with the link
 abbrev pub SourceClaims : (Option ℕ → Option ℕ → ℕ → Type 0) → ℕ → ℕ → LinkSource → Type 0

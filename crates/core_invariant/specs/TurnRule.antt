@@ -15,9 +15,7 @@ use Rattle.plain_trees.specs.Turns.{LeadsBelow}
 -- the node at which a search stands leads below the turn
 abbrev pub PlaceBelow : Graph → NamedTree → Place → Side → Turn → Type 0
 PlaceBelow g plain (AtNode node key) side t = LeadsBelow g plain t.node t.key side node
-PlaceBelow g plain (Gap node at) side t = Unit {0}
-PlaceBelow g plain (AtEntry node at entry found) side t = Unit {0}
-PlaceBelow g plain Nowhere side t = Unit {0}
+PlaceBelow g plain _ side t = Unit {0}
 
 -- the last turn to a side was made at a node with this key
 pub record TurnRight (g : Graph) (plain : NamedTree) (place : Place) (side : Side) (t : Turn) : Type 0 where
@@ -28,9 +26,7 @@ pub record TurnRight (g : Graph) (plain : NamedTree) (place : Place) (side : Sid
 -- a search that begins has made no turn
 abbrev pub NoTurns : Place → Option Turn → Option Turn → Type 0
 NoTurns Nowhere left right = (left ≡ None) × (right ≡ None)
-NoTurns (AtNode node key) left right = Unit {0}
-NoTurns (Gap node at) left right = Unit {0}
-NoTurns (AtEntry node at entry found) left right = Unit {0}
+NoTurns _ left right = Unit {0}
 
 -- the turns of one seat, whether it has raised or not
 pub record TurnsRight (g : Graph) (plain : NamedTree) (v : View) : Type 0 where

@@ -109,9 +109,8 @@ between_number x n = grind (arith, nat_tests)
 
 -- all words are 0
 zero_at : (n i : ℕ) → slice_index (replicate n 0) i ≡ 0
-zero_at zero i = refl
-zero_at (suc n) zero = refl
 zero_at (suc n) (suc i) = zero_at n i
+zero_at _ _ = refl
 
 cond_zero : (b : Bool) (x : ℕ) → x ≡ 0 → cond b x 0 ≡ 0
 cond_zero true x none = none

@@ -6,7 +6,7 @@ use Rattle.index_words.specs.declared.layout.Layout.{Layout}
 use Rattle.index_words.specs.declared.side.Side.{Side}
 use Rattle.index_words.specs.declared.view.View.{View}
 use Rattle.index_words.specs.declared.view.reading.Place.{Place}
-use Rattle.index_words.specs.declared.view.reading.Place.TheVariants.{Nowhere, Entry as AtEntry, Node as AtNode, Gap}
+use Rattle.index_words.specs.declared.view.reading.Place.TheVariants.{Entry as AtEntry}
 use Rattle.index_words.specs.declared.word.Part.TheVariants.{Stamp as Number}
 use Rattle.index_words.specs.declared.word.Word.TheVariants.{Entry}
 use Rattle.index_words.specs.Words.{Memory}
@@ -91,13 +91,11 @@ module _ (z : Layout) (m : Memory) (vs : List View) (g : Meaning) (rule : Rule z
           (sym cut.splits ∙ stood.splits)
 
   pub other_place : (u : View) → Beside vs i u → (place : Place) → PlaceRight z stamp b u place → PlaceRight z stamp b' u place
-  other_place u beside Nowhere right = tt
-  other_place u beside (AtNode n key) right = tt
-  other_place u beside (Gap n s) right = tt
   other_place u beside (AtEntry n s x found) right = record {
     reach = right.reach;
     stands = λ some watched. other_stands u beside x found u.reading.above n s watched (right.stands some watched);
   }
+  other_place u beside _ right = tt
 
   -- the seat itself
   own_stands : (x : ℕ) (found above : Option ℕ) (n : ℕ) (s : Side) → count x cut.back ≡ 0
@@ -126,7 +124,5 @@ module _ (z : Layout) (m : Memory) (vs : List View) (g : Meaning) (rule : Rule z
   }
 
   pub own_place : (place : Place) → PlaceRight z stamp b v place → PlaceRight z stamp b' w (place_cut cut.back place)
-  own_place Nowhere right = tt
-  own_place (AtNode n key) right = tt
-  own_place (Gap n s) right = tt
   own_place (AtEntry n s x found) right = own_entry n x s found (has x cut.back) refl right
+  own_place _ right = tt

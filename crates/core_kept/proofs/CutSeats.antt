@@ -15,7 +15,7 @@ use Rattle.index_words.specs.declared.view.update.HeldNext.{HeldNext}
 use Rattle.index_words.specs.declared.word.Field.TheVariants.{Head}
 use Rattle.index_words.specs.declared.word.Part.TheVariants.{Child, Stamp as Number, Next}
 use Rattle.index_words.specs.declared.word.Word.{Word}
-use Rattle.index_words.specs.declared.word.Word.TheVariants.{Stamp, Section, Announced, Node, Entry}
+use Rattle.index_words.specs.declared.word.Word.TheVariants.{Stamp, Node, Entry}
 use Rattle.index_words.specs.Words.{Memory, written}
 use Rattle.key_map.specs.Lists.{count, has, Every, IsItem}
 use Rattle.key_map.proofs.Counting.{count-append}
@@ -266,9 +266,7 @@ module _ (z : Layout) (m : Memory) (vs : List View) (g : Meaning) (rule : Rule z
       entry_other m Next p e d 0 (λ same.
       let pends = every_at (IsPending z head stamp b.number u) d u.update.pending (seat_at z m vs g j u of rule).pending yet.1 in
       omega (arith, pends.1, ap shown yet.0, ap b.number same, cut.past, rule.history.calls, rule.history.few))
-  filled_same j u of Stamp is = absurd is
-  filled_same j u of (Section n) is = absurd is
-  filled_same j u of (Announced n) is = absurd is
+  filled_same j u of _ is = absurd is
 
   holds_lock : v.held.nodes ≡ [] → ⊥
   holds_lock none = omega (arith, cut.locked, ap (λ (hs : List HeldNode). count k (held_slots hs)) none)

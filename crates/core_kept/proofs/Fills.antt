@@ -10,7 +10,7 @@ use Rattle.index_words.specs.declared.view.update.HeldNode.{HeldNode}
 use Rattle.index_words.specs.declared.view.update.HeldSide.{HeldSide}
 use Rattle.index_words.specs.declared.view.update.LoadedHead.{LoadedHead}
 use Rattle.index_words.specs.declared.view.reading.Place.{Place}
-use Rattle.index_words.specs.declared.view.reading.Place.TheVariants.{Nowhere, Entry as AtEntry, Node as AtNode, Gap}
+use Rattle.index_words.specs.declared.view.reading.Place.TheVariants.{Entry as AtEntry}
 use Rattle.index_words.specs.declared.view.reading.Link.{Link}
 use Rattle.index_words.specs.declared.view.reading.LinkSource.{LinkSource}
 use Rattle.index_words.specs.declared.view.reading.LinkSource.TheVariants.{Bundle, Plain}
@@ -44,13 +44,8 @@ use Rattle.core_invariant.proofs.LiveHeads.{head_apart}
 
 -- the lock words are not filled
 lock_other : (m : Memory) (f : Field) (k j x : ℕ) → is_lock f ≡ false → written m (Node f k) x (Node Lock j) ≡ m (Node Lock j)
-lock_other m Key k j x other = refl
-lock_other m Val k j x other = refl
 lock_other m Lock k j x other = cc
-lock_other m Mark k j x other = refl
-lock_other m (Head s) k j x other = refl
-lock_other m (PlainLink s) k j x other = refl
-lock_other m (Tag s) k j x other = refl
+lock_other m _ k j x other = refl
 
 -- a head that is read of another node is the same
 head_frame : (head head' : ℕ) (stamp : ℕ → ℕ) (s : HeldSide) → head' ≡ head → SideRight head stamp s → SideRight head' stamp s
@@ -228,9 +223,6 @@ module _ (z : Layout) (m : Memory) (vs : List View) (g : Meaning) (rule : Rule z
 
     entry_place : (n : ℕ) (u : View) (place : Place) → IsItem vs n u → PlaceRight z (λ d. m (Entry Number d)) g.bundles u place
         → PlaceRight z (λ d. written m (Entry p e) x (Entry Number d)) g.bundles u place
-    entry_place n u Nowhere of right = tt
-    entry_place n u (AtNode node key) of right = tt
-    entry_place n u (Gap node side) of right = tt
     entry_place n u (AtEntry node side entry found) of right = record {
       reach = right.reach;
       stands = λ some watched.
@@ -249,6 +241,7 @@ module _ (z : Layout) (m : Memory) (vs : List View) (g : Meaning) (rule : Rule z
             falls = IfSome_then u.reading.above stands.falls (λ y known low. let old = known low in (omega (arith, old.0, same), omega (arith, old.1, same)));
           };
     }
+    entry_place n u _ of right = tt
 
     entry_same : (t k : ℕ) → IsLive z vs k → SameNode m (written m (Entry p e) x) g.bundles g.bundles t k
     entry_same t k live = record {

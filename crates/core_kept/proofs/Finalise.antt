@@ -12,11 +12,11 @@ use Rattle.index_words.specs.declared.view.update.HeldSide.{HeldSide}
 use Rattle.index_words.specs.declared.view.update.HeldNext.{HeldNext}
 use Rattle.index_words.specs.declared.view.update.Updating.{Updating}
 use Rattle.index_words.specs.declared.view.reading.Place.{Place}
-use Rattle.index_words.specs.declared.view.reading.Place.TheVariants.{Nowhere, Entry as AtEntry, Node as AtNode, Gap}
+use Rattle.index_words.specs.declared.view.reading.Place.TheVariants.{Entry as AtEntry}
 use Rattle.index_words.specs.declared.word.Field.TheVariants.{Head}
 use Rattle.index_words.specs.declared.word.Part.TheVariants.{Stamp as Number}
 use Rattle.index_words.specs.declared.word.Word.{Word}
-use Rattle.index_words.specs.declared.word.Word.TheVariants.{Stamp, Section, Announced, Node, Entry}
+use Rattle.index_words.specs.declared.word.Word.TheVariants.{Stamp, Node, Entry}
 use Rattle.index_words.specs.Words.{Memory, written}
 use Rattle.index_words.specs.Views.{no_update}
 use Rattle.key_map.specs.Lists.{count, Every, IsItem}
@@ -143,9 +143,6 @@ module _ (z : Layout) (m : Memory) (vs : List View) (g : Meaning) (rule : Rule z
       }
 
   place_kept : (u : View) (place : Place) → PlaceRight z stamp g.bundles u place → PlaceRight z stamp' g.bundles u place
-  place_kept u Nowhere right = tt
-  place_kept u (AtNode node key) right = tt
-  place_kept u (Gap node side) right = tt
   place_kept u (AtEntry node side entry found) right = record {
     reach = right.reach;
     stands = λ low watched.
@@ -159,6 +156,7 @@ module _ (z : Layout) (m : Memory) (vs : List View) (g : Meaning) (rule : Rule z
           falls = below_kept stamp stamp' entry u.reading.above (kept_stamp entry) stands.falls;
         };
   }
+  place_kept u _ right = tt
 
   node_kept : (h : HeldNode) → IsNodeAt m h → IsNodeAt m' h
   node_kept h right = record {
@@ -199,17 +197,13 @@ module _ (z : Layout) (m : Memory) (vs : List View) (g : Meaning) (rule : Rule z
   own_before (Node f k) is = is
   own_before (Entry p d) (inl free) = inl free
   own_before (Entry p d) (inr yet) = absurd (not_yet yet.0)
-  own_before Stamp is = absurd is
-  own_before (Section n) is = absurd is
-  own_before (Announced n) is = absurd is
+  own_before _ is = absurd is
 
   own_apart : (y : Word) → IsOwnSlotWord v.free w.update y → m' y ≡ m y
   own_apart (Node f k) is = refl
   own_apart (Entry p d) (inl free) = entry_other m Number p e d r (λ same. unfree i v at (subst (λ x. 0 < count x v.free.entries) same free))
   own_apart (Entry p d) (inr yet) = absurd (not_yet yet.0)
-  own_apart Stamp is = absurd is
-  own_apart (Section n) is = absurd is
-  own_apart (Announced n) is = absurd is
+  own_apart _ is = absurd is
 
   inside : is_even v.section_word ≡ true → ⊥
   inside even =

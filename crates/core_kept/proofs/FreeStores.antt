@@ -8,7 +8,7 @@ use Rattle.index_words.specs.declared.side.Side.{Side}
 use Rattle.index_words.specs.declared.side.Side.TheVariants.{Left, Right}
 use Rattle.index_words.specs.declared.view.View.{View}
 use Rattle.index_words.specs.declared.view.reading.Place.{Place}
-use Rattle.index_words.specs.declared.view.reading.Place.TheVariants.{Nowhere, Entry as AtEntry, Node as AtNode, Gap}
+use Rattle.index_words.specs.declared.view.reading.Place.TheVariants.{Node as AtNode, Gap}
 use Rattle.index_words.specs.declared.view.reading.Link.{Link as ViewLink}
 use Rattle.index_words.specs.declared.view.reading.LinkSource.{LinkSource}
 use Rattle.index_words.specs.declared.view.reading.LinkSource.TheVariants.{Bundle, Plain}
@@ -224,10 +224,8 @@ module _ (z : Layout) (m : Memory) (vs : List View) (g : Meaning) (rule : Rule z
       key_by node (Some x) apart is = sym (same node apart).key ∙ is
 
       place_key : (p : Place) → ((a : ℕ) → 0 < count a (place_nodes (gr.child Right 0) p) → 0 < a → HoldsPlain gr t a) → PlaceKey gr.key p → PlaceKey g'.key p
-      place_key Nowhere held is = tt
-      place_key (AtEntry node side entry found) held is = tt
-      place_key (Gap node side) held is = tt
       place_key (AtNode node key) held is = (is.0, key_by node key (not_held node (held node (in_one node []) is.0)) is.1)
+      place_key _ held is = tt
 
       source_keys : (node : ℕ) (side : Side) (s : LinkSource) → ((a : ℕ) → 0 < count a (source_nodes node s) → 0 < a → HoldsPlain gr t a)
           → SourceKeys gr.key node side s → SourceKeys g'.key node side s
@@ -240,10 +238,9 @@ module _ (z : Layout) (m : Memory) (vs : List View) (g : Meaning) (rule : Rule z
 
       place_claims : (low high : Option ℕ) (p : Place) → ((a : ℕ) → 0 < count a (place_nodes (gr.child Right 0) p) → 0 < a → HoldsPlain gr t a)
           → PlaceClaims C low high p → PlaceClaims C' low high p
-      place_claims low high Nowhere held is = tt
-      place_claims low high (AtEntry node side entry found) held is = tt
       place_claims low high (Gap node side) held is = claims_framed low high node (held node (in_one node [])) is
       place_claims low high (AtNode node key) held is = claims_framed low high node (held node (in_one node [])) is
+      place_claims low high _ held is = tt
 
       source_claims : (node child : ℕ) (s : LinkSource) → ((a : ℕ) → 0 < count a (source_nodes node s) → 0 < a → HoldsPlain gr t a)
           → SourceClaims C node child s → SourceClaims C' node child s
@@ -306,9 +303,6 @@ module _ (z : Layout) (m : Memory) (vs : List View) (g : Meaning) (rule : Rule z
   near_framed : (j : ℕ) (t : View) → IsItem vs j t → (y : UnsetLink) → ItemOf z m vs g rule plain W trees t y → (taken : List ℕ) (o : Option Unlinking)
       → t.update.taken ≡ taken
       → NearRight gr W taken o y.was y.child → NearRight g' W taken o y.was y.child
-  near_framed j t of y is [] o out near = tt
-  near_framed j t of y is (r ∷ []) o out near = tt
-  near_framed j t of y is (r ∷ s ∷ []) (Some x) out near = tt
   near_framed j t of y is (r ∷ s ∷ []) None out near = λ first.
       let c = near first in
       let removed = same r (not_taken j r t of (subst (λ (ks : List ℕ). 0 < count r ks) (sym out) (in_one r (s ∷ [])))) in
@@ -327,7 +321,7 @@ module _ (z : Layout) (m : Memory) (vs : List View) (g : Meaning) (rule : Rule z
         hangs = sym removed.right ∙ c.hangs;
         behind = subst (λ n. (n ≡ 0) ⊎ (0 < occurs n W)) copy.right c.behind;
       }
-  near_framed j t of y is (r ∷ s ∷ a ∷ rest) o out near = tt
+  near_framed j t of y is _ _ out near = tt
 
   seat_framed : (j : ℕ) (t : View) → IsItem vs j t → SeatInTree gr W g.tree t → SeatInTree g' W g.tree t
   seat_framed j t of seat = record {

@@ -9,7 +9,7 @@ use Rattle.index_words.specs.declared.view.update.Updating.{Updating}
 use Rattle.index_words.specs.declared.word.Field.{Field}
 use Rattle.index_words.specs.declared.word.Field.TheVariants.{Key, Val, Lock, Mark, Head, Link, Tag}
 use Rattle.index_words.specs.declared.word.Part.{Part}
-use Rattle.index_words.specs.declared.word.Part.TheVariants.{Child, Stamp as Number, Next}
+use Rattle.index_words.specs.declared.word.Part.TheVariants.{Stamp as Number, Next}
 use Rattle.index_words.specs.declared.word.Word.{Word}
 use Rattle.index_words.specs.declared.word.Word.TheVariants.{Stamp, Section, Announced, Node, Entry}
 use Rattle.index_words.specs.Words.{Memory, memory, written, word_at}
@@ -50,7 +50,7 @@ use Rattle.core_invariant.proofs.Needed.{ready_is, OwnSection, OwnAnnounced, own
 use Rattle.core_invariant.proofs.OneView.{seat_at}
 use Rattle.core_invariant.proofs.Owned.{held_live, not_in_bundle, in_entries, free_not_live}
 use Rattle.core_kept.proofs.OwnPlaces.{raise_needed}
-use Rattle.core_kept.proofs.SectionWords.{own_enter, own_leave}
+use Rattle.core_kept.proofs.WordPrints.{own_enter, own_leave}
 use Rattle.core_kept.proofs.RaiseCounts.{without_kept, taken_out}
 
 -- what stands in a list without some numbers is none of these, and was in the list
@@ -73,16 +73,12 @@ both_less free unused out (Node f k) is yet =
 both_less free unused out (Entry p e) is yet =
     let kept = apart_kept e out.entries unused.entries yet in
     (omega (arith, is, kept.0, count-append e free.entries out.entries), kept.1)
-both_less free unused out Stamp is yet = absurd is
-both_less free unused out (Section k) is yet = absurd is
-both_less free unused out (Announced k) is yet = absurd is
+both_less free unused out _ is yet = absurd is
 
 pub none_less : (free unused free' : Slots) → LessOf free unused free' no_slots
 none_less free unused free' (Node f k) is yet = absurd (omega (arith, yet))
 none_less free unused free' (Entry p e) is yet = absurd (omega (arith, yet))
-none_less free unused free' Stamp is yet = absurd is
-none_less free unused free' (Section k) is yet = absurd is
-none_less free unused free' (Announced k) is yet = absurd is
+none_less free unused free' _ is yet = absurd is
 
 -- fewer slots are free
 pub fewer_less : (free unused free' : Slots) → ((k : ℕ) → 0 < count k free'.nodes → 0 < count k free.nodes)
@@ -90,9 +86,7 @@ pub fewer_less : (free unused free' : Slots) → ((k : ℕ) → 0 < count k free
     → LessOf free unused free' unused
 fewer_less free unused free' nodes entries (Node f k) is yet = ((is.0, nodes k is.1), yet)
 fewer_less free unused free' nodes entries (Entry p e) is yet = (entries e is, yet)
-fewer_less free unused free' nodes entries Stamp is yet = absurd is
-fewer_less free unused free' nodes entries (Section k) is yet = absurd is
-fewer_less free unused free' nodes entries (Announced k) is yet = absurd is
+fewer_less free unused free' nodes entries _ is yet = absurd is
 
 -- the same with fewer that are unused
 pub subset_less : (free unused free' unused' : Slots) → ((k : ℕ) → 0 < count k free'.nodes → 0 < count k free.nodes)
@@ -101,9 +95,7 @@ pub subset_less : (free unused free' unused' : Slots) → ((k : ℕ) → 0 < cou
     → LessOf free unused free' unused'
 subset_less free unused free' unused' nodes entries few fewer (Node f k) is yet = ((is.0, nodes k is.1), few k yet)
 subset_less free unused free' unused' nodes entries few fewer (Entry p e) is yet = (entries e is, fewer e yet)
-subset_less free unused free' unused' nodes entries few fewer Stamp is yet = absurd is
-subset_less free unused free' unused' nodes entries few fewer (Section k) is yet = absurd is
-subset_less free unused free' unused' nodes entries few fewer (Announced k) is yet = absurd is
+subset_less free unused free' unused' nodes entries few fewer _ is yet = absurd is
 
 -- a view that knows of fewer unused free words
 pub less_right : (m : Memory) (v u : View) → LessOf v.free v.unused u.free u.unused → UnusedRight m v → UnusedRight m u
@@ -121,9 +113,7 @@ settled_less false u y is yet = (is, yet)
 own_word : (free : Slots) (up : Updating) (y : Word) → IsFreeWord free y → IsOwnSlotWord free up y
 own_word free up (Node f k) is = is
 own_word free up (Entry p e) is = inl is
-own_word free up Stamp is = absurd is
-own_word free up (Section k) is = absurd is
-own_word free up (Announced k) is = absurd is
+own_word free up _ is = absurd is
 
 -- a store to this word is to none of a free slot of the view, but to a lock
 abbrev pub Apart : View → Word → Type 0
@@ -168,19 +158,11 @@ module _ (z : Layout) (words : List ℕ) (vs : List View) (right : InRule z word
 
   prepare_field : (f : Field) (k : ℕ) → may_prepare_head m v f k value ≡ true → Stores (Node f k)
   prepare_field (Head side) k met = locked_stores (Head side) k (ready_is z m g v side k value (seat_at z m vs g i v at right.rule) met).locked
-  prepare_field Key k met = absurd (never met)
-  prepare_field Val k met = absurd (never met)
-  prepare_field Lock k met = absurd (never met)
-  prepare_field Mark k met = absurd (never met)
-  prepare_field (Link side) k met = absurd (never met)
-  prepare_field (Tag side) k met = absurd (never met)
+  prepare_field _ k met = absurd (never met)
 
   prepare_stores : (u : Word) → may_prepare m v u value ≡ true → Stores u
   prepare_stores (Node f k) met = prepare_field f k met
-  prepare_stores Stamp met = absurd (never met)
-  prepare_stores (Section k) met = absurd (never met)
-  prepare_stores (Announced k) met = absurd (never met)
-  prepare_stores (Entry p e) met = absurd (never met)
+  prepare_stores _ met = absurd (never met)
 
   pending_stores : (p : Part) (e : ℕ) → 0 < count e v.update.pending → Stores (Entry p e)
   pending_stores p e some j x of free =
@@ -193,63 +175,30 @@ module _ (z : Layout) (words : List ℕ) (vs : List View) (right : InRule z word
   finalise_stores (Entry p e) met =
       let one = and_parts (is_part Number p && has e v.update.pending) (is_number value v.update.raised) met in
       pending_stores p e (has-count e v.update.pending (and_parts (is_part Number p) (has e v.update.pending) one.0).1)
-  finalise_stores Stamp met = absurd (never met)
-  finalise_stores (Section k) met = absurd (never met)
-  finalise_stores (Announced k) met = absurd (never met)
-  finalise_stores (Node f k) met = absurd (never met)
+  finalise_stores _ met = absurd (never met)
 
   lock_stores : (f : Field) (k : ℕ) → is_lock f ≡ true → Stores (Node f k)
   lock_stores f k lock j x of other free = never (sym other ∙ lock)
 
   try_stores : (u : Word) → may_try_lock v u value ≡ true → Stores u
   try_stores (Node Lock k) met = lock_stores Lock k refl
-  try_stores (Node Key k) met = absurd (never met)
-  try_stores (Node Val k) met = absurd (never met)
-  try_stores (Node Mark k) met = absurd (never met)
-  try_stores (Node (Head side) k) met = absurd (never met)
-  try_stores (Node (Link side) k) met = absurd (never met)
-  try_stores (Node (Tag side) k) met = absurd (never met)
-  try_stores Stamp met = absurd (never met)
-  try_stores (Section k) met = absurd (never met)
-  try_stores (Announced k) met = absurd (never met)
-  try_stores (Entry p e) met = absurd (never met)
+  try_stores _ met = absurd (never met)
 
   unlock_stores : (u : Word) → may_unlock m v u value ≡ true → Stores u
   unlock_stores (Node Lock k) met = lock_stores Lock k refl
-  unlock_stores (Node Key k) met = absurd (never met)
-  unlock_stores (Node Val k) met = absurd (never met)
-  unlock_stores (Node Mark k) met = absurd (never met)
-  unlock_stores (Node (Head side) k) met = absurd (never met)
-  unlock_stores (Node (Link side) k) met = absurd (never met)
-  unlock_stores (Node (Tag side) k) met = absurd (never met)
-  unlock_stores Stamp met = absurd (never met)
-  unlock_stores (Section k) met = absurd (never met)
-  unlock_stores (Announced k) met = absurd (never met)
-  unlock_stores (Entry p e) met = absurd (never met)
+  unlock_stores _ met = absurd (never met)
 
   mark_stores : (u : Word) → may_mark v u value ≡ true → Stores u
   mark_stores (Node f k) met =
       let one = and_parts (is_mark f && locks k v.held.nodes && has k v.update.taken) (eqb value 1) met in
       let two = and_parts (is_mark f && locks k v.held.nodes) (has k v.update.taken) one.0 in
       locked_stores f k (locks-count k v.held.nodes (and_parts (is_mark f) (locks k v.held.nodes) two.0).1)
-  mark_stores Stamp met = absurd (never met)
-  mark_stores (Section k) met = absurd (never met)
-  mark_stores (Announced k) met = absurd (never met)
-  mark_stores (Entry p e) met = absurd (never met)
+  mark_stores _ met = absurd (never met)
 
   set_link_stores : (u : Word) → may_set_link z m v u value ≡ true → Stores u
   set_link_stores (Node (Link side) k) met =
       locked_stores (Link side) k (can_set z m v k side value met).locked
-  set_link_stores (Node Key k) met = absurd (never met)
-  set_link_stores (Node Val k) met = absurd (never met)
-  set_link_stores (Node Lock k) met = absurd (never met)
-  set_link_stores (Node Mark k) met = absurd (never met)
-  set_link_stores (Node (Head side) k) met = absurd (never met)
-  set_link_stores (Node (Tag side) k) met = absurd (never met)
-  set_link_stores Stamp met = absurd (never met)
-  set_link_stores (Section k) met = absurd (never met)
-  set_link_stores (Announced k) met = absurd (never met)
-  set_link_stores (Entry p e) met = absurd (never met)
+  set_link_stores _ met = absurd (never met)
 
   set_tag_stores : (u : Word) → may_set_tag m v u value ≡ true → Stores u
   set_tag_stores (Node (Tag side) k) met =
@@ -257,16 +206,7 @@ module _ (z : Layout) (words : List ℕ) (vs : List View) (right : InRule z word
       let b = owes k side v.update.owed in
       let one = and_parts (a && b) (eqb value (m (Node (Tag side) k) + 1)) met in
       locked_stores (Tag side) k (locks-count k v.held.nodes (and_parts a b one.0).0)
-  set_tag_stores (Node Key k) met = absurd (never met)
-  set_tag_stores (Node Val k) met = absurd (never met)
-  set_tag_stores (Node Lock k) met = absurd (never met)
-  set_tag_stores (Node Mark k) met = absurd (never met)
-  set_tag_stores (Node (Head side) k) met = absurd (never met)
-  set_tag_stores (Node (Link side) k) met = absurd (never met)
-  set_tag_stores Stamp met = absurd (never met)
-  set_tag_stores (Section k) met = absurd (never met)
-  set_tag_stores (Announced k) met = absurd (never met)
-  set_tag_stores (Entry p e) met = absurd (never met)
+  set_tag_stores _ met = absurd (never met)
 
   behind_stores : (e : ℕ) → IsCutAt z m vs g v e → Stores (Entry Next e)
   behind_stores e cut j x of free =
@@ -275,12 +215,7 @@ module _ (z : Layout) (words : List ℕ) (vs : List View) (right : InRule z word
 
   cut_stores : (u : Word) → may_cut z m vs v u value ≡ true → Stores u
   cut_stores (Entry Next e) met = behind_stores e (cut_at z m vs g right.rule i v at e value met).1
-  cut_stores (Entry Child e) met = absurd (never met)
-  cut_stores (Entry Number e) met = absurd (never met)
-  cut_stores Stamp met = absurd (never met)
-  cut_stores (Section k) met = absurd (never met)
-  cut_stores (Announced k) met = absurd (never met)
-  cut_stores (Node f k) met = absurd (never met)
+  cut_stores _ met = absurd (never met)
 
   -- the own section word, the own announcement and the stamp
   section_stores : OwnSection v.number w → Stores w

@@ -11,7 +11,7 @@ use Rattle.index_words.specs.declared.view.reading.LinkSource.TheVariants.{Bundl
 use Rattle.index_words.specs.declared.view.update.HeldNode.{HeldNode}
 use Rattle.index_words.specs.declared.view.update.LoadedHead.{LoadedHead}
 use Rattle.index_words.specs.declared.word.Field.{Field}
-use Rattle.index_words.specs.declared.word.Field.TheVariants.{Key, Val, Lock, Mark, Head, Link, Tag}
+use Rattle.index_words.specs.declared.word.Field.TheVariants.{Key, Val}
 use Rattle.key_map.specs.Lists.{Every}
 use Rattle.core_grace.specs.Batches.{is_number}
 use Rattle.core_trees.specs.SpelledTree.{Graph}
@@ -146,11 +146,7 @@ paired_plain Val k x h = by (eqb h.node k)
     by : (b : Bool) → SamePlain h (cond b (record h { val = Some x }) h)
     by true = by_sides h (record h { val = Some x }) refl refl refl refl refl
     by false = same_plain h
-paired_plain Lock k x h = same_plain h
-paired_plain Mark k x h = same_plain h
-paired_plain (Head side) k x h = same_plain h
-paired_plain (Link side) k x h = same_plain h
-paired_plain (Tag side) k x h = same_plain h
+paired_plain _ k x h = same_plain h
 
 -- a plain link that is loaded or stored: what is known of another link stays, and of this one its value is known
 link_test : (k : ℕ) (side : Side) (x j : ℕ) (t : Side) (y : ℕ) (h : HeldNode) → (j ≡ k → t ≡ side → x ≡ y)

@@ -4,7 +4,7 @@ use Rattle.std.proofs.lemmas.Bool.{eqb-true, and_parts}
 use Rattle.index_words.specs.declared.layout.Layout.{Layout}
 use Rattle.index_words.specs.declared.view.View.{View}
 use Rattle.index_words.specs.declared.word.Field.{Field}
-use Rattle.index_words.specs.declared.word.Field.TheVariants.{Key, Val, Lock, Mark, Head, Link, Tag}
+use Rattle.index_words.specs.declared.word.Field.TheVariants.{Lock, Mark, Link, Tag}
 use Rattle.index_words.specs.declared.word.Part.TheVariants.{Child}
 use Rattle.index_words.specs.declared.word.Word.TheVariants.{Stamp, Node, Entry}
 use Rattle.index_words.specs.Words.{Memory, written}
@@ -58,12 +58,7 @@ module _ (z : Layout) (m : Memory) (vs : List View) (g : Meaning) (rule : Rule z
       (kept_same z m vs g (written m (Node Lock k) (own.n + 1)) (set vs i (locked_view v k))
       (lock_kept z m vs g rule i k own.n v at inside (can_lock z m vs g rule i v at (plain_graph m) reach inside k there three.1) own.named free)
       (plain_quiet m g vs i v (locked_view v k) at (locked_work v k)))
-  lock_by Key k value reach there met free = absurd (never met)
-  lock_by Val k value reach there met free = absurd (never met)
-  lock_by Mark k value reach there met free = absurd (never met)
-  lock_by (Head side) k value reach there met free = absurd (never met)
-  lock_by (Link side) k value reach there met free = absurd (never met)
-  lock_by (Tag side) k value reach there met free = absurd (never met)
+  lock_by _ k value reach there met free = absurd (never met)
 
   -- a lock that was found held
   pub met_by : (f : Field) (k value found : ℕ) → may_try_lock v (Node f k) value ≡ true → Rule z m (set vs i (met_lock v value found)) g
@@ -91,12 +86,7 @@ module _ (z : Layout) (m : Memory) (vs : List View) (g : Meaning) (rule : Rule z
       (unlinked_is k v.update some.1))
       (plain_unlocked (λ t j. m (Node (Link t) j)) (λ t j. m (Node (Tag t) j)) (child_at (λ e. m (Entry Child e)) g.bundles (m Stamp))
       (greatest_of g.bundles (m Stamp)) g.tree vs i k v at some.1))
-  unlock_by Key k value met = absurd (never met)
-  unlock_by Val k value met = absurd (never met)
-  unlock_by Mark k value met = absurd (never met)
-  unlock_by (Head side) k value met = absurd (never met)
-  unlock_by (Link side) k value met = absurd (never met)
-  unlock_by (Tag side) k value met = absurd (never met)
+  unlock_by _ k value met = absurd (never met)
 
   pub load_mark_by : (f : Field) (k value : ℕ) → may_load_mark v (Node f k) value ≡ true → Rule z m (set vs i (mark_loaded v k (m (Node f k)))) g
   load_mark_by Mark k value met =
@@ -105,12 +95,7 @@ module _ (z : Layout) (m : Memory) (vs : List View) (g : Meaning) (rule : Rule z
       let x = m (Node Mark k) in
       load_mark_kept z m vs g rule i k x v at (record v.counts { moves = raised_if (finds_mark v k x) v.counts.moves })
       (not_true (is_even v.section_word) (and_parts (is_mark Mark) b one.0).1) refl
-  load_mark_by Key k value met = absurd (never met)
-  load_mark_by Val k value met = absurd (never met)
-  load_mark_by Lock k value met = absurd (never met)
-  load_mark_by (Head side) k value met = absurd (never met)
-  load_mark_by (Link side) k value met = absurd (never met)
-  load_mark_by (Tag side) k value met = absurd (never met)
+  load_mark_by _ k value met = absurd (never met)
 
   pub mark_by : (f : Field) (k value : ℕ) → may_mark v (Node f k) value ≡ true → Kept z m vs g (written m (Node f k) value) (set vs i (with_mark v k 1))
   mark_by Mark k value met =
@@ -122,9 +107,4 @@ module _ (z : Layout) (m : Memory) (vs : List View) (g : Meaning) (rule : Rule z
       (kept_same z m vs g (written m (Node Mark k) 1) (set vs i (with_mark v k 1))
       (mark_kept z m vs g rule i k v at (locks-count k v.held.nodes (and_parts (is_mark Mark) b two.0).1) (has-count k v.update.taken two.1))
       (plain_quiet m g vs i v (with_mark v k 1) at (quiet_work v (with_mark v k 1) refl refl refl (slots_marked k 1 v.held.nodes))))
-  mark_by Key k value met = absurd (never met)
-  mark_by Val k value met = absurd (never met)
-  mark_by Lock k value met = absurd (never met)
-  mark_by (Head side) k value met = absurd (never met)
-  mark_by (Link side) k value met = absurd (never met)
-  mark_by (Tag side) k value met = absurd (never met)
+  mark_by _ k value met = absurd (never met)

@@ -22,8 +22,7 @@ use Rattle.core_invariant.proofs.Quiet.{quiet_kept}
 
 smaller_by : (n word : ℕ) (a b : Bool) → ltb 0 word ≡ a → ltb (word - 1) n ≡ b → cond (a && b) (word - 1) n ≤ n
 smaller_by n word true true some less = let low : word - 1 < n = grind (arith, nat_tests) in omega (arith, low)
-smaller_by n word true false some less = omega arith
-smaller_by n word false b some less = omega arith
+smaller_by n word _ _ some less = omega arith
 
 -- the least number does not rise
 smaller_low : (n word : ℕ) → smaller n word ≤ n
@@ -98,9 +97,8 @@ module _ (z : Layout) (m : Memory) (vs : List View) (g : Meaning) (rule : Rule z
 
   -- its own section number is at least its least number
   here_by : (o : Option ℕ) → IfSome o (λ n. IsSomeAnd v.reading.section (λ t. n ≤ t)) → (qs : List ℕ) → IfSome o (λ n. Every (Reads n w) qs)
-  here_by None own qs = tt
-  here_by (Some n) own [] = tt
   here_by (Some n) own (q ∷ qs) = ((λ is. reads_own n v.reading.section own), here_by (Some n) own qs)
+  here_by _ own _ = tt
 
   pairs_looked : PairsRight (set vs i w)
   pairs_looked =

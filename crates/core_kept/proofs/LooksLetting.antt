@@ -73,9 +73,8 @@ module _ (l : Looks) (n own pass word : ℕ) (inside : is_even own ≡ false) (s
   late_none is = no (has n l.passed) (list_any (is_late n own) l.found) before is
     where
       no : (a b : Bool) → (a || b) ≡ false → b ≡ true → ⊥
-      no true b none is = cc
       no false true none is = cc
-      no false false none is = cc
+      no _ _ none is = cc
 
   -- a pass that is let pass now has another word
   lets_other : (first : Option ℕ) → first_found pass l.found ≡ first → lets_pass first word ≡ true → n ≡ pass → ⊥

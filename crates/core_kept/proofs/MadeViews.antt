@@ -5,7 +5,7 @@ use Rattle.index_words.specs.declared.layout.Layout.{Layout}
 use Rattle.key_map.specs.declared.pass.PassSize.{PassSize}
 use Rattle.index_words.specs.declared.view.View.{View}
 use Rattle.index_words.specs.declared.word.Word.{Word}
-use Rattle.index_words.specs.declared.word.Word.TheVariants.{Stamp, Section, Announced, Node, Entry}
+use Rattle.index_words.specs.declared.word.Word.TheVariants.{Section, Announced, Node, Entry}
 use Rattle.index_words.specs.Words.{Memory, memory}
 use Rattle.key_map.specs.Lists.{count, Every, IsItem}
 use Rattle.index_words.proofs.Seats.{at_item, all_moved, sum_split}
@@ -58,9 +58,7 @@ module _ (z : Layout) (m : Memory) (vs : List View) (g : Meaning) where
   made_own v size (Node f k) own = (own.0, omega (arith, own.1, count-take-drop k size.nodes v.free.nodes))
   made_own v size (Entry p e) (inl free) = inl (omega (arith, free, count-take-drop e size.entries v.free.entries))
   made_own v size (Entry p e) (inr pending) = inr pending
-  made_own v size Stamp own = absurd own
-  made_own v size (Section i) own = absurd own
-  made_own v size (Announced i) own = absurd own
+  made_own v size _ own = absurd own
 
   made_pair : (v : View) (n : ℕ) (size : PassSize) → SeatRight z m g v → v.joined ≡ false → (m (Section n) ≡ 0) × (m (Announced n) ≡ 0)
       → SeatRight z m g (made_left v size) × SeatRight z m g (made_right v n size)

@@ -6,10 +6,10 @@ use Rattle.index_words.specs.declared.layout.Layout.{Layout}
 use Rattle.index_words.specs.declared.view.View.{View}
 use Rattle.index_words.specs.declared.view.history.Counts.{Counts}
 use Rattle.index_words.specs.declared.view.reading.Place.{Place}
-use Rattle.index_words.specs.declared.view.reading.Place.TheVariants.{Nowhere, Entry as AtEntry, Node as AtNode, Gap}
+use Rattle.index_words.specs.declared.view.reading.Place.TheVariants.{Nowhere, Node as AtNode, Gap}
 use Rattle.index_words.specs.declared.view.update.HeldNode.{HeldNode}
 use Rattle.index_words.specs.declared.word.Field.{Field}
-use Rattle.index_words.specs.declared.word.Field.TheVariants.{Key, Val, Lock, Mark, Head, Link, Tag}
+use Rattle.index_words.specs.declared.word.Field.TheVariants.{Key, Val, Mark, Head}
 use Rattle.index_words.specs.declared.word.Part.TheVariants.{Stamp as Number}
 use Rattle.index_words.specs.declared.word.Word.TheVariants.{Node, Entry}
 use Rattle.index_words.specs.Words.{Memory, written}
@@ -99,11 +99,7 @@ field_node Val k x h = val_by (eqb h.node k)
     val_by : (b : Bool) → (cond b (record h { val = Some x }) h).node ≡ h.node
     val_by true = refl
     val_by false = refl
-field_node Lock k x h = refl
-field_node Mark k x h = refl
-field_node (Head s) k x h = refl
-field_node (Link s) k x h = refl
-field_node (Tag s) k x h = refl
+field_node _ k x h = refl
 
 pub slots_paired : (f : Field) (k x : ℕ) (hs : List HeldNode) → held_slots (map (pair_known f k x) hs) ≡ held_slots hs
 slots_paired f k x [] = refl
@@ -135,11 +131,7 @@ pair_right m Val k x h found right = val_by (eqb h.node k) refl
       plain = right.plain;
     }
     val_by false is = right
-pair_right m Lock k x h found right = right
-pair_right m Mark k x h found right = right
-pair_right m (Head s) k x h found right = right
-pair_right m (Link s) k x h found right = right
-pair_right m (Tag s) k x h found right = right
+pair_right m _ k x h found right = right
 
 -- a key that is kept with the place of a search
 paired_place : (z : Layout) (stamp : ℕ → ℕ) (b : Bundles) (v : View) (f : Field) (k x : ℕ) (p : Place) → PlaceRight z stamp b v p
@@ -150,14 +142,8 @@ paired_place z stamp b v Key k x (AtNode node key) right = by (eqb node k)
     by : (here : Bool) → PlaceRight z stamp b v (cond here (AtNode node (Some x)) (AtNode node key))
     by true = tt
     by false = tt
-paired_place z stamp b v Key k x (AtEntry node side entry found) right = right
 paired_place z stamp b v Key k x (Gap node side) right = tt
-paired_place z stamp b v Val k x p right = right
-paired_place z stamp b v Lock k x p right = right
-paired_place z stamp b v Mark k x p right = right
-paired_place z stamp b v (Head s) k x p right = right
-paired_place z stamp b v (Link s) k x p right = right
-paired_place z stamp b v (Tag s) k x p right = right
+paired_place z stamp b v _ k x _ right = right
 
 -- a load of a key or a value
 pub load_pair_kept : (z : Layout) (m : Memory) (vs : List View) (g : Meaning) (i k : ℕ) (f : Field) (v : View) → Rule z m vs g → IsItem vs i v

@@ -7,7 +7,7 @@ use Rattle.index_words.specs.declared.side.Side.{Side}
 use Rattle.index_words.specs.declared.side.Side.TheVariants.{Right}
 use Rattle.index_words.specs.declared.view.View.{View}
 use Rattle.index_words.specs.declared.view.reading.Place.{Place}
-use Rattle.index_words.specs.declared.view.reading.Place.TheVariants.{Nowhere, Entry as AtEntry, Node as AtNode, Gap}
+use Rattle.index_words.specs.declared.view.reading.Place.TheVariants.{Entry as AtEntry}
 use Rattle.index_words.specs.declared.view.update.HeldNode.{HeldNode}
 use Rattle.index_words.specs.declared.view.update.OwedTag.{OwedTag}
 use Rattle.index_words.specs.declared.view.update.UnsetLink.{UnsetLink}
@@ -16,7 +16,7 @@ use Rattle.index_words.specs.declared.word.Field.TheVariants.{Link, Tag}
 use Rattle.index_words.specs.declared.word.Part.{Part}
 use Rattle.index_words.specs.declared.word.Part.TheVariants.{Child}
 use Rattle.index_words.specs.declared.word.Word.{Word}
-use Rattle.index_words.specs.declared.word.Word.TheVariants.{Stamp, Section, Announced, Node, Entry}
+use Rattle.index_words.specs.declared.word.Word.TheVariants.{Stamp, Node, Entry}
 use Rattle.index_words.specs.Views.{no_slots, no_looks, no_update, spent_view}
 use Rattle.index_words.specs.Words.{Memory, written}
 use Rattle.key_map.specs.Lists.{count, has, Every, IsItem}
@@ -97,9 +97,7 @@ filled_work v w value =
 
 pub next_work : (v : View) (p : Place) (e x : ℕ) → HasSameWork v (next_at v p e x)
 next_work v (AtEntry node side entry found) e x = quiet_work v _ refl refl refl refl
-next_work v Nowhere e x = quiet_work v v refl refl refl refl
-next_work v (AtNode node key) e x = quiet_work v v refl refl refl refl
-next_work v (Gap node side) e x = quiet_work v v refl refl refl refl
+next_work v _ e x = quiet_work v v refl refl refl refl
 
 pub locked_work : (v : View) (k : ℕ) → HasSameWork v (locked_view v k)
 locked_work v k = record {
@@ -175,9 +173,7 @@ module _ (z : Layout) (m : Memory) (vs : List View) (g : Meaning) (rule : Rule z
         (λ t k. m (Node (Link t) k)) (λ t k. m (Node (Tag t) k)) (child_at (λ d. written m (Entry p e) x (Entry Child d)) g.bundles s)
         (greatest_of g.bundles s) g.tree vs
         (λ k side there. record { same_link = refl; same_tag = refl; same_child = child_same p e k side free there; no_less = omega arith }) right
-    plain_stored Stamp met right = absurd (never met)
-    plain_stored (Section k) met right = absurd (never met)
-    plain_stored (Announced k) met right = absurd (never met)
+    plain_stored _ met right = absurd (never met)
 
     -- a fill
     pub plain_filled : (w : Word) → may_fill v w ≡ true → PlainRight m vs g → PlainRight (written m w x) (set vs i (filled_view v w x)) g

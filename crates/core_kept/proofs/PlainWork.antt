@@ -4,14 +4,14 @@ use Rattle.std.proofs.Common.{◌≡◌, ℕ, List, [], false, set, arith, refl,
 use Rattle.index_words.specs.declared.layout.Layout.{Layout}
 use Rattle.index_words.specs.declared.view.View.{View}
 use Rattle.index_words.specs.declared.view.reading.Place.{Place}
-use Rattle.index_words.specs.declared.view.reading.Place.TheVariants.{Nowhere, Entry as AtEntry, Node as AtNode, Gap}
+use Rattle.index_words.specs.declared.view.reading.Place.TheVariants.{Entry as AtEntry}
 use Rattle.index_words.specs.declared.view.slots.Looks.{Looks}
 use Rattle.index_words.specs.declared.view.update.OwedTag.{OwedTag}
 use Rattle.index_words.specs.declared.view.update.Unlinking.{Unlinking}
 use Rattle.index_words.specs.declared.view.update.UnsetLink.{UnsetLink}
 use Rattle.index_words.specs.declared.word.Word.{Word}
 use Rattle.index_words.specs.declared.word.Part.TheVariants.{Stamp as Number}
-use Rattle.index_words.specs.declared.word.Word.TheVariants.{Stamp, Section, Announced, Node, Entry}
+use Rattle.index_words.specs.declared.word.Word.TheVariants.{Node, Entry}
 use Rattle.index_words.specs.Words.{Memory}
 use Rattle.index_words.specs.Views.{no_looks}
 use Rattle.key_map.specs.Lists.{IsItem}
@@ -72,16 +72,11 @@ module _ (z : Layout) (m : Memory) (vs : List View) (g : Meaning) (rule : Rule z
     where
       own_word : (w : Word) → IsOwnSlotWord v.free y.update w → IsOwnSlotWord v.free v.update w
       own_word (Node f k) is = is
-      own_word (Entry p e) is = is
-      own_word Stamp is = is
-      own_word (Section n) is = is
-      own_word (Announced n) is = is
+      own_word _ is = is
 
       place_by : (p : Place) → PlaceRight z (λ e. m (Entry Number e)) g.bundles v p → PlaceRight z (λ e. m (Entry Number e)) g.bundles y p
-      place_by Nowhere right = tt
-      place_by (AtNode node key) right = tt
-      place_by (Gap node side) right = tt
       place_by (AtEntry node side entry found) right = record { reach = right.reach; stands = right.stands }
+      place_by _ right = tt
 
   -- no part of the rule speaks of what is still to be set and to be raised, nor of looks at a wait
   pub work_kept : Rule z m (set vs i y) g

@@ -6,7 +6,7 @@ use Rattle.index_words.specs.declared.side.Side.{Side}
 use Rattle.index_words.specs.declared.view.View.{View}
 use Rattle.index_words.specs.declared.view.slots.Slots.{Slots}
 use Rattle.index_words.specs.declared.view.reading.Place.{Place}
-use Rattle.index_words.specs.declared.view.reading.Place.TheVariants.{Nowhere, Entry as AtEntry, Node as AtNode, Gap}
+use Rattle.index_words.specs.declared.view.reading.Place.TheVariants.{Entry as AtEntry}
 use Rattle.index_words.specs.declared.view.reading.LinkSource.{LinkSource}
 use Rattle.index_words.specs.declared.view.reading.LinkSource.TheVariants.{Bundle, Plain}
 use Rattle.index_words.specs.declared.view.update.Held.{Held}
@@ -124,14 +124,12 @@ module _ (z : Layout) (m : Memory) (vs : List View) (g : Meaning) (rule : Rule z
         }
 
     pub place_now : (place : Place) → PlaceRight z stamp g.bundles u place → PlaceRight z stamp g'.bundles u' place
-    place_now Nowhere right = tt
-    place_now (AtNode n key) right = tt
-    place_now (Gap n s) right = tt
     place_now (AtEntry n s entry found) right = record {
       reach = reach n right.reach;
       stands = λ some watched.
           stands_by n entry found u.reading.above (g.bundles.bundle s n) (same_side s side && eqb n k) (right.stands some (watched_before n watched));
     }
+    place_now _ right = tt
 
     entry_now : (n c entry : ℕ) (s : Side) (o : Option ℕ) → IfSome o (λ t. t ≤ m Stamp) → IsLive z vs n
         → EntryRight (λ d. m (Entry Child d)) g.bundles.number (g.bundles.bundle s n) o c entry

@@ -13,7 +13,7 @@ use Rattle.index_words.specs.declared.word.Field.TheVariants.{Mark, Head}
 use Rattle.index_words.specs.declared.word.Part.{Part}
 use Rattle.index_words.specs.declared.word.Part.TheVariants.{Stamp as Number}
 use Rattle.index_words.specs.declared.word.Word.{Word}
-use Rattle.index_words.specs.declared.word.Word.TheVariants.{Stamp, Section, Announced, Node, Entry}
+use Rattle.index_words.specs.declared.word.Word.TheVariants.{Stamp, Node, Entry}
 use Rattle.index_words.specs.Words.{Memory, written, same_side}
 use Rattle.key_map.specs.Lists.{count, IsItem}
 use Rattle.index_words.proofs.Seats.{Beside, sum_kept, one_term, all_moved}
@@ -157,9 +157,7 @@ module _ (z : Layout) (m : Memory) (vs : List View) (g : Meaning) (rule : Rule z
   own_before : (w : Word) → IsOwnSlotWord v'.free v'.update w → IsOwnSlotWord v.free v.update w
   own_before (Node f j) is = is
   own_before (Entry p d) is = entry_before p d is
-  own_before Stamp is = absurd is
-  own_before (Section n) is = absurd is
-  own_before (Announced n) is = absurd is
+  own_before _ is = absurd is
 
   own_now : SeatRight z m' g' v'
   own_now =
@@ -230,8 +228,7 @@ module _ (z : Layout) (m : Memory) (vs : List View) (g : Meaning) (rule : Rule z
         where
           stored : (a b : Bool) → a ≡ true → b ≡ true → cond (a && b) e (head side k) ≡ e
           stored true true p q = refl
-          stored true false p q = cc
-          stored false b p q = cc
+          stored _ _ p q = cc
 
   holder_apart : (u : View) (h : HeldNode) → Beside vs i u → 0 < lock_count h.node u → h.node ≡ k → ⊥
   holder_apart u h beside held same =

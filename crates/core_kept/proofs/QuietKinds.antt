@@ -4,11 +4,11 @@ use Rattle.std.proofs.Common.{◌≡◌, ℕ, cond, Bool, true, false, eqb, ◌&
 use Rattle.index_words.specs.declared.layout.Layout.{Layout}
 use Rattle.index_words.specs.declared.view.View.{View}
 use Rattle.index_words.specs.declared.view.reading.Place.{Place}
-use Rattle.index_words.specs.declared.view.reading.Place.TheVariants.{Nowhere, Entry as AtEntry, Node as AtNode, Gap}
+use Rattle.index_words.specs.declared.view.reading.Place.TheVariants.{Entry as AtEntry}
 use Rattle.index_words.specs.declared.word.Field.{Field}
-use Rattle.index_words.specs.declared.word.Field.TheVariants.{Key, Val, Lock, Mark, Head, Link, Tag}
+use Rattle.index_words.specs.declared.word.Field.TheVariants.{Key, Head, Tag}
 use Rattle.index_words.specs.declared.word.Word.{Word}
-use Rattle.index_words.specs.declared.word.Word.TheVariants.{Stamp, Section, Announced, Node, Entry}
+use Rattle.index_words.specs.declared.word.Word.TheVariants.{Announced, Node, Entry}
 use Rattle.index_words.specs.Words.{Memory}
 use Rattle.core_grace.specs.Holds.{held_slots}
 use Rattle.core_events.specs.CutMoves.{cut_off}
@@ -42,19 +42,11 @@ module _ (C : Option ℕ → Option ℕ → ℕ → Type 0) (key_of : ℕ → �
       retired = refl;
       step = record { place = λ said. record { claims = tt; key = tt }; links = λ said. bundle_said C key_of (eqb x 0) v.reading.links k side 0 0 said };
     }
-    head_at_quiet Key k x number = same v
-    head_at_quiet Val k x number = same v
-    head_at_quiet Lock k x number = same v
-    head_at_quiet Mark k x number = same v
-    head_at_quiet (Link side) k x number = same v
-    head_at_quiet (Tag side) k x number = same v
+    head_at_quiet _ k x number = same v
 
     pub head_quiet : (u : Word) (x number : ℕ) → IsQuiet v (head_from v u x number)
     head_quiet (Node f k) x number = head_at_quiet f k x number
-    head_quiet Stamp x number = same v
-    head_quiet (Section k) x number = same v
-    head_quiet (Announced k) x number = same v
-    head_quiet (Entry p e) x number = same v
+    head_quiet _ x number = same v
 
     pub ts_quiet : (u : Word) (x : ℕ) → IsQuiet v (ts_from v u x)
     ts_quiet (Entry p e) x = record {
@@ -66,10 +58,7 @@ module _ (C : Option ℕ → Option ℕ → ℕ → Type 0) (key_of : ℕ → �
         links = λ said. said;
       };
     }
-    ts_quiet Stamp x = same v
-    ts_quiet (Section k) x = same v
-    ts_quiet (Announced k) x = same v
-    ts_quiet (Node f k) x = same v
+    ts_quiet _ x = same v
 
     pub ptr_quiet : (u : Word) (x : ℕ) → IsQuiet v (ptr_from v u x)
     ptr_quiet (Entry p e) x =
@@ -79,10 +68,7 @@ module _ (C : Option ℕ → Option ℕ → ℕ → Type 0) (key_of : ℕ → �
           retired = refl;
           step = record { place = λ said. said; links = λ said. child_said C key_of v v.reading.place x said };
         }
-    ptr_quiet Stamp x = same v
-    ptr_quiet (Section k) x = same v
-    ptr_quiet (Announced k) x = same v
-    ptr_quiet (Node f k) x = same v
+    ptr_quiet _ x = same v
 
     next_at_quiet : (p : Place) (e x : ℕ) → IsQuiet v (next_at v p e x)
     next_at_quiet (AtEntry node side entry seen) e x = record {
@@ -97,16 +83,11 @@ module _ (C : Option ℕ → Option ℕ → ℕ → Type 0) (key_of : ℕ → �
         links = λ said. bundle_said C key_of (eqb x 0 && is_above v e seen) v.reading.links node side 0 0 said;
       };
     }
-    next_at_quiet Nowhere e x = same v
-    next_at_quiet (AtNode node key) e x = same v
-    next_at_quiet (Gap node side) e x = same v
+    next_at_quiet _ e x = same v
 
     pub next_quiet : (u : Word) (x : ℕ) → IsQuiet v (next_from v u x)
     next_quiet (Entry p e) x = next_at_quiet v.reading.place e x
-    next_quiet Stamp x = same v
-    next_quiet (Section k) x = same v
-    next_quiet (Announced k) x = same v
-    next_quiet (Node f k) x = same v
+    next_quiet _ x = same v
 
     pub mark_quiet : (u : Word) (x : ℕ) → IsQuiet v (mark_from v u x)
     mark_quiet (Node f k) x = record {
@@ -115,10 +96,7 @@ module _ (C : Option ℕ → Option ℕ → ℕ → Type 0) (key_of : ℕ → �
       retired = refl;
       step = record { place = λ said. said; links = λ said. said };
     }
-    mark_quiet Stamp x = same v
-    mark_quiet (Section k) x = same v
-    mark_quiet (Announced k) x = same v
-    mark_quiet (Entry p e) x = same v
+    mark_quiet _ x = same v
 
     pub marked_quiet : (u : Word) → IsQuiet v (marked_from v u)
     marked_quiet (Node f k) = record {
@@ -127,10 +105,7 @@ module _ (C : Option ℕ → Option ℕ → ℕ → Type 0) (key_of : ℕ → �
       retired = refl;
       step = record { place = λ said. said; links = λ said. said };
     }
-    marked_quiet Stamp = same v
-    marked_quiet (Section k) = same v
-    marked_quiet (Announced k) = same v
-    marked_quiet (Entry p e) = same v
+    marked_quiet _ = same v
 
     -- the word that a load of a key finds is the node's key
     pub pair_quiet : (u : Word) (x : ℕ) → ((k : ℕ) → u ≡ Node Key k → key_of k ≡ x) → IsQuiet v (pair_from v u x)
@@ -145,10 +120,7 @@ module _ (C : Option ℕ → Option ℕ → ℕ → Type 0) (key_of : ℕ → �
         links = λ said. said;
       };
     }
-    pair_quiet Stamp x word = same v
-    pair_quiet (Section k) x word = same v
-    pair_quiet (Announced k) x word = same v
-    pair_quiet (Entry p e) x word = same v
+    pair_quiet _ x word = same v
 
     tag_at_quiet : (f : Field) (k x : ℕ) → IsQuiet v (tag_at v f k x)
     tag_at_quiet (Tag side) k x = record {
@@ -157,19 +129,11 @@ module _ (C : Option ℕ → Option ℕ → ℕ → Type 0) (key_of : ℕ → �
       retired = refl;
       step = record { place = λ said. said; links = λ said. tagged_said C key_of k side x v.reading.links said };
     }
-    tag_at_quiet Key k x = same v
-    tag_at_quiet Val k x = same v
-    tag_at_quiet Lock k x = same v
-    tag_at_quiet Mark k x = same v
-    tag_at_quiet (Head side) k x = same v
-    tag_at_quiet (Link side) k x = same v
+    tag_at_quiet _ k x = same v
 
     pub tag_quiet : (u : Word) (x : ℕ) → IsQuiet v (tag_from v u x)
     tag_quiet (Node f k) x = tag_at_quiet f k x
-    tag_quiet Stamp x = same v
-    tag_quiet (Section k) x = same v
-    tag_quiet (Announced k) x = same v
-    tag_quiet (Entry p e) x = same v
+    tag_quiet _ x = same v
 
     set_tag_at_quiet : (f : Field) (k x : ℕ) → IsQuiet v (raised_tag_at v f k x)
     set_tag_at_quiet (Tag side) k x = record {
@@ -178,26 +142,15 @@ module _ (C : Option ℕ → Option ℕ → ℕ → Type 0) (key_of : ℕ → �
       retired = refl;
       step = record { place = λ said. said; links = λ said. said };
     }
-    set_tag_at_quiet Key k x = same v
-    set_tag_at_quiet Val k x = same v
-    set_tag_at_quiet Lock k x = same v
-    set_tag_at_quiet Mark k x = same v
-    set_tag_at_quiet (Head side) k x = same v
-    set_tag_at_quiet (Link side) k x = same v
+    set_tag_at_quiet _ k x = same v
 
     pub set_tag_quiet : (u : Word) (x : ℕ) → IsQuiet v (raised_tag_from v u x)
     set_tag_quiet (Node f k) x = set_tag_at_quiet f k x
-    set_tag_quiet Stamp x = same v
-    set_tag_quiet (Section k) x = same v
-    set_tag_quiet (Announced k) x = same v
-    set_tag_quiet (Entry p e) x = same v
+    set_tag_quiet _ x = same v
 
     pub look_ann_quiet : (u : Word) (x : ℕ) → IsQuiet v (ann_from v u x)
     look_ann_quiet (Announced k) x = record { work = refl; locks = refl; retired = refl; step = record { place = λ said. said; links = λ said. said } }
-    look_ann_quiet Stamp x = same v
-    look_ann_quiet (Section k) x = same v
-    look_ann_quiet (Node f k) x = same v
-    look_ann_quiet (Entry p e) x = same v
+    look_ann_quiet _ x = same v
 
     prepare_at_quiet : (f : Field) (k e : ℕ) → IsQuiet v (prepared_at v f k e)
     prepare_at_quiet (Head side) k e = record {
@@ -206,26 +159,15 @@ module _ (C : Option ℕ → Option ℕ → ℕ → Type 0) (key_of : ℕ → �
       retired = refl;
       step = record { place = λ said. said; links = λ said. said };
     }
-    prepare_at_quiet Key k e = same v
-    prepare_at_quiet Val k e = same v
-    prepare_at_quiet Lock k e = same v
-    prepare_at_quiet Mark k e = same v
-    prepare_at_quiet (Link side) k e = same v
-    prepare_at_quiet (Tag side) k e = same v
+    prepare_at_quiet _ k e = same v
 
     pub prepare_quiet : (u : Word) (e : ℕ) → IsQuiet v (prepared_from v u e)
     prepare_quiet (Node f k) e = prepare_at_quiet f k e
-    prepare_quiet Stamp e = same v
-    prepare_quiet (Section k) e = same v
-    prepare_quiet (Announced k) e = same v
-    prepare_quiet (Entry p d) e = same v
+    prepare_quiet _ e = same v
 
     pub finalise_quiet : (u : Word) → IsQuiet v (finalised_from v u)
     finalise_quiet (Entry p e) = record { work = refl; locks = refl; retired = refl; step = record { place = λ said. said; links = λ said. said } }
-    finalise_quiet Stamp = same v
-    finalise_quiet (Section k) = same v
-    finalise_quiet (Announced k) = same v
-    finalise_quiet (Node f k) = same v
+    finalise_quiet _ = same v
 
     pub cut_quiet : (z : Layout) (m : Memory) (u : Word) → IsQuiet v (cut_from z m v u)
     cut_quiet z m (Entry p e) = record {
@@ -237,10 +179,7 @@ module _ (C : Option ℕ → Option ℕ → ℕ → Type 0) (key_of : ℕ → �
         links = λ said. said;
       };
     }
-    cut_quiet z m Stamp = same v
-    cut_quiet z m (Section k) = same v
-    cut_quiet z m (Announced k) = same v
-    cut_quiet z m (Node f k) = same v
+    cut_quiet z m _ = same v
 
     pub filled_quiet : (u : Word) (x : ℕ) (b : Bool) → IsQuiet v (cond b (used_view v u) (with_filled (used_view v u) (filled_with (known_before v u) u x)))
     filled_quiet u x true = record { work = refl; locks = refl; retired = refl; step = record { place = λ said. said; links = λ said. said } }

@@ -8,7 +8,7 @@ use Rattle.index_words.specs.declared.side.Side.TheVariants.{Right}
 use Rattle.index_words.specs.declared.view.View.{View}
 use Rattle.index_words.specs.declared.view.reading.Link.{Link as ViewLink}
 use Rattle.index_words.specs.declared.view.reading.LinkSource.{LinkSource}
-use Rattle.index_words.specs.declared.view.reading.LinkSource.TheVariants.{Bundle, Plain}
+use Rattle.index_words.specs.declared.view.reading.LinkSource.TheVariants.{Plain}
 use Rattle.index_words.specs.declared.word.Field.TheVariants.{Link, Tag}
 use Rattle.index_words.specs.declared.word.Word.TheVariants.{Node}
 use Rattle.index_words.specs.Words.{Memory, same_side}
@@ -49,11 +49,10 @@ record GapFound (key_of : ℕ → ℕ) (claims : Option ℕ → Option ℕ → �
 found_by : (key_of : ℕ → ℕ) (claims : Option ℕ → Option ℕ → ℕ → Type 0) (key tag node child : ℕ) (side : Side) (s : LinkSource) → is_gap_found key tag s ≡ true
     → child ≡ 0
     → SourceClaims claims node child s → SourceKeys key_of node side s → GapFound key_of claims key node side
-found_by key_of claims key tag node child side (Bundle entry) is null claimed keys = absurd (never is)
-found_by key_of claims key tag node child side (Plain None above below) is null claimed keys = absurd (never is)
 found_by key_of claims key tag node child side (Plain (Some found) above below) is null claimed keys =
     let parts = and_parts (eqb found tag) (is_between below above key) is in
     record { low = below; high = above; inside = between_is below above key parts.1; claimed = claimed null; root = keys.0; turned = keys.1 }
+found_by key_of claims key tag node child side _ is null claimed keys = absurd (never is)
 
 module _ (z : Layout) (m : Memory) (vs : List View) (g : Meaning) (rule : Rule z m vs g) (plain : PlainRight m vs g) (W : NamedTree)
     (trees : IsPlainTree (plain_graph m) vs g.tree W) (i : ℕ) (v : View) (at : IsItem vs i v) (quiet : v.update.raised ≡ None) where

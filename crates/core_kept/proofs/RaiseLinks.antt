@@ -68,9 +68,8 @@ greatest_low e n t low = by (eqb e 0) refl low
     by false is (inl none) = absurd (omega (arith, positive e is, none))
 
 more_by : (c d : Bool) (n t : ℕ) → n ≤ t → cond c 0 n ≤ cond c 0 (cond d (t + 1) n)
-more_by true d n t low = omega arith
 more_by false true n t low = omega (arith, low)
-more_by false false n t low = omega arith
+more_by _ _ n t low = omega arith
 
 module _ (z : Layout) (m : Memory) (vs : List View) (g : Meaning) (rule : Rule z m vs g) (i : ℕ) (v : View) (u : Update) (known : List Update)
     (move : TreeMove) (tree : NamedTree) (at : IsItem vs i v) (can : CanRaise v u) (moves : MovesTree m g v u move tree) where

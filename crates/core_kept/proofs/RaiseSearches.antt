@@ -10,7 +10,7 @@ use Rattle.index_words.specs.declared.view.View.{View}
 use Rattle.index_words.specs.declared.view.update.Unlinking.{Unlinking}
 use Rattle.index_words.specs.declared.view.update.Updating.{Updating}
 use Rattle.index_words.specs.declared.word.Word.{Word}
-use Rattle.index_words.specs.declared.word.Word.TheVariants.{Stamp, Section, Announced, Node, Entry}
+use Rattle.index_words.specs.declared.word.Word.TheVariants.{Stamp}
 use Rattle.index_words.specs.Views.{no_looks}
 use Rattle.index_words.specs.Words.{Memory, memory, written, word_at}
 use Rattle.index_words.proofs.Store.{word_there, stored_at}
@@ -247,10 +247,7 @@ module _ (z : Layout) (words : List ℕ) (vs : List View) (right : InRule z word
       → Gives (set words n (slice_index words n + 1)) (views_after Raise z m0 vs i v w value o)
   raise_after Stamp (Some u) is own met = raise_stored u is own met
   raise_after Stamp None is own met = absurd (never own)
-  raise_after (Section k) o is own met = absurd (never met)
-  raise_after (Announced k) o is own met = absurd (never met)
-  raise_after (Node f k) o is own met = absurd (never met)
-  raise_after (Entry p e) o is own met = absurd (never met)
+  raise_after _ o is own met = absurd (never met)
 
 pub raise_searches : KeepsSearchesNow Raise
 raise_searches z words vs right i v at live n w found value o own met = raise_after z words vs right i v at n value w o found own met

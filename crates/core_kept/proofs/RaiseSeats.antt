@@ -10,7 +10,7 @@ use Rattle.index_words.specs.declared.side.Side.TheVariants.{Left, Right}
 use Rattle.key_map.specs.declared.update.Update.{Update}
 use Rattle.index_words.specs.declared.view.View.{View}
 use Rattle.index_words.specs.declared.view.reading.Place.{Place}
-use Rattle.index_words.specs.declared.view.reading.Place.TheVariants.{Nowhere, Entry as AtEntry, Node as AtNode, Gap}
+use Rattle.index_words.specs.declared.view.reading.Place.TheVariants.{Entry as AtEntry}
 use Rattle.index_words.specs.declared.view.reading.LinkSource.{LinkSource}
 use Rattle.index_words.specs.declared.view.reading.LinkSource.TheVariants.{Bundle, Plain}
 use Rattle.index_words.specs.declared.word.Field.TheVariants.{Mark, Head}
@@ -271,15 +271,13 @@ module _ (z : Layout) (m : Memory) (vs : List View) (g : Meaning) (rule : Rule z
 
   place_now : (j : ℕ) (y : View) (place : Place) → IsItem vs j y → IfSome y.reading.section (λ t. t ≤ s) → PlaceRight z stamp g.bundles y place
       → PlaceRight z stamp g'.bundles y place
-  place_now j y Nowhere of past right = tt
-  place_now j y (AtNode k key) of past right = tt
-  place_now j y (Gap k w) of past right = tt
   place_now j y (AtEntry k w e found) of past right = record {
     reach = right.reach;
     stands = λ some watched. subst (λ es. StandsAt stamp es e found y.reading.above (IsPassed number' y k))
         (sym (live_bundle z m vs g rule i v u move tree at moves k w (reachable_live z vs g rule.slots j k y of right.reach)))
         (stands_now y k e found y.reading.above (g.bundles.bundle w k) past (right.stands some watched));
   }
+  place_now j y _ of past right = tt
 
   entry_now : (k c entry : ℕ) (w : Side) (o : Option ℕ) → IfSome o (λ t. t ≤ s) → IsLive z vs k
       → EntryRight child g.bundles.number (g.bundles.bundle w k) o c entry → EntryRight child number' (bundle' w k) o c entry

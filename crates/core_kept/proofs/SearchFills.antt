@@ -8,7 +8,7 @@ use Rattle.index_words.specs.declared.view.View.{View}
 use Rattle.index_words.specs.declared.word.Field.{Field}
 use Rattle.index_words.specs.declared.word.Field.TheVariants.{Key, Val, Link}
 use Rattle.index_words.specs.declared.word.Word.{Word}
-use Rattle.index_words.specs.declared.word.Word.TheVariants.{Stamp, Section, Announced, Node, Entry}
+use Rattle.index_words.specs.declared.word.Word.TheVariants.{Node, Entry}
 use Rattle.index_words.specs.Words.{Memory, memory, written}
 use Rattle.key_map.specs.Lists.{count, has, IsItem}
 use Rattle.key_map.proofs.Counting.{has-count}
@@ -68,9 +68,7 @@ module _ (z : Layout) (words : List ℕ) (vs : List View) (right : InRule z word
   pub fill_after : (w : Word) → may_fill v w ≡ true → SearchesAfter z (plain_graph (written m w value)) (set vs i (filled_view v w value)) right.meaning.tree
   fill_after (Node f k) met = fill_node f k (has-count k v.free.nodes (and_parts (not (is_lock f)) (has k v.free.nodes) met).1)
   fill_after (Entry p e) met = filled (Entry p e) gr0 right.trees right.searches right.reach
-  fill_after Stamp met = absurd (never met)
-  fill_after (Section k) met = absurd (never met)
-  fill_after (Announced k) met = absurd (never met)
+  fill_after _ met = absurd (never met)
 
 pub fill_searches : KeepsSearchesAt Fill
 fill_searches z words vs right i v at live n w found value o own met =

@@ -5,10 +5,10 @@ use Rattle.std.specs.List.{All}
 use Rattle.index_words.specs.declared.layout.Layout.{Layout}
 use Rattle.index_words.specs.declared.side.Side.{Side}
 use Rattle.index_words.specs.declared.view.View.{View}
-use Rattle.index_words.specs.declared.word.Field.TheVariants.{Key, Val, Lock, Mark, Head, Link, Tag}
+use Rattle.index_words.specs.declared.word.Field.TheVariants.{Key, Link}
 use Rattle.index_words.specs.declared.word.Part.TheVariants.{Stamp as Number}
 use Rattle.index_words.specs.declared.word.Word.{Word}
-use Rattle.index_words.specs.declared.word.Word.TheVariants.{Stamp, Section, Announced, Node, Entry}
+use Rattle.index_words.specs.declared.word.Word.TheVariants.{Node, Entry}
 use Rattle.index_words.specs.Words.{Memory, memory}
 use Rattle.key_map.specs.Lists.{count, Every, IsItem}
 use Rattle.index_words.proofs.Seats.{at_item}
@@ -210,16 +210,7 @@ module _ (z : Layout) (words : List ℕ) (vs : List View) (right : InRule z word
   link_after (Node (Link side) k) =
       walk_after z gr0 vs right.meaning.tree right.plain_tree right.trees right.searches right.reach i v at k side
       (searches_at v.reading v.reading.place k side) refl
-  link_after (Node Key k) = still
-  link_after (Node Val k) = still
-  link_after (Node Lock k) = still
-  link_after (Node Mark k) = still
-  link_after (Node (Head side) k) = still
-  link_after (Node (Tag side) k) = still
-  link_after Stamp = still
-  link_after (Section k) = still
-  link_after (Announced k) = still
-  link_after (Entry p e) = still
+  link_after _ = still
 
 pub head_searches : KeepsSearchesAt LoadHead
 head_searches z words vs right i v at live n w found value o own met = head_after z words vs right i v at w

@@ -36,20 +36,16 @@ use Rattle.plain_trees.proofs.Extending.{still}
 
 -- a node that is bypassed still is where the node that was brought in is forgotten
 still_bypassed : (taken : List ℕ) (added : Option ℕ) (k : ℕ) → bypasses taken added k ≡ true → bypasses taken None k ≡ true
-still_bypassed [] added k is = absurd (never is)
 still_bypassed (n ∷ []) None k is = is
-still_bypassed (n ∷ []) (Some a) k is = absurd (never is)
 still_bypassed (n ∷ s ∷ []) added k is = is
-still_bypassed (n ∷ s ∷ t ∷ ts) added k is = absurd (never is)
+still_bypassed _ _ k is = absurd (never is)
 
 never_some : {c : ℕ} → None ≡ Some c → ⊥
 never_some e = cc
 
 first_not_second : (taken : List ℕ) (a : ℕ) → AreApart taken → IsFirstOut taken a → IsSecondOut taken a → ⊥
-first_not_second [] a apart first second = second
-first_not_second (n ∷ []) a apart first second = second
 first_not_second (n ∷ s ∷ []) a apart first second = apart (sym first ∙ second)
-first_not_second (n ∷ s ∷ t ∷ ts) a apart first second = second
+first_not_second _ a apart first second = second
 
 module _ (z : Layout) (words : List ℕ) (vs : List View) (right : InRule z words vs) (i : ℕ) (v : View) (at : IsItem vs i v) (n : ℕ) (w : Word) (value : ℕ)
     (can : CanLeave (memory z words) v w value) where

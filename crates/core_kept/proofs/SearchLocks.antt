@@ -5,11 +5,11 @@ use Rattle.std.proofs.lemmas.Bool.Decides.{eqb_tells}
 use Rattle.index_words.specs.declared.layout.Layout.{Layout}
 use Rattle.index_words.specs.declared.view.View.{View}
 use Rattle.index_words.specs.declared.word.Field.{Field}
-use Rattle.index_words.specs.declared.word.Field.TheVariants.{Key, Val, Lock, Mark, Head, Link, Tag}
+use Rattle.index_words.specs.declared.word.Field.TheVariants.{Key, Val, Lock}
 use Rattle.index_words.specs.declared.side.Side.TheVariants.{Right}
 use Rattle.index_words.specs.declared.word.Part.TheVariants.{Child}
 use Rattle.index_words.specs.declared.word.Word.{Word}
-use Rattle.index_words.specs.declared.word.Word.TheVariants.{Stamp, Section, Announced, Node, Entry}
+use Rattle.index_words.specs.declared.word.Word.TheVariants.{Stamp, Node, Entry}
 use Rattle.index_words.specs.Words.{Memory, memory, address, word_at}
 use Rattle.index_words.proofs.Store.{word_there}
 use Rattle.key_map.specs.Lists.{count, has, IsItem}
@@ -135,20 +135,12 @@ module _ (z : Layout) (words : List ℕ) (vs : List View) (right : InRule z word
           (same_search v (met_lock v value (m (Node Lock k))) refl refl (λ j. omega arith) refl refl (λ top. refl))
           (record { work = refl; locks = refl; retired = refl; step = record { place = λ said. said; links = λ said. said } })
           (record { work = refl; locks = refl; retired = refl; step = record { place = λ said. said; links = λ said. said } })
-  lock_field Key k is met = absurd (never met)
-  lock_field Val k is met = absurd (never met)
-  lock_field Mark k is met = absurd (never met)
-  lock_field (Head side) k is met = absurd (never met)
-  lock_field (Link side) k is met = absurd (never met)
-  lock_field (Tag side) k is met = absurd (never met)
+  lock_field _ k is met = absurd (never met)
 
   pub lock_after : (u : Word) → word_at z n ≡ Some u → may_try_lock v u value ≡ true
       → Gives (words_after TryLock words n value) (views_after TryLock z m vs i v u value None)
   lock_after (Node f k) is met = lock_field f k is met
-  lock_after Stamp is met = absurd (never met)
-  lock_after (Section k) is met = absurd (never met)
-  lock_after (Announced k) is met = absurd (never met)
-  lock_after (Entry p e) is met = absurd (never met)
+  lock_after _ is met = absurd (never met)
 
 pub lock_searches : KeepsSearchesAt TryLock
 lock_searches z words vs right i v at live n w found value o own met = lock_after z words vs right i v at n value w found met

@@ -5,7 +5,7 @@ use Rattle.index_words.specs.declared.side.Side.{Side}
 use Rattle.index_words.specs.declared.side.Side.TheVariants.{Right}
 use Rattle.index_words.specs.declared.view.View.{View}
 use Rattle.index_words.specs.declared.view.reading.Place.{Place}
-use Rattle.index_words.specs.declared.view.reading.Place.TheVariants.{Nowhere, Entry as AtEntry, Node as AtNode, Gap}
+use Rattle.index_words.specs.declared.view.reading.Place.TheVariants.{Nowhere, Node as AtNode, Gap}
 use Rattle.index_words.specs.declared.view.reading.Link.{Link}
 use Rattle.index_words.specs.declared.view.reading.LinkSource.{LinkSource}
 use Rattle.index_words.specs.declared.view.reading.LinkSource.TheVariants.{Bundle, Plain}
@@ -52,10 +52,9 @@ claims_wider g b b' w w' plain x a more waits claims nodes c way here = elim (cl
 -- claims of a place and of links, weakened
 pub place_wider : (C C' : Option ℕ → Option ℕ → ℕ → Type 0) (low high : Option ℕ) (p : Place) → ((low high : Option ℕ) (a : ℕ) → C low high a → C' low high a)
     → PlaceClaims C low high p → PlaceClaims C' low high p
-place_wider C C' low high Nowhere step claims = tt
-place_wider C C' low high (AtEntry node side entry found) step claims = tt
 place_wider C C' low high (AtNode node key) step claims = step low high node claims
 place_wider C C' low high (Gap node side) step claims = step low high node claims
+place_wider C C' low high _ step claims = tt
 
 source_wider : (C C' : Option ℕ → Option ℕ → ℕ → Type 0) (node child : ℕ) (s : LinkSource) → ((low high : Option ℕ) (a : ℕ) → C low high a → C' low high a)
     → SourceClaims C node child s → SourceClaims C' node child s
@@ -180,9 +179,7 @@ NoClaims low high a = Unit {0}
 
 no_place : (low high : Option ℕ) (p : Place) → PlaceClaims NoClaims low high p
 no_place low high Nowhere = tt
-no_place low high (AtEntry node side entry found) = tt
-no_place low high (AtNode node key) = tt
-no_place low high (Gap node side) = tt
+no_place low high _ = tt
 
 no_source : (node child : ℕ) (s : LinkSource) → SourceClaims NoClaims node child s
 no_source node child (Bundle entry) = tt

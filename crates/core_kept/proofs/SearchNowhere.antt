@@ -9,9 +9,9 @@ use Rattle.index_words.specs.declared.view.View.{View}
 use Rattle.index_words.specs.declared.view.reading.TreeNode.{TreeNode}
 use Rattle.index_words.specs.declared.view.history.SeenHistory.{SeenHistory}
 use Rattle.index_words.specs.declared.view.reading.Place.TheVariants.{Nowhere}
-use Rattle.index_words.specs.declared.word.Field.TheVariants.{Key, Val, Lock, Mark, Head, Link, Tag}
+use Rattle.index_words.specs.declared.word.Field.TheVariants.{Link}
 use Rattle.index_words.specs.declared.word.Word.{Word}
-use Rattle.index_words.specs.declared.word.Word.TheVariants.{Stamp, Section, Announced, Node, Entry}
+use Rattle.index_words.specs.declared.word.Word.TheVariants.{Node}
 use Rattle.index_words.specs.Words.{Memory, memory, written}
 use Rattle.key_map.specs.declared.update.Update.{Update}
 use Rattle.key_map.specs.Lists.{count, Every, IsItem}
@@ -152,16 +152,7 @@ module _ (z : Layout) (words : List ℕ) (vs : List View) (right : InRule z word
           searches = searches_set z m vs right.meaning right.rule right.plain right.plain_tree right.trees i k side value v at can right.searches;
           reach = reach_set z m vs right.meaning right.rule right.plain right.plain_tree right.trees i k side value v at can right.reach;
         }
-    set_after (Node Key k) met = absurd (never met)
-    set_after (Node Val k) met = absurd (never met)
-    set_after (Node Lock k) met = absurd (never met)
-    set_after (Node Mark k) met = absurd (never met)
-    set_after (Node (Head side) k) met = absurd (never met)
-    set_after (Node (Tag side) k) met = absurd (never met)
-    set_after Stamp met = absurd (never met)
-    set_after (Section k) met = absurd (never met)
-    set_after (Announced k) met = absurd (never met)
-    set_after (Entry p e) met = absurd (never met)
+    set_after _ met = absurd (never met)
 
 pub stamp_searches : KeepsSearchesAt LoadStamp
 stamp_searches z words vs right i v at live n w found value o own met =

@@ -10,7 +10,7 @@ use Rattle.index_words.specs.declared.view.reading.Link.{Link as LinkRecord}
 use Rattle.index_words.specs.declared.view.reading.LinkSource.{LinkSource}
 use Rattle.index_words.specs.declared.view.reading.LinkSource.TheVariants.{Bundle, Plain}
 use Rattle.index_words.specs.declared.word.Field.{Field}
-use Rattle.index_words.specs.declared.word.Field.TheVariants.{Key, Val, Lock, Mark, Head, Link, Tag}
+use Rattle.index_words.specs.declared.word.Field.TheVariants.{Key}
 use Rattle.index_words.specs.Words.{same_side}
 use Rattle.key_map.specs.Lists.{has, Every}
 use Rattle.core_grace.proofs.RuleMoves.{every_push}
@@ -62,9 +62,7 @@ module _ (C : Option ℕ → Option ℕ → ℕ → Type 0) (key_of : ℕ → �
   -- the place
   pub known_said : (low high : Option ℕ) (x : ℕ) (p : Place) → PlaceSaid low high p → PlaceSaid low high (place_known x p)
   known_said low high x (AtEntry node side entry found) said = record { claims = tt; key = tt }
-  known_said low high x Nowhere said = said
-  known_said low high x (AtNode node key) said = said
-  known_said low high x (Gap node side) said = said
+  known_said low high x _ said = said
 
   found_by : (low high : Option ℕ) (k x node : ℕ) (key : Option ℕ) (b : Bool) → eqb node k ≡ b → key_of k ≡ x → PlaceSaid low high (AtNode node key)
       → PlaceSaid low high (cond b (AtNode node (Some x)) (AtNode node key))
@@ -74,15 +72,7 @@ module _ (C : Option ℕ → Option ℕ → ℕ → Type 0) (key_of : ℕ → �
   pub paired_said : (low high : Option ℕ) (f : Field) (k x : ℕ) (p : Place) → (f ≡ Key → key_of k ≡ x) → PlaceSaid low high p
       → PlaceSaid low high (place_paired f k x p)
   paired_said low high Key k x (AtNode node key) word said = found_by low high k x node key (eqb node k) refl (word refl) said
-  paired_said low high Key k x Nowhere word said = said
-  paired_said low high Key k x (AtEntry node side entry found) word said = said
-  paired_said low high Key k x (Gap node side) word said = said
-  paired_said low high Val k x p word said = said
-  paired_said low high Lock k x p word said = said
-  paired_said low high Mark k x p word said = said
-  paired_said low high (Head side) k x p word said = said
-  paired_said low high (Link side) k x p word said = said
-  paired_said low high (Tag side) k x p word said = said
+  paired_said low high _ k x _ word said = said
 
   entry_said : (low high : Option ℕ) (node entry : ℕ) (side : Side) (found : Option ℕ) (b : Bool)
       → PlaceSaid low high (cond b (AtEntry node side 0 None) (AtEntry node side entry found))
@@ -101,13 +91,9 @@ module _ (C : Option ℕ → Option ℕ → ℕ → Type 0) (key_of : ℕ → �
 
   pub cut_said : (low high : Option ℕ) (back : List ℕ) (p : Place) → PlaceSaid low high p → PlaceSaid low high (place_cut back p)
   cut_said low high back (AtEntry node side entry found) said = entry_said low high node entry side found (has entry back)
-  cut_said low high back Nowhere said = said
-  cut_said low high back (AtNode node key) said = said
-  cut_said low high back (Gap node side) said = said
+  cut_said low high back _ said = said
 
   pub child_said : (v : View) (p : Place) (child : ℕ) → LinksSaid v.reading.links → LinksSaid (child_links v p child)
   child_said v (AtEntry node side entry found) child said =
       bundle_said (is_selected v.reading.section found (locks node v.held.nodes)) v.reading.links node side child entry said
-  child_said v Nowhere child said = said
-  child_said v (AtNode node key) child said = said
-  child_said v (Gap node side) child said = said
+  child_said v _ child said = said

@@ -1,11 +1,11 @@
 -- The plain tree, what searches claim and what they reach, after the kinds of stores to other words than keys and plain links, after a
 -- try of a lock, and after a load of the stamp.
-use Rattle.std.proofs.Common.{◌≡◌, ℕ, List, true, ◌&&◌, set, arith, refl, sym, subst, Option, Some, None}
+use Rattle.std.proofs.Common.{◌≡◌, ℕ, List, true, ◌&&◌, set, arith, refl, sym, subst, Option, Some}
 use Rattle.index_words.specs.declared.layout.Layout.{Layout}
 use Rattle.index_words.specs.declared.view.View.{View}
-use Rattle.index_words.specs.declared.word.Field.TheVariants.{Key, Val, Lock, Mark, Head, Link, Tag}
+use Rattle.index_words.specs.declared.word.Field.TheVariants.{Mark, Head, Tag}
 use Rattle.index_words.specs.declared.word.Word.{Word}
-use Rattle.index_words.specs.declared.word.Word.TheVariants.{Stamp, Section, Announced, Node, Entry}
+use Rattle.index_words.specs.declared.word.Word.TheVariants.{Announced, Node, Entry}
 use Rattle.index_words.specs.Words.{Memory, memory, written, word_at}
 use Rattle.index_words.proofs.Store.{stored_at}
 use Rattle.key_map.specs.Lists.{IsItem}
@@ -53,63 +53,30 @@ module _ (z : Layout) (words : List ℕ) (vs : List View) (right : InRule z word
   prepare_after (Node (Head side) k) met =
       quiet (prepared_from v (Node (Head side) k) value) (prepare_calm v (Node (Head side) k) value)
       (prepare_quiet NoClaims gr0.key v (Node (Head side) k) value) (prepare_quiet C0 gr0.key v (Node (Head side) k) value)
-  prepare_after (Node Key k) met = absurd (never met)
-  prepare_after (Node Val k) met = absurd (never met)
-  prepare_after (Node Lock k) met = absurd (never met)
-  prepare_after (Node Mark k) met = absurd (never met)
-  prepare_after (Node (Link side) k) met = absurd (never met)
-  prepare_after (Node (Tag side) k) met = absurd (never met)
-  prepare_after Stamp met = absurd (never met)
-  prepare_after (Section k) met = absurd (never met)
-  prepare_after (Announced k) met = absurd (never met)
-  prepare_after (Entry p e) met = absurd (never met)
+  prepare_after _ met = absurd (never met)
 
   pub finalise_after : (u : Word) → may_finalise v u value ≡ true → Gives (written m u value) (set vs i (finalised_from v u))
   finalise_after (Entry p e) met =
       quiet (finalised_from v (Entry p e)) (finalise_calm v (Entry p e)) (finalise_quiet NoClaims gr0.key v (Entry p e))
       (finalise_quiet C0 gr0.key v (Entry p e))
-  finalise_after Stamp met = absurd (never met)
-  finalise_after (Section k) met = absurd (never met)
-  finalise_after (Announced k) met = absurd (never met)
-  finalise_after (Node f k) met = absurd (never met)
+  finalise_after _ met = absurd (never met)
 
   pub mark_after : (u : Word) → may_mark v u value ≡ true → Gives (written m u value) (set vs i (marked_from v u))
   mark_after (Node Mark k) met =
       quiet (marked_from v (Node Mark k)) (marked_calm v (Node Mark k)) (marked_quiet NoClaims gr0.key v (Node Mark k))
       (marked_quiet C0 gr0.key v (Node Mark k))
-  mark_after (Node Key k) met = absurd (never met)
-  mark_after (Node Val k) met = absurd (never met)
-  mark_after (Node Lock k) met = absurd (never met)
-  mark_after (Node (Head side) k) met = absurd (never met)
-  mark_after (Node (Link side) k) met = absurd (never met)
-  mark_after (Node (Tag side) k) met = absurd (never met)
-  mark_after Stamp met = absurd (never met)
-  mark_after (Section k) met = absurd (never met)
-  mark_after (Announced k) met = absurd (never met)
-  mark_after (Entry p e) met = absurd (never met)
+  mark_after _ met = absurd (never met)
 
   pub cut_after : (u : Word) → may_cut z m vs v u value ≡ true → Gives (written m u value) (set vs i (cut_from z m v u))
   cut_after (Entry p e) met =
       quiet (cut_from z m v (Entry p e)) (cut_calm v z m (Entry p e)) (cut_quiet NoClaims gr0.key v z m (Entry p e)) (cut_quiet C0 gr0.key v z m (Entry p e))
-  cut_after Stamp met = absurd (never met)
-  cut_after (Section k) met = absurd (never met)
-  cut_after (Announced k) met = absurd (never met)
-  cut_after (Node f k) met = absurd (never met)
+  cut_after _ met = absurd (never met)
 
   pub set_tag_after : (u : Word) → may_set_tag m v u value ≡ true → Gives (written m u value) (set vs i (raised_tag_from v u value))
   set_tag_after (Node (Tag side) k) met =
       quiet (raised_tag_from v (Node (Tag side) k) value) (set_tag_calm v (Node (Tag side) k) value)
       (set_tag_quiet NoClaims gr0.key v (Node (Tag side) k) value) (set_tag_quiet C0 gr0.key v (Node (Tag side) k) value)
-  set_tag_after (Node Key k) met = absurd (never met)
-  set_tag_after (Node Val k) met = absurd (never met)
-  set_tag_after (Node Lock k) met = absurd (never met)
-  set_tag_after (Node Mark k) met = absurd (never met)
-  set_tag_after (Node (Head side) k) met = absurd (never met)
-  set_tag_after (Node (Link side) k) met = absurd (never met)
-  set_tag_after Stamp met = absurd (never met)
-  set_tag_after (Section k) met = absurd (never met)
-  set_tag_after (Announced k) met = absurd (never met)
-  set_tag_after (Entry p e) met = absurd (never met)
+  set_tag_after _ met = absurd (never met)
 
   announced_quiet : (C : Option ℕ → Option ℕ → ℕ → Type 0) → IsQuiet C gr0.key v (announced_view v value)
   announced_quiet C = record { work = refl; locks = refl; retired = refl; step = record { place = λ said. said; links = λ said. said } }
@@ -119,11 +86,7 @@ module _ (z : Layout) (words : List ℕ) (vs : List View) (right : InRule z word
   announce_by (Some k) (Announced j) met =
       quiet (announced_view v value) (same_search v (announced_view v value) refl refl (λ j. omega arith) refl refl (λ top. refl))
       (announced_quiet NoClaims) (announced_quiet C0)
-  announce_by (Some k) Stamp met = absurd (never met)
-  announce_by (Some k) (Section j) met = absurd (never met)
-  announce_by (Some k) (Node f j) met = absurd (never met)
-  announce_by (Some k) (Entry p e) met = absurd (never met)
-  announce_by None u met = absurd (never met)
+  announce_by _ _ met = absurd (never met)
 
   pub announce_after : may_announce v w value ≡ true → Gives (written m w value) (set vs i (announced_view v value))
   announce_after met = announce_by v.number w met

@@ -5,10 +5,10 @@ use Rattle.std.proofs.lemmas.Bool.{and_parts}
 use Rattle.index_words.specs.declared.layout.Layout.{Layout}
 use Rattle.index_words.specs.declared.view.View.{View}
 use Rattle.index_words.specs.declared.word.Field.{Field}
-use Rattle.index_words.specs.declared.word.Field.TheVariants.{Key, Val, Lock, Mark, Head, Link, Tag}
+use Rattle.index_words.specs.declared.word.Field.TheVariants.{Lock, Link, Tag}
 use Rattle.index_words.specs.declared.word.Part.TheVariants.{Child}
 use Rattle.index_words.specs.declared.word.Word.{Word}
-use Rattle.index_words.specs.declared.word.Word.TheVariants.{Stamp, Section, Announced, Node, Entry}
+use Rattle.index_words.specs.declared.word.Word.TheVariants.{Stamp, Node, Entry}
 use Rattle.index_words.specs.Views.{no_update}
 use Rattle.index_words.specs.Words.{Memory, memory, written}
 use Rattle.key_map.specs.Lists.{count, IsItem}
@@ -73,20 +73,12 @@ module _ (z : Layout) (words : List ℕ) (vs : List View) (right : InRule z word
       let b = locks k v.held.nodes in
       let one = and_parts (is_lock Lock && b && nothing_pending m v && is_done_at k v.update) (eqb value 0) met in
       unlocked_after k (and_parts (is_lock Lock && b && nothing_pending m v) (is_done_at k v.update) one.0).1
-  unlock_field Key k met = absurd (never met)
-  unlock_field Val k met = absurd (never met)
-  unlock_field Mark k met = absurd (never met)
-  unlock_field (Head side) k met = absurd (never met)
-  unlock_field (Link side) k met = absurd (never met)
-  unlock_field (Tag side) k met = absurd (never met)
+  unlock_field _ k met = absurd (never met)
 
   pub unlock_after : (w : Word) → may_unlock m v w value ≡ true
       → SearchesAfter z (plain_graph (written m w value)) (views_after Unlock z m vs i v w value None) right.meaning.tree
   unlock_after (Node f k) met = unlock_field f k met
-  unlock_after Stamp met = absurd (never met)
-  unlock_after (Section k) met = absurd (never met)
-  unlock_after (Announced k) met = absurd (never met)
-  unlock_after (Entry p e) met = absurd (never met)
+  unlock_after _ met = absurd (never met)
 
 pub unlock_searches : KeepsSearchesAt Unlock
 unlock_searches z words vs right i v at live n w found value o own met =

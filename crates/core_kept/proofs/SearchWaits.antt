@@ -7,7 +7,7 @@ use Rattle.index_words.specs.declared.side.Side.TheVariants.{Right}
 use Rattle.index_words.specs.declared.view.View.{View}
 use Rattle.index_words.specs.declared.view.update.UnsetLink.{UnsetLink}
 use Rattle.index_words.specs.declared.word.Word.{Word}
-use Rattle.index_words.specs.declared.word.Word.TheVariants.{Stamp, Section, Announced, Node, Entry}
+use Rattle.index_words.specs.declared.word.Word.TheVariants.{Section, Announced}
 use Rattle.index_words.specs.Words.{Memory, memory}
 use Rattle.key_map.specs.Lists.{has, IsItem}
 use Rattle.index_words.proofs.Seats.{Beside, at_item, all_moved}
@@ -42,9 +42,8 @@ use Rattle.plain_trees.proofs.Extending.{still}
 
 -- an update that waits for a seat still does after a look
 still_waits : (b : Bool) (l l' : Bool) → (l ≡ false → l' ≡ false) → (b && not l) ≡ true → (b && not l') ≡ true
-still_waits true true l' same is = absurd (never is)
 still_waits true false l' same is = ap not (same refl)
-still_waits false l l' same is = absurd (never is)
+still_waits _ _ l' same is = absurd (never is)
 
 module _ (z : Layout) (words : List ℕ) (vs : List View) (right : InRule z words vs) (i : ℕ) (v : View) (at : IsItem vs i v) (pass : ℕ)
     (even : is_even v.section_word ≡ true) (waiting : is_waiting v ≡ true) where
@@ -156,10 +155,7 @@ module _ (z : Layout) (words : List ℕ) (vs : List View) (right : InRule z word
   look_found : (u : Word) (value : ℕ) → may_look v u value ≡ true
       → SearchesAfter z (plain_graph (memory z words)) (set vs i (look_from z v u (memory z words u))) right.meaning.tree
   look_found (Section pass) value met = look_by pass (can_look v pass value met) (has_no_lock v) refl
-  look_found Stamp value met = absurd (never met)
-  look_found (Announced k) value met = absurd (never met)
-  look_found (Node f k) value met = absurd (never met)
-  look_found (Entry p e) value met = absurd (never met)
+  look_found _ value met = absurd (never met)
 
 pub look_searches : KeepsSearchesAt LookSec
 look_searches z words vs right i v at live n w found value o own met = look_found z words vs right i v at w value met

@@ -1,6 +1,6 @@
 -- What an event does to the section words and the announcements of passes: an enter makes the own section word odd, a
 -- leave even.
-use Rattle.std.proofs.Common.{◌≡◌, ℕ, ◌+◌, List, cond, Bool, true, false, not, eqb, ◌&&◌, length, set, refl, ap, ◌∙◌, sym, subst, inl, inr, Option, Some, None}
+use Rattle.std.proofs.Common.{◌≡◌, ℕ, ◌+◌, List, cond, Bool, true, false, not, eqb, ◌&&◌, length, set, refl, ap, ◌∙◌, sym, subst, inl, inr, Option, Some}
 use Rattle.std.specs.List.{slice_get}
 use Rattle.std.proofs.lemmas.Bool.{and_parts, eqb-true, eq-eqb}
 use Rattle.std.proofs.lemmas.Option.{same_Some}
@@ -28,7 +28,8 @@ use Rattle.core_invariant.proofs.Needed.{OwnSection}
 use Rattle.core_invariant.proofs.OneView.{item_from_get, seat_at}
 use Rattle.core_invariant.proofs.Frames.{same_item}
 use Rattle.core_invariant.proofs.Idle.{section_of as own_word}
-use Rattle.core_kept.proofs.SectionWords.{same_words, own_enter}
+use Rattle.core_kept.proofs.SectionWords.{same_words}
+use Rattle.core_kept.proofs.WordPrints.{own_enter}
 
 module _ (t : Table) (e : Event) (right : IsRight t) (v : View) (at : IsItem t.views e.seat v) (w : Word) (found : word_at t.layout e.word ≡ Some w) where
   -- the own word holds what the view says, and what is stored to it is what is found after
@@ -65,8 +66,6 @@ module _ (t : Table) (e : Event) (right : IsRight t) (v : View) (at : IsItem t.v
 
 moves_at : (t : Table) (e : Event) (a : Option View) (b : Option Word) → slice_get t.views e.seat ≡ a → word_at t.layout e.word ≡ b → IsRight t
     → allowed_at t e a b ≡ true → MovesSections t e (after_at t e a b)
-moves_at t e None b is found right met = absurd (never met)
-moves_at t e (Some v) None is found right met = absurd (never met)
 moves_at t e (Some v) (Some w) is found right met =
     let z = t.layout in
     let m = held_by t in
@@ -93,6 +92,7 @@ moves_at t e (Some v) (Some w) is found right met =
       announced = λ other n. same.announcement n (inl other);
       others_announced = λ x n item other. same.announcement n (inr (other_pass x n item other));
     }
+moves_at t e _ _ is found right met = absurd (never met)
 
 -- what an allowed event does to these words
 pub moves_sections : (t : Table) (e : Event) → IsRight t → allowed t e ≡ true → MovesSections t e (after t e)

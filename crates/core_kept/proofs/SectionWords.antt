@@ -40,91 +40,7 @@ use Rattle.core_invariant.proofs.Joins.{every_append}
 use Rattle.core_invariant.proofs.Idle.{cond-le, own_count}
 use Rattle.core_invariant.proofs.KeptViews.{to_give_kept}
 use Rattle.core_kept.proofs.OwnPlaces.{raise_needed}
-
--- a store to the word changes no section word and no announcement
-pub record IsApart (w : Word) : Type 0 where
-  pub sections : (m : Memory) (x n : ℕ) → written m w x (Section n) ≡ m (Section n)
-  pub announced : (m : Memory) (x n : ℕ) → written m w x (Announced n) ≡ m (Announced n)
-
-stamp_apart : IsApart Stamp
-stamp_apart = record { sections = λ m x n. refl; announced = λ m x n. refl }
-
-node_apart : (f : Field) (k : ℕ) → IsApart (Node f k)
-node_apart f k = record { sections = λ m x n. refl; announced = λ m x n. refl }
-
-entry_apart : (e : ℕ) (p : Part) → IsApart (Entry p e)
-entry_apart e p = record { sections = λ m x n. refl; announced = λ m x n. refl }
-
-fill_apart : (v : View) (w : Word) → may_fill v w ≡ true → IsApart w
-fill_apart v (Node f k) met = node_apart f k
-fill_apart v (Entry p e) met = entry_apart e p
-fill_apart v Stamp met = absurd (never met)
-fill_apart v (Section k) met = absurd (never met)
-fill_apart v (Announced k) met = absurd (never met)
-
-prepare_apart : (m : Memory) (v : View) (w : Word) (x : ℕ) → may_prepare m v w x ≡ true → IsApart w
-prepare_apart m v (Node f k) x met = node_apart f k
-prepare_apart m v Stamp x met = absurd (never met)
-prepare_apart m v (Section k) x met = absurd (never met)
-prepare_apart m v (Announced k) x met = absurd (never met)
-prepare_apart m v (Entry p e) x met = absurd (never met)
-
-finalise_apart : (v : View) (w : Word) (x : ℕ) → may_finalise v w x ≡ true → IsApart w
-finalise_apart v (Entry p e) x met = entry_apart e p
-finalise_apart v Stamp x met = absurd (never met)
-finalise_apart v (Section k) x met = absurd (never met)
-finalise_apart v (Announced k) x met = absurd (never met)
-finalise_apart v (Node f k) x met = absurd (never met)
-
-try_apart : (v : View) (w : Word) (x : ℕ) → may_try_lock v w x ≡ true → IsApart w
-try_apart v (Node f k) x met = node_apart f k
-try_apart v Stamp x met = absurd (never met)
-try_apart v (Section k) x met = absurd (never met)
-try_apart v (Announced k) x met = absurd (never met)
-try_apart v (Entry p e) x met = absurd (never met)
-
-unlock_apart : (m : Memory) (v : View) (w : Word) (x : ℕ) → may_unlock m v w x ≡ true → IsApart w
-unlock_apart m v (Node f k) x met = node_apart f k
-unlock_apart m v Stamp x met = absurd (never met)
-unlock_apart m v (Section k) x met = absurd (never met)
-unlock_apart m v (Announced k) x met = absurd (never met)
-unlock_apart m v (Entry p e) x met = absurd (never met)
-
-set_link_apart : (z : Layout) (m : Memory) (v : View) (w : Word) (x : ℕ) → may_set_link z m v w x ≡ true → IsApart w
-set_link_apart z m v (Node f k) x met = node_apart f k
-set_link_apart z m v Stamp x met = absurd (never met)
-set_link_apart z m v (Section k) x met = absurd (never met)
-set_link_apart z m v (Announced k) x met = absurd (never met)
-set_link_apart z m v (Entry p e) x met = absurd (never met)
-
-set_tag_apart : (m : Memory) (v : View) (w : Word) (x : ℕ) → may_set_tag m v w x ≡ true → IsApart w
-set_tag_apart m v (Node f k) x met = node_apart f k
-set_tag_apart m v Stamp x met = absurd (never met)
-set_tag_apart m v (Section k) x met = absurd (never met)
-set_tag_apart m v (Announced k) x met = absurd (never met)
-set_tag_apart m v (Entry p e) x met = absurd (never met)
-
-mark_apart : (v : View) (w : Word) (x : ℕ) → may_mark v w x ≡ true → IsApart w
-mark_apart v (Node f k) x met = node_apart f k
-mark_apart v Stamp x met = absurd (never met)
-mark_apart v (Section k) x met = absurd (never met)
-mark_apart v (Announced k) x met = absurd (never met)
-mark_apart v (Entry p e) x met = absurd (never met)
-
-cut_apart : (z : Layout) (m : Memory) (vs : List View) (v : View) (w : Word) (x : ℕ) → may_cut z m vs v w x ≡ true → IsApart w
-cut_apart z m vs v (Entry p e) x met = entry_apart e p
-cut_apart z m vs v Stamp x met = absurd (never met)
-cut_apart z m vs v (Section k) x met = absurd (never met)
-cut_apart z m vs v (Announced k) x met = absurd (never met)
-cut_apart z m vs v (Node f k) x met = absurd (never met)
-
-pub own_enter : (v : View) (w : Word) (value : ℕ) → may_enter v w value ≡ true → OwnSection v.number w
-own_enter v w value met =
-    let parts = and_parts (is_own_section v.number w && is_outside v) (eqb value (v.section_word + 1)) met in
-    own_section v.number w (and_parts (is_own_section v.number w) (is_outside v) parts.0).0
-
-pub own_leave : (m : Memory) (v : View) (w : Word) (value : ℕ) → may_leave m v w value ≡ true → OwnSection v.number w
-own_leave m v w value met = (can_leave m v w value met).own
+use Rattle.core_kept.proofs.WordPrints.{stores, word_keeps}
 
 -- two memories say the same of the section words of some passes, and of the announcements of some
 pub record SameWords (sections announced : ℕ → Type 0) (m m' : Memory) : Type 0 where
@@ -139,84 +55,30 @@ LeavesSection kind v n = ((kind ≢ Enter) × (kind ≢ Leave)) ⊎ (is_number n
 abbrev pub LeavesAnnouncement : Kind → View → ℕ → Type 0
 LeavesAnnouncement kind v n = (kind ≢ Announce) ⊎ (is_number n v.number ≡ false)
 
--- a store to the own word of one pass is none to another one's
-not_own : (number : Option ℕ) (own x old n : ℕ) (same : Bool) → number ≡ Some own → eqb n own ≡ same → is_number n number ≡ false → cond same x old ≡ old
-not_own number own x old n true named e other =
-    let is : n ≡ own = eqb-true n own e in
-    absurd (never (sym other ∙ ap (is_number n) named ∙ eq-eqb own n (sym is)))
-not_own number own x old n false named e other = refl
-
 module _ (z : Layout) (words : List ℕ) (vs : List View) (i : ℕ) (v : View) (at : ℕ) (w : Word) (long : length words ≡ word_count z)
     (found : word_at z at ≡ Some w) (value : ℕ) (o : Option Update) where
   abbrev m : Memory
   m = memory z words
 
-  abbrev Same : Kind → Memory → Type 0
-  Same kind = SameWords (LeavesSection kind v) (LeavesAnnouncement kind v) m
+  section_off : (kind : Kind) (n : ℕ) → LeavesSection kind v n → stores kind v (Section n) ≡ false
+  section_off Enter n (inl neither) = absurd (neither.0 refl)
+  section_off Enter n (inr other) = other
+  section_off Leave n (inl neither) = absurd (neither.1 refl)
+  section_off Leave n (inr other) = other
+  section_off _ n other = refl
 
-  unchanged : (kind : Kind) → Same kind (memory z words)
-  unchanged kind = record { section = λ n other. refl; announcement = λ n other. refl }
-
-  stored : (kind : Kind) (x : ℕ) → IsApart w → Same kind (memory z (set words at x))
-  stored kind x apart =
-      subst (Same kind) (sym (stored_at z words at w x long found))
-      (record { section = λ n other. apart.sections m x n; announcement = λ n other. apart.announced m x n })
-
-  own_stored : (kind : Kind) (x : ℕ) → OwnSection v.number w → ((n : ℕ) → LeavesSection kind v n → is_number n v.number ≡ false)
-      → Same kind (memory z (set words at x))
-  own_stored kind x own others =
-      subst (Same kind) (sym (stored_at z words at w x long found))
-      (subst (λ (u : Word). Same kind (written m u x)) (sym own.word)
-      (record {
-        section = λ n other. not_own v.number own.n x (m (Section n)) n (eqb n own.n) own.named refl (others n other);
-        announcement = λ n other. refl;
-      }))
-
-  announced_stored : (x : ℕ) → OwnAnnounced v.number w → Same Announce (memory z (set words at x))
-  announced_stored x own =
-      subst (Same Announce) (sym (stored_at z words at w x long found))
-      (subst (λ (u : Word). Same Announce (written m u x)) (sym own.word)
-      (record {
-        section = λ n other. refl;
-        announcement = λ n other. not_own v.number own.n x (m (Announced n)) n (eqb n own.n) own.named refl (announce_others n other);
-      }))
-    where
-      announce_others : (n : ℕ) → LeavesAnnouncement Announce v n → is_number n v.number ≡ false
-      announce_others n (inl other) = absurd (other refl)
-      announce_others n (inr other) = other
-
-  enter_others : (n : ℕ) → LeavesSection Enter v n → is_number n v.number ≡ false
-  enter_others n (inl neither) = absurd (neither.0 refl)
-  enter_others n (inr other) = other
-
-  leave_others : (n : ℕ) → LeavesSection Leave v n → is_number n v.number ≡ false
-  leave_others n (inl neither) = absurd (neither.1 refl)
-  leave_others n (inr other) = other
-
-  tried : (kind : Kind) (b : Bool) → IsApart w → Same kind (memory z (cond b (set words at value) words))
-  tried kind true apart = stored kind value apart
-  tried kind false apart = unchanged kind
-
-  raise_apart : may_raise z m vs v w value o ≡ true → IsApart w
-  raise_apart met = subst IsApart (sym (stamp_named w (raise_needed z m vs v w value o met))) stamp_apart
+  announced_off : (kind : Kind) (n : ℕ) → LeavesAnnouncement kind v n → stores kind v (Announced n) ≡ false
+  announced_off Announce n (inl other) = absurd (other refl)
+  announced_off Announce n (inr other) = other
+  announced_off _ n other = refl
 
   -- no event changes another pass's section word, or its announcement
   pub same_words : (kind : Kind) → needs kind z m vs i v w value o ≡ true
       → SameWords (LeavesSection kind v) (LeavesAnnouncement kind v) m (memory z (words_after kind words at value))
-  same_words Enter met = own_stored Enter value (own_enter v w value met) enter_others
-  same_words Leave met = own_stored Leave value (own_leave m v w value met) leave_others
-  same_words Fill met = stored Fill value (fill_apart v w met)
-  same_words Prepare met = stored Prepare value (prepare_apart m v w value met)
-  same_words Raise met = stored Raise (slice_index words at + 1) (raise_apart met)
-  same_words Finalise met = stored Finalise value (finalise_apart v w value met)
-  same_words TryLock met = tried TryLock (eqb (slice_index words at) 0) (try_apart v w value met)
-  same_words Unlock met = stored Unlock value (unlock_apart m v w value met)
-  same_words MarkNode met = stored MarkNode value (mark_apart v w value met)
-  same_words Announce met = announced_stored value (own_announced v.number w (and_parts (is_own_announced v.number w) (is_announcement v value) met).0)
-  same_words Cut met = stored Cut value (cut_apart z m vs v w value met)
-  same_words SetLink met = stored SetLink value (set_link_apart z m v w value met)
-  same_words SetTag met = stored SetTag value (set_tag_apart m v w value met)
-  same_words kind met = unchanged kind
+  same_words kind met = record {
+    section = λ n other. word_keeps z words vs i v at w long found value o kind (Section n) (section_off kind n other) met;
+    announcement = λ n other. word_keeps z words vs i v at w long found value o kind (Announced n) (announced_off kind n other) met;
+  }
 
 -- what holds of each number of a list, under an implication at the numbers that stand in it
 every_in : (P Q : ℕ → Type 0) (xs : List ℕ) → ((n : ℕ) → 0 < count n xs → P n → Q n) → Every P xs → Every Q xs

@@ -192,8 +192,6 @@ module _ (z : Layout) (words : List ℕ) (vs : List View) (right : InRule z word
 
 seen_at : (t : Table) (e : Event) (a : Option View) (b : Option Word) → slice_get t.views e.seat ≡ a → word_at t.layout e.word ≡ b → IsRight t
     → allowed_at t e a b ≡ true → KeepsSeen t e (after_at t e a b)
-seen_at t e None b is found right met = absurd (never met)
-seen_at t e (Some v) None is found right met = absurd (never met)
 seen_at t e (Some v) (Some w) is found right met =
     let z = t.layout in
     let m = held_by t in
@@ -230,6 +228,7 @@ seen_at t e (Some v) (Some w) is found right met =
           (not_equal e.value e.seat (and_parts (is_stamp w) (not (eqb e.value e.seat)) parts.0).1)
           (slice_get t.views e.value) refl u y of (subst (λ (us : List View). IsItem us e.seat y) (views_of JoinSeat same) there) parts.1;
     }
+seen_at t e _ _ is found right met = absurd (never met)
 
 -- what each seat has seen is kept by an allowed event
 pub keeps_seen : (t : Table) (e : Event) → IsRight t → allowed t e ≡ true → KeepsSeen t e (after t e)

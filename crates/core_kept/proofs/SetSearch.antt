@@ -7,7 +7,7 @@ use Rattle.index_words.specs.declared.side.Side.TheVariants.{Left, Right}
 use Rattle.index_words.specs.declared.view.View.{View}
 use Rattle.index_words.specs.declared.view.reading.Reading.{Reading}
 use Rattle.index_words.specs.declared.view.reading.Place.{Place}
-use Rattle.index_words.specs.declared.view.reading.Place.TheVariants.{Nowhere, Entry as AtEntry, Node as AtNode, Gap}
+use Rattle.index_words.specs.declared.view.reading.Place.TheVariants.{Node as AtNode, Gap}
 use Rattle.index_words.specs.declared.view.reading.Link.{Link as LinkRecord}
 use Rattle.index_words.specs.declared.view.reading.LinkSource.{LinkSource}
 use Rattle.index_words.specs.declared.view.reading.LinkSource.TheVariants.{Bundle, Plain}
@@ -160,12 +160,11 @@ module _ (z : Layout) (m : Memory) (vs : List View) (g : Meaning) (rule : Rule z
     place_set : (p : Place) → ((a top : ℕ) → count a (place_nodes top p) ≤ count a (search_nodes top t.reading))
         → PlaceClaims (ClaimsAt gr0 vs W t) (turn_key t.reading.right_turn) (turn_key t.reading.left_turn) p
         → PlaceClaims (ClaimsAt gr1 ws1 tree1 t) (turn_key t.reading.right_turn) (turn_key t.reading.left_turn) p
-    place_set Nowhere counts claims = tt
-    place_set (AtEntry node side' entry found) counts claims = tt
     place_set (AtNode node key) counts claims =
         claims_at (turn_key t.reading.right_turn) (turn_key t.reading.left_turn) node (omega (arith, counts node (gr0.child Right 0), in_one node [])) claims
     place_set (Gap node side') counts claims =
         claims_at (turn_key t.reading.right_turn) (turn_key t.reading.left_turn) node (omega (arith, counts node (gr0.child Right 0), in_one node [])) claims
+    place_set _ counts claims = tt
 
     source_set : (node child : ℕ) (s : LinkSource) → ((a : ℕ) → count a (source_nodes node s) ≤ count a (search_nodes (gr0.child Right 0) t.reading))
         → SourceClaims (ClaimsAt gr0 vs W t) node child s → SourceClaims (ClaimsAt gr1 ws1 tree1 t) node child s

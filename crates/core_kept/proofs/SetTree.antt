@@ -1,5 +1,5 @@
 -- The plain tree after a set link, and what each view has still to do then.
-use Rattle.std.proofs.Common.{◌≡◌, ℕ, ◌<◌, ◌⊎◌, cond, List, [], ◌∷◌, Bool, true, false, not, eqb, ◌&&◌, ◌||◌, set, arith, refl, ap, ◌∙◌, sym, subst, inl, inr, Option, Some, None, IfSome}
+use Rattle.std.proofs.Common.{◌≡◌, ℕ, ◌<◌, ◌⊎◌, cond, List, [], ◌∷◌, Bool, true, false, not, eqb, ◌&&◌, ◌||◌, set, arith, refl, ap, ◌∙◌, sym, subst, inl, inr, Option, None, IfSome}
 use Rattle.std.specs.List.{list_any}
 use Rattle.std.proofs.lemmas.Bool.{and_from, cases_lt, eq-eqb}
 use Rattle.std.proofs.lemmas.Bool.Decides.{eqb_tells}
@@ -133,9 +133,6 @@ module _ (z : Layout) (m : Memory) (vs : List View) (g : Meaning) (rule : Rule z
   near_still : (j : ℕ) (t : View) → IsItem vs j t → (y : UnsetLink) → ItemOf z m vs g rule plain W trees t y → ¬ IsLink k side y.node y.side
       → (taken : List ℕ) (unlinking : Option Unlinking)
       → taken ≡ t.update.taken → NearRight gr0 W taken unlinking y.was y.child → NearRight gr' tree' taken unlinking y.was y.child
-  near_still j t at' y is ne [] unlinking e near = tt
-  near_still j t at' y is ne (a ∷ []) unlinking e near = tt
-  near_still j t at' y is ne (a ∷ b ∷ []) (Some o) e near = tt
   near_still j t at' y is ne (a ∷ b ∷ []) None e near = λ first. copy_still (near first)
     where
       successor_out : IsOut (undone gr0 vs) b
@@ -187,7 +184,7 @@ module _ (z : Layout) (m : Memory) (vs : List View) (g : Meaning) (rule : Rule z
               let some = some_in (gr0.child Right y.child) here in
               tree_keeps (gr0.child Right y.child) (subst (λ n. 0 < occurs n g.tree) (sym leads)
               (child_there z m vs g rule plain W trees y.child Right (inr in_tree) (subst (λ n. 0 < n) leads some))) here
-  near_still j t at' y is ne (a ∷ b ∷ c ∷ cs) unlinking e near = tt
+  near_still j t at' y is ne _ _ e near = tt
 
   -- an item of a view is right after the store, where it is not the link's own
   item_still : (j : ℕ) (t : View) → IsItem vs j t → (unlinking : Option Unlinking) → unlinking ≡ t.update.unlinking → (y : UnsetLink)

@@ -5,9 +5,9 @@ use Rattle.index_words.specs.declared.layout.Layout.{Layout}
 use Rattle.index_words.specs.declared.view.View.{View}
 use Rattle.index_words.specs.declared.view.reading.Reading.{Reading}
 use Rattle.index_words.specs.declared.word.Part.{Part}
-use Rattle.index_words.specs.declared.word.Part.TheVariants.{Child, Stamp as Number, Next}
+use Rattle.index_words.specs.declared.word.Part.TheVariants.{Next}
 use Rattle.index_words.specs.declared.word.Word.{Word}
-use Rattle.index_words.specs.declared.word.Word.TheVariants.{Stamp, Section, Announced, Node, Entry}
+use Rattle.index_words.specs.declared.word.Word.TheVariants.{Announced, Entry}
 use Rattle.index_words.specs.Words.{memory, written, word_at}
 use Rattle.key_map.specs.Lists.{IsItem}
 use Rattle.core_grace.specs.Sections.{is_even}
@@ -43,10 +43,7 @@ module _ (z : Layout) (words : List ℕ) (vs : List View) (right : InRule z word
       let reads = (and_parts (is_some v.reading.section) (not (is_number p v.number)) one.0).0 in
       load_right z words vs right (set vs i (ann_loaded v p (m (Announced p)))) (look_ann_kept z m vs right.meaning right.rule i v at p (reads_inside reads))
       (plain_quiet m right.meaning vs i v (ann_loaded v p (m (Announced p))) at (quiet_work v _ refl refl refl refl))
-  look_found Stamp value met = absurd (never met)
-  look_found (Section k) value met = absurd (never met)
-  look_found (Entry p e) value met = absurd (never met)
-  look_found (Node f k) value met = absurd (never met)
+  look_found _ value met = absurd (never met)
 
   cut_word : (p : Part) (e value : ℕ) → may_cut z m vs v (Entry p e) value ≡ true
       → Kept z m vs right.meaning (written m (Entry p e) value) (set vs i (cut_view v e (cut_off z m e)))
@@ -56,17 +53,13 @@ module _ (z : Layout) (words : List ℕ) (vs : List View) (right : InRule z word
       subst (λ x. Kept z m vs right.meaning (written m (Entry Next e) x) (set vs i (cut_view v e (cut_off z m e)))) (sym parts.0)
       (subst (λ es. Kept z m vs right.meaning (written m (Entry Next e) 0) (set vs i (cut_view v e es))) (sym cut.off)
       (cut_kept z m vs right.meaning right.rule i v at e cut))
-  cut_word Child e value met = absurd (never met)
-  cut_word Number e value met = absurd (never met)
+  cut_word _ e value met = absurd (never met)
 
   cut_found : (n : ℕ) (w : Word) → word_at z n ≡ Some w → (value : ℕ) → may_cut z m vs v w value ≡ true
       → After z words vs right (set words n value) (set vs i (cut_from z m v w))
   cut_found n (Entry p e) found value met =
       store_right z words vs n value (Entry p e) right (set vs i (cut_from z m v (Entry p e))) found (cut_word p e value met)
-  cut_found n Stamp found value met = absurd (never met)
-  cut_found n (Section k) found value met = absurd (never met)
-  cut_found n (Announced k) found value met = absurd (never met)
-  cut_found n (Node f k) found value met = absurd (never met)
+  cut_found n _ found value met = absurd (never met)
 
 pub look_ann_law : KeepsRuleAt LookAnn
 look_ann_law z words vs right i v at live n w found value o own met = look_found z words vs right i v at w value met

@@ -1,5 +1,5 @@
 -- An event that is allowed keeps the rule, and what each number up to the stamp selects.
-use Rattle.std.proofs.Common.{◌≡◌, ℕ, List, true, false, not, ◌&&◌, refl, Option, Some, None}
+use Rattle.std.proofs.Common.{◌≡◌, ℕ, List, true, false, not, ◌&&◌, refl, Option, Some}
 use Rattle.std.specs.List.{All, slice_get}
 use Rattle.std.proofs.lemmas.Bool.{and_parts}
 use Rattle.index_words.specs.declared.layout.Layout.{Layout}
@@ -120,8 +120,6 @@ after_of z words vs right words' ws gives searches turned linking spent spare pl
 
 after_right : (t : Table) (e : Event) (o : Option View) (w : Option Word) → slice_get t.views e.seat ≡ o → word_at t.layout e.word ≡ w → IsRight t
     → allowed_at t e o w ≡ true → AfterTable t (after_at t e o w)
-after_right t e None w is found right met = absurd (never met)
-after_right t e (Some v) None is found right met = absurd (never met)
 after_right t e (Some v) (Some w) is found right met =
     let a = carries e.kind v e.update in
     let b = not v.joined in
@@ -140,6 +138,7 @@ after_right t e (Some v) (Some w) is found right met =
     (places_after t.layout t.words t.views right e.seat v at w e.value e.kind e.update two.0 one.1)
     (waits_after t.layout t.words t.views right e.seat v at e.word w found e.value e.kind e.update two.0 one.1)
     (unused_after t.layout t.words t.views right e.seat v at e.word w found e.value e.kind e.update one.1)
+after_right t e _ _ is found right met = absurd (never met)
 
 -- the law on an allowed event: the rule holds after it, and what was selected is selected
 pub stepped_right : (t : Table) (e : Event) → IsRight t → allowed t e ≡ true → AfterTable t (after t e)

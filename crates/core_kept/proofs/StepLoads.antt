@@ -4,10 +4,10 @@ use Rattle.std.proofs.lemmas.Bool.{and_parts}
 use Rattle.index_words.specs.declared.layout.Layout.{Layout}
 use Rattle.index_words.specs.declared.view.View.{View}
 use Rattle.index_words.specs.declared.word.Field.{Field}
-use Rattle.index_words.specs.declared.word.Field.TheVariants.{Key, Val, Lock, Mark, Head, Link, Tag}
+use Rattle.index_words.specs.declared.word.Field.TheVariants.{Head}
 use Rattle.index_words.specs.declared.word.Part.TheVariants.{Child, Stamp as Number, Next}
 use Rattle.index_words.specs.declared.word.Word.{Word}
-use Rattle.index_words.specs.declared.word.Word.TheVariants.{Stamp, Section, Announced, Node, Entry}
+use Rattle.index_words.specs.declared.word.Word.TheVariants.{Stamp, Node, Entry}
 use Rattle.index_words.specs.Words.{Memory, memory, word_at}
 use Rattle.key_map.specs.Lists.{IsItem}
 use Rattle.core_grace.specs.Sections.{is_even}
@@ -46,10 +46,7 @@ module _ (z : Layout) (words : List ℕ) (vs : List View) (right : InRule z word
       (longest_is z m vs right.meaning right.rule) (ap tree_nodes (tree_is z m vs right.meaning right.rule)))
       (plain_quiet m right.meaning vs i v (stamp_loaded (longest vs) v (m Stamp) (eqb value 1) (tree_nodes (tree_now z m vs))) at
       (quiet_work v _ refl refl refl refl))
-  stamp_found (Section k) met = absurd (never met)
-  stamp_found (Announced k) met = absurd (never met)
-  stamp_found (Node f k) met = absurd (never met)
-  stamp_found (Entry p e) met = absurd (never met)
+  stamp_found _ met = absurd (never met)
 
   head_at_found : (f : Field) (k : ℕ) → word_at z n ≡ Some (Node f k) → may_load_field v f k value ≡ true
       → Gives words (views_after LoadHead z m vs i v (Node f k) value None)
@@ -63,19 +60,11 @@ module _ (z : Layout) (words : List ℕ) (vs : List View) (right : InRule z word
       (reach_is z v k (node_there z n k (Head side) is) two.1))
       (plain_quiet m right.meaning vs i v (head_loaded v k side (m (Node (Head side) k)) (m (Entry Number (m (Node (Head side) k))))) at
       (quiet_work v _ refl refl refl (held-found k side (m (Node (Head side) k)) v.held.nodes)))
-  head_at_found Key k is met = absurd (never met)
-  head_at_found Val k is met = absurd (never met)
-  head_at_found Lock k is met = absurd (never met)
-  head_at_found Mark k is met = absurd (never met)
-  head_at_found (Link side) k is met = absurd (never met)
-  head_at_found (Tag side) k is met = absurd (never met)
+  head_at_found _ k is met = absurd (never met)
 
   pub head_found : (u : Word) → word_at z n ≡ Some u → may_load_head v u value ≡ true → Gives words (views_after LoadHead z m vs i v u value None)
   head_found (Node f k) is met = head_at_found f k is met
-  head_found Stamp is met = absurd (never met)
-  head_found (Section k) is met = absurd (never met)
-  head_found (Announced k) is met = absurd (never met)
-  head_found (Entry p e) is met = absurd (never met)
+  head_found _ is met = absurd (never met)
 
   pub ts_found : (u : Word) → word_at z n ≡ Some u → may_load_part Number v u value ≡ true → Gives words (views_after LoadTs z m vs i v u value None)
   ts_found (Entry Number e) is met =
@@ -85,12 +74,7 @@ module _ (z : Layout) (words : List ℕ) (vs : List View) (right : InRule z word
       (load_ts_kept z m vs right.meaning right.rule i v at stood.node stood.side e stood.found stood.here (entry_there z n e Number is))
       (plain_quiet m right.meaning vs i v (ts_loaded v e (m (Entry Number e))) at
       (quiet_work v _ refl refl refl (side_node e (m (Entry Number e)) v.held.nodes)))
-  ts_found (Entry Child e) is met = absurd (never met)
-  ts_found (Entry Next e) is met = absurd (never met)
-  ts_found Stamp is met = absurd (never met)
-  ts_found (Section k) is met = absurd (never met)
-  ts_found (Announced k) is met = absurd (never met)
-  ts_found (Node f k) is met = absurd (never met)
+  ts_found _ is met = absurd (never met)
 
   pub ptr_found : (u : Word) → word_at z n ≡ Some u → may_load_part Child v u value ≡ true → Gives words (views_after LoadPtr z m vs i v u value None)
   ptr_found (Entry Child e) is met =
@@ -99,12 +83,7 @@ module _ (z : Layout) (words : List ℕ) (vs : List View) (right : InRule z word
       load_right z words vs right (set vs i (ptr_loaded v (m (Entry Child e))))
       (load_ptr_kept z m vs right.meaning right.rule i v at stood.node stood.side e stood.found stood.here (entry_there z n e Child is))
       (plain_quiet m right.meaning vs i v (ptr_loaded v (m (Entry Child e))) at (quiet_work v _ refl refl refl refl))
-  ptr_found (Entry Number e) is met = absurd (never met)
-  ptr_found (Entry Next e) is met = absurd (never met)
-  ptr_found Stamp is met = absurd (never met)
-  ptr_found (Section k) is met = absurd (never met)
-  ptr_found (Announced k) is met = absurd (never met)
-  ptr_found (Node f k) is met = absurd (never met)
+  ptr_found _ is met = absurd (never met)
 
   pub next_found : (u : Word) → word_at z n ≡ Some u → may_load_next v u value ≡ true → Gives words (views_after LoadNext z m vs i v u value None)
   next_found (Entry Next e) is met =
@@ -115,12 +94,7 @@ module _ (z : Layout) (words : List ℕ) (vs : List View) (right : InRule z word
       (load_next_kept z m vs right.meaning right.rule i v at stood.node stood.side e stood.found stood.here (entry_there z n e Next is)
       (going_on v e stood.node stood.side stood.found stood.here first.1))
       (plain_quiet m right.meaning vs i v (next_loaded v e (m (Entry Next e))) at (next_work v v.reading.place e (m (Entry Next e))))
-  next_found (Entry Number e) is met = absurd (never met)
-  next_found (Entry Child e) is met = absurd (never met)
-  next_found Stamp is met = absurd (never met)
-  next_found (Section k) is met = absurd (never met)
-  next_found (Announced k) is met = absurd (never met)
-  next_found (Node f k) is met = absurd (never met)
+  next_found _ is met = absurd (never met)
 
 pub stamp_law : KeepsRuleAt LoadStamp
 stamp_law z words vs right i v at live n w found value o own met = stamp_found z words vs right i v at live n w found value w met

@@ -4,7 +4,7 @@ use Rattle.std.proofs.lemmas.Bool.{and_parts, eqb-true}
 use Rattle.index_words.specs.declared.layout.Layout.{Layout}
 use Rattle.index_words.specs.declared.view.View.{View}
 use Rattle.index_words.specs.declared.word.Word.{Word}
-use Rattle.index_words.specs.declared.word.Word.TheVariants.{Stamp, Section, Announced, Node, Entry}
+use Rattle.index_words.specs.declared.word.Word.TheVariants.{Node}
 use Rattle.index_words.specs.Words.{Memory, memory, address, word_at}
 use Rattle.key_map.specs.Lists.{IsItem}
 use Rattle.index_words.proofs.Seats.{at_item}
@@ -51,35 +51,23 @@ module _ (z : Layout) (words : List ℕ) (vs : List View) (right : InRule z word
       tried_by false held =
           load_right z words vs right (set vs i (met_lock v value (m (Node f k)))) (met_by z m vs right.meaning right.rule i v at f k value (m (Node f k)) met)
           (plain_quiet m right.meaning vs i v (met_lock v value (m (Node f k))) at (quiet_work v _ refl refl refl refl))
-  try_lock_found Stamp is met = absurd (never met)
-  try_lock_found (Section k) is met = absurd (never met)
-  try_lock_found (Announced k) is met = absurd (never met)
-  try_lock_found (Entry p e) is met = absurd (never met)
+  try_lock_found _ is met = absurd (never met)
 
   pub unlock_found : (u : Word) → word_at z n ≡ Some u → may_unlock m v u value ≡ true → Gives (set words n value) (views_after Unlock z m vs i v u value None)
   unlock_found (Node f k) is met =
       store_right z words vs n value (Node f k) right (set vs i (unlocked_view v k)) is (unlock_by z m vs right.meaning right.rule i v at f k value met)
-  unlock_found Stamp is met = absurd (never met)
-  unlock_found (Section k) is met = absurd (never met)
-  unlock_found (Announced k) is met = absurd (never met)
-  unlock_found (Entry p e) is met = absurd (never met)
+  unlock_found _ is met = absurd (never met)
 
   pub load_mark_found : (u : Word) → may_load_mark v u value ≡ true → Gives words (views_after LoadMark z m vs i v u value None)
   load_mark_found (Node f k) met =
       load_right z words vs right (set vs i (mark_loaded v k (m (Node f k)))) (load_mark_by z m vs right.meaning right.rule i v at f k value met)
       (plain_quiet m right.meaning vs i v (mark_loaded v k (m (Node f k))) at (quiet_work v _ refl refl refl (slots_marked k (m (Node f k)) v.held.nodes)))
-  load_mark_found Stamp met = absurd (never met)
-  load_mark_found (Section k) met = absurd (never met)
-  load_mark_found (Announced k) met = absurd (never met)
-  load_mark_found (Entry p e) met = absurd (never met)
+  load_mark_found _ met = absurd (never met)
 
   pub mark_found : (u : Word) → word_at z n ≡ Some u → may_mark v u value ≡ true → Gives (set words n value) (views_after MarkNode z m vs i v u value None)
   mark_found (Node f k) is met =
       store_right z words vs n value (Node f k) right (set vs i (with_mark v k 1)) is (mark_by z m vs right.meaning right.rule i v at f k value met)
-  mark_found Stamp is met = absurd (never met)
-  mark_found (Section k) is met = absurd (never met)
-  mark_found (Announced k) is met = absurd (never met)
-  mark_found (Entry p e) is met = absurd (never met)
+  mark_found _ is met = absurd (never met)
 
   pub load_pair_found : (u : Word) → may_load_pair v u value ≡ true → Gives words (views_after LoadKeyOrVal z m vs i v u value None)
   load_pair_found (Node f k) met =
@@ -88,10 +76,7 @@ module _ (z : Layout) (words : List ℕ) (vs : List View) (right : InRule z word
       load_right z words vs right (set vs i (pair_loaded v f k (m (Node f k))))
       (load_pair_kept z m vs right.meaning i k f v right.rule at (not_true (is_even v.section_word) (and_parts (is_pair f) b one.0).1))
       (plain_quiet m right.meaning vs i v (pair_loaded v f k (m (Node f k))) at (quiet_work v _ refl refl refl (slots_paired f k (m (Node f k)) v.held.nodes)))
-  load_pair_found Stamp met = absurd (never met)
-  load_pair_found (Section k) met = absurd (never met)
-  load_pair_found (Announced k) met = absurd (never met)
-  load_pair_found (Entry p e) met = absurd (never met)
+  load_pair_found _ met = absurd (never met)
 
 pub lock_law : KeepsRuleAt TryLock
 lock_law z words vs right i v at live n w found value o own met = try_lock_found z words vs right i v at live n w found value w found met

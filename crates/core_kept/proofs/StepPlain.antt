@@ -7,9 +7,9 @@ use Rattle.index_words.specs.declared.side.Side.{Side}
 use Rattle.index_words.specs.declared.view.View.{View}
 use Rattle.index_words.specs.declared.view.update.HeldNode.{HeldNode}
 use Rattle.index_words.specs.declared.word.Field.{Field}
-use Rattle.index_words.specs.declared.word.Field.TheVariants.{Key, Val, Lock, Mark, Head, Link, Tag}
+use Rattle.index_words.specs.declared.word.Field.TheVariants.{Link, Tag}
 use Rattle.index_words.specs.declared.word.Word.{Word}
-use Rattle.index_words.specs.declared.word.Word.TheVariants.{Stamp, Section, Announced, Node, Entry}
+use Rattle.index_words.specs.declared.word.Word.TheVariants.{Node}
 use Rattle.index_words.specs.Words.{Memory, memory, written, word_at}
 use Rattle.key_map.specs.Lists.{count, IsItem}
 use Rattle.index_words.proofs.Seats.{item_set}
@@ -77,19 +77,11 @@ module _ (z : Layout) (words : List ℕ) (vs : List View) (right : InRule z word
       (not_true (is_even v.section_word) (and_parts (not (is_even v.section_word)) stands one.0).0))
       (plain_quiet m right.meaning vs i v (link_loaded v k side (m (Node (Link side) k))) at
       (quiet_work v _ refl refl refl (slots_link k side (m (Node (Link side) k)) v.held.nodes)))
-  load_link_field Key k met = absurd (never met)
-  load_link_field Val k met = absurd (never met)
-  load_link_field Lock k met = absurd (never met)
-  load_link_field Mark k met = absurd (never met)
-  load_link_field (Head side) k met = absurd (never met)
-  load_link_field (Tag side) k met = absurd (never met)
+  load_link_field _ k met = absurd (never met)
 
   load_link_found : (u : Word) → may_load_link v u value ≡ true → Gives words (views_after LoadLink z m vs i v u value None)
   load_link_found (Node f k) met = load_link_field f k met
-  load_link_found Stamp met = absurd (never met)
-  load_link_found (Section j) met = absurd (never met)
-  load_link_found (Announced j) met = absurd (never met)
-  load_link_found (Entry p e) met = absurd (never met)
+  load_link_found _ met = absurd (never met)
 
   load_tag_field : (f : Field) (k : ℕ) → may_load_tag v (Node f k) value ≡ true → Gives words (set vs i (tag_at v f k (m (Node f k))))
   load_tag_field (Tag side) k met =
@@ -98,19 +90,11 @@ module _ (z : Layout) (words : List ℕ) (vs : List View) (right : InRule z word
       (tag_load_kept z m vs right.meaning i k side v right.rule at (not_true (is_even v.section_word) (and_parts true (not (is_even v.section_word)) one.0).1))
       (plain_quiet m right.meaning vs i v (tag_loaded v k side (m (Node (Tag side) k))) at
       (quiet_work v _ refl refl refl (slots_tag k side (m (Node (Tag side) k)) v.held.nodes)))
-  load_tag_field Key k met = absurd (never met)
-  load_tag_field Val k met = absurd (never met)
-  load_tag_field Lock k met = absurd (never met)
-  load_tag_field Mark k met = absurd (never met)
-  load_tag_field (Head side) k met = absurd (never met)
-  load_tag_field (Link side) k met = absurd (never met)
+  load_tag_field _ k met = absurd (never met)
 
   load_tag_found : (u : Word) → may_load_tag v u value ≡ true → Gives words (views_after LoadTag z m vs i v u value None)
   load_tag_found (Node f k) met = load_tag_field f k met
-  load_tag_found Stamp met = absurd (never met)
-  load_tag_found (Section j) met = absurd (never met)
-  load_tag_found (Announced j) met = absurd (never met)
-  load_tag_found (Entry p e) met = absurd (never met)
+  load_tag_found _ met = absurd (never met)
 
   set_link_field : (f : Field) (k : ℕ) → word_at z n ≡ Some (Node f k) → may_set_field z m v f k value ≡ true
       → Gives (set words n value) (set vs i (set_at v f k value))
@@ -120,20 +104,12 @@ module _ (z : Layout) (words : List ℕ) (vs : List View) (right : InRule z word
       (kept_same z m vs right.meaning (written m (Node (Link side) k) value) (set vs i (link_set v k side value))
       (link_set_kept z m vs right.meaning right.rule i v at k side value can.locked)
       (λ plain. plain_set z m vs right.meaning right.rule i k side value v at can.locked plain can.sets))
-  set_link_field Key k is met = absurd (never met)
-  set_link_field Val k is met = absurd (never met)
-  set_link_field Lock k is met = absurd (never met)
-  set_link_field Mark k is met = absurd (never met)
-  set_link_field (Head side) k is met = absurd (never met)
-  set_link_field (Tag side) k is met = absurd (never met)
+  set_link_field _ k is met = absurd (never met)
 
   set_link_found : (u : Word) → word_at z n ≡ Some u → may_set_link z m v u value ≡ true
       → Gives (set words n value) (views_after SetLink z m vs i v u value None)
   set_link_found (Node f k) is met = set_link_field f k is met
-  set_link_found Stamp is met = absurd (never met)
-  set_link_found (Section j) is met = absurd (never met)
-  set_link_found (Announced j) is met = absurd (never met)
-  set_link_found (Entry p e) is met = absurd (never met)
+  set_link_found _ is met = absurd (never met)
 
   set_tag_field : (f : Field) (k : ℕ) → word_at z n ≡ Some (Node f k) → may_raise_tag m v f k value ≡ true
       → Gives (set words n value) (set vs i (raised_tag_at v f k value))
@@ -147,19 +123,11 @@ module _ (z : Layout) (words : List ℕ) (vs : List View) (right : InRule z word
       (kept_same z m vs right.meaning (written m (Node (Tag side) k) value) (set vs i (tag_set v k side value))
       (tag_set_kept z m vs right.meaning right.rule i v at k side value locked)
       (λ plain. plain_tagged z m vs right.meaning right.rule i k side value v at locked plain two.1 (eqb-true value (m (Node (Tag side) k) + 1) one.1)))
-  set_tag_field Key k is met = absurd (never met)
-  set_tag_field Val k is met = absurd (never met)
-  set_tag_field Lock k is met = absurd (never met)
-  set_tag_field Mark k is met = absurd (never met)
-  set_tag_field (Head side) k is met = absurd (never met)
-  set_tag_field (Link side) k is met = absurd (never met)
+  set_tag_field _ k is met = absurd (never met)
 
   set_tag_found : (u : Word) → word_at z n ≡ Some u → may_set_tag m v u value ≡ true → Gives (set words n value) (views_after SetTag z m vs i v u value None)
   set_tag_found (Node f k) is met = set_tag_field f k is met
-  set_tag_found Stamp is met = absurd (never met)
-  set_tag_found (Section j) is met = absurd (never met)
-  set_tag_found (Announced j) is met = absurd (never met)
-  set_tag_found (Entry p e) is met = absurd (never met)
+  set_tag_found _ is met = absurd (never met)
 
 pub load_link_law : KeepsRuleAt LoadLink
 load_link_law z words vs right i v at live n w found value o own met = load_link_found z words vs right i v at n value w met

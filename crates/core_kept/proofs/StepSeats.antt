@@ -126,10 +126,7 @@ module _ (z : Layout) (words : List ℕ) (vs : List View) (right : InRule z word
       let can = can_look v pass value met in
       load_right z words vs right (set vs i (looked_by z.passes v pass (m (Section pass)))) (look_by pass can (has_no_lock v) refl)
       (plain_quiet m right.meaning vs i v (looked_by z.passes v pass (m (Section pass))) at (looked_work z.passes pass (m (Section pass)) v))
-  look_found Stamp met = absurd (never met)
-  look_found (Announced k) met = absurd (never met)
-  look_found (Node f k) met = absurd (never met)
-  look_found (Entry p e) met = absurd (never met)
+  look_found _ met = absurd (never met)
 
   pub fill_found : (u : Word) → word_at z n ≡ Some u → may_fill v u ≡ true → Gives (set words n value) (set vs i (filled_view v u value))
   fill_found (Node f k) is met =
@@ -151,9 +148,7 @@ module _ (z : Layout) (words : List ℕ) (vs : List View) (right : InRule z word
       (subst (λ (s : Slots). 0 < count e s.entries) (sym same) free) p value fresh)
       (entry_zeros m v e p (at_item (UnusedRight m) vs i v at right.unused) free))
       (plain_filled z m vs right.meaning right.rule i v at value (Entry p e) met))
-  fill_found Stamp is met = absurd (never met)
-  fill_found (Section k) is met = absurd (never met)
-  fill_found (Announced k) is met = absurd (never met)
+  fill_found _ is met = absurd (never met)
 
   pub split_right' : Gives words (set vs i (split_left v value) ++ split_right v value ∷ [])
   split_right' =

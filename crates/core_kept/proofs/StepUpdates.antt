@@ -5,10 +5,10 @@ use Rattle.index_words.specs.declared.layout.Layout.{Layout}
 use Rattle.key_map.specs.declared.update.Update.{Update}
 use Rattle.index_words.specs.declared.view.View.{View}
 use Rattle.index_words.specs.declared.word.Field.{Field}
-use Rattle.index_words.specs.declared.word.Field.TheVariants.{Key, Val, Lock, Mark, Head, Link, Tag}
-use Rattle.index_words.specs.declared.word.Part.TheVariants.{Child, Stamp as Number, Next}
+use Rattle.index_words.specs.declared.word.Field.TheVariants.{Head}
+use Rattle.index_words.specs.declared.word.Part.TheVariants.{Stamp as Number}
 use Rattle.index_words.specs.declared.word.Word.{Word}
-use Rattle.index_words.specs.declared.word.Word.TheVariants.{Stamp, Section, Announced, Node, Entry}
+use Rattle.index_words.specs.declared.word.Word.TheVariants.{Stamp, Node, Entry}
 use Rattle.index_words.specs.Words.{Memory, memory, written, word_at}
 use Rattle.key_map.specs.Lists.{has, IsItem}
 use Rattle.key_map.proofs.Counting.{has-count}
@@ -49,20 +49,12 @@ module _ (z : Layout) (words : List ℕ) (vs : List View) (right : InRule z word
       store_right z words vs n value (Node (Head side) k) right (set vs i (prepared v side k value)) is
       (prepare_kept z m vs right.meaning right.rule i k value side v at
       (ready_is z m right.meaning v side k value (seat_at z m vs right.meaning i v at right.rule) met))
-  prepare_at_found Key k is met = absurd (never met)
-  prepare_at_found Val k is met = absurd (never met)
-  prepare_at_found Lock k is met = absurd (never met)
-  prepare_at_found Mark k is met = absurd (never met)
-  prepare_at_found (Link side) k is met = absurd (never met)
-  prepare_at_found (Tag side) k is met = absurd (never met)
+  prepare_at_found _ k is met = absurd (never met)
 
   pub prepare_found : (u : Word) → word_at z n ≡ Some u → may_prepare m v u value ≡ true
       → Gives (set words n value) (views_after Prepare z m vs i v u value None)
   prepare_found (Node f k) is met = prepare_at_found f k is met
-  prepare_found Stamp is met = absurd (never met)
-  prepare_found (Section k) is met = absurd (never met)
-  prepare_found (Announced k) is met = absurd (never met)
-  prepare_found (Entry p e) is met = absurd (never met)
+  prepare_found _ is met = absurd (never met)
 
   pub finalise_found : (u : Word) → word_at z n ≡ Some u → may_finalise v u value ≡ true
       → Gives (set words n value) (views_after Finalise z m vs i v u value None)
@@ -73,12 +65,7 @@ module _ (z : Layout) (words : List ℕ) (vs : List View) (right : InRule z word
       (kept_same z m vs right.meaning (written m (Entry Number e) value) (set vs i (finalised v e))
       (finalise_kept z m vs right.meaning right.rule i e value v at (number_of_is value v.update.raised one.1) (has-count e v.update.pending two.1))
       (plain_quiet m right.meaning vs i v (finalised v e) at (quiet_work v (finalised v e) refl refl refl refl)))
-  finalise_found (Entry Child e) is met = absurd (never met)
-  finalise_found (Entry Next e) is met = absurd (never met)
-  finalise_found Stamp is met = absurd (never met)
-  finalise_found (Section k) is met = absurd (never met)
-  finalise_found (Announced k) is met = absurd (never met)
-  finalise_found (Node f k) is met = absurd (never met)
+  finalise_found _ is met = absurd (never met)
 
   raise_stored : (u : Update) → word_at z n ≡ Some Stamp → is_number u.client v.number ≡ true → may_raise z m vs v Stamp value (Some u) ≡ true
       → Gives (set words n (slice_index words n + 1)) (set vs i (raised_view (longest vs) v (m Stamp) u (tree_move z m vs v u)))
@@ -96,10 +83,7 @@ module _ (z : Layout) (words : List ℕ) (vs : List View) (right : InRule z word
       → Gives (set words n (slice_index words n + 1)) (views_after Raise z m vs i v u value o)
   raise_found Stamp (Some u) is own met = raise_stored u is own met
   raise_found Stamp None is own met = absurd (never own)
-  raise_found (Section k) o is own met = absurd (never met)
-  raise_found (Announced k) o is own met = absurd (never met)
-  raise_found (Node f k) o is own met = absurd (never met)
-  raise_found (Entry p e) o is own met = absurd (never met)
+  raise_found _ o is own met = absurd (never met)
 
 pub prepare_law : KeepsRuleAt Prepare
 prepare_law z words vs right i v at live n w found value o own met = prepare_found z words vs right i v at live n w found value w found met

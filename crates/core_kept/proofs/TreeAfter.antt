@@ -228,10 +228,9 @@ module _ (z : Layout) (m : Memory) (vs : List View) (g : Meaning) (rule : Rule z
     child_pending k side live = by (eqb (head side k) 0) refl
       where
         either : (b c : Bool) → (b ≡ true → c ≡ true) → (c ≡ true → b ≡ true) → b ≡ c
-        either true true there back = refl
-        either false false there back = refl
         either true false there back = sym (there refl)
         either false true there back = back refl
+        either _ _ there back = refl
 
         has_same : (e : ℕ) → count e (new_entries m added) ≡ 0 → has e more ≡ has e v.update.pending
         has_same e none =

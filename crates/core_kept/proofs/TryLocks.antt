@@ -8,7 +8,7 @@ use Rattle.index_words.specs.declared.layout.Layout.{Layout}
 use Rattle.index_words.specs.declared.view.View.{View}
 use Rattle.index_words.specs.declared.view.history.Counts.{Counts}
 use Rattle.index_words.specs.declared.view.reading.Place.{Place}
-use Rattle.index_words.specs.declared.view.reading.Place.TheVariants.{Nowhere, Entry as AtEntry, Node as AtNode, Gap}
+use Rattle.index_words.specs.declared.view.reading.Place.TheVariants.{Entry as AtEntry}
 use Rattle.index_words.specs.declared.view.reading.LinkSource.{LinkSource}
 use Rattle.index_words.specs.declared.view.reading.LinkSource.TheVariants.{Bundle, Plain}
 use Rattle.index_words.specs.declared.view.update.HeldNode.{HeldNode}
@@ -236,9 +236,6 @@ module _ (z : Layout) (m : Memory) (vs : List View) (g : Meaning) (rule : Rule z
   watched_before j none other (inr reads) = inr reads
 
   place_now : (o : Option ℕ) (p : Place) → v.reading.section ≡ o → PlaceRight z stamp g.bundles v p → PlaceRight z stamp g.bundles w (place_locked o k p)
-  place_now None Nowhere is right = tt
-  place_now None (AtNode j key) is right = tt
-  place_now None (Gap j side) is right = tt
   place_now None (AtEntry j side e found) is right = at_by (eqb j k) refl
     where
       not_same : (x : ℕ) → eqb x k ≡ false → x ≡ k → ⊥
@@ -254,13 +251,11 @@ module _ (z : Layout) (m : Memory) (vs : List View) (g : Meaning) (rule : Rule z
         reach = reach_now j right.reach;
         stands = λ some watched. stands_now j e found (g.bundles.bundle side j) (right.stands some (watched_before j is (not_same j off) watched));
       }
-  place_now (Some t) Nowhere is right = tt
-  place_now (Some t) (AtNode j key) is right = tt
-  place_now (Some t) (Gap j side) is right = tt
   place_now (Some t) (AtEntry j side e found) is right = record {
     reach = reach_now j right.reach;
     stands = λ some watched. stands_now j e found (g.bundles.bundle side j) (right.stands some (inr (ap is_some is)));
   }
+  place_now _ _ is right = tt
 
   source_now : (j c : ℕ) (es : List ℕ) (source : LinkSource)
       → SourceRight (IsReachable z v j) (λ d. m (Entry Child d)) g.bundles.number es v.reading.section c source

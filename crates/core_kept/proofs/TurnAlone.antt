@@ -11,7 +11,7 @@ use Rattle.index_words.specs.declared.view.reading.LinkSource.{LinkSource}
 use Rattle.index_words.specs.declared.view.reading.LinkSource.TheVariants.{Bundle, Plain}
 use Rattle.index_words.specs.declared.view.update.HeldNode.{HeldNode}
 use Rattle.index_words.specs.declared.view.update.OwedTag.{OwedTag}
-use Rattle.index_words.specs.declared.word.Field.TheVariants.{Key, Val, Lock, Mark, Head, Link, Tag}
+use Rattle.index_words.specs.declared.word.Field.TheVariants.{Mark, Link, Tag}
 use Rattle.index_words.specs.declared.word.Part.TheVariants.{Child}
 use Rattle.index_words.specs.declared.word.Word.{Word}
 use Rattle.index_words.specs.declared.word.Word.TheVariants.{Stamp, Section, Announced, Node, Entry}
@@ -171,16 +171,7 @@ module _ (z : Layout) (words : List ℕ) (vs : List View) (right : InRule z word
             (tag_known_after k side value two.0 (at_item (KnownRight z gr0 tags) vs i v at right.known))
             (λ t beside is. others_known k locked gr0 tags' t beside);
       })
-  set_tag_at (Node Key k) value met = absurd (never met)
-  set_tag_at (Node Val k) value met = absurd (never met)
-  set_tag_at (Node Lock k) value met = absurd (never met)
-  set_tag_at (Node Mark k) value met = absurd (never met)
-  set_tag_at (Node (Head side) k) value met = absurd (never met)
-  set_tag_at (Node (Link side) k) value met = absurd (never met)
-  set_tag_at Stamp value met = absurd (never met)
-  set_tag_at (Section k) value met = absurd (never met)
-  set_tag_at (Announced k) value met = absurd (never met)
-  set_tag_at (Entry p e) value met = absurd (never met)
+  set_tag_at _ value met = absurd (never met)
 
 pub set_tag_turns : KeepsTurnsAt SetTag
 set_tag_turns z words vs right i v at live n w found value o own met =

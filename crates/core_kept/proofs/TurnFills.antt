@@ -10,12 +10,12 @@ use Rattle.index_words.specs.declared.view.reading.Link.{Link as ViewLink}
 use Rattle.index_words.specs.declared.view.reading.LinkSource.{LinkSource}
 use Rattle.index_words.specs.declared.view.reading.LinkSource.TheVariants.{Bundle, Plain}
 use Rattle.index_words.specs.declared.view.reading.Place.{Place}
-use Rattle.index_words.specs.declared.view.reading.Place.TheVariants.{Nowhere, Entry as AtEntry, Node as AtNode, Gap}
+use Rattle.index_words.specs.declared.view.reading.Place.TheVariants.{Node as AtNode}
 use Rattle.index_words.specs.declared.view.reading.Turn.{Turn}
 use Rattle.index_words.specs.declared.word.Field.{Field}
 use Rattle.index_words.specs.declared.word.Field.TheVariants.{Key, Val, Mark, Link, Tag}
 use Rattle.index_words.specs.declared.word.Word.{Word}
-use Rattle.index_words.specs.declared.word.Word.TheVariants.{Stamp, Section, Announced, Node, Entry}
+use Rattle.index_words.specs.declared.word.Word.TheVariants.{Node, Entry}
 use Rattle.index_words.specs.Words.{Memory, memory, written}
 use Rattle.index_words.proofs.Seats.{at_item, one_term}
 use Rattle.key_map.specs.Lists.{count, has, Every, IsItem}
@@ -163,9 +163,7 @@ module _ (z : Layout) (words : List ℕ) (vs : List View) (right : InRule z word
       below_filled (AtNode node key) counts at' tn leads = λ here nodes to way there.
           subst (λ y. IsBelow tn.node tn.key at' to y W) (sym (other Key to (in_tree to there)))
           (leads here nodes to (path_before nodes node to (λ j. held node j (omega (arith, counts node, in_one node []))) way) there)
-      below_filled Nowhere counts at' tn leads = tt
-      below_filled (AtEntry node s entry found) counts at' tn leads = tt
-      below_filled (Gap node s) counts at' tn leads = tt
+      below_filled _ counts at' tn leads = tt
 
       turn_filled : (at' : Side) (o : Option Turn) → ((a : ℕ) → count a (turn_nodes o) ≤ count a (search_nodes (gr0.child Right 0) t.reading))
           → IfSome o (TurnRight gr0 W t.reading.place at') → IfSome o (TurnRight gr1 W t.reading.place at')
@@ -277,9 +275,7 @@ module _ (z : Layout) (words : List ℕ) (vs : List View) (right : InRule z word
   fill_at (Entry p e) met =
       with_tree z words vs right (λ n. m (Node Mark n)) (λ s n. m (Node (Tag s) n)) (set vs i (filled_view v (Entry p e) value))
       (filled_kept gr0 (λ n. m (Node Mark n)) (λ s n. m (Node (Tag s) n)) (Entry p e) (turns_before z words vs right))
-  fill_at Stamp met = absurd (never met)
-  fill_at (Section k) met = absurd (never met)
-  fill_at (Announced k) met = absurd (never met)
+  fill_at _ met = absurd (never met)
 
 pub fill_turns : KeepsTurnsAt Fill
 fill_turns z words vs right i v at live n w found value o own met =

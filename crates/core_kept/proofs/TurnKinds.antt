@@ -11,10 +11,10 @@ use Rattle.index_words.specs.declared.view.reading.LinkSource.TheVariants.{Bundl
 use Rattle.index_words.specs.declared.view.reading.Place.{Place}
 use Rattle.index_words.specs.declared.view.reading.Place.TheVariants.{Nowhere, Entry as AtEntry, Node as AtNode, Gap}
 use Rattle.index_words.specs.declared.word.Field.{Field}
-use Rattle.index_words.specs.declared.word.Field.TheVariants.{Key, Val, Lock, Mark, Head, Link, Tag}
+use Rattle.index_words.specs.declared.word.Field.TheVariants.{Key, Mark, Head, Tag}
 use Rattle.index_words.specs.declared.word.Part.TheVariants.{Stamp as Number}
 use Rattle.index_words.specs.declared.word.Word.{Word}
-use Rattle.index_words.specs.declared.word.Word.TheVariants.{Stamp, Section, Announced, Node, Entry}
+use Rattle.index_words.specs.declared.word.Word.TheVariants.{Announced, Node, Entry}
 use Rattle.index_words.specs.Words.{Memory, memory, same_side}
 use Rattle.key_map.specs.Lists.{has, Every, IsItem}
 use Rattle.core_grace.proofs.RuleMoves.{every_push}
@@ -61,12 +61,7 @@ key_place k x (Gap node side) = same_place (Gap node side)
 
 paired_place : (f : Field) (k x : ℕ) (p : Place) → PlaceStays p (place_paired f k x p)
 paired_place Key k x p = key_place k x p
-paired_place Val k x p = same_place p
-paired_place Lock k x p = same_place p
-paired_place Mark k x p = same_place p
-paired_place (Head side) k x p = same_place p
-paired_place (Link side) k x p = same_place p
-paired_place (Tag side) k x p = same_place p
+paired_place _ k x p = same_place p
 
 entry_place : (node entry : ℕ) (side : Side) (found : Option ℕ) (b : Bool)
     → PlaceStays (AtEntry node side entry found) (cond b (AtEntry node side 0 None) (AtEntry node side entry found))
@@ -111,19 +106,11 @@ module _ (g : Graph) (tag : Side → ℕ → ℕ) where
       known = λ hs all. bundle_known hs (eqb x 0) v.reading.links k side 0 0 all;
       held = mapped_known g tag (found_at k side x) v.held.nodes (found_plain k side x);
     }
-    head_at_step Key k x number = no_step g tag v
-    head_at_step Val k x number = no_step g tag v
-    head_at_step Lock k x number = no_step g tag v
-    head_at_step Mark k x number = no_step g tag v
-    head_at_step (Link side) k x number = no_step g tag v
-    head_at_step (Tag side) k x number = no_step g tag v
+    head_at_step _ k x number = no_step g tag v
 
     pub head_step : (u : Word) (x number : ℕ) → TurnStep g tag v (head_from v u x number)
     head_step (Node f k) x number = head_at_step f k x number
-    head_step Stamp x number = no_step g tag v
-    head_step (Section k) x number = no_step g tag v
-    head_step (Announced k) x number = no_step g tag v
-    head_step (Entry p e) x number = no_step g tag v
+    head_step _ x number = no_step g tag v
 
     pub ts_step : (u : Word) (x : ℕ) → TurnStep g tag v (ts_from v u x)
     ts_step (Entry p e) x = record {
@@ -134,25 +121,18 @@ module _ (g : Graph) (tag : Side → ℕ → ℕ) where
       known = λ hs all. all;
       held = mapped_known g tag (node_known e x) v.held.nodes (numbered_plain e x);
     }
-    ts_step Stamp x = no_step g tag v
-    ts_step (Section k) x = no_step g tag v
-    ts_step (Announced k) x = no_step g tag v
-    ts_step (Node f k) x = no_step g tag v
+    ts_step _ x = no_step g tag v
 
     child_still : (p : Place) (child : ℕ) → Stills v.reading.links → Stills (child_links v p child)
     child_still (AtEntry node side entry found) child all =
         bundle_still (is_selected v.reading.section found (locks node v.held.nodes)) v.reading.links node side child entry all
-    child_still Nowhere child all = all
-    child_still (AtNode node key) child all = all
-    child_still (Gap node side) child all = all
+    child_still _ child all = all
 
     child_known : (hs : List HeldNode) (p : Place) (child : ℕ) → Every (IsLinkKnown g tag hs) v.reading.links
         → Every (IsLinkKnown g tag hs) (child_links v p child)
     child_known hs (AtEntry node side entry found) child all =
         bundle_known hs (is_selected v.reading.section found (locks node v.held.nodes)) v.reading.links node side child entry all
-    child_known hs Nowhere child all = all
-    child_known hs (AtNode node key) child all = all
-    child_known hs (Gap node side) child all = all
+    child_known hs _ child all = all
 
     pub ptr_step : (u : Word) (x : ℕ) → TurnStep g tag v (ptr_from v u x)
     ptr_step (Entry p e) x = record {
@@ -163,10 +143,7 @@ module _ (g : Graph) (tag : Side → ℕ → ℕ) where
       known = λ hs all. child_known hs v.reading.place x all;
       held = same_known g tag v.held.nodes v.held.nodes refl;
     }
-    ptr_step Stamp x = no_step g tag v
-    ptr_step (Section k) x = no_step g tag v
-    ptr_step (Announced k) x = no_step g tag v
-    ptr_step (Node f k) x = no_step g tag v
+    ptr_step _ x = no_step g tag v
 
     next_at_step : (p : Place) (e x : ℕ) → TurnStep g tag v (next_at v p e x)
     next_at_step (AtEntry node side entry found) e x = record {
@@ -177,23 +154,15 @@ module _ (g : Graph) (tag : Side → ℕ → ℕ) where
       known = λ hs all. bundle_known hs (eqb x 0 && is_above v e found) v.reading.links node side 0 0 all;
       held = same_known g tag v.held.nodes v.held.nodes refl;
     }
-    next_at_step Nowhere e x = no_step g tag v
-    next_at_step (AtNode node key) e x = no_step g tag v
-    next_at_step (Gap node side) e x = no_step g tag v
+    next_at_step _ e x = no_step g tag v
 
     pub next_step : (u : Word) (x : ℕ) → TurnStep g tag v (next_from v u x)
     next_step (Entry p e) x = next_at_step v.reading.place e x
-    next_step Stamp x = no_step g tag v
-    next_step (Section k) x = no_step g tag v
-    next_step (Announced k) x = no_step g tag v
-    next_step (Node f k) x = no_step g tag v
+    next_step _ x = no_step g tag v
 
     pub mark_step : (u : Word) (x : ℕ) → TurnStep g tag v (mark_from v u x)
     mark_step (Node f k) x = same_step g tag v (mark_from v (Node f k) x) refl (mapped_known g tag (mark_known k x) v.held.nodes (marked_plain k x))
-    mark_step Stamp x = no_step g tag v
-    mark_step (Section k) x = no_step g tag v
-    mark_step (Announced k) x = no_step g tag v
-    mark_step (Entry p e) x = no_step g tag v
+    mark_step _ x = no_step g tag v
 
     pub pair_step : (u : Word) (x : ℕ) → TurnStep g tag v (pair_from v u x)
     pair_step (Node f k) x = record {
@@ -204,10 +173,7 @@ module _ (g : Graph) (tag : Side → ℕ → ℕ) where
       known = λ hs all. all;
       held = mapped_known g tag (pair_known f k x) v.held.nodes (paired_plain f k x);
     }
-    pair_step Stamp x = no_step g tag v
-    pair_step (Section k) x = no_step g tag v
-    pair_step (Announced k) x = no_step g tag v
-    pair_step (Entry p e) x = no_step g tag v
+    pair_step _ x = no_step g tag v
 
     -- a tag that was found is that of the link
     source_found : (k : ℕ) (side : Side) (link child : ℕ) (s : LinkSource) → IsSourceStill link (tag side k) child s
@@ -264,19 +230,11 @@ module _ (g : Graph) (tag : Side → ℕ → ℕ) where
             (λ node at. sym (is side refl) ∙ (ap (tag side) (sym node) ∙ ap (λ (s : Side). tag s j) (sym at)));
       };
     }
-    tag_at_step Key k x is = no_step g tag v
-    tag_at_step Val k x is = no_step g tag v
-    tag_at_step Lock k x is = no_step g tag v
-    tag_at_step Mark k x is = no_step g tag v
-    tag_at_step (Head side) k x is = no_step g tag v
-    tag_at_step (Link side) k x is = no_step g tag v
+    tag_at_step _ k x is = no_step g tag v
 
     pub tag_step : (u : Word) (x : ℕ) → ((side : Side) (k : ℕ) → u ≡ Node (Tag side) k → tag side k ≡ x) → TurnStep g tag v (tag_from v u x)
     tag_step (Node f k) x is = tag_at_step f k x (λ side e. is side k (ap (λ (y : Field). Node y k) e))
-    tag_step Stamp x is = no_step g tag v
-    tag_step (Section k) x is = no_step g tag v
-    tag_step (Announced k) x is = no_step g tag v
-    tag_step (Entry p e) x is = no_step g tag v
+    tag_step _ x is = no_step g tag v
 
     pub look_ann_step : (u : Word) (x : ℕ) → TurnStep g tag v (ann_from v u x)
     look_ann_step (Announced k) x = record {
@@ -287,10 +245,7 @@ module _ (g : Graph) (tag : Side → ℕ → ℕ) where
       known = λ hs all. all;
       held = same_known g tag v.held.nodes v.held.nodes refl;
     }
-    look_ann_step Stamp x = no_step g tag v
-    look_ann_step (Section k) x = no_step g tag v
-    look_ann_step (Node f k) x = no_step g tag v
-    look_ann_step (Entry p e) x = no_step g tag v
+    look_ann_step _ x = no_step g tag v
 
     pub cut_step : (z : Layout) (m : Memory) (u : Word) → TurnStep g tag v (cut_from z m v u)
     cut_step z m (Entry p e) = record {
@@ -301,10 +256,7 @@ module _ (g : Graph) (tag : Side → ℕ → ℕ) where
       known = λ hs all. all;
       held = same_known g tag v.held.nodes v.held.nodes refl;
     }
-    cut_step z m Stamp = no_step g tag v
-    cut_step z m (Section k) = no_step g tag v
-    cut_step z m (Announced k) = no_step g tag v
-    cut_step z m (Node f k) = no_step g tag v
+    cut_step z m _ = no_step g tag v
 
 module _ (z : Layout) (words : List ℕ) (vs : List View) (right : InRule z words vs) (i : ℕ) (v : View) (at : IsItem vs i v) where
   abbrev m : Memory

@@ -6,7 +6,7 @@ use Rattle.index_words.specs.declared.side.Side.{Side}
 use Rattle.index_words.specs.declared.view.View.{View}
 use Rattle.index_words.specs.declared.word.Field.TheVariants.{Mark, Tag}
 use Rattle.index_words.specs.declared.word.Word.{Word}
-use Rattle.index_words.specs.declared.word.Word.TheVariants.{Stamp, Section, Announced, Node, Entry}
+use Rattle.index_words.specs.declared.word.Word.TheVariants.{Stamp, Node}
 use Rattle.index_words.specs.Words.{Memory, memory, written, word_at}
 use Rattle.index_words.proofs.Seats.{at_item}
 use Rattle.index_words.proofs.Store.{word_there}
@@ -81,10 +81,7 @@ module _ (z : Layout) (words : List ℕ) (vs : List View) (right : InRule z word
       → TurnsAfter z (memory z (set words n (slice_index words n + 1))) (views_after Raise z m vs i v w value o)
   raise_at Stamp (Some u) is own met = raise_stored u is own met
   raise_at Stamp None is own met = absurd (never own)
-  raise_at (Section k) o is own met = absurd (never met)
-  raise_at (Announced k) o is own met = absurd (never met)
-  raise_at (Node f k) o is own met = absurd (never met)
-  raise_at (Entry p e) o is own met = absurd (never met)
+  raise_at _ o is own met = absurd (never met)
 
 pub raise_turns : KeepsTurnsAt Raise
 raise_turns z words vs right i v at live n w found value o own met = raise_at z words vs right i v at n value w o found own met

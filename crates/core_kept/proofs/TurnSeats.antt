@@ -10,9 +10,9 @@ use Rattle.index_words.specs.declared.view.reading.Reading.{Reading}
 use Rattle.index_words.specs.declared.view.reading.TreeNode.{TreeNode}
 use Rattle.index_words.specs.declared.view.history.SeenHistory.{SeenHistory}
 use Rattle.index_words.specs.declared.view.update.Updating.{Updating}
-use Rattle.index_words.specs.declared.word.Field.TheVariants.{Key, Val, Lock, Mark, Head, Link, Tag}
+use Rattle.index_words.specs.declared.word.Field.TheVariants.{Lock, Mark, Tag}
 use Rattle.index_words.specs.declared.word.Word.{Word}
-use Rattle.index_words.specs.declared.word.Word.TheVariants.{Stamp, Section, Announced, Node, Entry}
+use Rattle.index_words.specs.declared.word.Word.TheVariants.{Section, Node}
 use Rattle.index_words.specs.Views.{no_reading, no_update, no_slots, no_looks, spent_view}
 use Rattle.index_words.specs.Words.{Memory, memory, written, word_at}
 use Rattle.index_words.proofs.Seats.{beside_item}
@@ -179,12 +179,7 @@ module _ (z : Layout) (words : List ℕ) (vs : List View) (right : InRule z word
       read_kept y same =
           same_kept z gr0 marks tags right.plain_tree vs i v y at before same.reading same.word same.taken same.raised
           (same_known gr0 tags v.held.nodes y.held.nodes same.held)
-  look_kept Stamp x = same_kept z gr0 marks tags right.plain_tree vs i v v at before refl refl refl refl (same_known gr0 tags v.held.nodes v.held.nodes refl)
-  look_kept (Announced k) x =
-      same_kept z gr0 marks tags right.plain_tree vs i v v at before refl refl refl refl (same_known gr0 tags v.held.nodes v.held.nodes refl)
-  look_kept (Node f k) x =
-      same_kept z gr0 marks tags right.plain_tree vs i v v at before refl refl refl refl (same_known gr0 tags v.held.nodes v.held.nodes refl)
-  look_kept (Entry p e) x =
+  look_kept _ x =
       same_kept z gr0 marks tags right.plain_tree vs i v v at before refl refl refl refl (same_known gr0 tags v.held.nodes v.held.nodes refl)
 
   pub look_after : (u : Word) (x : ℕ) → TurnsAfter z m (set vs i (look_from z v u x))
@@ -251,16 +246,7 @@ module _ (z : Layout) (words : List ℕ) (vs : List View) (right : InRule z word
         given (set vs i (unlocked_view v k))
         (none_kept z gr0 marks tags right.plain_tree vs i v (unlocked_view v k) at before (record { left = refl; right = refl; place = refl; links = refl })
         (until_leaving (eqb (length (other_nodes k v.held.nodes)) 0)))
-    unlock_at (Node Key k) met = absurd (never met)
-    unlock_at (Node Val k) met = absurd (never met)
-    unlock_at (Node Mark k) met = absurd (never met)
-    unlock_at (Node (Head side) k) met = absurd (never met)
-    unlock_at (Node (Link side) k) met = absurd (never met)
-    unlock_at (Node (Tag side) k) met = absurd (never met)
-    unlock_at Stamp met = absurd (never met)
-    unlock_at (Section k) met = absurd (never met)
-    unlock_at (Announced k) met = absurd (never met)
-    unlock_at (Entry p e) met = absurd (never met)
+    unlock_at _ met = absurd (never met)
 
     pub unlock_after : may_unlock m v w value ≡ true → TurnsAfter z (memory z (set words n value)) (set vs i (unlocked_from v w))
     unlock_after met = stored (set vs i (unlocked_from v w)) (unlock_at w met)

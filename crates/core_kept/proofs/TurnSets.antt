@@ -7,13 +7,13 @@ use Rattle.index_words.specs.declared.side.Side.{Side}
 use Rattle.index_words.specs.declared.side.Side.TheVariants.{Left, Right}
 use Rattle.index_words.specs.declared.view.View.{View}
 use Rattle.index_words.specs.declared.view.reading.Place.{Place}
-use Rattle.index_words.specs.declared.view.reading.Place.TheVariants.{Nowhere, Entry as AtEntry, Node as AtNode, Gap}
+use Rattle.index_words.specs.declared.view.reading.Place.TheVariants.{Node as AtNode}
 use Rattle.index_words.specs.declared.view.reading.Turn.{Turn}
 use Rattle.index_words.specs.declared.view.update.Unlinking.{Unlinking}
 use Rattle.index_words.specs.declared.view.update.UnsetLink.{UnsetLink}
-use Rattle.index_words.specs.declared.word.Field.TheVariants.{Key, Val, Lock, Mark, Head, Link, Tag}
+use Rattle.index_words.specs.declared.word.Field.TheVariants.{Mark, Link, Tag}
 use Rattle.index_words.specs.declared.word.Word.{Word}
-use Rattle.index_words.specs.declared.word.Word.TheVariants.{Stamp, Section, Announced, Node, Entry}
+use Rattle.index_words.specs.declared.word.Word.TheVariants.{Node}
 use Rattle.index_words.specs.Words.{Memory, memory, written, same_side}
 use Rattle.index_words.proofs.Seats.{at_item, all_moved}
 use Rattle.key_map.specs.Lists.{count, IsItem}
@@ -141,9 +141,7 @@ module _ (z : Layout) (words : List ℕ) (vs : List View) (right : InRule z word
         right.trees.spelled (λ j. refl) links_same done.store done.gone
         (λ here. old_in tn.node tn.node turned ([], refl) here)
         (λ j here reached. old_in node j (omega (arith, counts node, in_one node [])) reached here) leads
-    below_set Nowhere counts at' tn turned leads = tt
-    below_set (AtEntry node s entry found) counts at' tn turned leads = tt
-    below_set (Gap node s) counts at' tn turned leads = tt
+    below_set _ counts at' tn turned leads = tt
 
     turn_set : (at' : Side) (o : Option Turn) → ((a : ℕ) → count a (turn_nodes o) ≤ count a (search_nodes (gr0.child Right 0) t.reading))
         → IfSome o (TurnRight gr0 W t.reading.place at') → IfSome o (TurnRight gr1 tree1 t.reading.place at')
@@ -330,16 +328,7 @@ module _ (z : Layout) (words : List ℕ) (vs : List View) (right : InRule z word
 module _ (z : Layout) (words : List ℕ) (vs : List View) (right : InRule z words vs) (i : ℕ) (v : View) (at : IsItem vs i v) (value : ℕ) where
   pub set_at : (u : Word) → may_set_link z (memory z words) v u value ≡ true → TurnsAfter z (written (memory z words) u value) (set vs i (set_from v u value))
   set_at (Node (Link side) k) met = set_field z words vs right i k side value v at (can_set z (memory z words) v k side value met)
-  set_at (Node Key k) met = absurd (never met)
-  set_at (Node Val k) met = absurd (never met)
-  set_at (Node Lock k) met = absurd (never met)
-  set_at (Node Mark k) met = absurd (never met)
-  set_at (Node (Head side) k) met = absurd (never met)
-  set_at (Node (Tag side) k) met = absurd (never met)
-  set_at Stamp met = absurd (never met)
-  set_at (Section k) met = absurd (never met)
-  set_at (Announced k) met = absurd (never met)
-  set_at (Entry p e) met = absurd (never met)
+  set_at _ met = absurd (never met)
 
 pub set_turns : KeepsTurnsAt SetLink
 set_turns z words vs right i v at live n w found value o own met =

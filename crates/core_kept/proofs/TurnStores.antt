@@ -5,9 +5,9 @@ use Rattle.index_words.specs.declared.layout.Layout.{Layout}
 use Rattle.index_words.specs.declared.side.Side.{Side}
 use Rattle.index_words.specs.declared.view.View.{View}
 use Rattle.index_words.specs.declared.word.Field.{Field}
-use Rattle.index_words.specs.declared.word.Field.TheVariants.{Key, Val, Lock, Mark, Head, Link, Tag}
+use Rattle.index_words.specs.declared.word.Field.TheVariants.{Lock, Mark, Head, Tag}
 use Rattle.index_words.specs.declared.word.Word.{Word}
-use Rattle.index_words.specs.declared.word.Word.TheVariants.{Stamp, Section, Announced, Node, Entry}
+use Rattle.index_words.specs.declared.word.Word.TheVariants.{Announced, Node, Entry}
 use Rattle.index_words.specs.Words.{Memory, memory, written, address, word_at}
 use Rattle.index_words.proofs.Store.{word_there}
 use Rattle.key_map.specs.Lists.{IsItem}
@@ -61,33 +61,18 @@ module _ (z : Layout) (words : List ℕ) (vs : List View) (right : InRule z word
       (same_step gr0 tags v (prepared_from v (Node (Head side) k) value) refl
       (mapped_known gr0 tags (known_at k side (record { entry = value; stamp = None })) v.held.nodes
       (prepared_plain k side (record { entry = value; stamp = None }))))
-  prepare_at (Node Key k) met = absurd (never met)
-  prepare_at (Node Val k) met = absurd (never met)
-  prepare_at (Node Lock k) met = absurd (never met)
-  prepare_at (Node Mark k) met = absurd (never met)
-  prepare_at (Node (Link side) k) met = absurd (never met)
-  prepare_at (Node (Tag side) k) met = absurd (never met)
-  prepare_at Stamp met = absurd (never met)
-  prepare_at (Section k) met = absurd (never met)
-  prepare_at (Announced k) met = absurd (never met)
-  prepare_at (Entry p e) met = absurd (never met)
+  prepare_at _ met = absurd (never met)
 
   finalise_at : (u : Word) → may_finalise v u value ≡ true → TurnsAfter z (written m u value) (set vs i (finalised_from v u))
   finalise_at (Entry p e) met =
       moved (finalised_from v (Entry p e)) (finalise_calm v (Entry p e)) (finalise_quiet NoClaims gr0.key v (Entry p e)).work
       (same_step gr0 tags v (finalised_from v (Entry p e)) refl (same_known gr0 tags v.held.nodes v.held.nodes refl))
-  finalise_at Stamp met = absurd (never met)
-  finalise_at (Section k) met = absurd (never met)
-  finalise_at (Announced k) met = absurd (never met)
-  finalise_at (Node f k) met = absurd (never met)
+  finalise_at _ met = absurd (never met)
 
   cut_at : (u : Word) → may_cut z m vs v u value ≡ true → TurnsAfter z (written m u value) (set vs i (cut_from z m v u))
   cut_at (Entry p e) met =
       moved (cut_from z m v (Entry p e)) (cut_calm v z m (Entry p e)) (cut_quiet NoClaims gr0.key v z m (Entry p e)).work (cut_step gr0 tags v z m (Entry p e))
-  cut_at Stamp met = absurd (never met)
-  cut_at (Section k) met = absurd (never met)
-  cut_at (Announced k) met = absurd (never met)
-  cut_at (Node f k) met = absurd (never met)
+  cut_at _ met = absurd (never met)
 
   -- a mark that is set stays
   still_marked : (k j : ℕ) → marks j ≡ 1 → written m (Node Mark k) 1 (Node Mark j) ≡ 1
@@ -107,16 +92,7 @@ module _ (z : Layout) (words : List ℕ) (vs : List View) (right : InRule z word
       (calm_kept z gr0 marks tags right.plain_tree vs i v x at (turns_before z words vs right) (marked_calm v (Node Mark k))
       (marked_quiet NoClaims gr0.key v (Node Mark k)).work
       (same_step gr0 tags v x refl (mapped_known gr0 tags (mark_known k 1) v.held.nodes (marked_plain k 1))))))
-  mark_at (Node Key k) met = absurd (never met)
-  mark_at (Node Val k) met = absurd (never met)
-  mark_at (Node Lock k) met = absurd (never met)
-  mark_at (Node (Head side) k) met = absurd (never met)
-  mark_at (Node (Link side) k) met = absurd (never met)
-  mark_at (Node (Tag side) k) met = absurd (never met)
-  mark_at Stamp met = absurd (never met)
-  mark_at (Section k) met = absurd (never met)
-  mark_at (Announced k) met = absurd (never met)
-  mark_at (Entry p e) met = absurd (never met)
+  mark_at _ met = absurd (never met)
 
   announce_by : (number : Option ℕ) (u : Word) → (is_own_announced number u && is_announcement v value) ≡ true
       → TurnsAfter z (written m u value) (set vs i (announced_view v value))
@@ -124,11 +100,7 @@ module _ (z : Layout) (words : List ℕ) (vs : List View) (right : InRule z word
       with_tree z words vs right marks tags (set vs i (announced_view v value))
       (same_kept z gr0 marks tags right.plain_tree vs i v (announced_view v value) at (turns_before z words vs right) refl refl refl refl
       (same_known gr0 tags v.held.nodes v.held.nodes refl))
-  announce_by (Some k) Stamp met = absurd (never met)
-  announce_by (Some k) (Section j) met = absurd (never met)
-  announce_by (Some k) (Node f j) met = absurd (never met)
-  announce_by (Some k) (Entry p e) met = absurd (never met)
-  announce_by None u met = absurd (never met)
+  announce_by _ _ met = absurd (never met)
 
   announce_at : may_announce v w value ≡ true → TurnsAfter z (written m w value) (set vs i (announced_view v value))
   announce_at met = announce_by v.number w met
@@ -161,20 +133,12 @@ module _ (z : Layout) (words : List ℕ) (vs : List View) (right : InRule z word
           with_tree z words vs right marks tags (set vs i (met_lock v value (m (Node Lock k))))
           (same_kept z gr0 marks tags right.plain_tree vs i v (met_lock v value (m (Node Lock k))) at (turns_before z words vs right) refl refl refl refl
           (same_known gr0 tags v.held.nodes v.held.nodes refl))
-  lock_field Key k is met = absurd (never met)
-  lock_field Val k is met = absurd (never met)
-  lock_field Mark k is met = absurd (never met)
-  lock_field (Head side) k is met = absurd (never met)
-  lock_field (Link side) k is met = absurd (never met)
-  lock_field (Tag side) k is met = absurd (never met)
+  lock_field _ k is met = absurd (never met)
 
   lock_at : (u : Word) → word_at z n ≡ Some u → may_try_lock v u value ≡ true
       → TurnsAfter z (memory z (words_after TryLock words n value)) (views_after TryLock z m vs i v u value None)
   lock_at (Node f k) is met = lock_field f k is met
-  lock_at Stamp is met = absurd (never met)
-  lock_at (Section k) is met = absurd (never met)
-  lock_at (Announced k) is met = absurd (never met)
-  lock_at (Entry p e) is met = absurd (never met)
+  lock_at _ is met = absurd (never met)
 
   prepare_after : may_prepare m v w value ≡ true → TurnsAfter z (memory z (set words n value)) (set vs i (prepared_from v w value))
   prepare_after met = stored (set vs i (prepared_from v w value)) (prepare_at w met)

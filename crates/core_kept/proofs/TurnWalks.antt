@@ -7,11 +7,11 @@ use Rattle.index_words.specs.declared.side.Side.{Side}
 use Rattle.index_words.specs.declared.side.Side.TheVariants.{Left, Right}
 use Rattle.index_words.specs.declared.view.View.{View}
 use Rattle.index_words.specs.declared.view.reading.Place.{Place}
-use Rattle.index_words.specs.declared.view.reading.Place.TheVariants.{Nowhere, Entry as AtEntry, Node as AtNode, Gap}
+use Rattle.index_words.specs.declared.view.reading.Place.TheVariants.{Nowhere, Node as AtNode, Gap}
 use Rattle.index_words.specs.declared.view.reading.Turn.{Turn}
-use Rattle.index_words.specs.declared.word.Field.TheVariants.{Key, Val, Lock, Mark, Head, Link, Tag}
+use Rattle.index_words.specs.declared.word.Field.TheVariants.{Mark, Link, Tag}
 use Rattle.index_words.specs.declared.word.Word.{Word}
-use Rattle.index_words.specs.declared.word.Word.TheVariants.{Stamp, Section, Announced, Node, Entry}
+use Rattle.index_words.specs.declared.word.Word.TheVariants.{Node}
 use Rattle.index_words.specs.Words.{Memory, memory}
 use Rattle.index_words.proofs.Seats.{at_item}
 use Rattle.key_map.specs.Lists.{count, IsItem}
@@ -173,8 +173,7 @@ module _ (z : Layout) (words : List ℕ) (vs : List View) (right : InRule z word
           begins = after_begins gr0 W right.trees.spelled k x side (left_turn_after side v.reading) (right_turn_after side v.reading);
         }
     walk_turns (AtNode node None) is stands known = absurd (never (and_parts (eqb node k) (goes_on_at v.reading None) stands).1)
-    walk_turns (AtEntry node s entry found) is stands known = absurd (never stands)
-    walk_turns (Gap node s) is stands known = absurd (never stands)
+    walk_turns _ is stands known = absurd (never stands)
 
     -- its nodes are in the plain tree, if they were
     walk_there : searches_at v.reading v.reading.place k side ≡ true → ((j : ℕ) → 0 < j → 0 < count j (search_nodes 0 v.reading) → 0 < occurs j W)
@@ -234,16 +233,7 @@ module _ (z : Layout) (words : List ℕ) (vs : List View) (right : InRule z word
 
   link_kept : (w : Word) → Kept (set vs i (link_from v w (m w)))
   link_kept (Node (Link side) k) = walk_kept k side (searches_at v.reading v.reading.place k side) refl
-  link_kept (Node Key k) = still_kept
-  link_kept (Node Val k) = still_kept
-  link_kept (Node Lock k) = still_kept
-  link_kept (Node Mark k) = still_kept
-  link_kept (Node (Head side) k) = still_kept
-  link_kept (Node (Tag side) k) = still_kept
-  link_kept Stamp = still_kept
-  link_kept (Section k) = still_kept
-  link_kept (Announced k) = still_kept
-  link_kept (Entry p e) = still_kept
+  link_kept _ = still_kept
 
   link_after : (w : Word) → TurnsAfter z m (set vs i (link_from v w (m w)))
   link_after w = with_tree z words vs right marks tags (set vs i (link_from v w (m w))) (link_kept w)

@@ -4,7 +4,7 @@ use Rattle.std.proofs.lemmas.List.{set-set}
 use Rattle.index_words.specs.declared.layout.Layout.{Layout}
 use Rattle.index_words.specs.declared.view.View.{View}
 use Rattle.index_words.specs.declared.view.reading.Place.{Place}
-use Rattle.index_words.specs.declared.view.reading.Place.TheVariants.{Nowhere, Entry as AtEntry, Node as AtNode, Gap}
+use Rattle.index_words.specs.declared.view.reading.Place.TheVariants.{Entry as AtEntry}
 use Rattle.index_words.specs.declared.view.reading.Turn.{Turn}
 use Rattle.index_words.specs.declared.word.Part.TheVariants.{Stamp as Number}
 use Rattle.index_words.specs.declared.word.Word.TheVariants.{Entry}
@@ -39,10 +39,8 @@ module _ (z : Layout) (m : Memory) (vs : List View) (g : Meaning) (rule : Rule z
   entry_same x (inr stands) = inr (record { node = stands.node; side = stands.side; of = stands.of; here = stands.here })
 
   place_by : (p : Place) → PlaceRight z (λ e. m (Entry Number e)) g.bundles v p → PlaceRight z (λ e. m (Entry Number e)) g.bundles y p
-  place_by Nowhere right = tt
-  place_by (AtNode node key) right = tt
-  place_by (Gap node side) right = tt
   place_by (AtEntry node side entry found) right = record { reach = right.reach; stands = right.stands }
+  place_by _ right = tt
 
   -- no part of the rule speaks of turns
   pub turns_kept : Rule z m (set vs i y) g

@@ -11,7 +11,7 @@ use Rattle.index_words.specs.declared.view.update.HeldNode.{HeldNode}
 use Rattle.index_words.specs.declared.view.update.Updating.{Updating}
 use Rattle.index_words.specs.declared.word.Field.TheVariants.{Mark}
 use Rattle.index_words.specs.declared.word.Word.{Word}
-use Rattle.index_words.specs.declared.word.Word.TheVariants.{Stamp, Section, Announced, Node, Entry}
+use Rattle.index_words.specs.declared.word.Word.TheVariants.{Node, Entry}
 use Rattle.index_words.specs.Words.{Memory}
 use Rattle.index_words.specs.Views.{spent_view}
 use Rattle.key_map.specs.Lists.{count, IsItem}
@@ -72,9 +72,7 @@ module _ (z : Layout) (m : Memory) (vs : List View) (g : Meaning) where
   split_own : (v : View) (n : ℕ) (w : Word) → IsOwnSlotWord (split_left v n).free v.update w → IsOwnSlotWord v.free v.update w
   split_own v n (Node f k) own = (own.0, omega (arith, own.1, count-take-drop k n v.free.nodes))
   split_own v n (Entry p e) own = own
-  split_own v n Stamp own = absurd own
-  split_own v n (Section i) own = absurd own
-  split_own v n (Announced i) own = absurd own
+  split_own v n _ own = absurd own
 
   split_seats : (v : View) (n : ℕ) → SeatRight z m g v → v.joined ≡ false → SeatRight z m g (split_left v n) × SeatRight z m g (split_right v n)
   split_seats v n seat live = (

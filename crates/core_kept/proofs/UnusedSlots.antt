@@ -1,6 +1,6 @@
 -- The slots that a view never used hold 0, after every event: none but a fill stores to a word of a free slot, and a
 -- fill to one of the seat's own, which is used from then on.
-use Rattle.std.proofs.Common.{◌≡◌, ◌≢◌, ℕ, ◌<◌, cond, List, [], ◌∷◌, ◌++◌, Bool, true, false, not, eqb, set, arith, refl, ◌∙◌, sym, subst, Option, Some, None}
+use Rattle.std.proofs.Common.{◌≡◌, ◌≢◌, ℕ, ◌<◌, cond, List, [], ◌∷◌, ◌++◌, Bool, true, false, not, set, arith, refl, ◌∙◌, sym, subst, Option, Some, None}
 use Rattle.core_events.specs.Waits.{has_no_lock, looked_waiting}
 use Rattle.std.specs.List.{All, slice_get}
 use Rattle.std.proofs.lemmas.Bool.{and_parts}
@@ -9,7 +9,7 @@ use Rattle.index_words.specs.declared.layout.Layout.{Layout}
 use Rattle.key_map.specs.declared.update.Update.{Update}
 use Rattle.index_words.specs.declared.view.View.{View}
 use Rattle.index_words.specs.declared.word.Field.{Field}
-use Rattle.index_words.specs.declared.word.Field.TheVariants.{Key, Val, Lock, Mark, Head, Link, Tag}
+use Rattle.index_words.specs.declared.word.Field.TheVariants.{Head}
 use Rattle.index_words.specs.declared.word.Word.{Word}
 use Rattle.index_words.specs.declared.word.Word.TheVariants.{Stamp, Section, Announced, Node, Entry}
 use Rattle.index_words.specs.Words.{Memory, memory, written, word_at}
@@ -22,18 +22,14 @@ use Rattle.core_grace.specs.Batches.{batch_taken, all_passed, is_empty, looked_a
 use Rattle.core_grace.specs.Slots.{own, nodes_of, entries_in}
 use Rattle.core_grace.specs.Sections.{is_even}
 use Rattle.core_events.specs.declared.event.Kind.{Kind}
-use Rattle.core_events.specs.declared.event.Kind.TheVariants.{MakeSeat, SplitSeat, JoinSeat, Enter, Leave, LookSec, Fill, LoadStamp, LoadHead, LoadTs, LoadPtr, LoadNext, Prepare, Raise, Finalise, TryLock, Unlock, LoadMark, Mark as MarkNode, LoadKeyOrVal, Announce, LookAnn, Cut, LoadLink, SetLink, LoadTag, SetTag}
+use Rattle.core_events.specs.declared.event.Kind.TheVariants.{MakeSeat, SplitSeat, JoinSeat, Enter, LookSec, Fill, Prepare, Raise}
 use Rattle.core_events.specs.FillMoves.{filled_view, filled_with, with_filled, known_before, used_slots, used_view}
-use Rattle.core_events.specs.LoadMoves.{next_at}
-use Rattle.core_events.specs.LockMoves.{locked_view, met_lock}
 use Rattle.core_events.specs.TreeMoves.{tree_move}
 use Rattle.core_events.specs.declared.tree_move.TreeMove.{TreeMove}
 use Rattle.core_grace.specs.Holds.{listed}
-use Rattle.index_words.specs.declared.view.reading.Place.{Place}
-use Rattle.index_words.specs.declared.view.reading.Place.TheVariants.{Nowhere, Entry as AtEntry, Node as AtNode, Gap}
 use Rattle.core_events.specs.Moves.{in_section, entered, left, split_left, split_right, joined_with}
 use Rattle.core_events.specs.Needs.{is_lock, may_fill}
-use Rattle.core_events.specs.Steps.{needs, views_after, words_after, join_found, look_from, head_at, head_from, ts_from, ptr_from, next_from, prepared_at, prepared_from, raised_from, finalised_from, tried_from, unlocked_from, mark_from, marked_from, pair_from, ann_from, cut_from, link_at, link_from, tag_at, tag_from, set_at, set_from, raised_tag_at, raised_tag_from}
+use Rattle.core_events.specs.Steps.{needs, view_after, views_after, words_after, join_found, look_from, prepared_at, prepared_from, raised_from}
 use Rattle.core_events.specs.UpdateMoves.{without, without_all}
 use Rattle.core_events.proofs.Tests.{never}
 use Rattle.core_invariant.specs.Meanings.{Meaning}
@@ -45,6 +41,9 @@ use Rattle.core_invariant.proofs.Owned.{once_node, once_entry}
 use Rattle.core_invariant.proofs.Without.{count-without_same, count-without-le}
 use Rattle.core_kept.proofs.TwoViews.{count-take-drop}
 use Rattle.core_kept.proofs.FreeWords.{LessOf, apart_kept, both_less, none_less, fewer_less, less_right, taken_less, settled_less, Apart, written_apart, Leaves, leaves}
+use Rattle.core_kept.proofs.Footprints.{Parts, Spares, quiet_part}
+use Rattle.core_kept.proofs.Footprints.Group.{Free, Unused}
+use Rattle.index_words.specs.declared.view.slots.Slots.{Slots}
 
 module _ (z : Layout) (words : List ℕ) (vs : List View) (right : InRule z words vs) (i : ℕ) (v : View) (at : IsItem vs i v) (n : ℕ) (w : Word)
     (found : word_at z n ≡ Some w) (value : ℕ) where
@@ -88,10 +87,7 @@ module _ (z : Layout) (words : List ℕ) (vs : List View) (right : InRule z word
 
   look_less : (u : Word) (x : ℕ) → Less (look_from z v u x)
   look_less (Section pass) x = look_by pass x (has_no_lock v)
-  look_less Stamp x = same
-  look_less (Announced k) x = same
-  look_less (Node f k) x = same
-  look_less (Entry p e) x = same
+  look_less _ x = same
 
   enter_less : Less (entered z.passes v value)
   enter_less y is yet =
@@ -100,66 +96,15 @@ module _ (z : Layout) (words : List ℕ) (vs : List View) (right : InRule z word
       let old = settled_less (all_passed z.passes taken.number taken.grace.passed) taken y is yet in
       taken_less (is_empty u.batch) u y old.0 old.1
 
-  head_less : (f : Field) (k x number : ℕ) → Less (head_at v f k x number)
-  head_less (Head side) k x number = λ y is yet. (is, yet)
-  head_less Key k x number = same
-  head_less Val k x number = same
-  head_less Lock k x number = same
-  head_less Mark k x number = same
-  head_less (Link side) k x number = same
-  head_less (Tag side) k x number = same
-
-  load_head_less : (u : Word) (x number : ℕ) → Less (head_from v u x number)
-  load_head_less (Node f k) x number = head_less f k x number
-  load_head_less Stamp x number = same
-  load_head_less (Section k) x number = same
-  load_head_less (Announced k) x number = same
-  load_head_less (Entry p e) x number = same
-
-  ts_less : (u : Word) (x : ℕ) → Less (ts_from v u x)
-  ts_less (Entry p e) x = λ y is yet. (is, yet)
-  ts_less Stamp x = same
-  ts_less (Section k) x = same
-  ts_less (Announced k) x = same
-  ts_less (Node f k) x = same
-
-  ptr_less : (u : Word) (x : ℕ) → Less (ptr_from v u x)
-  ptr_less (Entry p e) x = λ y is yet. (is, yet)
-  ptr_less Stamp x = same
-  ptr_less (Section k) x = same
-  ptr_less (Announced k) x = same
-  ptr_less (Node f k) x = same
-
-  next_at_less : (p : Place) (e x : ℕ) → Less (next_at v p e x)
-  next_at_less (AtEntry node side entry seen) e x = λ y is yet. (is, yet)
-  next_at_less Nowhere e x = same
-  next_at_less (AtNode node key) e x = same
-  next_at_less (Gap node side) e x = same
-
-  next_less : (u : Word) (x : ℕ) → Less (next_from v u x)
-  next_less (Entry p e) x = next_at_less v.reading.place e x
-  next_less Stamp x = same
-  next_less (Section k) x = same
-  next_less (Announced k) x = same
-  next_less (Node f k) x = same
-
   prepare_at_less : (f : Field) (k e : ℕ) → Less (prepared_at v f k e)
   prepare_at_less (Head side) k e =
       fewer_less v.free v.unused (record v.free { entries = without e v.free.entries }) (λ j some. some)
       (λ d some. omega (arith, some, count-without-le d e v.free.entries))
-  prepare_at_less Key k e = same
-  prepare_at_less Val k e = same
-  prepare_at_less Lock k e = same
-  prepare_at_less Mark k e = same
-  prepare_at_less (Link side) k e = same
-  prepare_at_less (Tag side) k e = same
+  prepare_at_less _ k e = same
 
   prepare_less : (u : Word) (e : ℕ) → Less (prepared_from v u e)
   prepare_less (Node f k) e = prepare_at_less f k e
-  prepare_less Stamp e = same
-  prepare_less (Section k) e = same
-  prepare_less (Announced k) e = same
-  prepare_less (Entry p d) e = same
+  prepare_less _ e = same
 
   raise_less : (x : ℕ) (o : Option Update) → Less (raised_from z m vs v x o)
   raise_less x None = same
@@ -167,130 +112,6 @@ module _ (z : Layout) (words : List ℕ) (vs : List View) (right : InRule z word
       let move : TreeMove = tree_move z m vs v u in
       fewer_less v.free v.unused (record { nodes = without_all (listed move.added) v.free.nodes; entries = without_all move.entries v.free.entries })
       (λ k some. (apart_kept k (listed move.added) v.free.nodes some).1) (λ e some. (apart_kept e move.entries v.free.entries some).1)
-
-  finalise_less : (u : Word) → Less (finalised_from v u)
-  finalise_less (Entry p e) = λ y is yet. (is, yet)
-  finalise_less Stamp = same
-  finalise_less (Section k) = same
-  finalise_less (Announced k) = same
-  finalise_less (Node f k) = same
-
-  lock_less : (u : Word) (x : ℕ) → Less (tried_from v u value x)
-  lock_less (Node f k) x = by (eqb x 0)
-    where
-      by : (b : Bool) → Less (cond b (locked_view v k) (met_lock v value x))
-      by true y is yet = (is, yet)
-      by false y is yet = (is, yet)
-  lock_less Stamp x = same
-  lock_less (Section k) x = same
-  lock_less (Announced k) x = same
-  lock_less (Entry p e) x = same
-
-  unlock_less : (u : Word) → Less (unlocked_from v u)
-  unlock_less (Node f k) = λ y is yet. (is, yet)
-  unlock_less Stamp = same
-  unlock_less (Section k) = same
-  unlock_less (Announced k) = same
-  unlock_less (Entry p e) = same
-
-  load_mark_less : (u : Word) (x : ℕ) → Less (mark_from v u x)
-  load_mark_less (Node f k) x = λ y is yet. (is, yet)
-  load_mark_less Stamp x = same
-  load_mark_less (Section k) x = same
-  load_mark_less (Announced k) x = same
-  load_mark_less (Entry p e) x = same
-
-  mark_less : (u : Word) → Less (marked_from v u)
-  mark_less (Node f k) = λ y is yet. (is, yet)
-  mark_less Stamp = same
-  mark_less (Section k) = same
-  mark_less (Announced k) = same
-  mark_less (Entry p e) = same
-
-  link_at_less : (f : Field) (k x : ℕ) → Less (link_at v f k x)
-  link_at_less Key k x = same
-  link_at_less Val k x = same
-  link_at_less Lock k x = same
-  link_at_less Mark k x = same
-  link_at_less (Head side) k x = same
-  link_at_less (Link side) k x = λ y is yet. (is, yet)
-  link_at_less (Tag side) k x = same
-
-  link_less : (u : Word) (x : ℕ) → Less (link_from v u x)
-  link_less (Node f k) x = link_at_less f k x
-  link_less Stamp x = same
-  link_less (Section k) x = same
-  link_less (Announced k) x = same
-  link_less (Entry p e) x = same
-
-  set_link_at_less : (f : Field) (k x : ℕ) → Less (set_at v f k x)
-  set_link_at_less Key k x = same
-  set_link_at_less Val k x = same
-  set_link_at_less Lock k x = same
-  set_link_at_less Mark k x = same
-  set_link_at_less (Head side) k x = same
-  set_link_at_less (Link side) k x = λ y is yet. (is, yet)
-  set_link_at_less (Tag side) k x = same
-
-  set_link_less : (u : Word) (x : ℕ) → Less (set_from v u x)
-  set_link_less (Node f k) x = set_link_at_less f k x
-  set_link_less Stamp x = same
-  set_link_less (Section k) x = same
-  set_link_less (Announced k) x = same
-  set_link_less (Entry p e) x = same
-
-  tag_at_less : (f : Field) (k x : ℕ) → Less (tag_at v f k x)
-  tag_at_less Key k x = same
-  tag_at_less Val k x = same
-  tag_at_less Lock k x = same
-  tag_at_less Mark k x = same
-  tag_at_less (Head side) k x = same
-  tag_at_less (Link side) k x = same
-  tag_at_less (Tag side) k x = λ y is yet. (is, yet)
-
-  tag_less : (u : Word) (x : ℕ) → Less (tag_from v u x)
-  tag_less (Node f k) x = tag_at_less f k x
-  tag_less Stamp x = same
-  tag_less (Section k) x = same
-  tag_less (Announced k) x = same
-  tag_less (Entry p e) x = same
-
-  set_tag_at_less : (f : Field) (k x : ℕ) → Less (raised_tag_at v f k x)
-  set_tag_at_less Key k x = same
-  set_tag_at_less Val k x = same
-  set_tag_at_less Lock k x = same
-  set_tag_at_less Mark k x = same
-  set_tag_at_less (Head side) k x = same
-  set_tag_at_less (Link side) k x = same
-  set_tag_at_less (Tag side) k x = λ y is yet. (is, yet)
-
-  set_tag_less : (u : Word) (x : ℕ) → Less (raised_tag_from v u x)
-  set_tag_less (Node f k) x = set_tag_at_less f k x
-  set_tag_less Stamp x = same
-  set_tag_less (Section k) x = same
-  set_tag_less (Announced k) x = same
-  set_tag_less (Entry p e) x = same
-
-  pair_less : (u : Word) (x : ℕ) → Less (pair_from v u x)
-  pair_less (Node f k) x = λ y is yet. (is, yet)
-  pair_less Stamp x = same
-  pair_less (Section k) x = same
-  pair_less (Announced k) x = same
-  pair_less (Entry p e) x = same
-
-  look_ann_less : (u : Word) (x : ℕ) → Less (ann_from v u x)
-  look_ann_less (Announced k) x = λ y is yet. (is, yet)
-  look_ann_less Stamp x = same
-  look_ann_less (Section k) x = same
-  look_ann_less (Node f k) x = same
-  look_ann_less (Entry p e) x = same
-
-  cut_less : (u : Word) → Less (cut_from z m v u)
-  cut_less (Entry p e) = λ y is yet. (is, yet)
-  cut_less Stamp = same
-  cut_less (Section k) = same
-  cut_less (Announced k) = same
-  cut_less (Node f k) = same
 
   -- a fill: the stored slot is used, and every other free word stays
   fill_apart : (u : Word) → may_fill v u ≡ true → (x : View) → Beside vs i x → Apart x u
@@ -302,9 +123,7 @@ module _ (z : Layout) (words : List ℕ) (vs : List View) (right : InRule z word
       λ free.
       let mine = has-count e v.free.entries met in
       omega (arith, once_entry z vs g right.rule.slots e, two_terms (own entries_in e) vs i v x at beside, mine, free)
-  fill_apart Stamp met x beside = tt
-  fill_apart (Section k) met x beside = tt
-  fill_apart (Announced k) met x beside = tt
+  fill_apart _ met x beside = tt
 
   fill_own : (u : Word) → may_fill v u ≡ true → (y : Word) → IsFreeWord v.free y → IsUnusedWord (used_slots u v.unused) y → written m u value y ≡ 0
   fill_own (Node f k) met (Node h l) is yet =
@@ -315,15 +134,10 @@ module _ (z : Layout) (words : List ℕ) (vs : List View) (right : InRule z word
   fill_own (Entry p e) met (Entry q d) is yet =
       entry_other m p q e d value (λ same. omega (arith, subst (λ j. 0 < count j (without e v.unused.entries)) same yet, count-without_same e v.unused.entries))
       ∙ own_right (Entry q d) is (omega (arith, yet, count-without-le d e v.unused.entries))
-  fill_own (Node f k) met Stamp is yet = absurd is
-  fill_own (Node f k) met (Section j) is yet = absurd is
-  fill_own (Node f k) met (Announced j) is yet = absurd is
-  fill_own (Entry p e) met Stamp is yet = absurd is
-  fill_own (Entry p e) met (Section j) is yet = absurd is
-  fill_own (Entry p e) met (Announced j) is yet = absurd is
   fill_own Stamp met y is yet = absurd (never met)
   fill_own (Section k) met y is yet = absurd (never met)
   fill_own (Announced k) met y is yet = absurd (never met)
+  fill_own _ met _ is yet = absurd is
 
   filled_unused : may_fill v w ≡ true → All (UnusedRight (memory z (set words n value))) (set vs i (filled_view v w value))
   filled_unused met =
@@ -338,6 +152,16 @@ module _ (z : Layout) (words : List ℕ) (vs : List View) (right : InRule z word
   -- seats
   moved : (m' : Memory) → All (UnusedRight m') vs → (u : View) → Less u → All (UnusedRight m') (set vs i u)
   moved m' all u less = All-set (UnusedRight m') vs i u (less_right m' v u less (at_item (UnusedRight m') vs i v at all)) all
+
+  -- a kind that touches neither the free slots nor those that were never used
+  quiet : (kind : Kind) (o : Option Update) → kind ≢ Fill → Spares kind (Free ∷ Unused ∷ []) → needs kind z m vs i v w value o ≡ true
+      → All (UnusedRight (memory z (words_after kind words n value))) (set vs i (view_after kind z m vs v w (m w) value o))
+  quiet kind o other off met =
+      let m' : Memory = memory z (words_after kind words n value) in
+      let all : All (UnusedRight m') vs = left_after kind o other met in
+      All-set (UnusedRight m') vs i (view_after kind z m vs v w (m w) value o)
+      (quiet_part z m vs v (m w) value o kind w (Free ∷ Unused ∷ [])
+      (λ (p : Parts (Free ∷ Unused ∷ [])). (y : Word) → IsFreeWord p.0 y → IsUnusedWord p.1.0 y → m' y ≡ 0) off (at_item (UnusedRight m') vs i v at all)) all
 
   joined_by : (o : Option View) → slice_get vs value ≡ o → All (UnusedRight m) (join_found vs i v value o)
   joined_by None is = right.unused
@@ -360,25 +184,7 @@ module _ (z : Layout) (words : List ℕ) (vs : List View) (right : InRule z word
   unused_after JoinSeat o met = joined_by (slice_get vs value) refl
   unused_after Fill o met = filled_unused met
   unused_after Enter o met = moved _ (left_after Enter o (λ is. cc) met) (entered z.passes v value) enter_less
-  unused_after Leave o met = moved _ (left_after Leave o (λ is. cc) met) (left v value) (λ y is yet. (is, yet))
   unused_after LookSec o met = moved m right.unused (look_from z v w (m w)) (look_less w (m w))
-  unused_after LoadStamp o met = moved m right.unused _ (λ y is yet. (is, yet))
-  unused_after LoadHead o met = moved m right.unused _ (load_head_less w (m w) _)
-  unused_after LoadTs o met = moved m right.unused _ (ts_less w (m w))
-  unused_after LoadPtr o met = moved m right.unused _ (ptr_less w (m w))
-  unused_after LoadNext o met = moved m right.unused _ (next_less w (m w))
   unused_after Prepare o met = moved _ (left_after Prepare o (λ is. cc) met) _ (prepare_less w value)
   unused_after Raise o met = moved _ (left_after Raise o (λ is. cc) met) _ (raise_less (m w) o)
-  unused_after Finalise o met = moved _ (left_after Finalise o (λ is. cc) met) _ (finalise_less w)
-  unused_after TryLock o met = moved _ (left_after TryLock o (λ is. cc) met) _ (lock_less w (m w))
-  unused_after Unlock o met = moved _ (left_after Unlock o (λ is. cc) met) _ (unlock_less w)
-  unused_after LoadMark o met = moved m right.unused _ (load_mark_less w (m w))
-  unused_after MarkNode o met = moved _ (left_after MarkNode o (λ is. cc) met) _ (mark_less w)
-  unused_after LoadKeyOrVal o met = moved m right.unused _ (pair_less w (m w))
-  unused_after Announce o met = moved _ (left_after Announce o (λ is. cc) met) _ (λ y is yet. (is, yet))
-  unused_after LookAnn o met = moved m right.unused _ (look_ann_less w (m w))
-  unused_after Cut o met = moved _ (left_after Cut o (λ is. cc) met) _ (cut_less w)
-  unused_after LoadLink o met = moved m right.unused _ (link_less w (m w))
-  unused_after SetLink o met = moved _ (left_after SetLink o (λ is. cc) met) _ (set_link_less w value)
-  unused_after LoadTag o met = moved m right.unused _ (tag_less w (m w))
-  unused_after SetTag o met = moved _ (left_after SetTag o (λ is. cc) met) _ (set_tag_less w value)
+  unused_after kind o met = quiet kind o (λ is. cc) (refl, (refl, tt)) met

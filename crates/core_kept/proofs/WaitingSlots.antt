@@ -1,6 +1,6 @@
 -- Each view's slots wait as they should, after every event: it works at none of the nodes of its batch, and without a
 -- pass number no slot of it waits.
-use Rattle.std.proofs.Common.{◌≡◌, ℕ, ◌+◌, ◌<◌, ◌≤◌, cond, List, [], ◌∷◌, ◌++◌, map, Bool, true, false, not, eqb, ◌&&◌, set, arith, refl, ap, ◌∙◌, sym, subst, inl, inr, Option, Some, None}
+use Rattle.std.proofs.Common.{◌≡◌, ℕ, ◌+◌, ◌<◌, ◌≤◌, cond, List, [], ◌∷◌, ◌++◌, Bool, true, false, not, eqb, ◌&&◌, set, arith, refl, ap, ◌∙◌, sym, subst, inl, inr, Option, Some, None}
 use Rattle.std.specs.List.{All, slice_get}
 use Rattle.std.proofs.lemmas.Bool.{and_parts, cases_lt, eqb-true, and_from}
 use Rattle.std.proofs.lemmas.List.Elements.{All-set, All-push}
@@ -11,10 +11,8 @@ use Rattle.index_words.specs.declared.view.slots.Slots.{Slots}
 use Rattle.index_words.specs.declared.view.history.SeenHistory.{SeenHistory}
 use Rattle.index_words.specs.declared.view.reading.Reading.{Reading}
 use Rattle.index_words.specs.declared.view.update.Updating.{Updating}
-use Rattle.index_words.specs.declared.word.Field.{Field}
-use Rattle.index_words.specs.declared.word.Field.TheVariants.{Key, Val, Lock, Mark, Head, Link, Tag}
 use Rattle.index_words.specs.declared.word.Word.{Word}
-use Rattle.index_words.specs.declared.word.Word.TheVariants.{Stamp, Section, Announced, Node, Entry}
+use Rattle.index_words.specs.declared.word.Word.TheVariants.{Section, Node, Entry}
 use Rattle.index_words.specs.Words.{Memory, memory, word_at}
 use Rattle.index_words.specs.Views.{spent_view, no_slots}
 use Rattle.key_map.specs.Lists.{count, IsItem}
@@ -25,11 +23,10 @@ use Rattle.core_grace.specs.Holds.{ReadsNode, held_slots, tree_slots, work_nodes
 use Rattle.core_grace.specs.Slots.{own, nodes_of}
 use Rattle.core_grace.specs.Sections.{is_even}
 use Rattle.core_events.specs.declared.event.Kind.{Kind}
-use Rattle.core_events.specs.declared.event.Kind.TheVariants.{MakeSeat, SplitSeat, JoinSeat, Enter, Leave, LookSec, Fill, LoadStamp, LoadHead, LoadTs, LoadPtr, LoadNext, Prepare, Raise, Finalise, TryLock, Unlock, LoadMark, Mark as MarkNode, LoadKeyOrVal, Announce, LookAnn, Cut, LoadLink, SetLink, LoadTag, SetTag}
+use Rattle.core_events.specs.declared.event.Kind.TheVariants.{MakeSeat, SplitSeat, JoinSeat, Enter, Leave, LookSec, LoadStamp, Raise, TryLock, Unlock, Cut}
 use Rattle.core_events.specs.declared.tree_move.TreeMove.{TreeMove}
-use Rattle.core_events.specs.Announcing.{announced_view, has_announced}
+use Rattle.core_events.specs.Announcing.{has_announced}
 use Rattle.core_events.specs.CutNeeds.{may_cut, may_cut_by}
-use Rattle.core_events.specs.FillMoves.{filled_view, filled_with, with_filled, known_before, used_view}
 use Rattle.core_events.specs.LoadMoves.{longest, stamp_history, stamp_reading, stamp_loaded}
 use Rattle.core_events.specs.LockMoves.{locked_view, met_lock, unlocked_view, other_nodes, just_locked, update_until}
 use Rattle.core_events.specs.LockNeeds.{may_try_lock, may_lock, names_pass}
@@ -38,9 +35,8 @@ use Rattle.core_events.specs.Needs.{is_outside, is_lock, is_own_section, may_ent
 use Rattle.core_events.specs.Waits.{has_no_lock, looked_waiting, may_look}
 use Rattle.core_invariant.proofs.WaitNeeds.{can_look}
 use Rattle.core_events.specs.SpelledNow.{tree_now}
-use Rattle.core_events.specs.Steps.{needs, carries, is_own_update, views_after, join_found, look_from, ts_from, ptr_from, next_from, prepared_at, prepared_from, raised_from, finalised_from, tried_from, unlocked_from, mark_from, marked_from, pair_from, ann_from, cut_from, link_from, tag_from, set_from, raised_tag_from}
+use Rattle.core_events.specs.Steps.{needs, carries, is_own_update, views_after, join_found, look_from, raised_from, tried_from, unlocked_from, cut_from}
 use Rattle.core_events.specs.TreeMoves.{is_tree_step, tree_move}
-use Rattle.core_events.specs.UpdateMoves.{prepared, known_at}
 use Rattle.core_events.specs.UpdateNeeds.{may_raise, may_raise_number}
 use Rattle.core_events.specs.Versions.{slots_of, tree_nodes}
 use Rattle.core_events.proofs.Tests.{never, node_there, not_true}
@@ -48,7 +44,6 @@ use Rattle.core_invariant.specs.SectionRule.{IsIdle}
 use Rattle.core_invariant.specs.Reached.{plain_graph, ReachesRight}
 use Rattle.core_invariant.specs.Rule.{InRule}
 use Rattle.core_invariant.specs.WaitingSlots.{IsNameless, HasNoneWaiting, WaitsRight}
-use Rattle.core_invariant.proofs.Fronts.{held-known}
 use Rattle.core_invariant.proofs.Idle.{idle_nodes, nameless_idle}
 use Rattle.core_invariant.proofs.Needed.{outside_idle, can_raise}
 use Rattle.core_invariant.proofs.OneView.{item_from_get, seat_at}
@@ -60,7 +55,7 @@ use Rattle.core_kept.proofs.RaiseNew.{waiting_old}
 use Rattle.core_kept.proofs.TreeNeeds.{moves_tree}
 use Rattle.core_kept.proofs.TryLocks.{slots_push}
 use Rattle.core_kept.proofs.Unlocks.{slots_other, until_by}
-use Rattle.core_kept.proofs.WaitingLoads.{less, same, held_with, load_head_waits, ts_waits, ptr_waits, next_waits, finalise_waits, load_mark_waits, mark_waits, pair_waits, load_link_waits, set_link_waits, load_tag_waits, set_tag_waits, look_ann_waits}
+use Rattle.core_kept.proofs.WaitingLoads.{less, same, quiet}
 
 -- a list that is empty with another one behind it
 both_empty : {X : Type 0} (xs ys : List X) → xs ++ ys ≡ [] → (xs ≡ []) × (ys ≡ [])
@@ -122,10 +117,7 @@ module _ (z : Layout) (words : List ℕ) (vs : List View) (right : InRule z word
 
   look_waits : (u : Word) (x : ℕ) → may_look v u value ≡ true → WaitsRight (look_from z v u x)
   look_waits (Section pass) x met = look_by pass x (can_look v pass value met).even (has_no_lock v) refl
-  look_waits Stamp x met = absurd (never met)
-  look_waits (Announced k) x met = absurd (never met)
-  look_waits (Node f k) x met = absurd (never met)
-  look_waits (Entry p e) x met = absurd (never met)
+  look_waits _ x met = absurd (never met)
 
   enter_out : may_enter v w value ≡ true → is_outside v ≡ true
   enter_out met =
@@ -142,10 +134,6 @@ module _ (z : Layout) (words : List ℕ) (vs : List View) (right : InRule z word
         count-append k (held_slots v.held.nodes) (listed v.update.added),
         count-append k (tree_slots v.reading.tree) (work_nodes v),
       ))
-
-  fill_waits : (b : Bool) (u : Word) → WaitsRight (cond b (used_view v u) (with_filled (used_view v u) (filled_with (known_before v u) u value)))
-  fill_waits true u = same v own_right (used_view v u) refl refl refl refl refl
-  fill_waits false u = same v own_right (with_filled (used_view v u) (filled_with (known_before v u) u value)) refl refl refl refl refl
 
   -- a load of the stamp
   reads_with : (h : SeenHistory) (r : Reading) → h.ended ≡ v.history.ended → ((k : ℕ) → 0 < count k v.batch.nodes → count k (tree_slots r.tree) ≡ 0)
@@ -181,25 +169,6 @@ module _ (z : Layout) (words : List ℕ) (vs : List View) (right : InRule z word
           reads_with (stamp_history known v.history x fixes) (stamp_reading v.reading false x fixes (tree_nodes (tree_now z m vs))) refl old_tree
 
   -- the kinds of an update
-  prepare_at_waits : (f : Field) (k e : ℕ) → WaitsRight (prepared_at v f k e)
-  prepare_at_waits (Head side) k e =
-      same v own_right (prepared v side k e) refl refl refl refl
-      (held_with v own_right (held_slots (map (known_at k side (record { entry = e; stamp = None })) v.held.nodes))
-      (held-known k side (record { entry = e; stamp = None }) v.held.nodes))
-  prepare_at_waits Key k e = own_right
-  prepare_at_waits Val k e = own_right
-  prepare_at_waits Lock k e = own_right
-  prepare_at_waits Mark k e = own_right
-  prepare_at_waits (Link side) k e = own_right
-  prepare_at_waits (Tag side) k e = own_right
-
-  prepare_waits : (u : Word) (e : ℕ) → WaitsRight (prepared_from v u e)
-  prepare_waits (Node f k) e = prepare_at_waits f k e
-  prepare_waits Stamp e = own_right
-  prepare_waits (Section k) e = own_right
-  prepare_waits (Announced k) e = own_right
-  prepare_waits (Entry p d) e = own_right
-
   raise_waits : (x : ℕ) (o : Option Update) → is_own_update v o ≡ true → may_raise z m vs v w value o ≡ true → WaitsRight (raised_from z m vs v x o)
   raise_waits x None named met = own_right
   raise_waits x (Some u) named met =
@@ -273,10 +242,7 @@ module _ (z : Layout) (words : List ℕ) (vs : List View) (right : InRule z word
       tried_by : (b : Bool) → count k v.batch.nodes ≡ 0 → WaitsRight (cond b (locked_view v k) (met_lock v value x))
       tried_by true unbatched = locked_waits k unbatched
       tried_by false unbatched = same v own_right (met_lock v value x) refl refl refl refl refl
-  lock_waits Stamp x is met = absurd (never met)
-  lock_waits (Section k) x is met = absurd (never met)
-  lock_waits (Announced k) x is met = absurd (never met)
-  lock_waits (Entry p e) x is met = absurd (never met)
+  lock_waits _ x is met = absurd (never met)
 
   unlock_waits : (u : Word) → WaitsRight (unlocked_from v u)
   unlock_waits (Node f k) = less v own_right (unlocked_view v k) refl refl refl refl read_less
@@ -302,10 +268,7 @@ module _ (z : Layout) (words : List ℕ) (vs : List View) (right : InRule z word
             count-append j (tree_slots v.reading.tree) (work_nodes v),
             count-append j (held_slots v.held.nodes) (listed v.update.added),
           )
-  unlock_waits Stamp = own_right
-  unlock_waits (Section k) = own_right
-  unlock_waits (Announced k) = own_right
-  unlock_waits (Entry p e) = own_right
+  unlock_waits _ = own_right
 
   -- announcements and cuts
   -- who cuts has a pass number
@@ -314,17 +277,11 @@ module _ (z : Layout) (words : List ℕ) (vs : List View) (right : InRule z word
       let idle = nameless_idle _ _ v (seat_at z m vs right.meaning i v at right.rule).section none in
       let one = and_parts _ (may_cut_by z m vs v v.reading.least e) met in
       never (subst (λ (r : Reading). may_cut_by z m vs v r.least e ≡ true) idle.reading one.1)
-  cut_named Stamp met none = never met
-  cut_named (Section k) met none = never met
-  cut_named (Announced k) met none = never met
-  cut_named (Node f k) met none = never met
+  cut_named _ met none = never met
 
   cut_waits : (u : Word) → may_cut z m vs v u value ≡ true → WaitsRight (cut_from z m v u)
   cut_waits (Entry p e) met = record { apart = own_right.apart; owned = λ nameless. absurd (cut_named (Entry p e) met nameless.0) }
-  cut_waits Stamp met = own_right
-  cut_waits (Section k) met = own_right
-  cut_waits (Announced k) met = own_right
-  cut_waits (Node f k) met = own_right
+  cut_waits _ met = own_right
 
   -- seats
   joined_waits : (u : View) → WaitsRight u → WaitsRight (joined_with v u)
@@ -371,24 +328,9 @@ module _ (z : Layout) (words : List ℕ) (vs : List View) (right : InRule z word
   waits_after Enter o named met = moved (entered z.passes v value) (enter_waits (enter_out met))
   waits_after Leave o named met = moved (left v value) leave_waits
   waits_after LookSec o named met = moved (look_from z v w (m w)) (look_waits w (m w) met)
-  waits_after Fill o named met = moved (filled_view v w value) (fill_waits (is_even v.section_word) w)
   waits_after LoadStamp o named met = moved _ (stamp_waits (longest vs) (m w) (eqb value 1))
-  waits_after LoadHead o named met = moved _ (load_head_waits v own_right w (m w) _)
-  waits_after LoadTs o named met = moved (ts_from v w (m w)) (ts_waits v own_right w (m w))
-  waits_after LoadPtr o named met = moved (ptr_from v w (m w)) (ptr_waits v own_right w (m w))
-  waits_after LoadNext o named met = moved (next_from v w (m w)) (next_waits v own_right w (m w))
-  waits_after Prepare o named met = moved (prepared_from v w value) (prepare_waits w value)
   waits_after Raise o named met = moved _ (raise_waits (m w) o named met)
-  waits_after Finalise o named met = moved (finalised_from v w) (finalise_waits v own_right w)
   waits_after TryLock o named met = moved (tried_from v w value (m w)) (lock_waits w (m w) found met)
   waits_after Unlock o named met = moved (unlocked_from v w) (unlock_waits w)
-  waits_after LoadMark o named met = moved (mark_from v w (m w)) (load_mark_waits v own_right w (m w))
-  waits_after MarkNode o named met = moved (marked_from v w) (mark_waits v own_right w)
-  waits_after LoadKeyOrVal o named met = moved (pair_from v w (m w)) (pair_waits v own_right w (m w))
-  waits_after Announce o named met = moved (announced_view v value) (same v own_right (announced_view v value) refl refl refl refl refl)
-  waits_after LookAnn o named met = moved (ann_from v w (m w)) (look_ann_waits v own_right w (m w))
   waits_after Cut o named met = moved (cut_from z m v w) (cut_waits w met)
-  waits_after LoadLink o named met = moved (link_from v w (m w)) (load_link_waits v own_right w (m w))
-  waits_after SetLink o named met = moved (set_from v w value) (set_link_waits v own_right w value)
-  waits_after LoadTag o named met = moved (tag_from v w (m w)) (load_tag_waits v own_right w (m w))
-  waits_after SetTag o named met = moved (raised_tag_from v w value) (set_tag_waits v own_right w value)
+  waits_after kind o named met = moved _ (quiet v own_right z m vs (m w) value o kind w refl refl refl refl refl refl)

@@ -7,7 +7,7 @@ use Rattle.index_words.specs.declared.side.Side.TheVariants.{Left, Right}
 use Rattle.index_words.specs.declared.view.reading.Reading.{Reading}
 use Rattle.index_words.specs.declared.view.reading.Turn.{Turn}
 use Rattle.index_words.specs.declared.view.reading.Place.{Place}
-use Rattle.index_words.specs.declared.view.reading.Place.TheVariants.{Nowhere, Entry as AtEntry, Node as AtNode, Gap}
+use Rattle.index_words.specs.declared.view.reading.Place.TheVariants.{Nowhere, Node as AtNode, Gap}
 use Rattle.key_map.specs.Lists.{count, Every}
 use Rattle.core_grace.proofs.RuleMoves.{every_push}
 use Rattle.core_trees.specs.NamedTree.{NamedTree}
@@ -118,8 +118,6 @@ module _ (g : Graph) (u : Undone) (waits : ℕ → ℕ → Bool) (plain : NamedT
         root = λ _. right;
         turn = λ ne. absurd (ne zero);
       }
-  walk_of r (AtEntry node s entry found) k side is stands claims key = absurd (never stands)
-  walk_of r (Gap node s) k side is stands claims key = absurd (never stands)
   walk_of r (AtNode node key) k side is stands claims known =
       let parts = and_parts (eqb node k) (goes_on_at r key) stands in
       let named : node ≡ k = eqb-true node k parts.0 in
@@ -145,6 +143,7 @@ module _ (g : Graph) (u : Undone) (waits : ℕ → ℕ → Bool) (plain : NamedT
             ∙ (ap (λ (l : Option ℕ). turn_of side l (high_turn side on.at high)) rk
             ∙ (own_turn side on.at low high ∙ ap Some (sym key_is ∙ ap g.key named)));
       }
+  walk_of r _ k side is stands claims key = absurd (never stands)
 
   -- what is said of the place after the step
   pub place_walked : (r : Reading) (k : ℕ) (side : Side) (x : ℕ) → Walk r k side x
@@ -174,8 +173,6 @@ pub walk_keys : (g : Graph) (r : Reading) (p : Place) (k : ℕ) (side : Side) �
 walk_keys g r Nowhere k side is stands key =
     let parts = and_parts (eqb k 0) (same_side side Right) stands in
     (λ _. same_side-true side Right parts.1, λ ne. absurd (ne (eqb-true k 0 parts.0)))
-walk_keys g r (AtEntry node s entry found) k side is stands key = absurd (never stands)
-walk_keys g r (Gap node s) k side is stands key = absurd (never stands)
 walk_keys g r (AtNode node key) k side is stands known =
     let parts = and_parts (eqb node k) (goes_on_at r key) stands in
     let named : node ≡ k = eqb-true node k parts.0 in
@@ -187,6 +184,7 @@ walk_keys g r (AtNode node key) k side is stands known =
           ∙ (ap (λ (l : Option ℕ). turn_of side l (high_turn side on.at (turn_key r.left_turn))) (right_key side r node on.at at_place)
           ∙ (own_turn side on.at (turn_key r.right_turn) (turn_key r.left_turn) ∙ ap Some (sym key_is ∙ ap g.key named))),
     )
+walk_keys g r _ k side is stands key = absurd (never stands)
 
 -- what is reached after the step was reached before
 module _ (g : Graph) (r : Reading) (k : ℕ) (side : Side) where
@@ -212,10 +210,7 @@ module _ (g : Graph) (r : Reading) (k : ℕ) (side : Side) where
     where
       by : (p : Place) → 0 < count a (turn_nodes (turned p t)) → (0 < count a (turn_nodes t)) ⊎ (0 < count a (place_nodes (g.child Right 0) p))
       by (AtNode node (Some key)) here = inr here
-      by (AtNode node None) here = inl here
-      by Nowhere here = inl here
-      by (AtEntry node s entry found) here = inl here
-      by (Gap node s) here = inl here
+      by _ here = inl here
 
   left_count : (s : Side) (a : ℕ) → 0 < count a (turn_nodes (left_turn_after s r)) → 0 < count a (search_nodes (g.child Right 0) r)
   left_count Left a some = elim (turned_count a r.left_turn some) as (λ _. 0 < count a (search_nodes (g.child Right 0) r)) [
@@ -287,8 +282,7 @@ module _ (g : Graph) (r : Reading) (k : ℕ) (side : Side) where
         subst (λ n. 0 < count n (search_nodes (g.child Right 0) r)) named
             (omega (arith, in_one node [], search_count node (g.child Right 0) r, ap (λ (p : Place). count node (place_nodes (g.child Right 0) p)) is)),
       )
-  stands_node (AtEntry node s entry found) is key stands = absurd (never stands)
-  stands_node (Gap node s) is key stands = absurd (never stands)
+  stands_node _ is key stands = absurd (never stands)
 
   step_to : (s : Side) (j : ℕ) → 0 < k → IsReached g (g.child s k) j → IsReached g k j
   step_to Left j pos way = (k ∷ way.0, (refl, pos, inl way.1))

@@ -317,16 +317,7 @@ module _ (t : Table) (e : Event) (right : IsRight t) (v : View) (at : IsItem t.v
       let here : word_at t.layout e.word ≡ Some (Node Lock k) = found ∙ ap Some named in
       let held : 0 < held_by t (Node Lock k) = subst (λ x. 0 < x) (found_at t.layout t.words e.word (Node Lock k) here) p.held in
       lock_held t right e.seat v at own.0 k own.1 (not_locked k two.1) held (HasLocked t e) (λ n u some. record { node = k; word = here; locked = some })
-  lock_by (Node Key k) named may p = absurd (never may)
-  lock_by (Node Val k) named may p = absurd (never may)
-  lock_by (Node Mark k) named may p = absurd (never may)
-  lock_by (Node (Head s) k) named may p = absurd (never may)
-  lock_by (Node (LinkField s) k) named may p = absurd (never may)
-  lock_by (Node (Tag s) k) named may p = absurd (never may)
-  lock_by Stamp named may p = absurd (never may)
-  lock_by (Section k) named may p = absurd (never may)
-  lock_by (Announced k) named may p = absurd (never may)
-  lock_by (Entry q d) named may p = absurd (never may)
+  lock_by _ named may p = absurd (never may)
 
   number_by : FindsNoNumber t e v → AnotherPass t v (HasPending t e)
   number_by p =
@@ -389,10 +380,7 @@ module _ (t : Table) (e : Event) (right : IsRight t) (v : View) (at : IsItem t.v
       read_by j (inl tree) = omega (arith, tree, count-append j (tree_slots v.reading.tree) (work_nodes v))
       read_by j (inr locked) =
           omega (arith, locked, count-append j (tree_slots v.reading.tree) (work_nodes v), count-append j (held_slots v.held.nodes) (listed v.update.added))
-  mark_by Stamp named may p = absurd (never may)
-  mark_by (Section k) named may p = absurd (never may)
-  mark_by (Announced k) named may p = absurd (never may)
-  mark_by (Entry q d) named may p = absurd (never may)
+  mark_by _ named may p = absurd (never may)
 
   met_by_others : MetByOthers t e v
   met_by_others = record {
@@ -403,8 +391,6 @@ module _ (t : Table) (e : Event) (right : IsRight t) (v : View) (at : IsItem t.v
   }
 
 others_by : (t : Table) (e : Event) (v : View) (o : Option View) (w : Option Word) → slice_get t.views e.seat ≡ o → word_at t.layout e.word ≡ w → IsRight t → allowed_at t e o w ≡ true → o ≡ Some v → MetByOthers t e v
-others_by t e v None w is found right met one = absurd (never met)
-others_by t e v (Some u) None is found right met one = absurd (never met)
 others_by t e v (Some u) (Some w) is found right met one =
     let a = carries e.kind u e.update in
     let b = not u.joined in
@@ -412,6 +398,7 @@ others_by t e v (Some u) (Some w) is found right met one =
     let met_u = met_by_others t e right u (item_from_get t.views e.seat u is) w found (and_parts (a && b) c met).1 in
     let same : u ≡ v = cc in
     subst (MetByOthers t e) same met_u
+others_by t e v _ _ is found right met one = absurd (never met)
 
 pub others : OthersLaw
 others t e v right met is = others_by t e v (slice_get t.views e.seat) (word_at t.layout e.word) refl refl right met is

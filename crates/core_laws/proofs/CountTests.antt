@@ -100,10 +100,9 @@ pub not_either : (a b : Bool) → a ≡ false → b ≡ false → (a || b) ≡ f
 not_either a b p q = ap (λ c. c || b) p ∙ q
 
 sides_same : (s t : Side) → same_side s t ≡ true → s ≡ t
-sides_same Left Left p = refl
-sides_same Right Right p = refl
 sides_same Left Right p = absurd (never p)
 sides_same Right Left p = absurd (never p)
+sides_same _ _ p = refl
 
 same_sides : (s t : Side) → s ≡ t → same_side s t ≡ true
 same_sides Left t p = subst (λ u. same_side Left u ≡ true) p refl

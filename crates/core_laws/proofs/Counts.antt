@@ -142,12 +142,7 @@ module _ (t : Table) (e : Event) (right : IsRight t) (v : View) (at : IsItem t.v
 
       apart_too : LoadTs ≡ LoadStamp → ⊥
       apart_too p = cc
-  ts_counts (Entry Child d) named is met = absurd (never met)
-  ts_counts (Entry Next d) named is met = absurd (never met)
-  ts_counts Stamp named is met = absurd (never met)
-  ts_counts (Section k) named is met = absurd (never met)
-  ts_counts (Announced k) named is met = absurd (never met)
-  ts_counts (Node f k) named is met = absurd (never met)
+  ts_counts _ named is met = absurd (never met)
 
   abbrev at_head : ℕ → Side → ℕ
   at_head j s = m (Node (Head s) j)
@@ -191,19 +186,11 @@ module _ (t : Table) (e : Event) (right : IsRight t) (v : View) (at : IsItem t.v
             other = moved_says v k side x parts.0;
             apart = (has_none x v.update.pending none.0, has_none (m (Entry Number x)) v.history.mine none.1);
           }))
-  head_field Key k named is met = absurd (never met)
-  head_field Val k named is met = absurd (never met)
-  head_field Lock k named is met = absurd (never met)
-  head_field Mark k named is met = absurd (never met)
-  head_field (LinkField side) k named is met = absurd (never met)
-  head_field (Tag side) k named is met = absurd (never met)
+  head_field _ k named is met = absurd (never met)
 
   head_counts : (u : Word) → word ≡ u → e.kind ≡ LoadHead → may_load_head v u e.value ≡ true → CountsRise t e v (head_from v u (m u) (m (Entry Number (m u))))
   head_counts (Node f k) named is met = head_field f k named is met
-  head_counts Stamp named is met = absurd (never met)
-  head_counts (Section k) named is met = absurd (never met)
-  head_counts (Announced k) named is met = absurd (never met)
-  head_counts (Entry p d) named is met = absurd (never met)
+  head_counts _ named is met = absurd (never met)
 
   mark_field : (f : Field) (k : ℕ) → word ≡ Node f k → e.kind ≡ LoadMark → may_load_mark v (Node f k) e.value ≡ true → CountsRise t e v (mark_loaded v k (m (Node f k)))
   mark_field Mark k named is met =
@@ -245,19 +232,11 @@ module _ (t : Table) (e : Event) (right : IsRight t) (v : View) (at : IsItem t.v
             reach = count_says v k three.1;
             kept = (has_none k v.update.taken (not_true (has k v.update.taken) two.1), has_none k v.retired.nodes (not_true (has k v.retired.nodes) one.1));
           })
-  mark_field Key k named is met = absurd (never met)
-  mark_field Val k named is met = absurd (never met)
-  mark_field Lock k named is met = absurd (never met)
-  mark_field (Head side) k named is met = absurd (never met)
-  mark_field (LinkField side) k named is met = absurd (never met)
-  mark_field (Tag side) k named is met = absurd (never met)
+  mark_field _ k named is met = absurd (never met)
 
   mark_counts : (u : Word) → word ≡ u → e.kind ≡ LoadMark → may_load_mark v u e.value ≡ true → CountsRise t e v (mark_from v u (m u))
   mark_counts (Node f k) named is met = mark_field f k named is met
-  mark_counts Stamp named is met = absurd (never met)
-  mark_counts (Section k) named is met = absurd (never met)
-  mark_counts (Announced k) named is met = absurd (never met)
-  mark_counts (Entry p d) named is met = absurd (never met)
+  mark_counts _ named is met = absurd (never met)
 
   abbrev LinkMoved : ℕ → Side → Bool
   LinkMoved j s = link_moved v j s (m (Node (LinkField s) j))
@@ -293,19 +272,11 @@ module _ (t : Table) (e : Event) (right : IsRight t) (v : View) (at : IsItem t.v
             other = child_says v k side x parts.0;
             unknown = not_true (knows_link v.held.nodes k side x) parts.1;
           })))
-  link_field Key k named is met = absurd (never met)
-  link_field Val k named is met = absurd (never met)
-  link_field Lock k named is met = absurd (never met)
-  link_field Mark k named is met = absurd (never met)
-  link_field (Head side) k named is met = absurd (never met)
-  link_field (Tag side) k named is met = absurd (never met)
+  link_field _ k named is met = absurd (never met)
 
   link_counts : (u : Word) → word ≡ u → e.kind ≡ LoadLink → may_load_link v u e.value ≡ true → CountsRise t e v (link_from v u (m u))
   link_counts (Node f k) named is met = link_field f k named is met
-  link_counts Stamp named is met = absurd (never met)
-  link_counts (Section k) named is met = absurd (never met)
-  link_counts (Announced k) named is met = absurd (never met)
-  link_counts (Entry p d) named is met = absurd (never met)
+  link_counts _ named is met = absurd (never met)
 
   abbrev TagMoved : ℕ → Side → Bool
   TagMoved j s = tag_moved v j s (m (Node (Tag s) j))
@@ -341,19 +312,11 @@ module _ (t : Table) (e : Event) (right : IsRight t) (v : View) (at : IsItem t.v
             other = tag_says v k side x parts.0;
             unknown = not_true (knows_tag v.held.nodes k side x) parts.1;
           })))
-  tag_field Key k named is met = absurd (never met)
-  tag_field Val k named is met = absurd (never met)
-  tag_field Lock k named is met = absurd (never met)
-  tag_field Mark k named is met = absurd (never met)
-  tag_field (Head side) k named is met = absurd (never met)
-  tag_field (LinkField side) k named is met = absurd (never met)
+  tag_field _ k named is met = absurd (never met)
 
   tag_counts : (u : Word) → word ≡ u → e.kind ≡ LoadTag → may_load_tag v u e.value ≡ true → CountsRise t e v (tag_from v u (m u))
   tag_counts (Node f k) named is met = tag_field f k named is met
-  tag_counts Stamp named is met = absurd (never met)
-  tag_counts (Section k) named is met = absurd (never met)
-  tag_counts (Announced k) named is met = absurd (never met)
-  tag_counts (Entry p d) named is met = absurd (never met)
+  tag_counts _ named is met = absurd (never met)
 
   -- a try of a lock whose word names its pass
   named_of : (o : Option ℕ) (value : ℕ) → names_pass o value ≡ true → (n : ℕ) × (o ≡ Some n) × (value ≡ n + 1)
@@ -411,19 +374,11 @@ module _ (t : Table) (e : Event) (right : IsRight t) (v : View) (at : IsItem t.v
         where
           positive : (y : ℕ) → eqb y 0 ≡ false → 0 < y
           positive y p = grind (arith, nat_tests)
-  lock_field Key k named is met = absurd (never met)
-  lock_field Val k named is met = absurd (never met)
-  lock_field Mark k named is met = absurd (never met)
-  lock_field (Head side) k named is met = absurd (never met)
-  lock_field (LinkField side) k named is met = absurd (never met)
-  lock_field (Tag side) k named is met = absurd (never met)
+  lock_field _ k named is met = absurd (never met)
 
   lock_counts : (u : Word) → word ≡ u → e.kind ≡ TryLock → may_try_lock v u e.value ≡ true → CountsRise t e v (tried_from v u e.value (m u))
   lock_counts (Node f k) named is met = lock_field f k named is met
-  lock_counts Stamp named is met = absurd (never met)
-  lock_counts (Section k) named is met = absurd (never met)
-  lock_counts (Announced k) named is met = absurd (never met)
-  lock_counts (Entry p d) named is met = absurd (never met)
+  lock_counts _ named is met = absurd (never met)
 
   -- the view of the seat after an event that moves it alone
   abbrev Moved : Kind → View

@@ -53,6 +53,5 @@ module _ (t : Table) (right : IsRight t) (i : ℕ) (v : View) (at : IsItem t.vie
       (every_item (IsLinkKnown gr tags v.held.nodes) v.reading.links other.place other.link other.is known)))
     where
       by : (child : ℕ) (s : LinkSource) → is_other_tag (tags side node) s ≡ true → IsSourceKnown v.held.nodes node side (gr.child side node) (tags side node) child s → ⊥
-      by child (Bundle entry) apart is = never apart
-      by child (Plain None above below) apart is = never apart
       by child (Plain (Some found) above below) apart is = elim is.1 as (λ _. ⊥) [ inl same ↦ not_equal found (tags side node) apart (sym same) | inr told ↦ never (sym unknown ∙ told) ]
+      by child _ apart is = never apart

@@ -65,10 +65,7 @@ module _ (z : Layout) (m : Memory) (vs : List View) (g : Meaning) (rule : Rule z
   WritesField Key k = HasFreeNode v k
   WritesField Val k = HasFreeNode v k
   WritesField Lock k = IsLocked v k ⊎ (IsLive z vs k × (m (Node Lock k) ≡ 0))
-  WritesField Mark k = HasFreeNode v k ⊎ IsLocked v k
-  WritesField (Head side) k = HasFreeNode v k ⊎ IsLocked v k
-  WritesField (Link side) k = HasFreeNode v k ⊎ IsLocked v k
-  WritesField (Tag side) k = HasFreeNode v k ⊎ IsLocked v k
+  WritesField _ k = HasFreeNode v k ⊎ IsLocked v k
 
   abbrev WritesPart : Part → ℕ → Type 0
   WritesPart Child e = HasFreeEntry v e
@@ -120,10 +117,7 @@ module _ (z : Layout) (m : Memory) (vs : List View) (g : Meaning) (rule : Rule z
     field_apart Key k writes steady = free_apart k writes steady
     field_apart Val k writes steady = free_apart k writes steady
     field_apart Lock k writes steady = lock_apart k writes steady
-    field_apart Mark k writes steady = node_apart k writes steady
-    field_apart (Head side) k writes steady = node_apart k writes steady
-    field_apart (Link side) k writes steady = node_apart k writes steady
-    field_apart (Tag side) k writes steady = node_apart k writes steady
+    field_apart _ k writes steady = node_apart k writes steady
 
     entry_apart : (e : ℕ) → HasFreeEntry v e → HasFreeEntry u e → ⊥
     entry_apart e mine also = omega (arith, once_entry z vs g rule.slots e, two_terms (own entries_in e) vs i v u at beside, mine, also)
@@ -178,20 +172,12 @@ module _ (z : Layout) (m : Memory) (vs : List View) (g : Meaning) (rule : Rule z
   fixed_entry e free none = omega (arith, one_term (own_free entries_in e) vs i v at, free, none)
 
   pub writes_unfixed : (w : Word) → Writes w → IsFixed m vs w → ⊥
-  writes_unfixed Stamp writes fixed = absurd fixed
-  writes_unfixed (Section n) writes fixed = absurd fixed
-  writes_unfixed (Announced n) writes fixed = absurd fixed
   writes_unfixed (Node Key k) writes fixed = fixed_node k writes fixed
   writes_unfixed (Node Val k) writes fixed = fixed_node k writes fixed
-  writes_unfixed (Node Lock k) writes fixed = absurd fixed
-  writes_unfixed (Node Mark k) writes fixed = absurd fixed
-  writes_unfixed (Node (Head side) k) writes fixed = absurd fixed
-  writes_unfixed (Node (Link side) k) writes fixed = absurd fixed
-  writes_unfixed (Node (Tag side) k) writes fixed = absurd fixed
   writes_unfixed (Entry Child e) writes fixed = fixed_entry e writes fixed
   writes_unfixed (Entry Number e) (inl free) fixed = fixed_entry e free fixed.0
   writes_unfixed (Entry Number e) (inr pending) fixed = omega (arith, fixed.1, pending_unwritten i e v at pending)
-  writes_unfixed (Entry Next e) writes fixed = absurd fixed
+  writes_unfixed _ writes fixed = absurd fixed
 
 other_word : (m : Memory) (w u : Word) (x : ℕ) → (u ≡ w → ⊥) → written m w x u ≡ m u
 other_word m w u x apart = other_by (same_word u w) refl
@@ -229,58 +215,36 @@ module _ (z : Layout) (words : List ℕ) (vs : List View) (right : InRule z word
   fill_field Key k is free = free
   fill_field Val k is free = free
   fill_field Lock k is free = cc
-  fill_field Mark k is free = inl free
-  fill_field (Head side) k is free = inl free
-  fill_field (Link side) k is free = inl free
-  fill_field (Tag side) k is free = inl free
+  fill_field _ k is free = inl free
 
   fill_part : (p : Part) (e : ℕ) → HasFreeEntry v e → W (Entry p e)
   fill_part Child e free = free
-  fill_part Number e free = inl free
-  fill_part Next e free = inl free
+  fill_part _ e free = inl free
 
   fill_writes : (u : Word) → may_fill v u ≡ true → W u
   fill_writes (Node f k) met =
       let parts = and_parts (not (is_lock f)) (has k v.free.nodes) met in
       fill_field f k (not_true (is_lock f) parts.0) (has-count k v.free.nodes parts.1)
   fill_writes (Entry p e) met = fill_part p e (has-count e v.free.entries met)
-  fill_writes Stamp met = absurd (never met)
-  fill_writes (Section k) met = absurd (never met)
-  fill_writes (Announced k) met = absurd (never met)
+  fill_writes _ met = absurd (never met)
 
   prepare_field : (f : Field) (k : ℕ) → may_prepare_head m v f k value ≡ true → W (Node f k)
   prepare_field (Head side) k met = inr (ready_is z m right.meaning v side k value (seat_at z m vs right.meaning i v at right.rule) met).locked
-  prepare_field Key k met = absurd (never met)
-  prepare_field Val k met = absurd (never met)
-  prepare_field Lock k met = absurd (never met)
-  prepare_field Mark k met = absurd (never met)
-  prepare_field (Link side) k met = absurd (never met)
-  prepare_field (Tag side) k met = absurd (never met)
+  prepare_field _ k met = absurd (never met)
 
   prepare_writes : (u : Word) → may_prepare m v u value ≡ true → W u
   prepare_writes (Node f k) met = prepare_field f k met
-  prepare_writes Stamp met = absurd (never met)
-  prepare_writes (Section k) met = absurd (never met)
-  prepare_writes (Announced k) met = absurd (never met)
-  prepare_writes (Entry p e) met = absurd (never met)
+  prepare_writes _ met = absurd (never met)
 
   raise_writes : (u : Word) (o : Option Update) → may_raise z m vs v u value o ≡ true → W u
   raise_writes Stamp o met = tt
-  raise_writes (Section k) o met = absurd (never met)
-  raise_writes (Announced k) o met = absurd (never met)
-  raise_writes (Node f k) o met = absurd (never met)
-  raise_writes (Entry p e) o met = absurd (never met)
+  raise_writes _ o met = absurd (never met)
 
   finalise_writes : (u : Word) → may_finalise v u value ≡ true → W u
   finalise_writes (Entry Number e) met =
       let one = and_parts (is_part Number Number && has e v.update.pending) (is_number value v.update.raised) met in
       inr (has-count e v.update.pending (and_parts (is_part Number Number) (has e v.update.pending) one.0).1)
-  finalise_writes (Entry Child e) met = absurd (never met)
-  finalise_writes (Entry Next e) met = absurd (never met)
-  finalise_writes Stamp met = absurd (never met)
-  finalise_writes (Section k) met = absurd (never met)
-  finalise_writes (Announced k) met = absurd (never met)
-  finalise_writes (Node f k) met = absurd (never met)
+  finalise_writes _ met = absurd (never met)
 
   lock_field : (f : Field) (k : ℕ) → k ≤ z.nodes → may_try_lock v (Node f k) value ≡ true → m (Node f k) ≡ 0 → W (Node f k)
   lock_field Lock k there met none =
@@ -293,19 +257,11 @@ module _ (z : Layout) (words : List ℕ) (vs : List View) (right : InRule z word
       let inside : is_even v.section_word ≡ false = not_true (is_even v.section_word) (and_parts (is_lock Lock) b three.0).1 in
       let reach : ReachesRight z (plain_graph m) vs v = at_item (ReachesRight z (plain_graph m) vs) vs i v at right.reach in
       inr ((can_lock z m vs right.meaning right.rule i v at (plain_graph m) reach inside k there three.1).live, none)
-  lock_field Key k there met none = absurd (never met)
-  lock_field Val k there met none = absurd (never met)
-  lock_field Mark k there met none = absurd (never met)
-  lock_field (Head side) k there met none = absurd (never met)
-  lock_field (Link side) k there met none = absurd (never met)
-  lock_field (Tag side) k there met none = absurd (never met)
+  lock_field _ k there met none = absurd (never met)
 
   try_writes : (u : Word) → word_at z n ≡ Some u → may_try_lock v u value ≡ true → m u ≡ 0 → W u
   try_writes (Node f k) is met none = lock_field f k (node_there z n k f is) met none
-  try_writes Stamp is met none = absurd (never met)
-  try_writes (Section k) is met none = absurd (never met)
-  try_writes (Announced k) is met none = absurd (never met)
-  try_writes (Entry p e) is met none = absurd (never met)
+  try_writes _ is met none = absurd (never met)
 
   unlock_field : (f : Field) (k : ℕ) → may_unlock m v (Node f k) value ≡ true → W (Node f k)
   unlock_field Lock k met =
@@ -313,55 +269,31 @@ module _ (z : Layout) (words : List ℕ) (vs : List View) (right : InRule z word
       let one = and_parts (is_lock Lock && locks k v.held.nodes && nothing_pending m v && c) (eqb value 0) met in
       let two = and_parts (is_lock Lock && locks k v.held.nodes) (nothing_pending m v) (and_parts (is_lock Lock && locks k v.held.nodes && nothing_pending m v) c one.0).0 in
       inl (locks-count k v.held.nodes (and_parts (is_lock Lock) (locks k v.held.nodes) two.0).1)
-  unlock_field Key k met = absurd (never met)
-  unlock_field Val k met = absurd (never met)
-  unlock_field Mark k met = absurd (never met)
-  unlock_field (Head side) k met = absurd (never met)
-  unlock_field (Link side) k met = absurd (never met)
-  unlock_field (Tag side) k met = absurd (never met)
+  unlock_field _ k met = absurd (never met)
 
   unlock_writes : (u : Word) → may_unlock m v u value ≡ true → W u
   unlock_writes (Node f k) met = unlock_field f k met
-  unlock_writes Stamp met = absurd (never met)
-  unlock_writes (Section k) met = absurd (never met)
-  unlock_writes (Announced k) met = absurd (never met)
-  unlock_writes (Entry p e) met = absurd (never met)
+  unlock_writes _ met = absurd (never met)
 
   mark_field : (f : Field) (k : ℕ) → may_mark v (Node f k) value ≡ true → W (Node f k)
   mark_field Mark k met =
       let one = and_parts (is_mark Mark && locks k v.held.nodes && has k v.update.taken) (eqb value 1) met in
       let two = and_parts (is_mark Mark && locks k v.held.nodes) (has k v.update.taken) one.0 in
       inr (locks-count k v.held.nodes (and_parts (is_mark Mark) (locks k v.held.nodes) two.0).1)
-  mark_field Key k met = absurd (never met)
-  mark_field Val k met = absurd (never met)
-  mark_field Lock k met = absurd (never met)
-  mark_field (Head side) k met = absurd (never met)
-  mark_field (Link side) k met = absurd (never met)
-  mark_field (Tag side) k met = absurd (never met)
+  mark_field _ k met = absurd (never met)
 
   mark_writes : (u : Word) → may_mark v u value ≡ true → W u
   mark_writes (Node f k) met = mark_field f k met
-  mark_writes Stamp met = absurd (never met)
-  mark_writes (Section k) met = absurd (never met)
-  mark_writes (Announced k) met = absurd (never met)
-  mark_writes (Entry p e) met = absurd (never met)
+  mark_writes _ met = absurd (never met)
 
   set_link_at : (f : Field) (k : ℕ) → may_set_field z m v f k value ≡ true → W (Node f k)
   set_link_at (Link side) k met =
       inr (can_set z m v k side value met).locked
-  set_link_at Key k met = absurd (never met)
-  set_link_at Val k met = absurd (never met)
-  set_link_at Lock k met = absurd (never met)
-  set_link_at Mark k met = absurd (never met)
-  set_link_at (Head side) k met = absurd (never met)
-  set_link_at (Tag side) k met = absurd (never met)
+  set_link_at _ k met = absurd (never met)
 
   set_link_writes : (u : Word) → may_set_link z m v u value ≡ true → W u
   set_link_writes (Node f k) met = set_link_at f k met
-  set_link_writes Stamp met = absurd (never met)
-  set_link_writes (Section k) met = absurd (never met)
-  set_link_writes (Announced k) met = absurd (never met)
-  set_link_writes (Entry p e) met = absurd (never met)
+  set_link_writes _ met = absurd (never met)
 
   set_tag_at : (f : Field) (k : ℕ) → may_raise_tag m v f k value ≡ true → W (Node f k)
   set_tag_at (Tag side) k met =
@@ -369,19 +301,11 @@ module _ (z : Layout) (words : List ℕ) (vs : List View) (right : InRule z word
       let b = owes k side v.update.owed in
       let one = and_parts (a && b) (eqb value (m (Node (Tag side) k) + 1)) met in
       inr (locks-count k v.held.nodes (and_parts a b one.0).0)
-  set_tag_at Key k met = absurd (never met)
-  set_tag_at Val k met = absurd (never met)
-  set_tag_at Lock k met = absurd (never met)
-  set_tag_at Mark k met = absurd (never met)
-  set_tag_at (Head side) k met = absurd (never met)
-  set_tag_at (Link side) k met = absurd (never met)
+  set_tag_at _ k met = absurd (never met)
 
   set_tag_writes : (u : Word) → may_set_tag m v u value ≡ true → W u
   set_tag_writes (Node f k) met = set_tag_at f k met
-  set_tag_writes Stamp met = absurd (never met)
-  set_tag_writes (Section k) met = absurd (never met)
-  set_tag_writes (Announced k) met = absurd (never met)
-  set_tag_writes (Entry p e) met = absurd (never met)
+  set_tag_writes _ met = absurd (never met)
 
   announce_writes : may_announce v w value ≡ true → W w
   announce_writes met =
@@ -390,12 +314,7 @@ module _ (z : Layout) (words : List ℕ) (vs : List View) (right : InRule z word
 
   cut_writes : (u : Word) → may_cut z m vs v u value ≡ true → W u
   cut_writes (Entry Next e) met = inr (cut_at z m vs right.meaning right.rule i v at e value met).1
-  cut_writes (Entry Child e) met = absurd (never met)
-  cut_writes (Entry Number e) met = absurd (never met)
-  cut_writes Stamp met = absurd (never met)
-  cut_writes (Section k) met = absurd (never met)
-  cut_writes (Announced k) met = absurd (never met)
-  cut_writes (Node f k) met = absurd (never met)
+  cut_writes _ met = absurd (never met)
 
   module _ (u : Word) (unwritten : W u → ⊥) where
     stored : (x : ℕ) → W w → memory z (set words n x) u ≡ m u
@@ -427,8 +346,6 @@ module _ (z : Layout) (words : List ℕ) (vs : List View) (right : InRule z word
     words_kept kind o met = refl
 
 owners_at : (t : Table) (e : Event) (o : Option View) (w : Option Word) → slice_get t.views e.seat ≡ o → word_at t.layout e.word ≡ w → IsRight t → allowed_at t e o w ≡ true → KeepsOwners e.seat t (after_at t e o w)
-owners_at t e None w is found right met = absurd (never met)
-owners_at t e (Some v) None is found right met = absurd (never met)
 owners_at t e (Some v) (Some w) is found right met =
     let c = needs e.kind t.layout (held_by t) t.views e.seat v w e.value e.update in
     let need = (and_parts (carries e.kind v e.update && not v.joined) c met).1 in
@@ -441,6 +358,7 @@ owners_at t e (Some v) (Some w) is found right met =
           words_kept t.layout t.words t.views right e.seat v at e.word w found e.value word
           (λ writes. writes_unfixed t.layout (held_by t) t.views right.meaning right.rule e.seat v at word writes fixed) e.kind e.update need;
     }
+owners_at t e _ _ is found right met = absurd (never met)
 
 pub owners : OwnersLaw
 owners t e right met = owners_at t e (slice_get t.views e.seat) (word_at t.layout e.word) refl refl right met

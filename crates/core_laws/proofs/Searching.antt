@@ -216,8 +216,7 @@ module _ (t : Table) (right : IsRight t) (i : ℕ) (v : View) (at : IsItem t.vie
               reached = one_step gr k (m (Node (Link side) k)) side some refl;
             })
       ]
-  place_low k side (AtEntry node at entry found) inside is stands = absurd (never stands)
-  place_low k side (Gap node at) inside is stands = absurd (never stands)
+  place_low k side _ inside is stands = absurd (never stands)
 
   found_low : (k : ℕ) (side : Side) → MayReadLink v k side → m (Node (Link side) k) ≤ z.nodes
   found_low k side may =

@@ -50,10 +50,7 @@ looked_tally passes v pass word =
 pub look_tally : (z : Layout) (v : View) (w : Word) (x : ℕ) → Tally v (look_from z v w x)
 look_tally z v (Section pass) x =
     either_tally (has_no_lock v) v (looked z.passes v pass x) (looked_waiting v pass x) (looked_tally z.passes v pass x) (record { counts = refl; looks = refl })
-look_tally z v Stamp x = same_tally v
-look_tally z v (Announced k) x = same_tally v
-look_tally z v (Node f k) x = same_tally v
-look_tally z v (Entry p e) x = same_tally v
+look_tally z v _ x = same_tally v
 
 pub enter_tally : (passes : ℕ) (v : View) (word : ℕ) → Tally v (settled passes (batch_taken (in_section v word)))
 enter_tally passes v word =
@@ -63,39 +60,23 @@ enter_tally passes v word =
 
 pub ptr_tally : (v : View) (w : Word) (x : ℕ) → Tally v (ptr_from v w x)
 ptr_tally v (Entry p e) x = record { counts = refl; looks = refl }
-ptr_tally v Stamp x = same_tally v
-ptr_tally v (Section k) x = same_tally v
-ptr_tally v (Announced k) x = same_tally v
-ptr_tally v (Node f k) x = same_tally v
+ptr_tally v _ x = same_tally v
 
 next_at_tally : (v : View) (place : Place) (e x : ℕ) → Tally v (next_at v place e x)
 next_at_tally v (AtEntry node side entry found) e x = record { counts = refl; looks = refl }
-next_at_tally v Nowhere e x = same_tally v
-next_at_tally v (AtNode node key) e x = same_tally v
-next_at_tally v (Gap node side) e x = same_tally v
+next_at_tally v _ e x = same_tally v
 
 pub next_tally : (v : View) (w : Word) (x : ℕ) → Tally v (next_from v w x)
 next_tally v (Entry p e) x = next_at_tally v v.reading.place e x
-next_tally v Stamp x = same_tally v
-next_tally v (Section k) x = same_tally v
-next_tally v (Announced k) x = same_tally v
-next_tally v (Node f k) x = same_tally v
+next_tally v _ x = same_tally v
 
 prepared_at_tally : (v : View) (f : Field) (k e : ℕ) → Tally v (prepared_at v f k e)
 prepared_at_tally v (Head side) k e = record { counts = refl; looks = refl }
-prepared_at_tally v Key k e = same_tally v
-prepared_at_tally v Val k e = same_tally v
-prepared_at_tally v Lock k e = same_tally v
-prepared_at_tally v Mark k e = same_tally v
-prepared_at_tally v (LinkField side) k e = same_tally v
-prepared_at_tally v (Tag side) k e = same_tally v
+prepared_at_tally v _ k e = same_tally v
 
 pub prepared_tally : (v : View) (w : Word) (e : ℕ) → Tally v (prepared_from v w e)
 prepared_tally v (Node f k) e = prepared_at_tally v f k e
-prepared_tally v Stamp e = same_tally v
-prepared_tally v (Section k) e = same_tally v
-prepared_tally v (Announced k) e = same_tally v
-prepared_tally v (Entry p k) e = same_tally v
+prepared_tally v _ e = same_tally v
 
 pub filled_tally : (v : View) (w : Word) (x : ℕ) → Tally v (filled_view v w x)
 filled_tally v w x =
@@ -103,24 +84,15 @@ filled_tally v w x =
 
 pub ann_tally : (v : View) (w : Word) (x : ℕ) → Tally v (ann_from v w x)
 ann_tally v (Announced k) x = record { counts = refl; looks = refl }
-ann_tally v Stamp x = same_tally v
-ann_tally v (Section k) x = same_tally v
-ann_tally v (Node f k) x = same_tally v
-ann_tally v (Entry p e) x = same_tally v
+ann_tally v _ x = same_tally v
 
 pub cut_tally : (z : Layout) (m : Memory) (v : View) (w : Word) → Tally v (cut_from z m v w)
 cut_tally z m v (Entry p e) = record { counts = refl; looks = refl }
-cut_tally z m v Stamp = same_tally v
-cut_tally z m v (Section k) = same_tally v
-cut_tally z m v (Announced k) = same_tally v
-cut_tally z m v (Node f k) = same_tally v
+cut_tally z m v _ = same_tally v
 
 pub pair_tally : (v : View) (w : Word) (x : ℕ) → Tally v (pair_from v w x)
 pair_tally v (Node f k) x = record { counts = refl; looks = refl }
-pair_tally v Stamp x = same_tally v
-pair_tally v (Section k) x = same_tally v
-pair_tally v (Announced k) x = same_tally v
-pair_tally v (Entry p e) x = same_tally v
+pair_tally v _ x = same_tally v
 
 pub raised_tally : (z : Layout) (m : Memory) (vs : List View) (v : View) (x : ℕ) (o : Option Update) → Tally v (raised_from z m vs v x o)
 raised_tally z m vs v x None = same_tally v
@@ -128,47 +100,20 @@ raised_tally z m vs v x (Some u) = record { counts = refl; looks = refl }
 
 pub finalised_tally : (v : View) (w : Word) → Tally v (finalised_from v w)
 finalised_tally v (Entry p e) = record { counts = refl; looks = refl }
-finalised_tally v Stamp = same_tally v
-finalised_tally v (Section k) = same_tally v
-finalised_tally v (Announced k) = same_tally v
-finalised_tally v (Node f k) = same_tally v
+finalised_tally v _ = same_tally v
 
 pub unlocked_tally : (v : View) (w : Word) → Tally v (unlocked_from v w)
 unlocked_tally v (Node f k) = record { counts = refl; looks = refl }
-unlocked_tally v Stamp = same_tally v
-unlocked_tally v (Section k) = same_tally v
-unlocked_tally v (Announced k) = same_tally v
-unlocked_tally v (Entry p e) = same_tally v
+unlocked_tally v _ = same_tally v
 
 pub marked_tally : (v : View) (w : Word) → Tally v (marked_from v w)
 marked_tally v (Node f k) = record { counts = refl; looks = refl }
-marked_tally v Stamp = same_tally v
-marked_tally v (Section k) = same_tally v
-marked_tally v (Announced k) = same_tally v
-marked_tally v (Entry p e) = same_tally v
+marked_tally v _ = same_tally v
 
 pub set_tally : (v : View) (w : Word) (x : ℕ) → Tally v (set_from v w x)
-set_tally v (Node Key k) x = same_tally v
-set_tally v (Node Val k) x = same_tally v
-set_tally v (Node Lock k) x = same_tally v
-set_tally v (Node Mark k) x = same_tally v
-set_tally v (Node (Head s) k) x = same_tally v
 set_tally v (Node (LinkField s) k) x = record { counts = refl; looks = refl }
-set_tally v (Node (Tag s) k) x = same_tally v
-set_tally v Stamp x = same_tally v
-set_tally v (Section k) x = same_tally v
-set_tally v (Announced k) x = same_tally v
-set_tally v (Entry p e) x = same_tally v
+set_tally v _ x = same_tally v
 
 pub raised_tag_tally : (v : View) (w : Word) (x : ℕ) → Tally v (raised_tag_from v w x)
-raised_tag_tally v (Node Key k) x = same_tally v
-raised_tag_tally v (Node Val k) x = same_tally v
-raised_tag_tally v (Node Lock k) x = same_tally v
-raised_tag_tally v (Node Mark k) x = same_tally v
-raised_tag_tally v (Node (Head s) k) x = same_tally v
-raised_tag_tally v (Node (LinkField s) k) x = same_tally v
 raised_tag_tally v (Node (Tag s) k) x = record { counts = refl; looks = refl }
-raised_tag_tally v Stamp x = same_tally v
-raised_tag_tally v (Section k) x = same_tally v
-raised_tag_tally v (Announced k) x = same_tally v
-raised_tag_tally v (Entry p e) x = same_tally v
+raised_tag_tally v _ x = same_tally v

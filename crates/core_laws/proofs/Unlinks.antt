@@ -40,9 +40,8 @@ module _ (z : Layout) (m : Memory) (v : View) (u : Unlinking) (child : ℕ) (met
   order_by b order = by (unlinks_at u.parent u.side (Some u)) at_link b order
     where
       by : (a : Bool) → a ≡ true → (b : Bool) → not (a && b) ≡ true → b ≡ false
-      by true on true order = cc
       by true on false order = refl
-      by false off b order = cc
+      by _ off _ order = cc
 
   linked_by : sets_others u.parent u.side v.update.unset ≡ false
   linked_by =
@@ -90,10 +89,8 @@ unlink_law t e v u right met is unlinks =
 
 -- a link that leads to a successor is that at which it is unlinked
 second_tells : (taken : List ℕ) (was : ℕ) → IsSecondOut taken was ⊎ (¬ IsSecondOut taken was)
-second_tells [] was = inr (λ no. no)
-second_tells (n ∷ []) was = inr (λ no. no)
 second_tells (n ∷ s ∷ []) was = elim (eqb_tells was s) as (λ _. (was ≡ s) ⊎ (¬ (was ≡ s))) [ inl same ↦ inl same.1 | inr other ↦ inr other.1 ]
-second_tells (n ∷ s ∷ k ∷ ks) was = inr (λ no. no)
+second_tells _ was = inr (λ no. no)
 
 pub looks_last : LooksLastLaw
 looks_last t i v u right at is others =

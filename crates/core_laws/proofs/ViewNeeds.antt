@@ -211,9 +211,7 @@ module _ (z : Layout) (words : List ℕ) (vs : List View) (right : InRule z word
       (entry_is e (free_entry_some z vs right.meaning right.rule.slots i e v at may)
       (slot_high z.entries e (omega (arith, right.rule.slots.entries.one e, one_term (own entries_in e) vs i v at, may)))) refl
       (count-has e v.free.entries may)
-  fill_may Stamp value may = absurd may
-  fill_may (Section n) value may = absurd may
-  fill_may (Announced n) value may = absurd may
+  fill_may _ value may = absurd may
 
   stamp_by : (value : ℕ) → (eqb value 0 || (eqb value 1 && has_announced v)) ≡ true → IsInside v → v.reading.opened ≡ None → allowed t (event_at z i LoadStamp Stamp value) ≡ true
   stamp_by value few inside closed =

@@ -178,9 +178,7 @@ lock_tested v k (inr searched) = right_of (eqb k 0) (has k (search_nodes 0 v.rea
 -- the search begins at the root's child, and no other node of it depends on that
 pub some_searched : (k top : ℕ) (p : Place) (rest : List ℕ) → 0 < k → 0 < count k (place_nodes 0 p ++ rest) → 0 < count k (place_nodes top p ++ rest)
 some_searched k top Nowhere rest some is = grind (arith, nat_tests, some, is)
-some_searched k top (AtNode node key) rest some is = is
-some_searched k top (Gap node side) rest some is = is
-some_searched k top (AtEntry node side entry found) rest some is = is
+some_searched k top _ rest some is = is
 
 -- where a search goes on it stands at the root, or at the node
 pub stands_searched : (r : Reading) (p : Place) (k : ℕ) (side : Side) → searches_at r p k side ≡ true → (k ≡ 0) ⊎ (0 < count k (place_nodes 0 p))
@@ -188,5 +186,4 @@ stands_searched r Nowhere k side is = inl (eqb-true k 0 (and_parts (eqb k 0) (sa
 stands_searched r (AtNode node key) k side is =
     let same : node ≡ k = eqb-true node k (and_parts (eqb node k) (goes_on_at r key) is).0 in
     inr (grind (arith, nat_tests, same))
-stands_searched r (AtEntry node at entry found) k side is = absurd (never is)
-stands_searched r (Gap node at) k side is = absurd (never is)
+stands_searched r _ k side is = absurd (never is)

@@ -54,13 +54,11 @@ without_first-tally h (Branch s k v (Branch t c d l r') r) =
 
 remove_here-tally : (h : ℕ → ℕ) (slot : ℕ) (tree : NamedTree)
     → (tally h (remove_here slot tree) + sum_by h (removed_slots tree) ≡ tally h tree + sum_by h (added_slots slot tree)) × (sum_by h (removed_slots tree) ≤ tally h tree)
-remove_here-tally h slot Null = (omega arith, omega arith)
-remove_here-tally h slot (Branch s k v Null r) = (omega arith, omega arith)
-remove_here-tally h slot (Branch s k v (Branch t c d l l') Null) = (omega arith, omega arith)
 remove_here-tally h slot (Branch s k v (Branch t c d l l') (Branch u e x r r')) =
     let rest : tally h (without_first (Branch u e x r r')) + sum_by h (first_slots (Branch u e x r r')) ≡ tally h (Branch u e x r r') = without_first-tally h (Branch u e x r r') in
     let out : sum_by h (removed_slots (Branch s k v (Branch t c d l l') (Branch u e x r r'))) ≡ h s + sum_by h (first_slots (Branch u e x r r')) = sum_by-cons h s (first_slots (Branch u e x r r')) in
     (omega (arith, rest, out), omega (arith, rest, out))
+remove_here-tally h slot _ = (omega arith, omega arith)
 
 pub put_slots : (slot key val : ℕ) (tree : NamedTree) → MovesSlots (put_takes key tree) (slot ∷ []) tree (tree_put slot key val tree)
 put_slots slot key val tree h =

@@ -35,9 +35,8 @@ successor_slots (Branch slot key val left right') right = first_slots right
 
 -- the slot of the new node, where a node with these children is removed: with two children there is one
 abbrev pub joint_slots : ℕ → NamedTree → NamedTree → List ℕ
-joint_slots slot Null right = []
-joint_slots slot (Branch s key val left right') Null = []
 joint_slots slot (Branch s key val left right') (Branch t k v left' right'') = slot ∷ []
+joint_slots slot _ _ = []
 
 -- what the removal of the top takes out, and what it brings in
 abbrev pub removed_slots : NamedTree → List ℕ

@@ -146,10 +146,8 @@ module _ (m : Memory) (g : Graph) (root parent node : ℕ) (top side : Side) (tr
     deep_far apart = deep_by apart hangs.left hangs.right refl refl
 
     near_by : turn ≡ Right → (l r : NamedTree) → hangs.left ≡ l → hangs.right ≡ r → NoFar m node l r
-    near_by on Null r is_left is = (refl, refl)
-    near_by on (Branch ls lk lv ll lr) Null is_left is = (refl, refl)
-    near_by on (Branch ls lk lv ll lr) (Branch s k v Null r) is_left is = (refl, refl)
     near_by on (Branch ls lk lv ll lr) (Branch s k v (Branch t c d l r) r') is_left is = absurd (left≢right (deep_side s k v t c d l r r' is ∙ on))
+    near_by on _ _ is_left is = (refl, refl)
 
     pub near_far : turn ≡ Right → NoFar m node hangs.left hangs.right
     near_far on = near_by on hangs.left hangs.right refl refl

@@ -58,19 +58,17 @@ data Sides (w y : Side) : Type 0 where
   two : ((b : Bundles) (k e : ℕ) → count e (entries_of b k) ≡ count e (b.bundle w k) + count e (b.bundle y k)) → Sides w y
 
 sides : (w y : Side) → Sides w y
-sides Left Left = one refl
-sides Right Right = one refl
 sides Left Right = two (λ b k e. count-append e (b.bundle Left k) (b.bundle Right k))
 sides Right Left = two (λ b k e. omega (arith, count-append e (b.bundle Left k) (b.bundle Right k)))
+sides _ _ = one refl
 
 or_same : (a b : Bool) → b ≡ false → (a || false) ≡ (a || b)
 or_same a true is = cc
 or_same a false is = refl
 
 or_true : (a b : Bool) → b ≡ true → (a || b) ≡ true
-or_true true b is = refl
-or_true false true is = refl
 or_true false false is = cc
+or_true _ _ is = refl
 
 -- the child of a link whose head gets no number stays
 pub child_same : (m : Memory) (vs : List View) (more : List ℕ) (w : Side) (k : ℕ) → has (m (Node (Head w) k)) more ≡ false → child_now m vs [] w k ≡ child_now m vs more w k

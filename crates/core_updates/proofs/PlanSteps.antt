@@ -113,10 +113,9 @@ module _ (z : Layout) (v : View) (seat : ℕ) where
 
   front-fills : (plan : Plan) (slots : PlanSlots) → HasSlots v slots → (behind : ℕ)
       → Every (λ (f : Front). Every (MayFillAll z v seat) (entry_fills f.entry f.child behind)) (fronts_of plan slots)
-  front-fills (Grow p) slots has behind = (fills-entry slots.at slots.node behind has.at, tt)
-  front-fills (Replace p) slots has behind = (fills-entry slots.at slots.node behind has.at, tt)
   front-fills (Lift p) slots has behind = (fills-entry slots.at p.child behind has.at, tt)
   front-fills (Join p) slots has behind = (fills-entry slots.at slots.node behind has.at, next-fills (p.next.at.node == p.node) p slots behind has)
+  front-fills _ slots has behind = (fills-entry slots.at slots.node behind has.at, tt)
 
   -- a locked node is one of the table
   there : (words : List ℕ) (vs : List View) → InRule z words vs → slice_get vs seat ≡ Some v → v.joined ≡ false → (k : ℕ) → IsLocked v k → k ≤ v.layout.nodes

@@ -132,10 +132,8 @@ abbrev pub next_link : JoinPlan → Option Link
 next_link p = if p.next.at.node == p.node then None else Some p.next.at
 
 abbrev pub next_link_of : Plan → Option Link
-next_link_of (Grow p) = None
-next_link_of (Replace p) = None
-next_link_of (Lift p) = None
 next_link_of (Join p) = next_link p
+next_link_of _ = None
 
 -- the entry in front of the link at which the tree changes, and the one in front of the link to the successor
 abbrev pub front_of : Plan → PlanSlots → Front
@@ -149,10 +147,8 @@ next_front p s =
     if p.next.at.node == p.node then None else Some (record { at = p.next.at; entry = s.next; child = p.next.right })
 
 abbrev pub next_front_of : Plan → PlanSlots → Option Front
-next_front_of (Grow p) s = None
-next_front_of (Replace p) s = None
-next_front_of (Lift p) s = None
 next_front_of (Join p) s = next_front p s
+next_front_of _ s = None
 
 -- the entries that are put in front of bundles
 abbrev pub or_none : Option Front → List Front
@@ -177,10 +173,8 @@ far_next p =
     else Some (record { successor = p.next.node; parent = p.next.at.node; side = p.next.at.side; replaced = p.node })
 
 abbrev pub unlinks_of : Plan → Option Unlinking
-unlinks_of (Grow p) = None
-unlinks_of (Replace p) = None
-unlinks_of (Lift p) = None
 unlinks_of (Join p) = far_next p
+unlinks_of _ = None
 
 -- the nodes that go out with the raise, and are marked behind it
 abbrev pub out_of : Plan → List ℕ

@@ -29,8 +29,7 @@ field_number-lt (Tag Right) = omega arith
 
 pub part_number-lt : (p : Part) → part_number p < 3
 part_number-lt Child = omega arith
-part_number-lt Number = omega arith
-part_number-lt Next = omega arith
+part_number-lt _ = omega arith
 
 -- a word that is there has a number in range
 pub address-lt : (z : Layout) (w : Word) → is_there z w ≡ true → address z w < word_count z
@@ -51,13 +50,10 @@ same_side-true Right Right e = refl
 same_side-true _ _ e = cc
 
 pub same_field-refl : (f : Field) → same_field f f ≡ true
-same_field-refl Key = refl
-same_field-refl Val = refl
-same_field-refl Lock = refl
-same_field-refl Mark = refl
 same_field-refl (Head s) = same_side-refl s
 same_field-refl (Link s) = same_side-refl s
 same_field-refl (Tag s) = same_side-refl s
+same_field-refl _ = refl
 
 pub same_field-true : (f g : Field) → same_field f g ≡ true → f ≡ g
 same_field-true Key Key e = refl
@@ -71,8 +67,7 @@ same_field-true _ _ e = cc
 
 same_part-refl : (p : Part) → same_part p p ≡ true
 same_part-refl Child = refl
-same_part-refl Number = refl
-same_part-refl Next = refl
+same_part-refl _ = refl
 
 same_part-true : (p q : Part) → same_part p q ≡ true → p ≡ q
 same_part-true Child Child e = refl
@@ -82,15 +77,13 @@ same_part-true _ _ e = cc
 
 pub same_word-refl : (w : Word) → same_word w w ≡ true
 same_word-refl Stamp = refl
-same_word-refl (Section i) = grind (arith, nat_tests)
-same_word-refl (Announced i) = grind (arith, nat_tests)
 same_word-refl (Node f k) = rw (same_field-refl f) (grind (arith, nat_tests))
 same_word-refl (Entry p e) = rw (same_part-refl p) (grind (arith, nat_tests))
+same_word-refl _ = grind (arith, nat_tests)
 
 both_true : (a b : Bool) → (a && b) ≡ true → (a ≡ true) × (b ≡ true)
 both_true true true e = (refl, refl)
-both_true true false e = cc
-both_true false b e = cc
+both_true _ _ e = cc
 
 pub same_word-true : (v w : Word) → same_word v w ≡ true → v ≡ w
 same_word-true Stamp Stamp e = refl
@@ -123,8 +116,7 @@ field_at-number (Tag Right) = refl
 
 part_at-number : (p : Part) → part_at (part_number p) ≡ p
 part_at-number Child = refl
-part_at-number Number = refl
-part_at-number Next = refl
+part_at-number _ = refl
 
 field_number-apart : (f g : Field) → field_number f ≡ field_number g → f ≡ g
 field_number-apart f g e = sym (field_at-number f) ∙ ap field_at e ∙ field_at-number g
@@ -149,10 +141,9 @@ IsThere z (Entry p e) = (0 < e) × (e ≤ z.entries) × (part_number p < 3)
 is_there-says : (z : Layout) (w : Word) → is_there z w ≡ true → IsThere z w
 unfolding IsThere
 is_there-says z Stamp t = tt
-is_there-says z (Section i) t = grind (arith, nat_tests)
-is_there-says z (Announced i) t = grind (arith, nat_tests)
 is_there-says z (Node f k) t = (grind (arith, nat_tests), field_number-lt f)
 is_there-says z (Entry p e) t = let h : (0 < e) × (e ≤ z.entries) = grind (arith, nat_tests) in (h.0, h.1, part_number-lt p)
+is_there-says z _ t = grind (arith, nat_tests)
 
 -- no two words that are there have one number
 apart : (z : Layout) (v w : Word) → IsThere z v → IsThere z w → address z v ≡ address z w → v ≡ w
@@ -170,26 +161,7 @@ apart z (Entry p d) (Entry q c) a b e =
     let entries : d ≡ c = omega (arith, a.0, b.0, h.0) in
     let parts : p ≡ q = part_number-apart p q h.1 in
     cc
-apart z Stamp (Section j) a b e = absurd (omega arith)
-apart z Stamp (Announced j) a b e = absurd (omega arith)
-apart z Stamp (Node g l) a b e = absurd (omega arith)
-apart z Stamp (Entry q c) a b e = absurd (omega arith)
-apart z (Section i) Stamp a b e = absurd (omega arith)
-apart z (Section i) (Announced j) a b e = absurd (omega arith)
-apart z (Section i) (Node g l) a b e = absurd (omega arith)
-apart z (Section i) (Entry q c) a b e = absurd (omega arith)
-apart z (Announced i) Stamp a b e = absurd (omega arith)
-apart z (Announced i) (Section j) a b e = absurd (omega arith)
-apart z (Announced i) (Node g l) a b e = absurd (omega arith)
-apart z (Announced i) (Entry q c) a b e = absurd (omega arith)
-apart z (Node f k) Stamp a b e = absurd (omega arith)
-apart z (Node f k) (Section j) a b e = absurd (omega arith)
-apart z (Node f k) (Announced j) a b e = absurd (omega arith)
-apart z (Node f k) (Entry q c) a b e = absurd (omega arith)
-apart z (Entry p d) Stamp a b e = absurd (omega arith)
-apart z (Entry p d) (Section j) a b e = absurd (omega arith)
-apart z (Entry p d) (Announced j) a b e = absurd (omega arith)
-apart z (Entry p d) (Node g l) a b e = absurd (omega arith)
+apart z _ _ a b e = absurd (omega arith)
 
 pub address-apart : (z : Layout) (v w : Word) → is_there z v ≡ true → is_there z w ≡ true → address z v ≡ address z w → v ≡ w
 address-apart z v w a b e = apart z v w (is_there-says z v a) (is_there-says z w b) e

@@ -103,14 +103,12 @@ at_low true c s t u is = refl
 at_low false c s t u is = absurd cc
 
 at_high : (b c : Bool) (s t u : NamedTree) → b ≡ false → c ≡ true → cond b s (cond c t u) ≡ t
-at_high true c s t u is then = absurd cc
 at_high false true s t u is then = refl
-at_high false false s t u is then = absurd cc
+at_high _ _ s t u is then = absurd cc
 
 at_same : (b c : Bool) (s t u : NamedTree) → b ≡ false → c ≡ false → cond b s (cond c t u) ≡ u
-at_same true c s t u is then = absurd cc
-at_same false true s t u is then = absurd cc
 at_same false false s t u is then = refl
+at_same _ _ s t u is then = absurd cc
 
 pub update_low : (key slot k v : ℕ) (f : NamedTree → NamedTree) (left right : NamedTree) → key < k
     → update key f (Branch slot k v left right) ≡ Branch slot k v (update key f left) right

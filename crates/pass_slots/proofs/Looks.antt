@@ -30,16 +30,13 @@ get_set (z ∷ xs) zero x y is = refl
 get_set (z ∷ xs) (suc i) x y is = get_set xs i x y is
 
 get_read : {X : Type 0} (xs : List X) (i : ℕ) (x d : X) → slice_get xs i ≡ Some x → get_or xs i d ≡ x
-get_read [] i x d is = cc
-get_read (y ∷ xs) zero x d is = cc
 get_read (y ∷ xs) (suc i) x d is = get_read xs i x d is
+get_read _ _ x d is = cc
 
 get_other : {X : Type 0} (xs : List X) (i j : ℕ) (y : X) → j ≢ i → slice_get (set xs i y) j ≡ slice_get xs j
-get_other [] i j y apart = refl
 get_other (z ∷ xs) zero zero y apart = absurd (apart refl)
-get_other (z ∷ xs) zero (suc j) y apart = refl
-get_other (z ∷ xs) (suc i) zero y apart = refl
 get_other (z ∷ xs) (suc i) (suc j) y apart = get_other xs i j y (λ e. apart (ap suc e))
+get_other _ _ _ y apart = refl
 
 or_assoc : (a b c : Bool) → (a || (b || c)) ≡ ((a || b) || c)
 or_assoc true b c = refl

@@ -74,10 +74,9 @@ same_test : (a x : ℕ) → (eqb a x || false) ≡ eqb x a
 same_test a x = by_test (eqb a x) (eqb x a) refl refl
   where
     by_test : (b c : Bool) → eqb a x ≡ b → eqb x a ≡ c → (b || false) ≡ c
-    by_test true true one two = refl
-    by_test false false one two = refl
     by_test true false one two = absurd (eqb-false x a two (sym (eqb-true a x one)))
     by_test false true one two = absurd (eqb-false a x one (sym (eqb-true x a two)))
+    by_test _ _ one two = refl
 
 pub without_single : (a : ℕ) (xs : List ℕ) → without_all (a ∷ []) xs ≡ without a xs
 without_single a [] = refl

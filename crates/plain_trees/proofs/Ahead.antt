@@ -46,11 +46,9 @@ module _ (u : Undone) (s : ℕ) where
 
   pub ahead : (key x : ℕ) → ((q : ℕ) (w : Side) (was : ℕ) → IsUnset u q w was s → ⊥) → ((w : Side) (was child : ℕ) → IsUnset u s w was child → ⊥) → x ≤ point_of key
       → (p low high : ℕ) (d : Side) (plain now : NamedTree) → Matches u p d plain now → IsWithin low high now → IsFirst s key now → LeadsTo (IsBypassed u) x s plain
-  ahead key x brings settled most p low high d Null Null h within first = absurd first
   ahead key x brings settled most p low high d Null (Branch m k v l r) (inl h) within first = absurd h
   ahead key x brings settled most p low high d Null (Branch m k v l r) (inr h) within (inl here) = absurd (brings p d 0 (subst (IsUnset u p d 0) here.1 h.2))
   ahead key x brings settled most p low high d Null (Branch m k v l r) (inr h) within (inr below) = absurd (null-first s key l h.0 below)
-  ahead key x brings settled most p low high d (Branch c k v l r) Null h within first = absurd first
   ahead key x brings settled most p low high d (Branch c k v l r) (Branch m k' v' l' r') (Same h) within (inl here) =
       inl (sym here.1 ∙ h.0, null-plain c Left l l' (λ was child i. settled Left was child (subst (λ z. IsUnset u z Left was child) (sym h.0 ∙ here.1) i)) h.2 here.0, omega (arith, most, here.2, h.1))
   ahead key x brings settled most p low high d (Branch c k v l r) (Branch m k' v' l' r') (Same h) within (inr below) =
@@ -69,6 +67,7 @@ module _ (u : Undone) (s : ℕ) where
   ahead key x brings settled most p low high d (Branch c k v l r) (Branch m k' v' l' r') (LiftedLeft o h) within first =
       let b : key < k = first-below s key k (Branch m k' v' l' r') h.1 first in
       inr (inl (omega (arith, most, b), ahead key x brings settled most p low high d l (Branch m k' v' l' r') h.3 within first))
+  ahead key x brings settled most p low high d _ _ h within first = absurd first
 
 pub ahead_law : AheadLaw
 ahead_law u p s key low high x d plain now settled matches within first most =

@@ -103,14 +103,12 @@ module _ (u u' : Undone) (extends : Extends u u') where
 
     pub raise : (low high p : ℕ) (d : Side) (plain now : NamedTree) → Matches u p d plain now → IsWithin low high now → IsFoundAt key n now
         → ((q : ℕ) (w : Side) → IsLinkTo n q w p d now → Item q w (subtree_at key now)) → Matches u' p d plain (update key f now)
-    raise low high p d Null Null h within has linked = absurd has
     raise low high p d Null (Branch m k' v' l' r') (inl h) within has linked = absurd h
     raise low high p d Null (Branch m k' v' l' r') (inr h) within (inl at) linked = absurd (brings p d 0 (subst (IsUnset u p d 0) at.1 h.2))
     raise low high p d Null (Branch m k' v' Null r') (inr h) within (inr (inl at)) linked = absurd at.1
     raise low high p d Null (Branch m k' v' (Branch _ _ _ _ _) r') (inr h) within (inr (inl at)) linked = absurd h.0
     raise low high p d Null (Branch m k' v' l' Null) (inr h) within (inr (inr at)) linked = absurd at.1
     raise low high p d Null (Branch m k' v' l' (Branch _ _ _ _ _)) (inr h) within (inr (inr at)) linked = absurd h.1
-    raise low high p d (Branch c k v l r) Null h within has linked = absurd has
     raise low high p d (Branch c k v l r) (Branch m k' v' l' r') (Same h) within (inl at) linked =
         at-node low high p c k v m k' v' d l r l' r' at.0 at.1 h.0 h.1 within h.2 h.3 (linked p d (inl (at.1, refl, refl)))
     raise low high p d (Branch c k v l r) (Branch m k' v' l' r') (Same h) within (inr (inl at)) linked =
@@ -162,6 +160,7 @@ module _ (u u' : Undone) (extends : Extends u u') where
           (h.2.0, extends.links p d c h.2.0 h.2.1),
           raise low high p d l (Branch m k' v' l' r') h.3 within has linked,
         )
+    raise low high p d _ _ h within has linked = absurd has
 
   -- a replacement
   module _ (key n slot val : ℕ) (brings : (q : ℕ) (w : Side) (was : ℕ) → IsUnset u q w was n → ⊥)
@@ -176,12 +175,10 @@ module _ (u u' : Undone) (extends : Extends u u') where
       (gone : IsOut u' s) (bypassed : IsBypassed u' s) where
     pub firsts : (low high p : ℕ) (d : Side) (plain now : NamedTree) → Matches u p d plain now → IsWithin low high now → IsFirst s key' now
         → ((q : ℕ) (w : Side) → IsLinkTo s q w p d now → (m : ℕ) × IsUnset u' q w s m) → Matches u' p d plain (without_first now)
-    firsts low high p d Null Null h within first linked = absurd first
     firsts low high p d Null (Branch m k' v' l' r') (inl h) within first linked = absurd h
     firsts low high p d Null (Branch m k' v' l' r') (inr h) within (inl at) linked = absurd (brings p d 0 (subst (IsUnset u p d 0) at.1 h.2))
     firsts low high p d Null (Branch m k' v' Null r') (inr h) within (inr below) linked = absurd below
     firsts low high p d Null (Branch m k' v' (Branch _ _ _ _ _) r') (inr h) within (inr below) linked = absurd h.0
-    firsts low high p d (Branch c k v l r) Null h within first linked = absurd first
     firsts low high p d (Branch c k v l r) (Branch m k' v' Null r') (Same h) within (inl at) linked =
         let slot : s ≡ c = sym at.1 ∙ h.0 in
         subst (λ z. Matches u' p d (Branch z k v l r) r') slot
@@ -226,6 +223,7 @@ module _ (u u' : Undone) (extends : Extends u u') where
           (h.2.0, extends.links p d c h.2.0 h.2.1),
           firsts low high p d l (Branch m k' v' l' r') h.3 within first linked,
         )
+    firsts low high p d _ _ h within first linked = absurd first
 
   -- the removed node, by its children: it is bypassed to its right or to its left, or a copy takes its place, and then its successor is bypassed
   module _ (key n slot : ℕ) (left-settled : (was child : ℕ) → IsUnset u n Left was child → ⊥) (right-settled : (was child : ℕ) → IsUnset u n Right was child → ⊥) where

@@ -104,9 +104,7 @@ fresh-most e child = by (child == 0)
     by false = omega arith
 
 pub four_entries : FourEntriesLaw
-four_entries (Grow p) slots = omega arith
 four_entries (Replace p) slots = omega (arith, length-append (fresh_listed (fresh_to slots.left p.left)) (fresh_listed (fresh_to slots.right p.right)), fresh-most slots.left p.left, fresh-most slots.right p.right)
-four_entries (Lift p) slots = omega arith
 four_entries (Join p) slots =
     let high : ℕ = cond (p.next.at.node == p.node) p.next.right p.right in
     omega (
@@ -120,6 +118,7 @@ four_entries (Join p) slots =
     fronts-most : (near : Bool) → length (entries_of (record { at = p.at; entry = slots.at; child = slots.node } ∷ or_none (cond near None (Some (record { at = p.next.at; entry = slots.next; child = p.next.right }))))) ≤ 2
     fronts-most true = omega arith
     fronts-most false = omega arith
+four_entries _ slots = omega arith
 
 -- whether the key was there is told by what the update takes out
 module _ (key : ℕ) (tree : NamedTree) (lawful : IsLawful tree) where
@@ -159,10 +158,8 @@ moves-nodes (Join p) slots free batch retired once some = omega (arith, without-
 
 -- a plan with a new node holds its slot free
 new-free : (plan : Plan) (slots : PlanSlots) (v : View) → IfSome (new_node_of plan slots) (HoldsNewNode v) → (slot_of (new_node_of plan slots) ≡ None) ⊎ (0 < count slots.node v.free.nodes)
-new-free (Grow p) slots v h = inr h.free
-new-free (Replace p) slots v h = inr h.free
 new-free (Lift p) slots v h = inl refl
-new-free (Join p) slots v h = inr h.free
+new-free _ slots v h = inr h.free
 
 pub answer : PlanMayRaiseLaw → AnswerLaw
 answer plan_may_raise t seat n line v plan slots right at r apart can =

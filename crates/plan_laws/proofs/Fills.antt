@@ -130,9 +130,7 @@ may_fill_on v f g may = on g.word (is_even v.section_word) may
     on (Node field k) false m = (m.0, m.1)
     on (Entry part e) true m = m
     on (Entry part e) false m = m
-    on Stamp b m = absurd m
-    on (Section pass) b m = absurd m
-    on (Announced pass) b m = absurd m
+    on _ b m = absurd m
 
 pub slots_some : SlotsSomeLaw
 slots_some t i v slots right at free =

@@ -51,15 +51,13 @@ four-le k s a =
 
 -- what a plan raises are some of its slots
 fronts-le : (k : ℕ) (plan : Plan) (s : PlanSlots) → count k (entries_of (fronts_of plan s)) ≤ one k s.at + one k s.next
-fronts-le k (Grow p) s = omega arith
-fronts-le k (Replace p) s = omega arith
-fronts-le k (Lift p) s = omega arith
 fronts-le k (Join p) s = by (p.next.at.node == p.node)
   where
     by : (near : Bool) → count k (s.at ∷ entries_of (or_none
         (cond near None (Some (record { at = p.next.at; entry = s.next; child = p.next.right }))))) ≤ one k s.at + one k s.next
     by true = omega arith
     by false = omega arith
+fronts-le k _ s = omega arith
 
 fresh-le : (k e child : ℕ) → count k (fresh_listed (fresh_to e child)) ≤ one k e
 fresh-le k e child = by (child == 0)
@@ -78,10 +76,9 @@ both-le k s low high = omega (
 )
 
 new-le : (k : ℕ) (plan : Plan) (s : PlanSlots) → count k (fresh_entries (new_node_of plan s)) ≤ one k s.left + one k s.right
-new-le k (Grow p) s = omega arith
 new-le k (Replace p) s = both-le k s p.left p.right
-new-le k (Lift p) s = omega arith
 new-le k (Join p) s = both-le k s p.left (cond (p.next.at.node == p.node) p.next.right p.right)
+new-le k _ s = omega arith
 
 -- no entry gets its number twice
 pub raised-once : (plan : Plan) (s : PlanSlots) → AreApart s → (k : ℕ) → count k (entries_in plan s) ≤ 1

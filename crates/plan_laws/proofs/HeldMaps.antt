@@ -232,10 +232,9 @@ module _ (k x : ℕ) (side : Side) where
       (λ y s h found is. same-tag side s h ∙ is)
     where
       by : (side s : Side) (y : ℕ) (h : HeldNode) → (side_of s h).link ≡ Some y → (s ≡ side → y ≡ x) → (side_of s (link_known side x h)).link ≡ Some y
-      by Left Left y h is same = ap Some (sym (same refl))
       by Left Right y h is same = is
       by Right Left y h is same = is
-      by Right Right y h is same = ap Some (sym (same refl))
+      by _ _ y h is same = ap Some (sym (same refl))
 
       same-tag : (side s : Side) (h : HeldNode) → (side_of s (link_known side x h)).tag ≡ (side_of s h).tag
       same-tag Left Left h = refl
@@ -259,10 +258,9 @@ module _ (k x : ℕ) (side : Side) where
       })))
     where
       by : (side s : Side) (y : ℕ) (h : HeldNode) → (side_of s h).tag ≡ Some y → (s ≡ side → y ≡ x) → (side_of s (tag_known side x h)).tag ≡ Some y
-      by Left Left y h is same = ap Some (sym (same refl))
       by Left Right y h is same = is
       by Right Left y h is same = is
-      by Right Right y h is same = ap Some (sym (same refl))
+      by _ _ y h is same = ap Some (sym (same refl))
 
       same-link : (side s : Side) (h : HeldNode) → (side_of s (tag_known side x h)).link ≡ (side_of s h).link
       same-link Left Left h = refl

@@ -181,9 +181,7 @@ module _ (v : View) where
       let w = next_at v (AtEntry node side entry found) e next in
       looks-kept (λ (h : HeldNode). h) v w (same-held v w refl) id-keeps
       (links-kept v w (more-links (next == 0 && is_above v e found) v.reading.links (bundle_link node side 0 0)))
-  next-looks e next Nowhere = looks-kept (λ (h : HeldNode). h) v v (same-held v v refl) id-keeps (links-kept v v (same-links v v refl))
-  next-looks e next (AtNode node key) = looks-kept (λ (h : HeldNode). h) v v (same-held v v refl) id-keeps (links-kept v v (same-links v v refl))
-  next-looks e next (Gap node side) = looks-kept (λ (h : HeldNode). h) v v (same-held v v refl) id-keeps (links-kept v v (same-links v v refl))
+  next-looks e next _ = looks-kept (λ (h : HeldNode). h) v v (same-held v v refl) id-keeps (links-kept v v (same-links v v refl))
 
 pub steps_keep_looks : StepsKeepLooksLaw
 steps_keep_looks v = record {

@@ -60,8 +60,7 @@ mark-tag k x s h = by (eqb h.node k) s
   where
     by : (b : Bool) (s : Side) → (side_of s (cond b (record h { mark = Some x }) h)).tag ≡ (side_of s h).tag
     by true Left = refl
-    by true Right = refl
-    by false s = refl
+    by _ _ = refl
 
 pub mark-other : (k x : ℕ) (h : HeldNode) → eqb h.node k ≡ false → (mark_known k x h).mark ≡ h.mark
 mark-other k x h apart = ap (λ b. (cond b (record h { mark = Some x }) h).mark) apart
@@ -111,21 +110,19 @@ known-first n x u (h ∷ hs) taken last = (by (eqb h.node n) refl, known-first n
 
 -- the one link that is left to be set
 pub one-link : (s : SetLink) (us : List UnsetLink) → map set_of us ≡ s ∷ [] → sets_others s.at.node s.at.side us ≡ false
-one-link s [] e = cc
 one-link s (u ∷ []) e =
     let same : set_of u ≡ s = cc in
     ap (λ b. not b || false)
     (subst (λ (t : SetLink). (eqb t.at.node s.at.node && same_side t.at.side s.at.side) ≡ true) (sym same)
     (and_from (eqb s.at.node s.at.node) (same_side s.at.side s.at.side) (same-node s.at.node) (own-side s.at.side)))
-one-link s (u ∷ w ∷ us) e = cc
+one-link s _ e = cc
 
 pub none-set : (s : SetLink) (k : ℕ) (us : List UnsetLink) → map set_of us ≡ s ∷ [] → eqb s.at.node k ≡ false
     → list_any (λ (x : UnsetLink). eqb x.node k) us ≡ false
-none-set s k [] e apart = cc
 none-set s k (u ∷ []) e apart =
     let same : set_of u ≡ s = cc in
     ap (λ b. b || false) (ap (λ (t : SetLink). eqb t.at.node k) same ∙ apart)
-none-set s k (u ∷ w ∷ us) e apart = cc
+none-set s k _ e apart = cc
 
 pub none-owed : (s : SetLink) (k : ℕ) → eqb s.at.node k ≡ false → list_any (λ (o : OwedTag). eqb o.node k) (nulls_of (s ∷ [])) ≡ false
 none-owed s k apart = by (eqb s.child 0)
@@ -138,8 +135,6 @@ none-owed s k apart = by (eqb s.child 0)
 pub keeps-both : (x : Unlinking) (taken : List ℕ) (hs : List HeldNode) (h : HeldNode) → held_slots hs ≡ x.parent ∷ x.successor ∷ []
     → has x.successor taken ≡ true
     → held_at x.parent hs ≡ Some h → h.mark ≡ Some 0 → list_all (keeps_lock taken x) hs ≡ true
-keeps-both x taken [] h slots out here mark = cc
-keeps-both x taken (a ∷ []) h slots out here mark = cc
 keeps-both x taken (a ∷ b ∷ []) h slots out here mark =
     let first : a.node ≡ x.parent = cc in
     let second : b.node ≡ x.successor = cc in
@@ -157,15 +152,13 @@ keeps-both x taken (a ∷ b ∷ []) h slots out here mark =
     or-last : (p q : Bool) → q ≡ true → (p || q) ≡ true
     or-last true q is = refl
     or-last false q is = is
-keeps-both x taken (a ∷ b ∷ c ∷ hs) h slots out here mark = cc
+keeps-both x taken _ h slots out here mark = cc
 
 -- where the successor is marked too, both are known to be marked that the update took out
 pub both-marked : (x : Unlinking) (u : Updating) (hs : List HeldNode) (h : HeldNode) → held_slots hs ≡ x.parent ∷ x.successor ∷ []
     → eqb x.successor x.parent ≡ false
     → u.unlinking ≡ Some x → held_at x.successor hs ≡ Some h → h.mark ≡ Some 1 → Every (IsKnownMarked u) hs
     → Every (λ (y : HeldNode). 0 < count y.node u.taken → y.mark ≡ Some 1) hs
-both-marked x u [] h slots apart last here mark all = cc
-both-marked x u (a ∷ []) h slots apart last here mark all = cc
 both-marked x u (a ∷ b ∷ []) h slots apart last here mark all =
     let first : a.node ≡ x.parent = cc in
     let second : b.node ≡ x.successor = cc in
@@ -182,4 +175,4 @@ both-marked x u (a ∷ b ∷ []) h slots apart last here mark all =
   where
     swap : (s q : ℕ) → eqb s q ≡ false → eqb q s ≡ false
     swap s q is = grind (arith, nat_tests)
-both-marked x u (a ∷ b ∷ c ∷ hs) h slots apart last here mark all = cc
+both-marked x u _ h slots apart last here mark all = cc

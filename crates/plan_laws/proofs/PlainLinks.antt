@@ -94,9 +94,6 @@ sets-rest (u ∷ us) f rest e all =
 
 -- where no successor is unlinked behind a wait one link is to be set
 one-set : (plan : Plan) (slots : PlanSlots) → SetsAtOnce plan → sets_of plan slots ≡ set_by (front_of plan slots) ∷ []
-one-set (Grow p) slots at_once = refl
-one-set (Replace p) slots at_once = refl
-one-set (Lift p) slots at_once = refl
 one-set (Join p) slots at_once = by (p.next.at.node == p.node) at_once
   where
     last : Unlinking
@@ -108,6 +105,7 @@ one-set (Join p) slots at_once = by (p.next.at.node == p.node) at_once
         ≡ set_by (record { at = p.at; entry = slots.at; child = slots.node }) ∷ []
     by true e = refl
     by false e = cc
+one-set _ slots at_once = refl
 
 front-locked : (v : View) (plan : Plan) (slots : PlanSlots) → held_slots v.held.nodes ≡ locks_of plan → IsLocked v (front_of plan slots).at.node
 front-locked v plan slots locked = subst (λ ks. 0 < count (front_of plan slots).at.node ks) (sym locked) (locks_law plan slots).fronts.0
@@ -240,9 +238,7 @@ no-tags Remove = refl
 -- a plan locks a node at least
 some-lock : (plan : Plan) → locks_of plan ≡ [] → ⊥
 some-lock (Grow p) e = cc
-some-lock (Replace p) e = cc
-some-lock (Lift p) e = cc
-some-lock (Join p) e = cc
+some-lock _ e = cc
 
 -- with no tag left to be raised
 released : (v : View) (n : ℕ) (plan : Plan) (tags : List SetLink) → SetsAtOnce plan → IsSetting v n plan [] tags → v.update.owed ≡ []

@@ -36,11 +36,8 @@ entry_is a b e = let same : a ≡ b = cc in ap (λ (f : Front). f.entry) (sym sa
 
 pub front_is : (plan : Plan) (slots : PlanSlots) (place : ℕ) (f : Front) → slice_get (fronts_of plan slots) place ≡ Some f → FrontIs slots place f
 front_is (Grow p) slots zero f is = record { entry = entry_is (record { at = p.at; entry = slots.at; child = slots.node }) f is; few = omega arith }
-front_is (Grow p) slots (suc place) f is = cc
 front_is (Replace p) slots zero f is = record { entry = entry_is (record { at = p.at; entry = slots.at; child = slots.node }) f is; few = omega arith }
-front_is (Replace p) slots (suc place) f is = cc
 front_is (Lift p) slots zero f is = record { entry = entry_is (record { at = p.at; entry = slots.at; child = p.child }) f is; few = omega arith }
-front_is (Lift p) slots (suc place) f is = cc
 front_is (Join p) slots zero f is = record { entry = entry_is (record { at = p.at; entry = slots.at; child = slots.node }) f is; few = omega arith }
 front_is (Join p) slots (suc place) f is = by (p.next.at.node == p.node) place is
   where
@@ -50,6 +47,7 @@ front_is (Join p) slots (suc place) f is = by (p.next.at.node == p.node) place i
     by true place e = cc
     by false zero e = record { entry = entry_is (record { at = p.next.at; entry = slots.next; child = p.next.right }) f e; few = omega arith }
     by false (suc n) e = cc
+front_is _ slots _ f is = cc
 
 -- what stands first in a list does not stand behind
 head-apart : (x y : ℕ) (xs : List ℕ) → count y (x ∷ xs) ≤ 1 → 0 < count y xs → ¬ (x ≡ y)
@@ -62,9 +60,6 @@ head-apart x y xs once some same = omega (arith, once, some, twice x y (count y 
 pub fronts_apart : (plan : Plan) (slots : PlanSlots) (f g : Front) → LocksOnce plan → slice_get (fronts_of plan slots) 0 ≡ Some f
     → slice_get (fronts_of plan slots) 1 ≡ Some g
     → ¬ (f.at.node ≡ g.at.node)
-fronts_apart (Grow p) slots f g once first second = cc
-fronts_apart (Replace p) slots f g once first second = cc
-fronts_apart (Lift p) slots f g once first second = cc
 fronts_apart (Join p) slots f g once first second = by (p.next.at.node == p.node) once second
   where
     node_of : (a b : Front) → Some a ≡ Some b → b.at.node ≡ a.at.node
@@ -85,6 +80,7 @@ fronts_apart (Join p) slots f g once first second = by (p.next.at.node == p.node
         let two : g.at.node ≡ p.next.at.node = node_of (record { at = p.next.at; entry = slots.next; child = p.next.right }) g second in
         head-apart p.at.node p.next.at.node (p.node ∷ p.next.at.node ∷ p.next.node ∷ []) (once p.next.at.node)
         (omega (arith, here p.next.at.node (p.next.node ∷ []))) (sym one ∙ same ∙ two)
+fronts_apart _ slots f g once first second = cc
 
 -- what is filled of a front
 pub same-front : (a b : Front) → Some a ≡ Some b → a ≡ b
@@ -109,20 +105,16 @@ front_filled P plan slots heads place f all is =
 -- the head of a front's bundle was found
 pub front_link : (plan : Plan) (slots : PlanSlots) → (front_of plan slots).at ≡ link_at plan
 front_link (Grow p) slots = refl
-front_link (Replace p) slots = refl
-front_link (Lift p) slots = refl
-front_link (Join p) slots = refl
+front_link _ slots = refl
 
 next_link_is : (plan : Plan) (slots : PlanSlots) (f : Front) → next_front_of plan slots ≡ Some f → next_link_of plan ≡ Some f.at
-next_link_is (Grow p) slots f is = cc
-next_link_is (Replace p) slots f is = cc
-next_link_is (Lift p) slots f is = cc
 next_link_is (Join p) slots f is = by (p.next.at.node == p.node) is
   where
     by : (near : Bool) → cond near None (Some (record { at = p.next.at; entry = slots.next; child = p.next.right })) ≡ Some f
         → cond near None (Some p.next.at) ≡ Some f.at
     by true e = cc
     by false e = ap (λ (x : Front). Some x.at) (same-front (record { at = p.next.at; entry = slots.next; child = p.next.right }) f e)
+next_link_is _ slots f is = cc
 
 pub front_head : (v : View) (n : ℕ) (plan : Plan) (slots : PlanSlots) (heads : Heads) (place : ℕ) (f : Front) → HasHeads v n plan heads
     → slice_get (fronts_of plan slots) place ≡ Some f → HoldsNumbered v f.at (behind_of heads place)

@@ -167,9 +167,7 @@ module _ (v : View) (n : ℕ) (plan : Plan) (slots : PlanSlots) (h : HasNumbered
             (next == 0 && is_above v entry found) v.reading.links node side;
       })
       (record { layout = refl; joined = refl; number = refl; history = refl; free = refl; batch = refl; nodes = refl; entries = omega arith; grown = same-counts v w refl; waits = refl })
-  next-stays entry next Nowhere = as-before
-  next-stays entry next (AtNode node key) = as-before
-  next-stays entry next (Gap node side) = as-before
+  next-stays entry next _ = as-before
 
   looked-stays : (pass word : ℕ) → StaysNumbered v (ann_loaded v pass word) n plan slots
   looked-stays pass word =

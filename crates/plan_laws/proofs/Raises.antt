@@ -84,9 +84,6 @@ first-unmarked v (Join p) looks = of-link v p.at.node p.node p.at.side looks.0
 
 next-unmarked : (v : View) (plan : Plan) (slots : PlanSlots) (f : Front) → Every (HoldsLook v) (looks_of plan) → next_front_of plan slots ≡ Some f
     → IsUnmarked v f.at.node
-next-unmarked v (Grow p) slots f looks is = cc
-next-unmarked v (Replace p) slots f looks is = cc
-next-unmarked v (Lift p) slots f looks is = cc
 next-unmarked v (Join p) slots f looks is = by (p.next.at.node == p.node) looks.1.1.1.1.1.1.1.1.1 is
   where
     by : (near : Bool) → Every (HoldsLook v) (cond near [] (LinkLook p.next.at p.next.node ∷ []))
@@ -95,6 +92,7 @@ next-unmarked v (Join p) slots f looks is = by (p.next.at.node == p.node) looks.
     by false holds e =
         subst (λ (x : Front). IsUnmarked v x.at.node) (same-front (record { at = p.next.at; entry = slots.next; child = p.next.right }) f e)
         (of-link v p.next.at.node p.next.node p.next.at.side holds.0)
+next-unmarked v _ slots f looks is = cc
 
 front-unmarked : (v : View) (plan : Plan) (slots : PlanSlots) → Every (HoldsLook v) (looks_of plan) → (place : ℕ) (f : Front)
     → slice_get (fronts_of plan slots) place ≡ Some f → IsUnmarked v f.at.node

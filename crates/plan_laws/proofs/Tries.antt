@@ -86,9 +86,7 @@ module _ (v : View) where
   pub next-keeps-pass : (e next : ℕ) (p : Place) → KeepsPass v (next_at v p e next)
   next-keeps-pass e next (AtEntry node side entry found) = read-as v (next_at v (AtEntry node side entry found) e next) refl
       (record { section = refl; opened = refl; least = refl; tree = refl })
-  next-keeps-pass e next Nowhere = read-as v v refl (record { section = refl; opened = refl; least = refl; tree = refl })
-  next-keeps-pass e next (AtNode node key) = read-as v v refl (record { section = refl; opened = refl; least = refl; tree = refl })
-  next-keeps-pass e next (Gap node side) = read-as v v refl (record { section = refl; opened = refl; least = refl; tree = refl })
+  next-keeps-pass e next _ = read-as v v refl (record { section = refl; opened = refl; least = refl; tree = refl })
 
 -- the same nodes are locked, and nothing else is done
 pub trying-kept : (v w : View) → KeepsPass v w → w.update ≡ v.update → held_slots w.held.nodes ≡ held_slots v.held.nodes → KeepsTrying v w
@@ -172,7 +170,6 @@ loads_keep v = record {
 -- the last one goes
 last-gone : (node : ℕ) (nodes : List ℕ) (hs : List HeldNode) → held_slots hs ≡ nodes ++ node ∷ [] → count node nodes ≡ 0
     → held_slots (other_nodes node hs) ≡ nodes
-last-gone node [] [] is none' = cc
 last-gone node [] (h ∷ hs) is none' =
     let here : h.node ≡ node = cc in
     let rest : held_slots hs ≡ [] = cc in
@@ -184,7 +181,6 @@ last-gone node [] (h ∷ hs) is none' =
     by : (hs : List HeldNode) → held_slots hs ≡ [] → eqb h.node node ≡ true → held_slots (other_nodes node (h ∷ hs)) ≡ []
     by [] none' e = ap (λ b. held_slots (cond (not b) (h ∷ []) [])) e
     by (x ∷ hs) none' e = cc
-last-gone node (k ∷ nodes) [] is none' = cc
 last-gone node (k ∷ nodes) (h ∷ hs) is none' =
     let here : h.node ≡ k = cc in
     let rest : held_slots hs ≡ nodes ++ node ∷ [] = cc in
@@ -198,6 +194,7 @@ last-gone node (k ∷ nodes) (h ∷ hs) is none' =
         by : (b : Bool) → cond b 1 0 + n ≡ 0 → b ≡ false
         by true h = absurd (omega (arith, h))
         by false h = refl
+last-gone node _ _ is none' = cc
 
 still-idle : (b : Bool) (u : Updating) → u ≡ no_update → cond b no_update u ≡ no_update
 still-idle true u idle = refl

@@ -7,6 +7,5 @@ use Rattle.snapshot_read.specs.declared.looks.Look.TheVariants.{Found, Nothing, 
 use Rattle.snapshot_read.specs.Looks.{IfUnknown, IsKnown}
 
 pub known_alone : (look : Look) (p q : Pass) → IsSamePass p q → IfUnknown look (¬ IsAlone q.view) → IsAlone p.view → IsKnown look
-known_alone (Found pair) p q same others one = tt
-known_alone Nothing p q same others one = tt
 known_alone Pending p q same others one = others (ap (λ (z : Layout). z.passes) same.layout ∙ one)
+known_alone _ p q same others one = tt

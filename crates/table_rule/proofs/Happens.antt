@@ -12,7 +12,7 @@ use Rattle.key_map.specs.declared.update.Update.{Update}
 use Rattle.atomic_table.specs.Table.{State, Me, Allows, keeps as nothing}
 use Rattle.core_events.specs.declared.event.Event.{Event}
 use Rattle.core_events.specs.declared.event.Kind.{Kind}
-use Rattle.core_events.specs.declared.event.Kind.TheVariants.{MakeSeat, SplitSeat, JoinSeat, Enter, Leave, LookSec, Fill, LoadStamp, LoadHead, LoadTs, LoadPtr, LoadNext, Prepare, Raise, Finalise, TryLock, Unlock, LoadMark, Mark as MarkNode, LoadKeyOrVal, Announce, LookAnn, Cut, LoadLink, SetLink, LoadTag, SetTag}
+use Rattle.core_events.specs.declared.event.Kind.TheVariants.{MakeSeat, SplitSeat, JoinSeat, Enter}
 use Rattle.core_invariant.specs.Rule.{InRule}
 use Rattle.core_events.specs.Steps.{allowed, after, after_at, words_after, views_after, view_after}
 use Rattle.core_events.specs.Tables.{Table}
@@ -21,148 +21,55 @@ use Rattle.core_invariant.proofs.KeptViews.{joined_kept, layout_kept}
 use Rattle.core_kept.proofs.StepLaw.{keeps}
 use Rattle.core_laws.proofs.ViewTests.{word_named}
 use Rattle.table_rule.specs.Homes.{IsLiveView}
-use Rattle.table_rule.specs.Running.{table, Stands, Happened, IsLoad, IsStore}
+use Rattle.table_rule.specs.Running.{table, Stands, Happened, Move, move_of, IsLoadMove, IsStoreMove, IsLoad, IsStore}
+use Rattle.table_rule.specs.Running.Move.{Load, Store, Add, Swap, Seats}
 use Rattle.table_rule.proofs.Lists.{get_from_found, get_set, some_same}
 
 -- the kinds that move one word of one seat
+abbrev IsWordMove : Move → Type 0
+IsWordMove Seats = ⊥
+IsWordMove _ = Unit {0}
+
 abbrev pub IsMove : Kind → Type 0
-IsMove MakeSeat = ⊥
-IsMove SplitSeat = ⊥
-IsMove JoinSeat = ⊥
-IsMove _ = Unit {0}
+IsMove kind = IsWordMove (move_of kind)
+
+load_move : (move : Move) → IsLoadMove move → IsWordMove move
+load_move Load is = tt
+load_move _ is = absurd is
 
 pub load_moves : (kind : Kind) → IsLoad kind → IsMove kind
-load_moves LookSec is = tt
-load_moves LoadStamp is = tt
-load_moves LoadHead is = tt
-load_moves LoadTs is = tt
-load_moves LoadPtr is = tt
-load_moves LoadNext is = tt
-load_moves LoadMark is = tt
-load_moves LoadKeyOrVal is = tt
-load_moves MakeSeat is = is
-load_moves SplitSeat is = is
-load_moves JoinSeat is = is
-load_moves Enter is = tt
-load_moves Leave is = tt
-load_moves Fill is = tt
-load_moves Prepare is = tt
-load_moves Raise is = tt
-load_moves Finalise is = tt
-load_moves TryLock is = tt
-load_moves Unlock is = tt
-load_moves MarkNode is = tt
-load_moves Announce is = tt
-load_moves LookAnn is = tt
-load_moves Cut is = tt
-load_moves LoadLink is = tt
-load_moves SetLink is = tt
-load_moves LoadTag is = tt
-load_moves SetTag is = tt
+load_moves kind is = load_move (move_of kind) is
+
+store_move : (move : Move) → IsStoreMove move → IsWordMove move
+store_move Store is = tt
+store_move _ is = absurd is
 
 pub store_moves : (kind : Kind) → IsStore kind → IsMove kind
-store_moves Enter is = tt
-store_moves Leave is = tt
-store_moves Fill is = tt
-store_moves Prepare is = tt
-store_moves Finalise is = tt
-store_moves Unlock is = tt
-store_moves MarkNode is = tt
-store_moves MakeSeat is = is
-store_moves SplitSeat is = is
-store_moves JoinSeat is = is
-store_moves LookSec is = tt
-store_moves LoadStamp is = tt
-store_moves LoadHead is = tt
-store_moves LoadTs is = tt
-store_moves LoadPtr is = tt
-store_moves LoadNext is = tt
-store_moves LoadMark is = tt
-store_moves LoadKeyOrVal is = tt
-store_moves Raise is = tt
-store_moves TryLock is = tt
-store_moves Announce is = tt
-store_moves LookAnn is = tt
-store_moves Cut is = tt
-store_moves LoadLink is = tt
-store_moves SetLink is = tt
-store_moves LoadTag is = tt
-store_moves SetTag is = tt
+store_moves kind is = store_move (move_of kind) is
 
 -- the word after an event with this value, of the word found
+abbrev moved_word : Move → ℕ → ℕ → ℕ
+moved_word Store value n = value
+moved_word Add value n = n + 1
+moved_word Swap value n = cond (eqb n 0) value n
+moved_word _ value n = n
+
 abbrev pub word_of : Kind → ℕ → ℕ → ℕ
-word_of Enter value n = value
-word_of Leave value n = value
-word_of Fill value n = value
-word_of Prepare value n = value
-word_of Raise value n = n + 1
-word_of Finalise value n = value
-word_of TryLock value n = cond (eqb n 0) value n
-word_of Unlock value n = value
-word_of MarkNode value n = value
-word_of Announce value n = value
-word_of Cut value n = value
-word_of SetLink value n = value
-word_of SetTag value n = value
-word_of _ value n = n
+word_of kind value n = moved_word (move_of kind) value n
+
+load_by : (move : Move) (value n : ℕ) → IsLoadMove move → moved_word move value n ≡ n
+load_by Load value n is = refl
+load_by _ value n is = absurd is
 
 pub load_word : (kind : Kind) (value n : ℕ) → IsLoad kind → word_of kind value n ≡ n
-load_word LookSec value n is = refl
-load_word LoadStamp value n is = refl
-load_word LoadHead value n is = refl
-load_word LoadTs value n is = refl
-load_word LoadPtr value n is = refl
-load_word LoadNext value n is = refl
-load_word LoadMark value n is = refl
-load_word LoadKeyOrVal value n is = refl
-load_word MakeSeat value n is = absurd is
-load_word SplitSeat value n is = absurd is
-load_word JoinSeat value n is = absurd is
-load_word Enter value n is = absurd is
-load_word Leave value n is = absurd is
-load_word Fill value n is = absurd is
-load_word Prepare value n is = absurd is
-load_word Raise value n is = absurd is
-load_word Finalise value n is = absurd is
-load_word TryLock value n is = absurd is
-load_word Unlock value n is = absurd is
-load_word MarkNode value n is = absurd is
-load_word LookAnn value n is = refl
-load_word Announce value n is = absurd is
-load_word Cut value n is = absurd is
-load_word LoadLink value n is = refl
-load_word SetLink value n is = absurd is
-load_word LoadTag value n is = refl
-load_word SetTag value n is = absurd is
+load_word kind value n is = load_by (move_of kind) value n is
+
+store_by : (move : Move) (value n : ℕ) → IsStoreMove move → moved_word move value n ≡ value
+store_by Store value n is = refl
+store_by _ value n is = absurd is
 
 pub store_word : (kind : Kind) (value n : ℕ) → IsStore kind → word_of kind value n ≡ value
-store_word Enter value n is = refl
-store_word Leave value n is = refl
-store_word Fill value n is = refl
-store_word Prepare value n is = refl
-store_word Finalise value n is = refl
-store_word Unlock value n is = refl
-store_word MarkNode value n is = refl
-store_word MakeSeat value n is = absurd is
-store_word SplitSeat value n is = absurd is
-store_word JoinSeat value n is = absurd is
-store_word LookSec value n is = absurd is
-store_word LoadStamp value n is = absurd is
-store_word LoadHead value n is = absurd is
-store_word LoadTs value n is = absurd is
-store_word LoadPtr value n is = absurd is
-store_word LoadNext value n is = absurd is
-store_word LoadMark value n is = absurd is
-store_word LoadKeyOrVal value n is = absurd is
-store_word Raise value n is = absurd is
-store_word TryLock value n is = absurd is
-store_word Announce value n is = refl
-store_word Cut value n is = refl
-store_word LookAnn value n is = absurd is
-store_word LoadLink value n is = absurd is
-store_word SetLink value n is = refl
-store_word LoadTag value n is = absurd is
-store_word SetTag value n is = refl
+store_word kind value n is = store_by (move_of kind) value n is
 
 -- the words after an event of such a kind are those before with this word anew
 same_words : (words : List ℕ) (at : ℕ) → words ≡ set words at (slice_index words at)
@@ -172,64 +79,31 @@ tried_words : (b : Bool) (words : List ℕ) (at value : ℕ) → cond b (set wor
 tried_words true words at value = refl
 tried_words false words at value = same_words words at
 
+abbrev moved_words : Move → List ℕ → ℕ → ℕ → List ℕ
+moved_words Store words at value = set words at value
+moved_words Add words at value = set words at (slice_index words at + 1)
+moved_words Swap words at value = cond (eqb (slice_index words at) 0) (set words at value) words
+moved_words _ words at value = words
+
+words_by : (kind : Kind) (words : List ℕ) (at value : ℕ) → words_after kind words at value ≡ moved_words (move_of kind) words at value
+words_by Enter words at value = refl
+words_by _ words at value = refl
+
+moves_word : (move : Move) (words : List ℕ) (at value : ℕ) → IsWordMove move → moved_words move words at value ≡ set words at (moved_word move value (slice_index words at))
+moves_word Load words at value is = same_words words at
+moves_word Swap words at value is = tried_words (eqb (slice_index words at) 0) words at value
+moves_word Seats words at value is = absurd is
+moves_word _ words at value is = refl
+
 words_moved : (kind : Kind) (words : List ℕ) (at value : ℕ) → IsMove kind → words_after kind words at value ≡ set words at (word_of kind value (slice_index words at))
-words_moved Enter words at value is = refl
-words_moved Leave words at value is = refl
-words_moved Fill words at value is = refl
-words_moved Prepare words at value is = refl
-words_moved Raise words at value is = refl
-words_moved Finalise words at value is = refl
-words_moved TryLock words at value is = tried_words (eqb (slice_index words at) 0) words at value
-words_moved Unlock words at value is = refl
-words_moved MarkNode words at value is = refl
-words_moved Announce words at value is = refl
-words_moved Cut words at value is = refl
-words_moved LoadLink words at value is = same_words words at
-words_moved SetLink words at value is = refl
-words_moved LoadTag words at value is = same_words words at
-words_moved SetTag words at value is = refl
-words_moved LookAnn words at value is = same_words words at
-words_moved LookSec words at value is = same_words words at
-words_moved LoadStamp words at value is = same_words words at
-words_moved LoadHead words at value is = same_words words at
-words_moved LoadTs words at value is = same_words words at
-words_moved LoadPtr words at value is = same_words words at
-words_moved LoadNext words at value is = same_words words at
-words_moved LoadMark words at value is = same_words words at
-words_moved LoadKeyOrVal words at value is = same_words words at
-words_moved MakeSeat words at value is = absurd is
-words_moved SplitSeat words at value is = absurd is
-words_moved JoinSeat words at value is = absurd is
+words_moved kind words at value is = words_by kind words at value ∙ moves_word (move_of kind) words at value is
 
 views_moved : (kind : Kind) (z : Layout) (m : Memory) (vs : List View) (i : ℕ) (v : View) (w : Word) (value : ℕ) (o : Option Update) → IsMove kind
     → views_after kind z m vs i v w value o ≡ set vs i (view_after kind z m vs v w (m w) value o)
-views_moved Enter z m vs i v w value o is = refl
-views_moved Leave z m vs i v w value o is = refl
-views_moved Fill z m vs i v w value o is = refl
-views_moved Prepare z m vs i v w value o is = refl
-views_moved Raise z m vs i v w value o is = refl
-views_moved Finalise z m vs i v w value o is = refl
-views_moved TryLock z m vs i v w value o is = refl
-views_moved Unlock z m vs i v w value o is = refl
-views_moved MarkNode z m vs i v w value o is = refl
-views_moved Announce z m vs i v w value o is = refl
-views_moved LookAnn z m vs i v w value o is = refl
-views_moved Cut z m vs i v w value o is = refl
-views_moved LoadLink z m vs i v w value o is = refl
-views_moved SetLink z m vs i v w value o is = refl
-views_moved LoadTag z m vs i v w value o is = refl
-views_moved SetTag z m vs i v w value o is = refl
-views_moved LookSec z m vs i v w value o is = refl
-views_moved LoadStamp z m vs i v w value o is = refl
-views_moved LoadHead z m vs i v w value o is = refl
-views_moved LoadTs z m vs i v w value o is = refl
-views_moved LoadPtr z m vs i v w value o is = refl
-views_moved LoadNext z m vs i v w value o is = refl
-views_moved LoadMark z m vs i v w value o is = refl
-views_moved LoadKeyOrVal z m vs i v w value o is = refl
 views_moved MakeSeat z m vs i v w value o is = absurd is
 views_moved SplitSeat z m vs i v w value o is = absurd is
 views_moved JoinSeat z m vs i v w value o is = absurd is
+views_moved _ z m vs i v w value o is = refl
 
 -- the table after an event whose seat and word are known
 pub after_known : (t : Table) (e : Event) (v : View) (w : Word) → slice_get t.views e.seat ≡ Some v → word_at t.layout e.word ≡ Some w → after t e ≡ after_at t e (Some v) (Some w)

@@ -39,13 +39,10 @@ get_left (z ∷ xs) ys (suc i) x is = get_left xs ys i x is
 
 pub get_last : {X : Type 0} (xs : List X) (y : X) (n : ℕ) → length xs ≡ n → slice_get (xs ++ y ∷ []) n ≡ Some y
 get_last [] y zero is = refl
-get_last [] y (suc n) is = absurd (omega arith)
-get_last (x ∷ xs) y zero is = absurd (omega arith)
 get_last (x ∷ xs) y (suc n) is = get_last xs y n (omega arith)
+get_last _ y _ is = absurd (omega arith)
 
 pub set_else_get : {X : Type 0} (xs : List X) (i j : ℕ) (x : X) → j ≢ i → slice_get (set xs i x) j ≡ slice_get xs j
-set_else_get [] i j x apart = refl
 set_else_get (y ∷ xs) zero zero x apart = absurd (apart refl)
-set_else_get (y ∷ xs) zero (suc j) x apart = refl
-set_else_get (y ∷ xs) (suc i) zero x apart = refl
 set_else_get (y ∷ xs) (suc i) (suc j) x apart = set_else_get xs i j x (λ e. apart (ap suc e))
+set_else_get _ _ _ x apart = refl

@@ -8,7 +8,7 @@ use Rattle.index_words.specs.declared.word.Word.{Word}
 use Rattle.index_words.specs.Words.{address}
 use Rattle.core_events.specs.declared.event.Event.{Event}
 use Rattle.core_events.specs.declared.event.Kind.{Kind}
-use Rattle.core_events.specs.declared.event.Kind.TheVariants.{Enter, Leave, LookSec, Fill, LoadStamp, LoadHead, LoadTs, LoadPtr, LoadNext, Prepare, Finalise, Unlock, LoadMark, Mark, LoadKeyOrVal, Announce, LookAnn, Cut, LoadLink, SetLink, LoadTag, SetTag}
+use Rattle.core_events.specs.declared.event.Kind.TheVariants.{MakeSeat, SplitSeat, JoinSeat, LookSec, LoadStamp, LoadHead, LoadTs, LoadPtr, LoadNext, Raise, TryLock, LoadMark, LoadKeyOrVal, LookAnn, LoadLink, LoadTag}
 use Rattle.core_invariant.specs.Rule.{InRule}
 use Rattle.core_events.specs.Steps.{allowed, after}
 use Rattle.core_events.specs.Tables.{Table}
@@ -48,32 +48,46 @@ pub record Happened (z : Layout) (e : Event) (v : View) (n : ℕ) (w : View) : T
 abbrev pub Stored : Layout → Event → View → View → Type 0
 Stored z e v w = (n : ℕ) × Happened z e v n w
 
+-- what an event does to its word: it leaves it, puts its value there, adds one, puts its value where it holds 0, or moves
+-- seats and no word
+pub data Move : Type 0 where
+  Load : Move
+  Store : Move
+  Add : Move
+  Swap : Move
+  Seats : Move
+
+abbrev pub move_of : Kind → Move
+move_of MakeSeat = Seats
+move_of SplitSeat = Seats
+move_of JoinSeat = Seats
+move_of Raise = Add
+move_of TryLock = Swap
+move_of LookSec = Load
+move_of LoadStamp = Load
+move_of LoadHead = Load
+move_of LoadTs = Load
+move_of LoadPtr = Load
+move_of LoadNext = Load
+move_of LoadMark = Load
+move_of LoadKeyOrVal = Load
+move_of LookAnn = Load
+move_of LoadLink = Load
+move_of LoadTag = Load
+move_of _ = Store
+
+abbrev pub IsLoadMove : Move → Type 0
+IsLoadMove Load = ⊤
+IsLoadMove _ = ⊥
+
+abbrev pub IsStoreMove : Move → Type 0
+IsStoreMove Store = ⊤
+IsStoreMove _ = ⊥
+
 -- the kinds that load a word and leave it as it is
 abbrev pub IsLoad : Kind → Type 0
-IsLoad LookSec = ⊤
-IsLoad LoadStamp = ⊤
-IsLoad LoadHead = ⊤
-IsLoad LoadTs = ⊤
-IsLoad LoadPtr = ⊤
-IsLoad LoadNext = ⊤
-IsLoad LoadMark = ⊤
-IsLoad LoadKeyOrVal = ⊤
-IsLoad LookAnn = ⊤
-IsLoad LoadLink = ⊤
-IsLoad LoadTag = ⊤
-IsLoad _ = ⊥
+IsLoad kind = IsLoadMove (move_of kind)
 
 -- the kinds that store their value
 abbrev pub IsStore : Kind → Type 0
-IsStore Enter = ⊤
-IsStore Leave = ⊤
-IsStore Fill = ⊤
-IsStore Prepare = ⊤
-IsStore Finalise = ⊤
-IsStore Unlock = ⊤
-IsStore Mark = ⊤
-IsStore Announce = ⊤
-IsStore Cut = ⊤
-IsStore SetLink = ⊤
-IsStore SetTag = ⊤
-IsStore _ = ⊥
+IsStore kind = IsStoreMove (move_of kind)

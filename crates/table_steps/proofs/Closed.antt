@@ -63,11 +63,9 @@ get_set_same (x ∷ xs) zero y low = refl
 get_set_same (x ∷ xs) (suc i) y low = get_set_same xs i y (omega (arith, low))
 
 get_set_other : {X : Type 0} (xs : List X) (i k : ℕ) (y : X) → k ≢ i → slice_get (set xs i y) k ≡ slice_get xs k
-get_set_other [] i k y other = refl
 get_set_other (x ∷ xs) zero zero y other = absurd (other refl)
-get_set_other (x ∷ xs) zero (suc k) y other = refl
-get_set_other (x ∷ xs) (suc i) zero y other = refl
 get_set_other (x ∷ xs) (suc i) (suc k) y other = get_set_other xs i k y (λ same. other (ap suc same))
+get_set_other _ _ _ y other = refl
 
 not_same : (a b : ℕ) → eqb a b ≡ false → a ≢ b
 not_same a b is same = grind (arith, nat_tests)
@@ -190,10 +188,9 @@ within all (k ∷ keys) own = (
 
 same_items : (xs ys : List Update) → length xs ≡ length ys → ((i : ℕ) (y : Update) → slice_get ys i ≡ Some y → slice_get xs i ≡ Some y) → xs ≡ ys
 same_items [] [] long each = refl
-same_items [] (y ∷ ys) long each = absurd (omega (arith, long))
-same_items (x ∷ xs) [] long each = absurd (omega (arith, long))
 same_items (x ∷ xs) (y ∷ ys) long each =
     ap (λ u. u ∷ xs) (same_Some x y (each 0 y refl)) ∙ ap (λ us. y ∷ us) (same_items xs ys (omega (arith, long)) (λ i u is. each (suc i) u is))
+same_items _ _ long each = absurd (omega (arith, long))
 
 -- a list that is as long as the last place says, and right at each place of the keys, is the history
 pub whole_is : (all xs : List Update) (keys : List Pass) (last : ℕ) → StandAtOwnPlaces keys all → AreMadeBy keys all → IsLastPlace keys last → length xs ≡ last → EachPlace (IsRightAt all xs) keys → xs ≡ all
@@ -278,9 +275,8 @@ stays_filled all old new keys stays = each_weaker (IsRightAt all old) (IsRightAt
 
 -- a live view has seen updates of passes of the table alone
 every_take : {X : Type 0} (P : X → Type 0) (n : ℕ) (xs : List X) → Every P xs → Every P (take n xs)
-every_take P zero xs all = tt
-every_take P (suc n) [] all = tt
 every_take P (suc n) (x ∷ xs) all = (all.0, every_take P n xs all.1)
+every_take P _ _ all = tt
 
 pub made_by_keys : (home : Home) (keys : List Pass) (v : View) → AreAllKeys home keys → v.layout ≡ home.layout → IsLiveView v → AreMadeBy keys v.history.seen
 made_by_keys home keys v all layout live =

@@ -94,9 +94,7 @@ next_own v e next = by_place v.reading.place
   where
     by_place : (p : Place) → own_part (next_at v p e next) ≡ own_part v
     by_place Nowhere = refl
-    by_place (AtEntry node side entry found) = refl
-    by_place (AtNode node key) = refl
-    by_place (Gap node side) = refl
+    by_place _ = refl
 
 -- the pass whose seat this is
 abbrev pub pass_of : Sat → ℕ → Pass

@@ -16,6 +16,4 @@ others_before p q same others one = others (ap (λ (z : Layout). z.passes) same.
 
 pub made_alone : (tried : Try) (p q : Pass) → IsSamePass p q → UnlessDone tried (¬ IsAlone q.view) → IsAlone p.view → IsMade tried
 made_alone (Made done) p q same others one = tt
-made_alone Busy p q same others one = others_before p q same others one
-made_alone Moved p q same others one = others_before p q same others one
-made_alone Pending p q same others one = others_before p q same others one
+made_alone _ p q same others one = others_before p q same others one

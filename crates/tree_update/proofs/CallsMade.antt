@@ -84,8 +84,7 @@ module _ (v w : View) (n line key : ℕ) (change : Change) (done : Done) (carrie
 -- an aim of a removal is one whose search has found the key
 pub removal_found : (aim : Aim) → is_removal (change_of aim) ≡ true → has_found aim ≡ true
 removal_found (Grow pair gap) is = cc
-removal_found (Replace pair found) is = refl
-removal_found (RemoveAim key found right) is = refl
+removal_found _ is = refl
 
 -- a key is there exactly where it has a value
 has_value : (key : ℕ) (m : List Pair) → map_has key m ≡ is_some (map_get key m)

@@ -109,9 +109,8 @@ stays_passed : (g : Looks) (pass word n : ℕ) → has n g.passed ≡ true → h
 stays_passed g pass word n is = by (has pass g.passed) (lets_pass (first_found pass g.found) word)
   where
     by : (a b : Bool) → has n (looked_by g pass word a b).passed ≡ true
-    by true b = is
     by false true = has_more n g.passed (pass ∷ []) is
-    by false false = is
+    by _ _ = is
 
 -- how often a word was found, with one more look
 times_push : (n word : ℕ) (fs : List SectionFound) (f : SectionFound) → times_found n word (fs ++ f ∷ []) ≡ times_found n word fs + cond (is_find n word f) 1 0
@@ -135,9 +134,8 @@ times_more : (g : Looks) (pass word n x : ℕ) → times_found n x g.found ≤ t
 times_more g pass word n x = by (has pass g.passed) (lets_pass (first_found pass g.found) word)
   where
     by : (a b : Bool) → times_found n x g.found ≤ times_found n x (looked_by g pass word a b).found
-    by true b = omega arith
-    by false true = omega arith
     by false false = omega (arith, times_push n x g.found (record { pass = pass; word = word }))
+    by _ _ = omega arith
 
 -- a word that was noted last is the first one that was found of a pass of which none was noted
 abbrev word_in : Option SectionFound → Option ℕ

@@ -42,35 +42,25 @@ IsMissed only_new key change v w (Failed failed) = IsCounted failed v w × ¬ Is
 -- what holds where a try has made its update, by its answer
 abbrev pub IfDone : Try → (Done → Type 0) → Type 0
 IfDone (Made done) fact = fact done
-IfDone Busy fact = Unit {0}
-IfDone Moved fact = Unit {0}
-IfDone Pending fact = Unit {0}
+IfDone _ fact = Unit {0}
 
 -- what holds where it has not, for this cause
 abbrev pub IfBusy : Try → Type 0 → Type 0
-IfBusy (Made done) fact = Unit {0}
 IfBusy Busy fact = fact
-IfBusy Moved fact = Unit {0}
-IfBusy Pending fact = Unit {0}
+IfBusy _ fact = Unit {0}
 
 abbrev pub IfMoved : Try → Type 0 → Type 0
-IfMoved (Made done) fact = Unit {0}
-IfMoved Busy fact = Unit {0}
 IfMoved Moved fact = fact
-IfMoved Pending fact = Unit {0}
+IfMoved _ fact = Unit {0}
 
 abbrev pub IfPending : Try → Type 0 → Type 0
-IfPending (Made done) fact = Unit {0}
-IfPending Busy fact = Unit {0}
-IfPending Moved fact = Unit {0}
 IfPending Pending fact = fact
+IfPending _ fact = Unit {0}
 
 -- what holds where it has not, for whatever cause
 abbrev pub UnlessDone : Try → Type 0 → Type 0
 UnlessDone (Made done) fact = Unit {0}
-UnlessDone Busy fact = fact
-UnlessDone Moved fact = fact
-UnlessDone Pending fact = fact
+UnlessDone _ fact = fact
 
 -- the put was made
 abbrev pub IsMade : Try → Type 0

@@ -35,9 +35,7 @@ owned_entries_same v w free batch retired =
 -- the nodes after an update, by its change and its answer
 moves_by : (plan : Plan) (old new : ℕ) → MovesBy plan old new → MovesNodes (change_of plan) (was_there plan) old new
 moves_by (Grow p) old new is = is
-moves_by (Replace p) old new is = is
-moves_by (Lift p) old new is = is
-moves_by (Join p) old new is = is
+moves_by _ old new is = is
 
 -- there is an entry for each front
 entries_long : (fs : List Front) → length (entries_of fs) ≡ length fs

@@ -36,32 +36,27 @@ pub record IsFarPlan (plan : Plan) (p : JoinPlan) : Type 0 where
   pub far : IsFar p
 
 pub far_plan : (plan : Plan) (p : JoinPlan) → far_of plan ≡ Some p → IsFarPlan plan p
-far_plan (Grow q) p is = cc
-far_plan (Replace q) p is = cc
-far_plan (Lift q) p is = cc
 far_plan (Join q) p is = by (q.next.at.node == q.node) refl is
   where
     by : (near : Bool) → (q.next.at.node == q.node) ≡ near → cond near None (Some q) ≡ Some p → IsFarPlan (Join q) p
     by true e h = cc
     by false e h = let same : q ≡ p = cc in subst (λ (r : JoinPlan). IsFarPlan (Join q) r) same (record { plan_is = refl; far = e })
+far_plan _ p is = cc
 
 -- and all other plans set their links in one section
 pub near_plan : (plan : Plan) → far_of plan ≡ None → SetsAtOnce plan
-near_plan (Grow p) is = refl
-near_plan (Replace p) is = refl
-near_plan (Lift p) is = refl
 near_plan (Join p) is = by (p.next.at.node == p.node) is
   where
     by : (near : Bool) → cond near None (Some p) ≡ None → cond near None (Some (far_unlinking p)) ≡ None
     by true h = refl
     by false h = cc
+near_plan _ is = refl
 
 -- a put is one of them
 pub near_put : (plan : Plan) (val : ℕ) → change_of plan ≡ Put val → SetsAtOnce plan
-near_put (Grow p) val is = refl
-near_put (Replace p) val is = refl
 near_put (Lift p) val is = cc
 near_put (Join p) val is = cc
+near_put _ val is = refl
 
 same-node : (a : ℕ) → eqb a a ≡ true
 same-node a = grind (arith, nat_tests)

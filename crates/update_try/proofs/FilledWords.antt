@@ -42,17 +42,13 @@ module _ (v : View) (live : IsLiveView v) where
   pub fill_there : (w : Word) → MayFill v w → is_there v.layout w ≡ true
   fill_there (Node field k) may = node_there v.layout k (free_node_low k may.1)
   fill_there (Entry part e) may = let low = free_entry_there v live e may in entry_there v.layout e low.0 low.1
-  fill_there Stamp may = absurd may
-  fill_there (Section pass) may = absurd may
-  fill_there (Announced pass) may = absurd may
+  fill_there _ may = absurd may
 
 -- it rests on the free slots alone
 may-kept : (v w : View) → w.free ≡ v.free → (word : Word) → MayFill v word → MayFill w word
 may-kept v w free (Node field k) may = (may.0, subst (λ (s : Slots). 0 < count k s.nodes) (sym free) may.1)
 may-kept v w free (Entry part e) may = subst (λ (s : Slots). 0 < count e s.entries) (sym free) may
-may-kept v w free Stamp may = may
-may-kept v w free (Section pass) may = may
-may-kept v w free (Announced pass) may = may
+may-kept v w free _ may = may
 
 pub all-may : (v w : View) (fs : List Filled) → w.free ≡ v.free → Every (CanFill v) fs → Every (CanFill w) fs
 all-may v w [] free all = tt

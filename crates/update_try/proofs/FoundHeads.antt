@@ -107,9 +107,8 @@ module _ (v : View) (node e number : ℕ) (side : Side) (again : (head : ℕ) �
 
       by : (side s : Side) → (side_of s h).head ≡ Some l → (s ≡ side → l.entry ≡ e) → (side_of s (head_found side e h)).head ≡ Some l
       by Left Left is same = found h.left.head is (same refl)
-      by Left Right is same = is
-      by Right Left is same = is
       by Right Right is same = found h.right.head is (same refl)
+      by _ _ is same = is
 
   still_found : (k head : ℕ) (s : Side) (h : HoldsHead v k s head) → (side_of s (found_at node side e h.held)).head ≡ Some h.loaded
   still_found k head s h = by (eqb h.held.node node) refl
@@ -283,9 +282,6 @@ module _ (v : View) where
   front_looked (Join p) looks = link_unmarked v p.at.node p.node p.at.side looks.0
 
   next_looked : (plan : Plan) (at : Link) → next_link_of plan ≡ Some at → Every (HoldsLook v) (looks_of plan) → IsUnmarked v at.node
-  next_looked (Grow p) at is looks = cc
-  next_looked (Replace p) at is looks = cc
-  next_looked (Lift p) at is looks = cc
   next_looked (Join p) at is looks = by (p.next.at.node == p.node) is looks.1.1.1.1.1.1.1.1.1
     where
       by : (near : Bool) → cond near None (Some p.next.at) ≡ Some at → Every (HoldsLook v) (cond near [] (LinkLook p.next.at p.next.node ∷ [])) → IsUnmarked v at.node
@@ -293,6 +289,7 @@ module _ (v : View) where
       by false is looks =
           let same : p.next.at ≡ at = cc in
           subst (λ (l : Link). IsUnmarked v l.node) same (link_unmarked v p.next.at.node p.next.node p.next.at.side looks.0)
+  next_looked _ at is looks = cc
 
   out_looked : (plan : Plan) → Every (HoldsLook v) (looks_of plan) → Every (IsUnmarked v) (out_of plan)
   out_looked (Grow p) looks = tt

@@ -16,13 +16,12 @@ use Rattle.table_steps.proofs.There.{free_entry_once, free_entry_there}
 
 twice : (xs : List ℕ) (i j x : ℕ) → i < j → slice_get xs i ≡ Some x → slice_get xs j ≡ Some x → 2 ≤ count x xs
 twice [] i j x below one two = cc
-twice (y ∷ ys) zero zero x below one two = absurd (omega (arith, below))
 twice (y ∷ ys) zero (suc j) x below one two = let same : y ≡ x = cc in more y x (count x ys) same (got-counts ys j x two)
   where
     more : (a b n : ℕ) → a ≡ b → 0 < n → 2 ≤ cond (eqb a b) 1 0 + n
     more a b n e some = grind (arith, nat_tests)
-twice (y ∷ ys) (suc i) zero x below one two = absurd (omega (arith, below))
 twice (y ∷ ys) (suc i) (suc j) x below one two = omega (arith, twice ys i j x (omega (arith, below)) one two)
+twice _ _ _ x below one two = absurd (omega (arith, below))
 
 pub no_slot : (xs : List ℕ) (i : ℕ) → i < length xs → slice_get xs i ≡ None → ⊥
 no_slot xs i below none = omega (arith, below, got-none xs i none)

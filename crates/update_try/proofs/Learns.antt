@@ -87,10 +87,9 @@ module _ (v : View) (k x : ℕ) where
         by Right = refl
 
     other_link : (s to : Side) (h : HeldNode) → ¬ (to ≡ s) → (side_of to (link_known s x h)).link ≡ (side_of to h).link
-    other_link Left Left h apart = absurd (apart refl)
     other_link Left Right h apart = refl
     other_link Right Left h apart = refl
-    other_link Right Right h apart = absurd (apart refl)
+    other_link _ _ h apart = absurd (apart refl)
 
     same_tag : (s to : Side) (h : HeldNode) → (side_of to (link_known s x h)).tag ≡ (side_of to h).tag
     same_tag Left Left h = refl

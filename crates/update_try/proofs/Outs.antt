@@ -77,11 +77,9 @@ front_stays (Grow p) slots place f once is = refl
 front_stays (Replace p) slots zero f once is =
     let same : p.at ≡ f.at = cc in
     subst (λ (x : Link). count x.node (p.node ∷ []) ≡ 0) same (omega (arith, once p.at.node, self_one p.at.node))
-front_stays (Replace p) slots (suc place) f once is = cc
 front_stays (Lift p) slots zero f once is =
     let same : p.at ≡ f.at = cc in
     subst (λ (x : Link). count x.node (p.node ∷ []) ≡ 0) same (omega (arith, once p.at.node, self_one p.at.node))
-front_stays (Lift p) slots (suc place) f once is = cc
 front_stays (Join p) slots zero f once is =
     let same : p.at ≡ f.at = cc in
     subst (λ (x : Link). count x.node (p.node ∷ p.next.node ∷ []) ≡ 0) same (by (p.next.at.node == p.node) (once p.at.node))
@@ -101,6 +99,7 @@ front_stays (Join p) slots (suc place) f once is = by (p.next.at.node == p.node)
         let same : p.next.at ≡ f.at = cc in
         subst (λ (x : Link). count x.node (p.node ∷ p.next.node ∷ []) ≡ 0) same (omega (arith, le, self_one p.next.at.node))
     by false (suc i) le e = cc
+front_stays _ slots _ f once is = cc
 
 -- so these bundles stay found where one is
 pub walked_prepared : (v w : View) (plan : Plan) (slots : PlanSlots) (place : ℕ) (f : Front) → LocksOnce plan → slice_get (fronts_of plan slots) place ≡ Some f

@@ -255,10 +255,8 @@ pub next_least : (v w : View) (entry next : ℕ) → w ≡ next_loaded v entry n
 next_least v w entry next is = subst (λ (u : View). KeepsLeast v u) (sym is) (by v.reading.place)
   where
     by : (p : Place) → KeepsLeast v (next_at v p entry next)
-    by Nowhere = least_same v
     by (AtEntry node side e found) = record { section = refl; least = refl; looked = refl; number = refl; layout = refl; taken = refl }
-    by (AtNode node key) = least_same v
-    by (Gap node side) = least_same v
+    by _ = least_same v
 
 pub may_number : (v : View) (at : Link) (head entry : ℕ) → StandsOn v at head entry → 0 < entry → MayReadNumber v entry
 may_number v at head entry on some = record { at = record { node = at.node; side = at.side; found = on.found; place = on.place; some = some; there = on.there } }
@@ -448,9 +446,6 @@ first_changed v n plan slots h = subst (IsChanged v) (front_link plan slots) (fr
 
 -- the entry in front of the second one
 next_front_at : (plan : Plan) (slots : PlanSlots) (at : Link) → next_link_of plan ≡ Some at → (f : Front) × (next_front_of plan slots ≡ Some f) × (f.at ≡ at)
-next_front_at (Grow p) slots at is = cc
-next_front_at (Replace p) slots at is = cc
-next_front_at (Lift p) slots at is = cc
 next_front_at (Join p) slots at is = by (p.next.at.node == p.node) is
   where
     second : Front
@@ -459,6 +454,7 @@ next_front_at (Join p) slots at is = by (p.next.at.node == p.node) is
     by : (near : Bool) → cond near None (Some p.next.at) ≡ Some at → (f : Front) × (cond near None (Some second) ≡ Some f) × (f.at ≡ at)
     by true e = cc
     by false e = let same : p.next.at ≡ at = cc in (second, refl, same)
+next_front_at _ slots at is = cc
 
 pub next_changed : (v : View) (n : ℕ) (plan : Plan) (slots : PlanSlots) (at : Link) → HasNumbered v n plan slots → next_link_of plan ≡ Some at → IsChanged v at
 next_changed v n plan slots at h is =

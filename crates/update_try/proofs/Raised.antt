@@ -48,10 +48,8 @@ out_is (Join p) is = (λ i. listed_some p.node is.node.some i ++ listed_some p.n
 
 -- the slot of the new node
 pub slot_is : (plan : Plan) (slots : PlanSlots) → 0 < slots.node → slot_given (new_slot (new_slots_of (new_node_of plan slots))) ≡ slot_of (new_node_of plan slots)
-slot_is (Grow p) slots some = given_some slots.node some
-slot_is (Replace p) slots some = given_some slots.node some
 slot_is (Lift p) slots some = refl
-slot_is (Join p) slots some = given_some slots.node some
+slot_is _ slots some = given_some slots.node some
 
 -- the entries of its links
 heads_apart : (left right low high : ℕ) → ¬ (left ≡ right) → head_of (fresh_to left low) ≡ head_of (fresh_to right high) → head_of (fresh_to left low) ≡ 0

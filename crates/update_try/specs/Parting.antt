@@ -11,10 +11,8 @@ use Rattle.update_try.specs.declared.parting.Parted.{Parted}
 
 -- the plan, where it is that of a removal with a far successor
 abbrev pub far_of : Plan → Option JoinPlan
-far_of (Grow p) = None
-far_of (Replace p) = None
-far_of (Lift p) = None
 far_of (Join p) = if p.next.at.node == p.node then None else Some p
+far_of _ = None
 
 abbrev pub parted_plan : Option Parted → Option JoinPlan
 parted_plan None = None

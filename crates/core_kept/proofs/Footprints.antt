@@ -1,0 +1,478 @@
+-- What each kind of event changes of a view, said once: a group of its fields that a kind does not touch is as before.
+use Rattle.std.proofs.Common.{ap, [], ◌∷◌, sym, subst, ◌≡◌, ℕ, List, cond, Bool, true, false, eqb, refl, ◌∙◌, Option, Some, None}
+use Rattle.index_words.specs.declared.layout.Layout.{Layout}
+use Rattle.key_map.specs.declared.update.Update.{Update}
+use Rattle.index_words.specs.declared.view.View.{View}
+use Rattle.index_words.specs.declared.view.history.SeenHistory.{SeenHistory}
+use Rattle.index_words.specs.declared.view.history.Counts.{Counts}
+use Rattle.index_words.specs.declared.view.reading.TreeNode.{TreeNode}
+use Rattle.index_words.specs.declared.view.reading.Link.{Link as ViewLink}
+use Rattle.index_words.specs.declared.view.reading.Turn.{Turn}
+use Rattle.index_words.specs.declared.view.reading.Filled.{Filled}
+use Rattle.index_words.specs.declared.view.reading.Place.{Place}
+use Rattle.index_words.specs.declared.view.reading.Place.TheVariants.{Entry as AtEntry}
+use Rattle.index_words.specs.declared.view.slots.Slots.{Slots}
+use Rattle.index_words.specs.declared.view.slots.Looks.{Looks}
+use Rattle.index_words.specs.declared.view.update.HeldNode.{HeldNode}
+use Rattle.index_words.specs.declared.view.update.HeldNext.{HeldNext}
+use Rattle.index_words.specs.declared.view.update.UnsetLink.{UnsetLink}
+use Rattle.index_words.specs.declared.view.update.OwedTag.{OwedTag}
+use Rattle.index_words.specs.declared.view.update.Unlinking.{Unlinking}
+use Rattle.index_words.specs.declared.word.Field.TheVariants.{Head, Link, Tag}
+use Rattle.index_words.specs.declared.word.Part.TheVariants.{Stamp as Number}
+use Rattle.index_words.specs.declared.word.Word.{Word}
+use Rattle.index_words.specs.declared.word.Word.TheVariants.{Stamp, Section, Announced, Node, Entry}
+use Rattle.index_words.specs.Words.{Memory}
+use Rattle.index_words.specs.Views.{no_slots, no_looks}
+use Rattle.core_grace.specs.Batches.{is_empty, batch_taken, batch_freed, all_passed, settled, looked, looked_at}
+use Rattle.core_grace.specs.Sections.{is_even}
+use Rattle.core_events.specs.declared.event.Kind.{Kind}
+use Rattle.core_events.specs.declared.event.Kind.TheVariants.{Enter, Leave, LookSec, Fill, LoadStamp, LoadHead, LoadTs, LoadPtr, LoadNext, Prepare, Raise, Finalise, TryLock, Unlock, LoadMark, Mark as MarkNode, LoadKeyOrVal, Announce, LookAnn, Cut, LoadLink, SetLink, LoadTag, SetTag}
+use Rattle.core_events.specs.Moves.{in_section, entered}
+use Rattle.core_events.specs.Waits.{has_no_lock, looked_waiting}
+use Rattle.core_events.specs.FillMoves.{filled_with, with_filled, known_before, used_view}
+use Rattle.core_events.specs.LoadMoves.{next_at}
+use Rattle.core_events.specs.LockMoves.{locked_view, met_lock}
+use Rattle.core_events.specs.Steps.{view_after, look_from, head_from, ts_from, ptr_from, next_from, prepared_from, raised_from, finalised_from, tried_from, unlocked_from, mark_from, marked_from, pair_from, ann_from, cut_from, link_from, tag_from, set_from, raised_tag_from}
+use Rattle.core_grace.specs.Holds.{held_slots}
+use Rattle.core_invariant.proofs.Fronts.{held-found, held-known}
+use Rattle.core_kept.proofs.HeadLoads.{side_node}
+use Rattle.core_kept.proofs.Marks.{slots_marked, slots_paired}
+use Rattle.core_kept.proofs.LinkStores.{slots_link}
+use Rattle.core_kept.proofs.TagStores.{slots_tag}
+
+-- the groups of a view's fields
+pub data Group : Type 0 where
+  Owner : Group
+  Inside : Group
+  Announcing : Group
+  History : Group
+  Counting : Group
+  Snapshot : Group
+  Tree : Group
+  Standing : Group
+  Links : Group
+  Turns : Group
+  Looking : Group
+  Filling : Group
+  Nodes : Group
+  Locks : Group
+  Nexts : Group
+  Change : Group
+  Pending : Group
+  Unset : Group
+  Owed : Group
+  Leaving : Group
+  Waiting : Group
+  Free : Group
+  Retired : Group
+  Grace : Group
+  Unused : Group
+
+pub record OwnerPart : Type 0 where
+  pub joined : Bool
+  pub layout : Layout
+  pub number : Option ℕ
+  pub to_give : List ℕ
+
+pub record ChangePart : Type 0 where
+  pub raised : Option ℕ
+  pub added : Option ℕ
+  pub taken : List ℕ
+
+abbrev pub PartOf : Group → Type 0
+PartOf Owner = OwnerPart
+PartOf History = SeenHistory
+PartOf Counting = Counts
+PartOf Snapshot = Option ℕ × Option ℕ
+PartOf Tree = List TreeNode
+PartOf Standing = Place × Option ℕ
+PartOf Links = List ViewLink
+PartOf Turns = Option Turn × Option Turn
+PartOf Looking = Option ℕ × List ℕ
+PartOf Filling = List Filled
+PartOf Nodes = List HeldNode
+PartOf Locks = List ℕ
+PartOf Nexts = List HeldNext
+PartOf Change = ChangePart
+PartOf Pending = List ℕ
+PartOf Unset = List UnsetLink
+PartOf Owed = List OwedTag
+PartOf Leaving = Option Unlinking
+PartOf Waiting = Looks
+PartOf Free = Slots
+PartOf Retired = Slots × Slots
+PartOf Grace = Looks
+PartOf Unused = Slots
+PartOf _ = ℕ
+
+abbrev pub part : (g : Group) → View → PartOf g
+part Owner v = record { joined = v.joined; layout = v.layout; number = v.number; to_give = v.to_give }
+part Inside v = v.section_word
+part Announcing v = v.announced
+part History v = v.history
+part Counting v = v.counts
+part Snapshot v = (v.reading.section, v.reading.opened)
+part Tree v = v.reading.tree
+part Standing v = (v.reading.place, v.reading.above)
+part Links v = v.reading.links
+part Turns v = (v.reading.left_turn, v.reading.right_turn)
+part Looking v = (v.reading.least, v.reading.looked)
+part Filling v = v.reading.filled
+part Nodes v = v.held.nodes
+part Locks v = held_slots v.held.nodes
+part Nexts v = v.held.nexts
+part Change v = record { raised = v.update.raised; added = v.update.added; taken = v.update.taken }
+part Pending v = v.update.pending
+part Unset v = v.update.unset
+part Owed v = v.update.owed
+part Leaving v = v.update.unlinking
+part Waiting v = v.update.waiting
+part Free v = v.free
+part Retired v = (v.retired, v.batch)
+part Grace v = v.grace
+part Unused v = v.unused
+
+-- a load that stands, and what a search forgets as it goes nowhere
+abbrev walks : Group → Bool
+walks Standing = true
+walks Links = true
+walks Turns = true
+walks Filling = true
+walks _ = false
+
+abbrev reads : Group → Bool
+reads Snapshot = true
+reads Tree = true
+reads Looking = true
+reads g = walks g
+
+-- the slots that wait, and those that come back
+abbrev frees : Group → Bool
+frees Free = true
+frees Retired = true
+frees Grace = true
+frees Unused = true
+frees _ = false
+
+abbrev updates : Group → Bool
+updates Change = true
+updates Pending = true
+updates Unset = true
+updates Owed = true
+updates Leaving = true
+updates Waiting = true
+updates _ = false
+
+-- the groups that a kind touches
+abbrev pub touches : Kind → Group → Bool
+touches Enter Inside = true
+touches Enter g = cond (walks g) true (frees g)
+touches Leave Inside = true
+touches Leave Change = true
+touches Leave g = reads g
+touches LookSec Waiting = true
+touches LookSec g = frees g
+touches Fill Filling = true
+touches Fill Unused = true
+touches LoadStamp History = true
+touches LoadStamp g = reads g
+touches LoadHead Standing = true
+touches LoadHead Links = true
+touches LoadHead Nodes = true
+touches LoadHead Counting = true
+touches LoadTs Standing = true
+touches LoadTs Nodes = true
+touches LoadTs Counting = true
+touches LoadPtr Links = true
+touches LoadNext Standing = true
+touches LoadNext Links = true
+touches LoadNext Nexts = true
+touches Prepare Nodes = true
+touches Prepare Pending = true
+touches Prepare Free = true
+touches Raise History = true
+touches Raise Change = true
+touches Raise Pending = true
+touches Raise Unset = true
+touches Raise Owed = true
+touches Raise Leaving = true
+touches Raise Free = true
+touches Raise Retired = true
+touches Raise g = walks g
+touches Finalise Pending = true
+touches TryLock Standing = true
+touches TryLock Nodes = true
+touches TryLock Locks = true
+touches TryLock Counting = true
+touches Unlock Nodes = true
+touches Unlock Locks = true
+touches Unlock Nexts = true
+touches Unlock g = cond (walks g) true (updates g)
+touches LoadMark Nodes = true
+touches LoadMark Counting = true
+touches MarkNode Nodes = true
+touches LoadKeyOrVal Standing = true
+touches LoadKeyOrVal Nodes = true
+touches Announce Announcing = true
+touches LookAnn Looking = true
+touches Cut Standing = true
+touches Cut Nexts = true
+touches Cut Retired = true
+touches LoadLink Standing = true
+touches LoadLink Links = true
+touches LoadLink Turns = true
+touches LoadLink Nodes = true
+touches LoadLink Counting = true
+touches SetLink Nodes = true
+touches SetLink Unset = true
+touches SetLink Leaving = true
+touches LoadTag Links = true
+touches LoadTag Nodes = true
+touches LoadTag Counting = true
+touches SetTag Nodes = true
+touches SetTag Owed = true
+touches _ _ = false
+
+-- what both of two views have
+either : (g : Group) (p : PartOf g) (b : Bool) (x y : View) → part g x ≡ p → part g y ≡ p → part g (cond b x y) ≡ p
+either g p true x y one two = one
+either g p false x y one two = two
+
+module _ (z : Layout) (v : View) where
+  taken_keeps : (g : Group) → frees g ≡ false → part g (batch_taken v) ≡ part g v
+  taken_keeps g off = either g (part g v) (is_empty v.batch) (record v { retired = no_slots; batch = v.retired; grace = no_looks }) v (by g off) refl
+    where
+      by : (g : Group) → frees g ≡ false → part g (record v { retired = no_slots; batch = v.retired; grace = no_looks }) ≡ part g v
+      by Owner off = refl
+      by _ off = cc
+
+  settled_keeps : (g : Group) → frees g ≡ false → part g (settled z.passes v) ≡ part g v
+  settled_keeps g off = either g (part g v) (all_passed z.passes v.number v.grace.passed) (batch_freed v) v (by g off) refl
+    where
+      by : (g : Group) → frees g ≡ false → part g (batch_freed v) ≡ part g v
+      by Owner off = refl
+      by _ off = cc
+
+  entered_keeps : (value : ℕ) (g : Group) → touches Enter g ≡ false → part g (in_section v value) ≡ part g v
+  entered_keeps value Owner off = refl
+  entered_keeps value _ off = cc
+
+enter_frees : (g : Group) → touches Enter g ≡ false → frees g ≡ false
+enter_frees Owner off = refl
+enter_frees _ off = cc
+
+look_frees : (g : Group) → touches LookSec g ≡ false → frees g ≡ false
+look_frees Owner off = refl
+look_frees _ off = cc
+
+module _ (z : Layout) (m : Memory) (vs : List View) (v : View) (x value : ℕ) (o : Option Update) where
+  -- the view has each group that the kind does not touch
+  abbrev Keeps : Kind → View → Type 0
+  Keeps kind u = (g : Group) → touches kind g ≡ false → part g u ≡ part g v
+
+  enter_keeps : Keeps Enter (entered z.passes v value)
+  enter_keeps g off =
+      let u : View = in_section v value in
+      settled_keeps z (batch_taken u) g (enter_frees g off) ∙ taken_keeps z u g (enter_frees g off) ∙ entered_keeps z v value g off
+
+  leave_keeps : Keeps Leave (view_after Leave z m vs v Stamp x value o)
+  leave_keeps Owner off = refl
+  leave_keeps _ off = cc
+
+  graced : (pass : ℕ) (u : View) (g : Group) → frees g ≡ false → part g (record u { grace = looked_at u.grace pass x }) ≡ part g u
+  graced pass u Owner off = refl
+  graced pass u _ off = cc
+
+  look_keeps : (w : Word) → Keeps LookSec (look_from z v w x)
+  look_keeps (Section pass) g off =
+      let u : View = batch_taken v in
+      let free = look_frees g off in
+      either g (part g v) (has_no_lock v) (looked z.passes v pass x) (looked_waiting v pass x)
+      (settled_keeps z (record u { grace = looked_at u.grace pass x }) g free ∙ graced pass u g free ∙ taken_keeps z v g free) (by g off)
+    where
+      by : Keeps LookSec (looked_waiting v pass x)
+      by Owner off = refl
+      by _ off = cc
+  look_keeps _ g off = refl
+
+  fill_keeps : (w : Word) (b : Bool) → Keeps Fill (cond b (used_view v w) (with_filled (used_view v w) (filled_with (known_before v w) w value)))
+  fill_keeps w true Owner off = refl
+  fill_keeps w true _ off = cc
+  fill_keeps w false Owner off = refl
+  fill_keeps w false _ off = cc
+
+  stamp_keeps : Keeps LoadStamp (view_after LoadStamp z m vs v Stamp x value o)
+  stamp_keeps Owner off = refl
+  stamp_keeps _ off = cc
+
+  head_keeps : (w : Word) (number : ℕ) → Keeps LoadHead (head_from v w x number)
+  head_keeps (Node (Head side) k) number Owner off = refl
+  head_keeps (Node (Head side) k) number Locks off = held-found k side x v.held.nodes
+  head_keeps (Node (Head side) k) number _ off = cc
+  head_keeps _ number g off = refl
+
+  ts_keeps : (w : Word) → Keeps LoadTs (ts_from v w x)
+  ts_keeps (Entry p e) Owner off = refl
+  ts_keeps (Entry p e) Locks off = side_node e x v.held.nodes
+  ts_keeps (Entry p e) _ off = cc
+  ts_keeps _ g off = refl
+
+  ptr_keeps : (w : Word) → Keeps LoadPtr (ptr_from v w x)
+  ptr_keeps (Entry p e) Owner off = refl
+  ptr_keeps (Entry p e) _ off = cc
+  ptr_keeps _ g off = refl
+
+  next_at_keeps : (place : Place) (e : ℕ) → Keeps LoadNext (next_at v place e x)
+  next_at_keeps (AtEntry node side entry found) e Owner off = refl
+  next_at_keeps (AtEntry node side entry found) e _ off = cc
+  next_at_keeps _ e g off = refl
+
+  next_keeps : (w : Word) → Keeps LoadNext (next_from v w x)
+  next_keeps (Entry p e) g off = next_at_keeps v.reading.place e g off
+  next_keeps _ g off = refl
+
+  prepare_keeps : (w : Word) → Keeps Prepare (prepared_from v w value)
+  prepare_keeps (Node (Head side) k) Owner off = refl
+  prepare_keeps (Node (Head side) k) Locks off = held-known k side (record { entry = value; stamp = None }) v.held.nodes
+  prepare_keeps (Node (Head side) k) _ off = cc
+  prepare_keeps _ g off = refl
+
+  raise_keeps : (o : Option Update) → Keeps Raise (raised_from z m vs v x o)
+  raise_keeps (Some u) Owner off = refl
+  raise_keeps (Some u) _ off = cc
+  raise_keeps None g off = refl
+
+  finalise_keeps : (w : Word) → Keeps Finalise (finalised_from v w)
+  finalise_keeps (Entry p e) Owner off = refl
+  finalise_keeps (Entry p e) _ off = cc
+  finalise_keeps _ g off = refl
+
+  lock_keeps : (w : Word) → Keeps TryLock (tried_from v w value x)
+  lock_keeps (Node f k) g off = either g (part g v) (eqb x 0) (locked_view v k) (met_lock v value x) (locked g off) (met g off)
+    where
+      locked : Keeps TryLock (locked_view v k)
+      locked Owner off = refl
+      locked _ off = cc
+
+      met : Keeps TryLock (met_lock v value x)
+      met Owner off = refl
+      met _ off = cc
+  lock_keeps _ g off = refl
+
+  unlock_keeps : (w : Word) → Keeps Unlock (unlocked_from v w)
+  unlock_keeps (Node f k) Owner off = refl
+  unlock_keeps (Node f k) _ off = cc
+  unlock_keeps _ g off = refl
+
+  load_mark_keeps : (w : Word) → Keeps LoadMark (mark_from v w x)
+  load_mark_keeps (Node f k) Owner off = refl
+  load_mark_keeps (Node f k) Locks off = slots_marked k x v.held.nodes
+  load_mark_keeps (Node f k) _ off = cc
+  load_mark_keeps _ g off = refl
+
+  mark_keeps : (w : Word) → Keeps MarkNode (marked_from v w)
+  mark_keeps (Node f k) Owner off = refl
+  mark_keeps (Node f k) Locks off = slots_marked k 1 v.held.nodes
+  mark_keeps (Node f k) _ off = cc
+  mark_keeps _ g off = refl
+
+  pair_keeps : (w : Word) → Keeps LoadKeyOrVal (pair_from v w x)
+  pair_keeps (Node f k) Owner off = refl
+  pair_keeps (Node f k) Locks off = slots_paired f k x v.held.nodes
+  pair_keeps (Node f k) _ off = cc
+  pair_keeps _ g off = refl
+
+  announce_keeps : Keeps Announce (view_after Announce z m vs v Stamp x value o)
+  announce_keeps Owner off = refl
+  announce_keeps _ off = cc
+
+  look_ann_keeps : (w : Word) → Keeps LookAnn (ann_from v w x)
+  look_ann_keeps (Announced k) Owner off = refl
+  look_ann_keeps (Announced k) _ off = cc
+  look_ann_keeps _ g off = refl
+
+  cut_keeps : (w : Word) → Keeps Cut (cut_from z m v w)
+  cut_keeps (Entry p e) Owner off = refl
+  cut_keeps (Entry p e) _ off = cc
+  cut_keeps _ g off = refl
+
+  link_keeps : (w : Word) → Keeps LoadLink (link_from v w x)
+  link_keeps (Node (Link side) k) Owner off = refl
+  link_keeps (Node (Link side) k) Locks off = slots_link k side x v.held.nodes
+  link_keeps (Node (Link side) k) _ off = cc
+  link_keeps _ g off = refl
+
+  set_link_keeps : (w : Word) → Keeps SetLink (set_from v w value)
+  set_link_keeps (Node (Link side) k) Owner off = refl
+  set_link_keeps (Node (Link side) k) Locks off = slots_link k side value v.held.nodes
+  set_link_keeps (Node (Link side) k) _ off = cc
+  set_link_keeps _ g off = refl
+
+  tag_keeps : (w : Word) → Keeps LoadTag (tag_from v w x)
+  tag_keeps (Node (Tag side) k) Owner off = refl
+  tag_keeps (Node (Tag side) k) Locks off = slots_tag k side x v.held.nodes
+  tag_keeps (Node (Tag side) k) _ off = cc
+  tag_keeps _ g off = refl
+
+  set_tag_keeps : (w : Word) → Keeps SetTag (raised_tag_from v w value)
+  set_tag_keeps (Node (Tag side) k) Owner off = refl
+  set_tag_keeps (Node (Tag side) k) Locks off = slots_tag k side value v.held.nodes
+  set_tag_keeps (Node (Tag side) k) _ off = cc
+  set_tag_keeps _ g off = refl
+
+  -- no event changes what its kind does not touch
+  pub keeps : (kind : Kind) (w : Word) → Keeps kind (view_after kind z m vs v w x value o)
+  keeps Enter w = enter_keeps
+  keeps Leave w = leave_keeps
+  keeps LookSec w = look_keeps w
+  keeps Fill w = fill_keeps w (is_even v.section_word)
+  keeps LoadStamp w = stamp_keeps
+  keeps LoadHead w = head_keeps w (m (Entry Number x))
+  keeps LoadTs w = ts_keeps w
+  keeps LoadPtr w = ptr_keeps w
+  keeps LoadNext w = next_keeps w
+  keeps Prepare w = prepare_keeps w
+  keeps Raise w = raise_keeps o
+  keeps Finalise w = finalise_keeps w
+  keeps TryLock w = lock_keeps w
+  keeps Unlock w = unlock_keeps w
+  keeps LoadMark w = load_mark_keeps w
+  keeps MarkNode w = mark_keeps w
+  keeps LoadKeyOrVal w = pair_keeps w
+  keeps Announce w = announce_keeps
+  keeps LookAnn w = look_ann_keeps w
+  keeps Cut w = cut_keeps w
+  keeps LoadLink w = link_keeps w
+  keeps SetLink w = set_link_keeps w
+  keeps LoadTag w = tag_keeps w
+  keeps SetTag w = set_tag_keeps w
+  keeps _ w = λ g off. refl
+
+-- the groups that a part of the rule reads, as one value
+abbrev pub Parts : List Group → Type 0
+Parts [] = Unit {0}
+Parts (g ∷ gs) = PartOf g × Parts gs
+
+abbrev pub parts : (gs : List Group) → View → Parts gs
+parts [] v = tt
+parts (g ∷ gs) v = (part g v, parts gs v)
+
+-- a kind touches none of them
+abbrev pub Spares : Kind → List Group → Type 0
+Spares kind [] = Unit {0}
+Spares kind (g ∷ gs) = (touches kind g ≡ false) × Spares kind gs
+
+module _ (z : Layout) (m : Memory) (vs : List View) (v : View) (x value : ℕ) (o : Option Update) (kind : Kind) (w : Word) where
+  abbrev u : View
+  u = view_after kind z m vs v w x value o
+
+  pub parts_kept : (gs : List Group) → Spares kind gs → parts gs u ≡ parts gs v
+  parts_kept [] off = refl
+  parts_kept (g ∷ gs) off =
+      let pair : PartOf g → Parts gs → Parts (g ∷ gs) = λ a b. (a, b) in
+      ap (λ (a : PartOf g). pair a (parts gs u)) (keeps z m vs v x value o kind w g off.0) ∙ ap (λ (b : Parts gs). pair (part g v) b) (parts_kept gs off.1)
+
+  -- disjoint, so kept
+  pub quiet_part : (gs : List Group) (P : Parts gs → Type 0) → Spares kind gs → P (parts gs v) → P (parts gs u)
+  quiet_part gs P off = subst P (sym (parts_kept gs off))

@@ -1,0 +1,42 @@
+#!/usr/bin/env python3
+"""Prints where a name of the core stands (a kind of event, a field, a group of a view): each file of crates/ that has it outside of
+its imports, lowest crate first, with the number of lines.
+
+usage: where_kind.py NAME
+"""
+import pathlib
+import re
+import sys
+
+ROOT = pathlib.Path(__file__).resolve().parent.parent
+
+
+def crates():
+    """The names of the crates, from the ground up."""
+    lines = (ROOT / "crates.txt").read_text().splitlines()
+    return [line.split()[0].rstrip(":") for line in lines if line.strip() and not line.startswith("#")]
+
+
+def lines_with(path, name):
+    """How many lines of the file have the name, beside imports."""
+    found = re.compile(rf"\b{re.escape(name)}\b")
+    is_import = re.compile(r"\s*(pub |ghost )?use ")
+    return sum(1 for line in path.read_text().splitlines() if found.search(line) and not is_import.match(line))
+
+
+def main():
+    if len(sys.argv) != 2:
+        sys.exit(__doc__)
+    files = 0
+    for crate in crates():
+        for path in sorted((ROOT / "crates" / crate).rglob("*")):
+            if path.suffix in (".rt", ".antt") and "out" not in path.parts:
+                count = lines_with(path, sys.argv[1])
+                if count:
+                    files += 1
+                    print(f"{path.relative_to(ROOT)} {count}")
+    print(f"{files} files")
+
+
+if __name__ == "__main__":
+    main()
