@@ -1,5 +1,5 @@
 -- The views after an event, by the kind of the event.
-use Rattle.std.proofs.Common.{◌≡◌, ℕ, List, ◌∙◌, sym, subst, Some, Result, Ok, Err, OnOk}
+use Rattle.std.proofs.Common.{◌≡◌, ℕ, List, sym, subst, Some, Result, Ok, Err, OnOk}
 use Rattle.std.specs.List.{slice_get}
 use Rattle.index_words.specs.declared.layout.Layout.{Layout}
 use Rattle.index_words.specs.declared.view.View.{View}

@@ -8,7 +8,7 @@ use Rattle.index_words.specs.declared.view.View.{View}
 use Rattle.index_words.specs.declared.word.Field.{Field}
 use Rattle.index_words.specs.declared.word.Part.{Part}
 use Rattle.index_words.specs.declared.word.Word.{Word}
-use Rattle.index_words.specs.declared.word.Word.TheVariants.{Node, Entry, Stamp, Section, Announced}
+use Rattle.index_words.specs.declared.word.Word.TheVariants.{Node, Entry, Stamp}
 use Rattle.index_words.specs.Words.{word_at}
 use Rattle.index_words.proofs.Store.{word_there}
 use Rattle.core_grace.specs.Batches.{is_number}

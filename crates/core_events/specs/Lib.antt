@@ -20,6 +20,7 @@ pub mod TreeMoves
 pub mod Numbered
 pub mod CutNeeds
 pub mod CutMoves
+pub mod WordMoves
 pub mod Steps
 pub mod Seats
 pub mod Openings

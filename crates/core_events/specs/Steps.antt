@@ -1,5 +1,5 @@
 -- Which events are allowed, and the table after an event.
-use Rattle.std.specs.Prelude.{◌≡◌, ℕ, ◌+◌, List, [], ◌∷◌, ◌++◌, cond, Bool, false, not, ◌==◌, ◌&&◌, Option, Some, None, is_none, slice_index, slice_set}
+use Rattle.std.specs.Prelude.{◌≡◌, ℕ, List, [], ◌∷◌, ◌++◌, Bool, false, not, ◌==◌, ◌&&◌, Option, Some, None, is_none, slice_set}
 use Rattle.std.specs.List.{slice_get}
 use Rattle.index_words.specs.declared.layout.Layout.{Layout}
 use Rattle.key_map.specs.declared.update.Update.{Update}
@@ -34,6 +34,7 @@ use Rattle.core_events.specs.PlainNeeds.{may_load_link, may_load_tag, may_set_li
 use Rattle.core_events.specs.PlainMoves.{link_loaded, tag_loaded, link_set, tag_set}
 use Rattle.core_events.specs.CutNeeds.{may_cut}
 use Rattle.core_events.specs.CutMoves.{cut_off, cut_view}
+use Rattle.core_events.specs.WordMoves.{move_of, words_moved}
 
 -- the needs of a kind, for a seat with this view, a word by name, and an update
 abbrev pub needs : Kind → Layout → Memory → List View → ℕ → View → Word → ℕ → Option Update → Bool
@@ -223,23 +224,9 @@ views_after SplitSeat z m views seat v w value update = slice_set views seat (sp
 views_after JoinSeat z m views seat v w value update = join_found views seat v value (slice_get views value)
 views_after kind z m views seat v w value update = slice_set views seat (view_after kind z m views v w (m w) value update)
 
--- the words after an event of a kind: those that store put their value, at a try of a lock only where the word is
--- 0, and a raise adds one
+-- the words after an event of a kind
 abbrev pub words_after : Kind → List ℕ → ℕ → ℕ → List ℕ
-words_after Enter words at value = slice_set words at value
-words_after Leave words at value = slice_set words at value
-words_after Fill words at value = slice_set words at value
-words_after Prepare words at value = slice_set words at value
-words_after Raise words at value = slice_set words at (slice_index words at + 1)
-words_after Finalise words at value = slice_set words at value
-words_after TryLock words at value = cond (slice_index words at == 0) (slice_set words at value) words
-words_after Unlock words at value = slice_set words at value
-words_after Mark words at value = slice_set words at value
-words_after Announce words at value = slice_set words at value
-words_after Cut words at value = slice_set words at value
-words_after SetLink words at value = slice_set words at value
-words_after SetTag words at value = slice_set words at value
-words_after _ words at value = words
+words_after kind words at value = words_moved (move_of kind) words at value
 
 abbrev pub after_at : Table → Event → Option View → Option Word → Table
 after_at t e (Some v) (Some w) = record {

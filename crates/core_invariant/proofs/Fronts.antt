@@ -1,48 +1,17 @@
 -- A bundle that gets an entry without a number in front: what is linked, read and held.
-use Rattle.std.proofs.Common.{◌≡◌, ℕ, ◌+◌, ◌<◌, ◌⊎◌, cond, List, [], ◌∷◌, Bool, true, false, eqb, leb, ◌&&◌, arith, refl, ap, ◌∙◌, sym, subst, inl, inr, Option, Some, None, map}
+use Rattle.std.proofs.Common.{◌≡◌, ℕ, ◌+◌, ◌<◌, ◌⊎◌, cond, List, [], ◌∷◌, Bool, true, false, eqb, leb, ◌&&◌, arith, refl, ap, ◌∙◌, sym, subst, inl, inr, Option, Some, None}
 use Rattle.std.proofs.lemmas.Bool.{eq-eqb, ne_eqb}
 use Rattle.std.proofs.lemmas.Bool.Decides.{eqb_tells}
 use Rattle.index_words.specs.declared.side.Side.{Side}
 use Rattle.index_words.specs.declared.side.Side.TheVariants.{Left, Right}
-use Rattle.index_words.specs.declared.view.update.HeldNode.{HeldNode}
-use Rattle.index_words.specs.declared.view.update.LoadedHead.{LoadedHead}
 use Rattle.index_words.specs.Words.{same_side}
 use Rattle.key_map.specs.Lists.{count}
 use Rattle.key_map.proofs.Counting.{count-append}
-use Rattle.core_grace.specs.Holds.{Bundles, entries_of, linked_in, read_at, Reads, ReadsAt, StandsIn, held_slots}
+use Rattle.core_grace.specs.Holds.{Bundles, entries_of, linked_in, read_at, Reads, ReadsAt, StandsIn}
 use Rattle.core_links.specs.Bundle.{no_number}
-use Rattle.core_events.specs.LoadMoves.{head_found, found_at}
-use Rattle.core_events.specs.UpdateMoves.{head_known, known_at}
 use Rattle.core_invariant.specs.MeaningMoves.{in_front, unnumbered}
 use Rattle.core_invariant.proofs.Frames.{one_counted}
 use Rattle.core_invariant.proofs.SlotLinks.{one_at}
-
--- what is known of a head leaves the locked nodes the same
-known_node : (side : Side) (l : LoadedHead) (h : HeldNode) → (head_known side l h).node ≡ h.node
-known_node Left l h = refl
-known_node Right l h = refl
-
-known_by : (b : Bool) (side : Side) (l : LoadedHead) (h : HeldNode) → (cond b (head_known side l h) h).node ≡ h.node
-known_by true side l h = known_node side l h
-known_by false side l h = refl
-
-pub held-known : (k : ℕ) (side : Side) (l : LoadedHead) (hs : List HeldNode) → held_slots (map (known_at k side l) hs) ≡ held_slots hs
-held-known k side l [] = refl
-held-known k side l (h ∷ hs) =
-    ap (λ n. n ∷ held_slots (map (known_at k side l) hs)) (known_by (eqb h.node k) side l h) ∙ ap (λ ns. h.node ∷ ns) (held-known k side l hs)
-
-found_node : (side : Side) (e : ℕ) (h : HeldNode) → (head_found side e h).node ≡ h.node
-found_node Left e h = refl
-found_node Right e h = refl
-
-found_by : (b : Bool) (side : Side) (e : ℕ) (h : HeldNode) → (cond b (head_found side e h) h).node ≡ h.node
-found_by true side e h = found_node side e h
-found_by false side e h = refl
-
-pub held-found : (k : ℕ) (side : Side) (e : ℕ) (hs : List HeldNode) → held_slots (map (found_at k side e) hs) ≡ held_slots hs
-held-found k side e [] = refl
-held-found k side e (h ∷ hs) =
-    ap (λ n. n ∷ held_slots (map (found_at k side e) hs)) (found_by (eqb h.node k) side e h) ∙ ap (λ ns. h.node ∷ ns) (held-found k side e hs)
 
 -- the bundles with the entry in front
 abbrev pub fronted : Bundles → Side → ℕ → ℕ → Bundles

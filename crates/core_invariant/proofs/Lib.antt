@@ -48,6 +48,14 @@ pub mod LinkLaw
 pub mod Needed
 -- What an allowed event gives: the rule over what the words and the views are then.
 pub mod StepGives
+-- What is loaded or stored at a locked node leaves the slots of the locked nodes as they are.
+pub mod HeldSlots
+-- The fields of a view in groups: what the parts of the rule read and the kinds of events touch.
+pub mod Groups
+-- What each kind of event changes of a view: a group of its fields that a kind does not touch is as before.
+pub mod Footprints
+-- The words to which each kind of event stores: another word is as before.
+pub mod WordPrints
 -- What an event of one seat leaves of its view as it is.
 pub mod KeptViews
 -- No event but a join changes whether a view was joined, and a join leaves nothing of the other view.

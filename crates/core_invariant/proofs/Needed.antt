@@ -8,14 +8,14 @@ use Rattle.index_words.specs.declared.side.Side.TheVariants.{Left, Right}
 use Rattle.key_map.specs.declared.update.Update.{Update}
 use Rattle.index_words.specs.declared.view.View.{View}
 use Rattle.index_words.specs.declared.view.reading.Place.{Place}
-use Rattle.index_words.specs.declared.view.reading.Place.TheVariants.{Nowhere, Entry as AtEntry, Node as AtNode, Gap}
+use Rattle.index_words.specs.declared.view.reading.Place.TheVariants.{Entry as AtEntry}
 use Rattle.index_words.specs.declared.view.reading.TreeNode.{TreeNode}
 use Rattle.index_words.specs.declared.view.update.HeldNode.{HeldNode}
 use Rattle.index_words.specs.declared.view.update.LoadedHead.{LoadedHead}
 use Rattle.index_words.specs.declared.word.Field.TheVariants.{Mark, Head}
 use Rattle.index_words.specs.declared.word.Part.TheVariants.{Stamp as Number, Next}
 use Rattle.index_words.specs.declared.word.Word.{Word}
-use Rattle.index_words.specs.declared.word.Word.TheVariants.{Node, Entry, Stamp, Section, Announced}
+use Rattle.index_words.specs.declared.word.Word.TheVariants.{Node, Entry, Section, Announced}
 use Rattle.index_words.specs.Words.{Memory}
 use Rattle.key_map.specs.Lists.{count, has, Every, IsItem}
 use Rattle.key_map.proofs.Counting.{has-count, count-append}
@@ -27,7 +27,7 @@ use Rattle.core_events.specs.Announcing.{is_own_announced}
 use Rattle.core_events.specs.Needs.{is_stamp, is_outside, is_own_section}
 use Rattle.core_events.specs.LoadMoves.{is_above, locks}
 use Rattle.core_events.specs.LoadNeeds.{reads_tree, is_reachable, stands_at, may_go_on}
-use Rattle.core_events.specs.UpdateNeeds.{side_of, is_written, is_next_of, is_ready, held_at, may_prepare_head, may_prepare_entry, may_raise_number, is_slot_number}
+use Rattle.core_events.specs.UpdateNeeds.{side_of, is_written, is_next_of, is_ready, held_at, may_prepare_head, may_prepare_entry, may_raise, may_raise_number, is_raise_of, is_slot_number}
 use Rattle.core_invariant.specs.SeatRule.{SeatRight}
 use Rattle.core_invariant.specs.Meanings.{Meaning}
 use Rattle.core_invariant.proofs.Frames.{one_counted}
@@ -96,15 +96,7 @@ pub record OwnSection (number : Option ℕ) (w : Word) : Type 0 where
 
 pub own_section : (number : Option ℕ) (w : Word) → is_own_section number w ≡ true → OwnSection number w
 own_section (Some n) (Section pass) e = let same : pass ≡ n = eqb-true pass n e in record { n = n; named = refl; word = ap Section same }
-own_section (Some n) Stamp e = cc
-own_section (Some n) (Announced i) e = cc
-own_section (Some n) (Node f k) e = cc
-own_section (Some n) (Entry p k) e = cc
-own_section None Stamp e = cc
-own_section None (Section i) e = cc
-own_section None (Announced i) e = cc
-own_section None (Node f k) e = cc
-own_section None (Entry p k) e = cc
+own_section _ _ e = cc
 
 -- the own announcement by name
 pub record OwnAnnounced (number : Option ℕ) (w : Word) : Type 0 where
@@ -114,15 +106,7 @@ pub record OwnAnnounced (number : Option ℕ) (w : Word) : Type 0 where
 
 pub own_announced : (number : Option ℕ) (w : Word) → is_own_announced number w ≡ true → OwnAnnounced number w
 own_announced (Some n) (Announced pass) e = let same : pass ≡ n = eqb-true pass n e in record { n = n; named = refl; word = ap Announced same }
-own_announced (Some n) Stamp e = cc
-own_announced (Some n) (Section i) e = cc
-own_announced (Some n) (Node f k) e = cc
-own_announced (Some n) (Entry p k) e = cc
-own_announced None Stamp e = cc
-own_announced None (Section i) e = cc
-own_announced None (Announced i) e = cc
-own_announced None (Node f k) e = cc
-own_announced None (Entry p k) e = cc
+own_announced _ _ e = cc
 
 pub length_empty : {X : Type 0} (xs : List X) → eqb (length xs) 0 ≡ true → xs ≡ []
 length_empty [] e = refl
@@ -263,3 +247,13 @@ can_raise v w value u is own =
       entry = first.0;
       some = first.1;
     }
+
+-- a raise is at the stamp
+pub raise_needed : (z : Layout) (m : Memory) (vs : List View) (v : View) (w : Word) (value : ℕ) (o : Option Update) → may_raise z m vs v w value o ≡ true
+    → is_stamp w ≡ true
+raise_needed z m vs v w value o met =
+    let a = is_stamp w in
+    let one = and_parts (a && eqb value 0 && is_none v.update.raised && not (eqb v.history.left 0)) (not (eqb (length v.update.pending) 0))
+    (and_parts (may_raise_number v w value) (is_raise_of z m vs v o) met).0 in
+    let two = and_parts (a && eqb value 0 && is_none v.update.raised) (not (eqb v.history.left 0)) one.0 in
+    (and_parts a (eqb value 0) (and_parts (a && eqb value 0) (is_none v.update.raised) two.0).0).0

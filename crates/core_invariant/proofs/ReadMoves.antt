@@ -6,7 +6,7 @@ use Rattle.index_words.specs.declared.layout.Layout.{Layout}
 use Rattle.index_words.specs.declared.view.View.{View}
 use Rattle.index_words.specs.declared.view.history.Counts.{Counts}
 use Rattle.index_words.specs.declared.view.reading.Place.{Place}
-use Rattle.index_words.specs.declared.view.reading.Place.TheVariants.{Nowhere, Entry as AtEntry, Node as AtNode, Gap}
+use Rattle.index_words.specs.declared.view.reading.Place.TheVariants.{Entry as AtEntry}
 use Rattle.index_words.specs.declared.view.reading.Link.{Link}
 use Rattle.index_words.specs.declared.view.reading.LinkSource.{LinkSource}
 use Rattle.index_words.specs.declared.view.reading.LinkSource.TheVariants.{Bundle, Plain}

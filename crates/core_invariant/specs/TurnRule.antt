@@ -4,7 +4,7 @@ use Rattle.index_words.specs.declared.side.Side.{Side}
 use Rattle.index_words.specs.declared.side.Side.TheVariants.{Left, Right}
 use Rattle.index_words.specs.declared.view.View.{View}
 use Rattle.index_words.specs.declared.view.reading.Place.{Place}
-use Rattle.index_words.specs.declared.view.reading.Place.TheVariants.{Nowhere, Entry as AtEntry, Node as AtNode, Gap}
+use Rattle.index_words.specs.declared.view.reading.Place.TheVariants.{Nowhere, Node as AtNode}
 use Rattle.index_words.specs.declared.view.reading.Turn.{Turn}
 use Rattle.key_map.specs.Lists.{count}
 use Rattle.core_trees.specs.NamedTree.{NamedTree}

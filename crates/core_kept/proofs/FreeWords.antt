@@ -1,5 +1,5 @@
 -- What events store to words of free slots: none but a fill stores to one, and a fill to one of the seat's own.
-use Rattle.std.proofs.Common.{◌≡◌, ◌≢◌, ℕ, ◌+◌, ◌<◌, cond, List, Bool, true, false, eqb, ◌&&◌, set, arith, refl, ap, ◌∙◌, sym, subst, inl, inr, Option, Some, slice_index}
+use Rattle.std.proofs.Common.{◌≡◌, ◌≢◌, ℕ, ◌+◌, ◌<◌, cond, List, Bool, true, false, eqb, ◌&&◌, set, arith, refl, ap, ◌∙◌, sym, subst, inl, inr, Option, Some}
 use Rattle.std.proofs.lemmas.Bool.{and_parts, cases_lt}
 use Rattle.index_words.specs.declared.layout.Layout.{Layout}
 use Rattle.key_map.specs.declared.update.Update.{Update}
@@ -21,18 +21,17 @@ use Rattle.index_words.proofs.Store.{stored_at}
 use Rattle.core_grace.specs.Batches.{batch_freed, is_number, both, apart_from}
 use Rattle.core_grace.specs.Slots.{own}
 use Rattle.core_events.specs.declared.event.Kind.{Kind}
-use Rattle.core_events.specs.declared.event.Kind.TheVariants.{Enter, Leave, Fill, Prepare, Raise, Finalise, TryLock, Unlock, Mark as MarkNode, Announce, Cut, SetLink, SetTag}
+use Rattle.core_events.specs.declared.event.Kind.TheVariants.{Fill, Prepare, Finalise, TryLock, Unlock, Mark as MarkNode, Cut, SetLink, SetTag}
 use Rattle.core_events.specs.CutNeeds.{may_cut}
 use Rattle.core_events.specs.LoadMoves.{locks}
-use Rattle.core_events.specs.Announcing.{is_own_announced, is_announcement}
-use Rattle.core_events.specs.LockNeeds.{is_mark, may_try_lock, may_unlock, may_mark}
+use Rattle.core_events.specs.LockNeeds.{is_mark, may_mark}
 use Rattle.core_events.specs.PlainNeeds.{owes, may_set_link, may_set_tag}
 use Rattle.core_events.specs.LoadNeeds.{is_part}
 use Rattle.core_events.specs.Needs.{is_lock}
 use Rattle.core_events.specs.Steps.{needs, words_after}
 use Rattle.core_events.specs.UpdateMoves.{without_all}
-use Rattle.core_events.specs.UpdateNeeds.{may_prepare, may_prepare_head, may_raise, may_finalise}
-use Rattle.core_events.proofs.Tests.{never, stamp_named}
+use Rattle.core_events.specs.UpdateNeeds.{may_prepare, may_prepare_head, may_finalise}
+use Rattle.core_events.proofs.Tests.{never}
 use Rattle.core_invariant.specs.BundleRule.{IsPending}
 use Rattle.core_invariant.specs.FilledRule.{IsOwnSlotWord}
 use Rattle.core_invariant.specs.Locks.{lock_count}
@@ -46,11 +45,10 @@ use Rattle.core_invariant.proofs.HeldFacts.{work_holds, locks-count}
 use Rattle.core_invariant.proofs.WaitNeeds.{can_set}
 use Rattle.core_invariant.proofs.LiveHeads.{head_apart}
 use Rattle.core_invariant.proofs.Locked.{locked_live}
-use Rattle.core_invariant.proofs.Needed.{ready_is, OwnSection, OwnAnnounced, own_announced}
+use Rattle.core_invariant.proofs.Needed.{ready_is}
 use Rattle.core_invariant.proofs.OneView.{seat_at}
 use Rattle.core_invariant.proofs.Owned.{held_live, not_in_bundle, in_entries, free_not_live}
-use Rattle.core_kept.proofs.OwnPlaces.{raise_needed}
-use Rattle.core_kept.proofs.WordPrints.{own_enter, own_leave}
+use Rattle.core_invariant.proofs.WordPrints.{stores, word_keeps}
 use Rattle.core_kept.proofs.RaiseCounts.{without_kept, taken_out}
 
 -- what stands in a list without some numbers is none of these, and was in the list
@@ -177,17 +175,6 @@ module _ (z : Layout) (words : List ℕ) (vs : List View) (right : InRule z word
       pending_stores p e (has-count e v.update.pending (and_parts (is_part Number p) (has e v.update.pending) one.0).1)
   finalise_stores _ met = absurd (never met)
 
-  lock_stores : (f : Field) (k : ℕ) → is_lock f ≡ true → Stores (Node f k)
-  lock_stores f k lock j x of other free = never (sym other ∙ lock)
-
-  try_stores : (u : Word) → may_try_lock v u value ≡ true → Stores u
-  try_stores (Node Lock k) met = lock_stores Lock k refl
-  try_stores _ met = absurd (never met)
-
-  unlock_stores : (u : Word) → may_unlock m v u value ≡ true → Stores u
-  unlock_stores (Node Lock k) met = lock_stores Lock k refl
-  unlock_stores _ met = absurd (never met)
-
   mark_stores : (u : Word) → may_mark v u value ≡ true → Stores u
   mark_stores (Node f k) met =
       let one = and_parts (is_mark f && locks k v.held.nodes && has k v.update.taken) (eqb value 1) met in
@@ -217,16 +204,6 @@ module _ (z : Layout) (words : List ℕ) (vs : List View) (right : InRule z word
   cut_stores (Entry Next e) met = behind_stores e (cut_at z m vs g right.rule i v at e value met).1
   cut_stores _ met = absurd (never met)
 
-  -- the own section word, the own announcement and the stamp
-  section_stores : OwnSection v.number w → Stores w
-  section_stores own = subst Stores (sym own.word) (λ j x of. tt)
-
-  announce_stores : OwnAnnounced v.number w → Stores w
-  announce_stores own = subst Stores (sym own.word) (λ j x of. tt)
-
-  raise_stores : (o : Option Update) → may_raise z m vs v w value o ≡ true → Stores w
-  raise_stores o met = subst Stores (sym (stamp_named w (raise_needed z m vs v w value o met))) (λ j x of. tt)
-
   -- the words of free slots stay
   abbrev pub Leaves : Memory → Type 0
   Leaves m' = (j : ℕ) (x : View) (y : Word) → IsItem vs j x → IsFreeWord x.free y → m' y ≡ m y
@@ -234,23 +211,28 @@ module _ (z : Layout) (words : List ℕ) (vs : List View) (right : InRule z word
   stored : (x : ℕ) → Stores w → Leaves (memory z (set words n x))
   stored x stores j u y of is = ap (λ (h : Memory). h y) (stored_at z words n w x right.size found) ∙ written_apart m u x w (stores j u of) y is
 
-  tried : (b : Bool) → Stores w → Leaves (memory z (cond b (set words n value) words))
-  tried true stores = stored value stores
-  tried false stores = λ j u y of is. refl
+  -- a kind that stores to no word of a slot, but to locks
+  spared : (kind : Kind) (o : Option Update) → ((f : Field) (k : ℕ) → is_lock f ≡ false → stores kind v (Node f k) ≡ false)
+      → ((p : Part) (e : ℕ) → stores kind v (Entry p e) ≡ false) → needs kind z m vs i v w value o ≡ true → Leaves (memory z (words_after kind words n value))
+  spared kind o node entry met j x y of is = word_keeps z words vs i v n w right.size found value o kind y (off y is) met
+    where
+      off : (y : Word) → IsFreeWord x.free y → stores kind v y ≡ false
+      off (Node f k) is = node f k is.0
+      off (Entry p e) is = entry p e
+      off _ is = absurd is
+
+  locks_off : (f : Field) (k : ℕ) → is_lock f ≡ false → (stores TryLock v (Node f k) ≡ false) × (stores Unlock v (Node f k) ≡ false)
+  locks_off Lock k other = cc
+  locks_off _ k other = (refl, refl)
 
   pub leaves : (kind : Kind) (o : Option Update) → kind ≢ Fill → needs kind z m vs i v w value o ≡ true → Leaves (memory z (words_after kind words n value))
-  leaves Enter o other met = stored value (section_stores (own_enter v w value met))
-  leaves Leave o other met = stored value (section_stores (own_leave m v w value met))
   leaves Fill o other met = absurd (other refl)
   leaves Prepare o other met = stored value (prepare_stores w met)
-  leaves Raise o other met = stored (slice_index words n + 1) (raise_stores o met)
   leaves Finalise o other met = stored value (finalise_stores w met)
-  leaves TryLock o other met = tried (eqb (slice_index words n) 0) (try_stores w met)
-  leaves Unlock o other met = stored value (unlock_stores w met)
+  leaves TryLock o other met = spared TryLock o (λ f k free. (locks_off f k free).0) (λ p e. refl) met
+  leaves Unlock o other met = spared Unlock o (λ f k free. (locks_off f k free).1) (λ p e. refl) met
   leaves MarkNode o other met = stored value (mark_stores w met)
-  leaves Announce o other met =
-      stored value (announce_stores (own_announced v.number w (and_parts (is_own_announced v.number w) (is_announcement v value) met).0))
   leaves Cut o other met = stored value (cut_stores w met)
   leaves SetLink o other met = stored value (set_link_stores w met)
   leaves SetTag o other met = stored value (set_tag_stores w met)
-  leaves kind o other met = λ j u y of is. refl
+  leaves kind o other met = spared kind o (λ f k free. refl) (λ p e. refl) met

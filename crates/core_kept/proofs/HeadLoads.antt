@@ -1,5 +1,5 @@
 -- Loads of heads and of the stamps of entries keep the rule.
-use Rattle.std.proofs.Common.{◌≡◌, ℕ, ◌<◌, cond, List, [], ◌∷◌, Bool, true, false, eqb, set, arith, refl, ap, ◌∙◌, sym, Option, Some, None, map}
+use Rattle.std.proofs.Common.{◌≡◌, ℕ, ◌<◌, cond, List, [], ◌∷◌, Bool, true, false, eqb, set, arith, refl, ap, ◌∙◌, sym, Option, Some, None}
 use Rattle.std.specs.Prelude.{IfSome}
 use Rattle.std.proofs.lemmas.Bool.{eqb-true}
 use Rattle.index_words.specs.declared.layout.Layout.{Layout}
@@ -15,24 +15,18 @@ use Rattle.index_words.specs.declared.word.Word.TheVariants.{Node, Entry}
 use Rattle.index_words.specs.Words.{Memory}
 use Rattle.key_map.specs.Lists.{Every, IsItem}
 use Rattle.core_grace.specs.Sections.{is_even}
-use Rattle.core_grace.specs.Holds.{held_slots}
 use Rattle.core_grace.proofs.RuleMoves.{every_push}
 use Rattle.core_links.specs.Bundle.{IsChain, select}
 use Rattle.core_invariant.specs.Meanings.{Meaning}
 use Rattle.core_invariant.specs.Locks.{HeadRight, IsNodeAt}
 use Rattle.core_invariant.specs.Readers.{IsReachable, StandsAt, IsPassed, EntryRight, LinkRight}
-use Rattle.core_events.specs.LoadMoves.{found_again, head_found, found_at, head_loaded, remembered_if, bundle_link, stamp_known, node_known}
+use Rattle.core_events.specs.LoadMoves.{found_again, head_found, found_at, head_loaded, remembered_if, bundle_link, stamp_known}
 use Rattle.core_invariant.specs.Rule.{Rule}
 use Rattle.core_invariant.proofs.Frames.{every_mapped}
 use Rattle.core_invariant.proofs.OneView.{seat_at}
 use Rattle.core_invariant.proofs.Owned.{reachable_live}
-use Rattle.core_invariant.proofs.Fronts.{held-found}
 use Rattle.core_invariant.proofs.ReadMoves.{reach_back, links_back, nexts_back, read_kept}
-
--- a list of heads keeps its nodes
-pub side_node : (e x : ℕ) (hs : List HeldNode) → held_slots (map (node_known e x) hs) ≡ held_slots hs
-side_node e x [] = refl
-side_node e x (h ∷ hs) = ap (λ ns. h.node ∷ ns) (side_node e x hs)
+use Rattle.core_invariant.proofs.HeldSlots.{slots_found}
 
 head_at : (e x : ℕ) (head : ℕ) (stamp : ℕ → ℕ) (l : LoadedHead) (c : Bool) → eqb l.entry e ≡ c → x ≡ stamp e → HeadRight head stamp l
     → HeadRight head stamp (cond c (record { entry = l.entry; stamp = Some x }) l)
@@ -106,7 +100,7 @@ module _ (z : Layout) (m : Memory) (vs : List View) (g : Meaning) (rule : Rule z
       let x : ℕ = m (Node (Head side) node) in
       let w : View = head_loaded v node side x number in
       let seat = seat_at z m vs g i v at rule in
-      let same = held-found node side x v.held.nodes in
+      let same = slots_found node side x v.held.nodes in
       let chain = (rule.bundles node (reachable_live z vs g rule.slots i node v at reach) side).chain in
       let back = λ (k : ℕ). reach_back z m vs g rule i v at w.counts w.held.nodes w.held.nexts w.reading.place w.reading.above w.reading.links same k in
       read_kept z m vs g rule i v at w.counts w.held.nodes w.held.nexts w.reading.place w.reading.above w.reading.links same inside

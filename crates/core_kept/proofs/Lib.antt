@@ -1,5 +1,3 @@
--- What each kind of event changes of a view.
-pub mod Footprints
 -- Each view knows where its own updates stand, after every event.
 pub mod OwnPlaces
 -- The slots of a view that wait, after the kinds of events that move none of them.
@@ -253,8 +251,5 @@ pub mod TurnRaises
 pub mod StepTurns
 -- As long as an entry is pending, the link to the node that an update has brought in is still to be set: after every event.
 pub mod LinkedLast
--- A trial.
--- The words to which each kind of event stores.
-pub mod WordPrints
 
 -- Kinds that keep what is said of turns.

@@ -41,16 +41,7 @@ use Rattle.core_invariant.proofs.Locked.{locked_apart, locked_live}
 use Rattle.core_invariant.proofs.ReadMoves.{read_kept, place_back, links_back, nexts_back, work_same, holds_same}
 use Rattle.core_kept.proofs.Turns.{turned_too}
 use Rattle.core_kept.proofs.WaitingLocks.{still_waits, link_keeps}
-
-link_by : (side : Side) (b : Bool) (x : ℕ) (h : HeldNode) → (cond b (link_known side x h) h).node ≡ h.node
-link_by Left true x h = refl
-link_by Right true x h = refl
-link_by side false x h = refl
-
-pub slots_link : (k : ℕ) (side : Side) (x : ℕ) (hs : List HeldNode) → held_slots (map (link_known_at k side x) hs) ≡ held_slots hs
-slots_link k side x [] = refl
-slots_link k side x (h ∷ hs) =
-    ap (λ n. n ∷ held_slots (map (link_known_at k side x) hs)) (link_by side (eqb h.node k) x h) ∙ ap (λ ns. h.node ∷ ns) (slots_link k side x hs)
+use Rattle.core_invariant.proofs.HeldSlots.{slots_link}
 
 -- what a load has found is known of a locked node
 link_right : (m : Memory) (k : ℕ) (side : Side) (x : ℕ) (h : HeldNode) (b : Bool) → eqb h.node k ≡ b → m (Node (Link side) k) ≡ x → IsNodeAt m h

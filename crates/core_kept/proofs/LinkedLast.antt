@@ -40,8 +40,9 @@ use Rattle.core_invariant.specs.Rule.{InRule}
 use Rattle.core_invariant.proofs.Needed.{ready_is}
 use Rattle.core_invariant.proofs.OneView.{seat_at}
 use Rattle.core_invariant.proofs.WaitNeeds.{can_set, nothing_is}
-use Rattle.core_kept.proofs.Footprints.{touches, keeps, ChangePart}
-use Rattle.core_kept.proofs.Footprints.Group.{Change as ChangeGroup, Pending, Unset}
+use Rattle.core_invariant.proofs.Groups.{ChangePart}
+use Rattle.core_invariant.proofs.Footprints.{touches, keeps}
+use Rattle.core_invariant.proofs.Groups.Group.{Change as ChangeGroup, Pending, Unset}
 
 -- what of an update it speaks of
 pub record LinkPart : Type 0 where

@@ -26,10 +26,11 @@ use Rattle.core_invariant.proofs.Frames.{every_map, every_mapped}
 use Rattle.core_invariant.proofs.OneView.{seat_at}
 use Rattle.core_invariant.proofs.Owned.{in_entries}
 use Rattle.core_invariant.proofs.ReadMoves.{watched_back, reach_back, passed_back, links_back, nexts_back, read_kept}
-use Rattle.core_kept.proofs.HeadLoads.{side_node, side_at, links_push}
+use Rattle.core_kept.proofs.HeadLoads.{side_at, links_push}
 use Rattle.core_invariant.proofs.HeldFacts.{locks-count}
 use Rattle.core_invariant.proofs.Falling.{next_falls}
 use Rattle.core_invariant.proofs.AtEntries.{chain_behind, selected_by, child_is, above_is, last_by, unlocked_is, right as right_there, inside as inside_there, bundle as bundle_there, stands as stands_there, member as member_of}
+use Rattle.core_invariant.proofs.HeldSlots.{slots_numbered}
 
 -- what follows an entry
 record Behind (next : ℕ → ℕ) (e : ℕ) (back : List ℕ) : Type 0 where
@@ -70,7 +71,7 @@ module _ (z : Layout) (m : Memory) (vs : List View) (g : Meaning) (rule : Rule z
   load_ts_kept =
       let x : ℕ = m (Entry Number e) in
       let w : View = ts_loaded v e x in
-      let same = side_node e x v.held.nodes in
+      let same = slots_numbered e x v.held.nodes in
       read_kept z m vs g rule i v at w.counts w.held.nodes w.held.nexts w.reading.place w.reading.above w.reading.links same inside
       (every_mapped (IsNodeAt m) (IsNodeAt m)
       (node_known e x) v.held.nodes (λ h known. record {

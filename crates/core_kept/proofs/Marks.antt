@@ -1,5 +1,5 @@
 -- Loads and stores of marks keep the rule.
-use Rattle.std.proofs.Common.{◌≡◌, ℕ, ◌<◌, ◌⊎◌, cond, List, [], ◌∷◌, Bool, true, false, eqb, set, arith, refl, ap, ◌∙◌, sym, subst, inl, inr, Some, map}
+use Rattle.std.proofs.Common.{◌≡◌, ℕ, ◌<◌, ◌⊎◌, cond, List, Bool, true, false, eqb, set, arith, refl, ap, ◌∙◌, sym, subst, inl, inr, Some, map}
 use Rattle.std.proofs.lemmas.Bool.{eq-eqb, eqb-true}
 use Rattle.std.proofs.lemmas.Option.{IfSome_then}
 use Rattle.index_words.specs.declared.layout.Layout.{Layout}
@@ -38,15 +38,7 @@ use Rattle.core_invariant.proofs.Filled.{node_other, every_filled, node_apart}
 use Rattle.core_invariant.proofs.Locked.{locked_apart, locked_live}
 use Rattle.core_invariant.proofs.ReadMoves.{read_kept, place_back, links_back, nexts_back, work_same, holds_same}
 use Rattle.core_kept.proofs.WaitingLocks.{still_waits}
-
-node_by : (b : Bool) (x : ℕ) (h : HeldNode) → (cond b (record h { mark = Some x }) h).node ≡ h.node
-node_by true x h = refl
-node_by false x h = refl
-
-pub slots_marked : (k x : ℕ) (hs : List HeldNode) → held_slots (map (mark_known k x) hs) ≡ held_slots hs
-slots_marked k x [] = refl
-slots_marked k x (h ∷ hs) =
-    ap (λ n. n ∷ held_slots (map (mark_known k x) hs)) (node_by (eqb h.node k) x h) ∙ ap (λ ns. h.node ∷ ns) (slots_marked k x hs)
+use Rattle.core_invariant.proofs.HeldSlots.{slots_marked, slots_paired}
 
 module _ (z : Layout) (m : Memory) (vs : List View) (g : Meaning) (rule : Rule z m vs g) (i k x : ℕ) (v : View) (at : IsItem vs i v) where
   abbrev stamp : ℕ → ℕ
@@ -87,24 +79,6 @@ module _ (z : Layout) (m : Memory) (vs : List View) (g : Meaning) (rule : Rule z
       (nexts_back z m vs g rule i v at c known_nodes v.held.nexts v.reading.place v.reading.above v.reading.links same)
       (place_back z m vs g rule i v at c known_nodes v.held.nexts v.reading.place v.reading.above v.reading.links same refl v.reading.place own_seat.place)
       (links_back z m vs g rule i v at c known_nodes v.held.nexts v.reading.place v.reading.above v.reading.links same)
-
-field_node : (f : Field) (k x : ℕ) (h : HeldNode) → (pair_known f k x h).node ≡ h.node
-field_node Key k x h = key_by (eqb h.node k)
-  where
-    key_by : (b : Bool) → (cond b (record h { key = Some x }) h).node ≡ h.node
-    key_by true = refl
-    key_by false = refl
-field_node Val k x h = val_by (eqb h.node k)
-  where
-    val_by : (b : Bool) → (cond b (record h { val = Some x }) h).node ≡ h.node
-    val_by true = refl
-    val_by false = refl
-field_node _ k x h = refl
-
-pub slots_paired : (f : Field) (k x : ℕ) (hs : List HeldNode) → held_slots (map (pair_known f k x) hs) ≡ held_slots hs
-slots_paired f k x [] = refl
-slots_paired f k x (h ∷ hs) =
-    ap (λ n. n ∷ held_slots (map (pair_known f k x) hs)) (field_node f k x h) ∙ ap (λ ns. h.node ∷ ns) (slots_paired f k x hs)
 
 pair_right : (m : Memory) (f : Field) (k x : ℕ) (h : HeldNode) → x ≡ m (Node f k) → IsNodeAt m h → IsNodeAt m (pair_known f k x h)
 pair_right m Key k x h found right = key_by (eqb h.node k) refl

@@ -1,8 +1,8 @@
 -- Each view knows where its own updates stand, after every event.
-use Rattle.std.proofs.Common.{◌≡◌, ℕ, zero, suc, ◌+◌, ◌<◌, ◌≤◌, cond, List, [], ◌∷◌, ◌++◌, length, take, ltb, Bool, true, false, not, eqb, ◌&&◌, is_none, set, arith, refl, ap, ◌∙◌, sym, subst, inl, inr, Option, Some, None, map}
+use Rattle.std.proofs.Common.{◌≡◌, ℕ, zero, suc, ◌+◌, ◌<◌, ◌≤◌, cond, List, [], ◌∷◌, ◌++◌, length, take, ltb, Bool, true, false, eqb, ◌&&◌, set, arith, refl, ap, ◌∙◌, sym, subst, inl, inr, Option, Some, None, map}
 use Rattle.std.specs.Prelude.{IfSome}
 use Rattle.std.specs.List.{All, sum_by, slice_get}
-use Rattle.std.proofs.lemmas.Bool.{eqb-true, eq-eqb, cases_lt, and_parts}
+use Rattle.std.proofs.lemmas.Bool.{eqb-true, eq-eqb, cases_lt}
 use Rattle.std.proofs.lemmas.Bool.Decides.{nat_tests}
 use Rattle.std.proofs.lemmas.List.{take_all, length-append}
 use Rattle.std.proofs.lemmas.List.Elements.{All-set, All-push}
@@ -37,7 +37,6 @@ use Rattle.core_events.specs.declared.event.Kind.{Kind}
 use Rattle.core_events.specs.declared.event.Kind.TheVariants.{MakeSeat, SplitSeat, JoinSeat, Enter, Leave, LoadStamp, Raise, Announce}
 use Rattle.core_grace.specs.Batches.{is_number}
 use Rattle.core_events.specs.Needs.{is_stamp}
-use Rattle.core_events.specs.UpdateNeeds.{may_raise, may_raise_number, is_raise_of}
 use Rattle.core_events.specs.Announcing.{has_announced, announced_view}
 use Rattle.core_events.proofs.Allowed.{stamp_needs}
 use Rattle.core_events.specs.LoadMoves.{stamp_reading, longest, stamp_loaded}
@@ -49,6 +48,7 @@ use Rattle.core_events.specs.Steps.{needs, carries, view_after, views_after, joi
 use Rattle.core_invariant.proofs.Longest.{longest_is}
 use Rattle.core_events.proofs.Tests.{stamp_named}
 use Rattle.core_invariant.proofs.KeptViews.{SeatPart, part_of, entered_part, is_still, still_kept}
+use Rattle.core_invariant.proofs.Needed.{raise_needed}
 
 sum_zero : (f : View → ℕ) (us : List View) → All (λ u. f u ≡ 0) us → sum_by f us ≡ 0
 sum_zero f [] all = refl
@@ -268,16 +268,6 @@ module _ (z : Layout) (m : Memory) (vs : List View) (g : Meaning) (rule : Rule z
         section = IfSome_then v.reading.section knows.section (λ t low. omega (arith, low, long.1));
         opened = knows.opened;
       }
-
--- a raise is at the stamp
-pub raise_needed : (z : Layout) (m : Memory) (vs : List View) (v : View) (w : Word) (value : ℕ) (o : Option Update) → may_raise z m vs v w value o ≡ true
-    → is_stamp w ≡ true
-raise_needed z m vs v w value o met =
-    let a = is_stamp w in
-    let one = and_parts (a && eqb value 0 && is_none v.update.raised && not (eqb v.history.left 0)) (not (eqb (length v.update.pending) 0))
-    (and_parts (may_raise_number v w value) (is_raise_of z m vs v o) met).0 in
-    let two = and_parts (a && eqb value 0 && is_none v.update.raised) (not (eqb v.history.left 0)) one.0 in
-    (and_parts a (eqb value 0) (and_parts (a && eqb value 0) (is_none v.update.raised) two.0).0).0
 
 -- the views after an event
 module _ (z : Layout) (words : List ℕ) (vs : List View) (right : InRule z words vs) (i : ℕ) (v : View) (at : IsItem vs i v) (w : Word) (value : ℕ) where

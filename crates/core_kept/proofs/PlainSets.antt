@@ -28,9 +28,8 @@ use Rattle.core_invariant.proofs.Locked.{locked_apart}
 use Rattle.core_invariant.proofs.Passing.{Passing, passing, counted_any}
 use Rattle.core_invariant.proofs.PlainSteps.{link_parts, tag_parts, link_named}
 use Rattle.core_invariant.proofs.Sides.{same_side-refl, same_side-true}
-use Rattle.core_kept.proofs.LinkStores.{slots_link}
-use Rattle.core_kept.proofs.TagStores.{slots_tag}
 use Rattle.core_kept.proofs.Unlocks.{every_filter}
+use Rattle.core_invariant.proofs.HeldSlots.{slots_link, slots_tag}
 
 -- items that pass a test are gone where the others are kept, and those that pass another one stay
 gone : {X : Type 0} (f : X → Bool) (xs : List X) → length (filter f (filter (λ x. not (f x)) xs)) ≡ 0

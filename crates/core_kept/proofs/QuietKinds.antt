@@ -16,12 +16,9 @@ use Rattle.core_events.specs.Searches.{turn_key}
 use Rattle.core_events.specs.FillMoves.{used_view, with_filled, filled_with, known_before}
 use Rattle.core_events.specs.LoadMoves.{next_at, is_above}
 use Rattle.core_events.specs.Steps.{head_at, head_from, ts_from, ptr_from, next_from, prepared_at, prepared_from, finalised_from, mark_from, marked_from, pair_from, ann_from, cut_from, tag_at, tag_from, raised_tag_at, raised_tag_from}
-use Rattle.core_invariant.proofs.Fronts.{held-found, held-known}
-use Rattle.core_kept.proofs.HeadLoads.{side_node}
-use Rattle.core_kept.proofs.Marks.{slots_marked, slots_paired}
 use Rattle.core_kept.proofs.SearchMoves.{work_of, SearchStep}
 use Rattle.core_kept.proofs.SearchSteps.{bundle_said, tagged_said, known_said, paired_said, cut_said, child_said}
-use Rattle.core_kept.proofs.TagStores.{slots_tag}
+use Rattle.core_invariant.proofs.HeldSlots.{slots_found, slots_known, slots_numbered, slots_marked, slots_paired, slots_tag}
 
 module _ (C : Option ℕ → Option ℕ → ℕ → Type 0) (key_of : ℕ → ℕ) where
   -- the view has the same to do and the same locks, and what is said of its search goes over
@@ -38,7 +35,7 @@ module _ (C : Option ℕ → Option ℕ → ℕ → Type 0) (key_of : ℕ → �
     head_at_quiet : (f : Field) (k x number : ℕ) → IsQuiet v (head_at v f k x number)
     head_at_quiet (Head side) k x number = record {
       work = refl;
-      locks = held-found k side x v.held.nodes;
+      locks = slots_found k side x v.held.nodes;
       retired = refl;
       step = record { place = λ said. record { claims = tt; key = tt }; links = λ said. bundle_said C key_of (eqb x 0) v.reading.links k side 0 0 said };
     }
@@ -51,7 +48,7 @@ module _ (C : Option ℕ → Option ℕ → ℕ → Type 0) (key_of : ℕ → �
     pub ts_quiet : (u : Word) (x : ℕ) → IsQuiet v (ts_from v u x)
     ts_quiet (Entry p e) x = record {
       work = refl;
-      locks = side_node e x v.held.nodes;
+      locks = slots_numbered e x v.held.nodes;
       retired = refl;
       step = record {
         place = λ said. known_said C key_of (turn_key v.reading.right_turn) (turn_key v.reading.left_turn) x v.reading.place said;
@@ -155,7 +152,7 @@ module _ (C : Option ℕ → Option ℕ → ℕ → Type 0) (key_of : ℕ → �
     prepare_at_quiet : (f : Field) (k e : ℕ) → IsQuiet v (prepared_at v f k e)
     prepare_at_quiet (Head side) k e = record {
       work = refl;
-      locks = held-known k side (record { entry = e; stamp = None }) v.held.nodes;
+      locks = slots_known k side (record { entry = e; stamp = None }) v.held.nodes;
       retired = refl;
       step = record { place = λ said. said; links = λ said. said };
     }

@@ -29,13 +29,13 @@ use Rattle.core_invariant.specs.Reached.{plain_graph, HoldsPlain, ReachesRight, 
 use Rattle.core_invariant.specs.Rule.{InRule}
 use Rattle.core_invariant.specs.SearchRule.{waits, ClaimsAt, PlaceKey, LinkKeys, SearchRight}
 use Rattle.core_kept.specs.SearchLaws.{SearchesAfter, KeepsSearchesAt}
-use Rattle.core_kept.proofs.LinkStores.{slots_link}
 use Rattle.core_kept.proofs.QuietKinds.{IsQuiet, same, head_quiet, ts_quiet, ptr_quiet, next_quiet, mark_quiet, pair_quiet, tag_quiet, look_ann_quiet}
 use Rattle.core_kept.proofs.ReachMoves.{reach_moved}
 use Rattle.core_kept.proofs.ReachSteps.{head_calm, ts_calm, ptr_calm, next_calm, mark_calm, pair_calm, tag_calm, look_ann_calm}
 use Rattle.core_kept.proofs.SearchMoves.{Work, work_of, same_undone, tree_moved, searches_moved, same_waits, own_waits, claims_wider, place_wider, links_wider, NoClaims, own_moved}
 use Rattle.core_invariant.proofs.SearchNodes.{IsCalm, calm_reach, still_same}
 use Rattle.core_kept.proofs.WalkSteps.{Walk, walk_of, place_walked, links_walked, walk_keys, walk_reach}
+use Rattle.core_invariant.proofs.HeldSlots.{slots_link}
 
 -- the facts of a move of one view, over the plain graph
 module _ (z : Layout) (gr : Graph) (vs : List View) (now W : NamedTree) (trees : IsPlainTree gr vs now W) (searches : All (SearchRight gr vs now W) vs)

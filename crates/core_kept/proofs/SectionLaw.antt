@@ -29,7 +29,7 @@ use Rattle.core_invariant.proofs.OneView.{item_from_get, seat_at}
 use Rattle.core_invariant.proofs.Frames.{same_item}
 use Rattle.core_invariant.proofs.Idle.{section_of as own_word}
 use Rattle.core_kept.proofs.SectionWords.{same_words}
-use Rattle.core_kept.proofs.WordPrints.{own_enter}
+use Rattle.core_invariant.proofs.WordPrints.{own_enter}
 
 module _ (t : Table) (e : Event) (right : IsRight t) (v : View) (at : IsItem t.views e.seat v) (w : Word) (found : word_at t.layout e.word ≡ Some w) where
   -- the own word holds what the view says, and what is stored to it is what is found after

@@ -1,46 +1,32 @@
 -- The section words and the announcements of passes: an enter, a leave and an announcement alone store to one, and to
 -- their own.
-use Rattle.std.proofs.Common.{◌≡◌, ◌≢◌, ℕ, ◌+◌, ◌<◌, ◌⊎◌, cond, List, [], ◌∷◌, length, Bool, true, false, eqb, ltb, ◌&&◌, set, arith, refl, ap, ◌∙◌, sym, subst, inl, inr, Option, Some, None, slice_index}
+use Rattle.std.proofs.Common.{◌≡◌, ◌≢◌, ℕ, ◌+◌, ◌<◌, ◌⊎◌, cond, List, [], ◌∷◌, length, Bool, true, false, ltb, set, arith, refl, ap, ◌∙◌, sym, subst, inl, inr, Option, Some, None}
 use Rattle.std.specs.List.{All, slice_get}
-use Rattle.std.proofs.lemmas.Bool.{and_parts, eqb-true, eq-eqb}
+use Rattle.std.proofs.lemmas.Bool.{eqb-true, eq-eqb}
 use Rattle.std.proofs.lemmas.Bool.Decides.{eqb_tells}
 use Rattle.std.proofs.lemmas.List.Elements.{All-set, All-push}
 use Rattle.index_words.specs.declared.layout.Layout.{Layout}
 use Rattle.key_map.specs.declared.update.Update.{Update}
 use Rattle.index_words.specs.declared.view.View.{View}
-use Rattle.index_words.specs.declared.word.Field.{Field}
-use Rattle.index_words.specs.declared.word.Part.{Part}
 use Rattle.index_words.specs.declared.word.Word.{Word}
-use Rattle.index_words.specs.declared.word.Word.TheVariants.{Stamp, Section, Announced, Node, Entry}
-use Rattle.index_words.specs.Words.{Memory, memory, written, word_at, word_count}
+use Rattle.index_words.specs.declared.word.Word.TheVariants.{Section, Announced}
+use Rattle.index_words.specs.Words.{Memory, memory, word_at, word_count}
 use Rattle.index_words.specs.Views.{spent_view}
 use Rattle.key_map.specs.Lists.{count, Every, IsItem}
-use Rattle.index_words.proofs.Store.{stored_at}
 use Rattle.index_words.proofs.Seats.{at_item, all_moved, one_term, two_terms}
 use Rattle.core_grace.specs.Batches.{is_number}
 use Rattle.core_events.specs.declared.event.Kind.{Kind}
-use Rattle.core_events.specs.declared.event.Kind.TheVariants.{MakeSeat, SplitSeat, JoinSeat, Enter, Leave, Fill, Prepare, Raise, Finalise, TryLock, Unlock, Mark as MarkNode, Announce, Cut, SetLink, SetTag}
+use Rattle.core_events.specs.declared.event.Kind.TheVariants.{MakeSeat, SplitSeat, JoinSeat, Enter, Leave, Announce}
 use Rattle.core_events.specs.Moves.{split_left, split_right, joined_with}
-use Rattle.core_events.specs.Needs.{is_outside, is_own_section, may_enter, may_fill}
-use Rattle.core_events.specs.Waits.{may_leave}
-use Rattle.core_invariant.proofs.WaitNeeds.{can_leave}
 use Rattle.core_invariant.specs.Numbers.{number_count, IsSpare}
-use Rattle.core_events.specs.Announcing.{is_own_announced, is_announcement}
-use Rattle.core_events.specs.CutNeeds.{may_cut}
-use Rattle.core_events.specs.UpdateNeeds.{may_prepare, may_raise, may_finalise}
-use Rattle.core_events.specs.LockNeeds.{may_try_lock, may_unlock, may_mark}
-use Rattle.core_events.specs.PlainNeeds.{may_set_link, may_set_tag}
 use Rattle.core_events.specs.Steps.{needs, view_after, views_after, words_after, join_found}
 use Rattle.core_invariant.specs.Rule.{InRule}
-use Rattle.core_events.proofs.Tests.{never, stamp_named}
-use Rattle.core_invariant.proofs.Needed.{OwnSection, own_section, OwnAnnounced, own_announced}
 use Rattle.core_invariant.proofs.OneView.{item_from_get, set_same}
 use Rattle.core_invariant.proofs.Frames.{same_item}
 use Rattle.core_invariant.proofs.Joins.{every_append}
 use Rattle.core_invariant.proofs.Idle.{cond-le, own_count}
 use Rattle.core_invariant.proofs.KeptViews.{to_give_kept}
-use Rattle.core_kept.proofs.OwnPlaces.{raise_needed}
-use Rattle.core_kept.proofs.WordPrints.{stores, word_keeps}
+use Rattle.core_invariant.proofs.WordPrints.{stores, word_keeps}
 
 -- two memories say the same of the section words of some passes, and of the announcements of some
 pub record SameWords (sections announced : ℕ → Type 0) (m m' : Memory) : Type 0 where

@@ -15,7 +15,7 @@ use Rattle.key_map.specs.Lists.{IsItem}
 use Rattle.index_words.proofs.Seats.{item_set, beside_item}
 use Rattle.core_events.specs.declared.event.Event.{Event}
 use Rattle.core_events.specs.declared.event.Kind.{Kind}
-use Rattle.core_events.specs.declared.event.Kind.TheVariants.{MakeSeat, SplitSeat, JoinSeat, Enter, Leave, LoadStamp, Raise, Announce}
+use Rattle.core_events.specs.declared.event.Kind.TheVariants.{MakeSeat, SplitSeat, JoinSeat, LoadStamp, Raise}
 use Rattle.core_events.specs.Moves.{longer, split_left, split_right, joined_with}
 use Rattle.core_events.specs.Needs.{is_stamp, may_join_found}
 use Rattle.core_events.specs.LoadMoves.{longest, stamp_reading}
@@ -32,7 +32,9 @@ use Rattle.core_invariant.proofs.Joins.{Begins, begins-le, longer_long, longer_b
 use Rattle.core_invariant.proofs.Longest.{longest_is}
 use Rattle.core_events.proofs.Tests.{never, not_equal, stamp_named}
 use Rattle.core_events.proofs.Allowed.{stamp_needs}
-use Rattle.core_invariant.proofs.KeptViews.{SeatPart, entered_part, is_still, still_kept}
+use Rattle.core_invariant.proofs.Groups.Group.{History}
+use Rattle.core_invariant.proofs.Footprints.{touches, keeps}
+use Rattle.index_words.specs.declared.view.history.SeenHistory.{SeenHistory}
 
 -- of two beginnings of one history the shorter is a beginning of the longer
 begins_of : (updates xs ys : List Update) → Begins updates xs → Begins updates ys → length xs ≤ length ys → IsBeginning xs ys
@@ -102,11 +104,12 @@ module _ (z : Layout) (words : List ℕ) (vs : List View) (right : InRule z word
       whole_known i v at
       ∙ sym (take-append-le (length v.history.seen) (longest vs) (u ∷ []) (omega (arith, begins-le updates v.history.seen (begins i v at), ap length all)))
 
-  still_goes : (kind : Kind) → is_still kind ≡ true → GoesOn vs (set vs i (view_after kind z m vs v w (m w) value o))
-  still_goes kind still =
+  -- a kind that touches no history
+  quiet_goes : (kind : Kind) → touches kind History ≡ false → GoesOn vs (set vs i (view_after kind z m vs v w (m w) value o))
+  quiet_goes kind off =
       own_goes (view_after kind z m vs v w (m w) value o)
       (begins_same v.history.seen (view_after kind z m vs v w (m w) value o).history.seen
-      (ap (λ (p : SeatPart). p.history.seen) (still_kept z m vs v w (m w) value o kind still)))
+      (ap (λ (h : SeenHistory). h.seen) (keeps z m vs v (m w) value o kind w History off)))
 
   joined_begins : (u : View) (k : ℕ) → IsItem vs k u → IsBeginning u.history.seen (longer v.history.seen u.history.seen)
   joined_begins u k of =
@@ -133,15 +136,9 @@ module _ (z : Layout) (words : List ℕ) (vs : List View) (right : InRule z word
       goes_push vs (set vs i (split_left v value)) (split_right v value) (own_goes (split_left v value) (begins_self v.history.seen))
       (length-set vs i (split_left v value))
   goes_on JoinSeat = joined_goes (slice_get vs value) refl
-  goes_on Enter =
-      own_goes (view_after Enter z m vs v w (m w) value o)
-      (begins_same v.history.seen (view_after Enter z m vs v w (m w) value o).history.seen
-      (ap (λ (p : SeatPart). p.history.seen) (entered_part z.passes value v)))
-  goes_on Leave = own_goes (view_after Leave z m vs v w (m w) value o) (begins_self v.history.seen)
   goes_on LoadStamp = own_goes (view_after LoadStamp z m vs v w (m w) value o) (whole_known i v at)
   goes_on Raise = own_goes (view_after Raise z m vs v w (m w) value o) (raised_goes (m w) o)
-  goes_on Announce = own_goes (view_after Announce z m vs v w (m w) value o) (begins_self v.history.seen)
-  goes_on kind = still_goes kind refl
+  goes_on kind = quiet_goes kind refl
 
   abbrev loaded_view : View
   loaded_view = view_after LoadStamp z m vs v w (m w) value o

@@ -32,7 +32,6 @@ use Rattle.core_invariant.proofs.Frames.{every_map}
 use Rattle.core_invariant.proofs.Locked.{locked_apart}
 use Rattle.core_invariant.proofs.Sides.{same_side-refl}
 use Rattle.core_invariant.proofs.WaitNeeds.{CanSet}
-use Rattle.core_kept.proofs.LinkStores.{slots_link}
 use Rattle.core_kept.proofs.LinkItems.{now, ItemOf, items_of, new_links, child_there, same_child}
 use Rattle.core_invariant.proofs.TreeNow.{names_once}
 use Rattle.core_kept.proofs.MaySet.{item, sets, may, moves, off, copy_apart, asked, there}
@@ -40,6 +39,7 @@ use Rattle.core_invariant.proofs.Undone.{taken_out, tree_stays, root_stays, orde
 use Rattle.plain_trees.specs.Matching.{IsOut}
 use Rattle.plain_trees.specs.Settling.{IsSet}
 use Rattle.plain_trees.proofs.Settling.{spelled-some, set_law}
+use Rattle.core_invariant.proofs.HeldSlots.{slots_link}
 
 or_left : (a b : Bool) → a ≡ true → (a || b) ≡ true
 or_left true b is = refl

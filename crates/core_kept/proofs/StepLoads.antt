@@ -20,7 +20,7 @@ use Rattle.core_invariant.specs.Rule.{InRule}
 use Rattle.core_events.specs.Steps.{views_after}
 use Rattle.core_invariant.proofs.Longest.{longest_is}
 use Rattle.core_kept.proofs.StampLoads.{load_stamp_kept}
-use Rattle.core_kept.proofs.HeadLoads.{side_node, load_head_kept}
+use Rattle.core_kept.proofs.HeadLoads.{load_head_kept}
 use Rattle.core_kept.proofs.LoadEntries.{load_ts_kept, load_ptr_kept, load_next_kept}
 use Rattle.core_invariant.proofs.TreeNow.{tree_is}
 use Rattle.core_events.proofs.Tests.{never, not_true, node_there, entry_there}
@@ -28,8 +28,8 @@ use Rattle.core_events.proofs.Allowed.{stamp_needs}
 use Rattle.core_invariant.proofs.Needed.{reach_is, standing, going_on}
 use Rattle.core_invariant.specs.KeptRule.{After, KeepsRuleAt}
 use Rattle.core_invariant.proofs.StepGives.{load_right}
-use Rattle.core_invariant.proofs.Fronts.{held-found}
 use Rattle.core_kept.proofs.PlainKept.{quiet_work, next_work, plain_quiet}
+use Rattle.core_invariant.proofs.HeldSlots.{slots_numbered, slots_found}
 
 module _ (z : Layout) (words : List ℕ) (vs : List View) (right : InRule z words vs) (i : ℕ) (v : View) (at : IsItem vs i v) (live : v.joined ≡ false) (n : ℕ)
     (w : Word) (found : word_at z n ≡ Some w) (value : ℕ) where
@@ -59,7 +59,7 @@ module _ (z : Layout) (words : List ℕ) (vs : List View) (right : InRule z word
       (load_head_kept z m vs right.meaning right.rule i k side (m (Entry Number (m (Node (Head side) k)))) v at (not_true (is_even v.section_word) two.0)
       (reach_is z v k (node_there z n k (Head side) is) two.1))
       (plain_quiet m right.meaning vs i v (head_loaded v k side (m (Node (Head side) k)) (m (Entry Number (m (Node (Head side) k))))) at
-      (quiet_work v _ refl refl refl (held-found k side (m (Node (Head side) k)) v.held.nodes)))
+      (quiet_work v _ refl refl refl (slots_found k side (m (Node (Head side) k)) v.held.nodes)))
   head_at_found _ k is met = absurd (never met)
 
   pub head_found : (u : Word) → word_at z n ≡ Some u → may_load_head v u value ≡ true → Gives words (views_after LoadHead z m vs i v u value None)
@@ -73,7 +73,7 @@ module _ (z : Layout) (words : List ℕ) (vs : List View) (right : InRule z word
       load_right z words vs right (set vs i (ts_loaded v e (m (Entry Number e))))
       (load_ts_kept z m vs right.meaning right.rule i v at stood.node stood.side e stood.found stood.here (entry_there z n e Number is))
       (plain_quiet m right.meaning vs i v (ts_loaded v e (m (Entry Number e))) at
-      (quiet_work v _ refl refl refl (side_node e (m (Entry Number e)) v.held.nodes)))
+      (quiet_work v _ refl refl refl (slots_numbered e (m (Entry Number e)) v.held.nodes)))
   ts_found _ is met = absurd (never met)
 
   pub ptr_found : (u : Word) → word_at z n ≡ Some u → may_load_part Child v u value ≡ true → Gives words (views_after LoadPtr z m vs i v u value None)

@@ -1,5 +1,5 @@
 -- A load of the tag of a plain link, and a store to one of a locked node, keep the rule.
-use Rattle.std.proofs.Common.{◌≡◌, ℕ, ◌<◌, ◌⊎◌, cond, List, [], ◌∷◌, Bool, true, false, eqb, ◌&&◌, set, arith, refl, ap, ◌∙◌, sym, subst, inl, inr, Option, Some, None, map}
+use Rattle.std.proofs.Common.{◌≡◌, ℕ, ◌<◌, ◌⊎◌, cond, List, Bool, true, false, eqb, ◌&&◌, set, arith, refl, ap, ◌∙◌, sym, subst, inl, inr, Option, Some, None, map}
 use Rattle.std.specs.Prelude.{IfSome}
 use Rattle.std.proofs.lemmas.Bool.{eqb-true}
 use Rattle.std.proofs.lemmas.Option.{IfSome_then}
@@ -40,16 +40,7 @@ use Rattle.core_invariant.proofs.Filled.{node_other, every_filled, node_apart}
 use Rattle.core_invariant.proofs.Locked.{locked_apart, locked_live}
 use Rattle.core_invariant.proofs.ReadMoves.{read_kept, place_back, links_back, nexts_back, work_same, holds_same}
 use Rattle.core_kept.proofs.WaitingLocks.{still_waits, tag_keeps}
-
-tag_by : (side : Side) (b : Bool) (x : ℕ) (h : HeldNode) → (cond b (tag_known side x h) h).node ≡ h.node
-tag_by Left true x h = refl
-tag_by Right true x h = refl
-tag_by side false x h = refl
-
-pub slots_tag : (k : ℕ) (side : Side) (x : ℕ) (hs : List HeldNode) → held_slots (map (tag_known_at k side x) hs) ≡ held_slots hs
-slots_tag k side x [] = refl
-slots_tag k side x (h ∷ hs) =
-    ap (λ n. n ∷ held_slots (map (tag_known_at k side x) hs)) (tag_by side (eqb h.node k) x h) ∙ ap (λ ns. h.node ∷ ns) (slots_tag k side x hs)
+use Rattle.core_invariant.proofs.HeldSlots.{slots_tag}
 
 -- what a load has found is known of a locked node
 tag_right : (m : Memory) (k : ℕ) (side : Side) (x : ℕ) (h : HeldNode) (b : Bool) → eqb h.node k ≡ b → m (Node (Tag side) k) ≡ x → IsNodeAt m h

@@ -41,9 +41,8 @@ use Rattle.core_invariant.proofs.Owned.{once_node, once_entry}
 use Rattle.core_invariant.proofs.Without.{count-without_same, count-without-le}
 use Rattle.core_kept.proofs.TwoViews.{count-take-drop}
 use Rattle.core_kept.proofs.FreeWords.{LessOf, apart_kept, both_less, none_less, fewer_less, less_right, taken_less, settled_less, Apart, written_apart, Leaves, leaves}
-use Rattle.core_kept.proofs.Footprints.{Parts, Spares, quiet_part}
-use Rattle.core_kept.proofs.Footprints.Group.{Free, Unused}
-use Rattle.index_words.specs.declared.view.slots.Slots.{Slots}
+use Rattle.core_invariant.proofs.Footprints.{Parts, Spares, quiet_part}
+use Rattle.core_invariant.proofs.Groups.Group.{Free, Unused}
 
 module _ (z : Layout) (words : List ℕ) (vs : List View) (right : InRule z words vs) (i : ℕ) (v : View) (at : IsItem vs i v) (n : ℕ) (w : Word)
     (found : word_at z n ≡ Some w) (value : ℕ) where

@@ -7,8 +7,9 @@ use Rattle.index_words.specs.declared.word.Word.{Word}
 use Rattle.key_map.specs.Lists.{count}
 use Rattle.core_grace.specs.Holds.{ReadsNode, held_nodes, held_slots, tree_slots, listed}
 use Rattle.core_invariant.specs.WaitingSlots.{WaitsRight}
-use Rattle.core_kept.proofs.Footprints.{touches, keeps, OwnerPart, ChangePart}
-use Rattle.core_kept.proofs.Footprints.Group.{Owner, History, Retired, Tree, Locks, Change}
+use Rattle.core_invariant.proofs.Groups.{OwnerPart, ChangePart}
+use Rattle.core_invariant.proofs.Footprints.{touches, keeps}
+use Rattle.core_invariant.proofs.Groups.Group.{Owner, History, Retired, Tree, Locks, Change}
 use Rattle.core_events.specs.Steps.{view_after}
 use Rattle.core_events.specs.declared.event.Kind.{Kind}
 use Rattle.index_words.specs.declared.layout.Layout.{Layout}

@@ -7,17 +7,17 @@ use Rattle.index_words.specs.declared.side.Side.{Side}
 use Rattle.index_words.specs.declared.view.View.{View}
 use Rattle.index_words.specs.declared.view.history.Counts.{Counts}
 use Rattle.index_words.specs.declared.word.Field.{Field}
-use Rattle.index_words.specs.declared.word.Field.TheVariants.{Key, Val, Lock, Mark, Head, Link as LinkField, Tag}
-use Rattle.index_words.specs.declared.word.Part.TheVariants.{Child, Stamp as Number, Next}
+use Rattle.index_words.specs.declared.word.Field.TheVariants.{Lock, Mark, Head, Link as LinkField, Tag}
+use Rattle.index_words.specs.declared.word.Part.TheVariants.{Stamp as Number}
 use Rattle.index_words.specs.declared.word.Word.{Word}
-use Rattle.index_words.specs.declared.word.Word.TheVariants.{Stamp, Section, Announced, Node, Entry}
+use Rattle.index_words.specs.declared.word.Word.TheVariants.{Node, Entry}
 use Rattle.index_words.specs.Views.{spent_view}
 use Rattle.index_words.specs.Words.{Memory, word_at}
 use Rattle.key_map.specs.Lists.{count, has, IsItem}
 use Rattle.core_grace.specs.Sections.{is_even}
 use Rattle.core_events.specs.declared.event.Event.{Event}
 use Rattle.core_events.specs.declared.event.Kind.{Kind}
-use Rattle.core_events.specs.declared.event.Kind.TheVariants.{MakeSeat, SplitSeat, JoinSeat, Enter, Leave, LookSec, Fill, LoadStamp, LoadHead, LoadTs, LoadPtr, LoadNext, Prepare, Raise, Finalise, TryLock, Unlock, LoadMark, Mark as MarkNode, LoadKeyOrVal, Announce, LookAnn, Cut, LoadLink, SetLink, LoadTag, SetTag}
+use Rattle.core_events.specs.declared.event.Kind.TheVariants.{MakeSeat, SplitSeat, JoinSeat, LoadStamp, LoadHead, LoadTs, Raise, TryLock, LoadMark, LoadLink, LoadTag}
 use Rattle.core_laws.specs.Counts.{MeetsLock, FindsNoNumber, FindsOther, FindsMark, FixesPlace, RisesWhere, CountsRise, CountsLaw}
 use Rattle.core_events.specs.Tables.{Table, held_by}
 use Rattle.core_invariant.specs.Locks.{lock_count}
@@ -37,7 +37,7 @@ use Rattle.core_laws.proofs.HeldLocks.{counted_busy}
 use Rattle.core_invariant.proofs.HeldFacts.{count-locks}
 use Rattle.core_events.proofs.Tests.{never, not_true, not_equal}
 use Rattle.core_laws.proofs.Owners.{found_at}
-use Rattle.core_laws.proofs.Tallies.{Tally, same_tally, look_tally, enter_tally, ptr_tally, next_tally, prepared_tally, filled_tally, pair_tally, raised_tally, finalised_tally, unlocked_tally, marked_tally, ann_tally, cut_tally, set_tally, raised_tag_tally}
+use Rattle.core_laws.proofs.Tallies.{Tally, same_tally, quiet_tally, raised_tally}
 use Rattle.core_laws.proofs.CountTests.{rises_by, stays_by, both, none_has, has_none, not_false, says_some, some_says, neither, not_either, moved_says, says_moved, child_says, says_child, tag_says, says_tag, count_says, says_count, same_node, same_entry, same_head, same_link, same_tag}
 use Rattle.core_laws.proofs.CountTests.{watching_says, says_watching}
 use Rattle.core_laws.proofs.SetViews.{set_is, same_is, split_is, join_is}
@@ -385,33 +385,15 @@ module _ (t : Table) (e : Event) (right : IsRight t) (v : View) (at : IsItem t.v
   Moved kind = view_after kind t.layout m t.views v word (m word) e.value e.update
 
   moved_counts : (kind : Kind) → e.kind ≡ kind → needs kind t.layout m t.views e.seat v word e.value e.update ≡ true → CountsRise t e v (Moved kind)
-  moved_counts Enter is met = still Enter (Moved Enter) is (enter_tally t.layout.passes v e.value) refl refl
-  moved_counts Leave is met = still Leave (Moved Leave) is (record { counts = refl; looks = refl }) refl refl
-  moved_counts LookSec is met = still LookSec (Moved LookSec) is (look_tally t.layout v word (m word)) refl refl
   moved_counts LoadStamp is met = stamp_counts (Moved LoadStamp) is refl refl
   moved_counts LoadHead is met = head_counts word refl is met
   moved_counts LoadTs is met = ts_counts word refl is met
-  moved_counts LoadPtr is met = still LoadPtr (Moved LoadPtr) is (ptr_tally v word (m word)) refl refl
-  moved_counts LoadNext is met = still LoadNext (Moved LoadNext) is (next_tally v word (m word)) refl refl
-  moved_counts Prepare is met = still Prepare (Moved Prepare) is (prepared_tally v word e.value) refl refl
-  moved_counts Raise is met = still Raise (Moved Raise) is (raised_tally t.layout m t.views v (m word) e.update) refl refl
-  moved_counts Finalise is met = still Finalise (Moved Finalise) is (finalised_tally v word) refl refl
+  moved_counts Raise is met = still Raise (Moved Raise) is (raised_tally t.layout m t.views v word (m word) e.value e.update) refl refl
   moved_counts TryLock is met = lock_counts word refl is met
-  moved_counts Unlock is met = still Unlock (Moved Unlock) is (unlocked_tally v word) refl refl
   moved_counts LoadMark is met = mark_counts word refl is met
-  moved_counts MarkNode is met = still MarkNode (Moved MarkNode) is (marked_tally v word) refl refl
-  moved_counts MakeSeat is met = still MakeSeat v is (same_tally v) refl refl
-  moved_counts SplitSeat is met = still SplitSeat v is (same_tally v) refl refl
-  moved_counts JoinSeat is met = still JoinSeat v is (same_tally v) refl refl
-  moved_counts Fill is met = still Fill (Moved Fill) is (filled_tally v word e.value) refl refl
-  moved_counts LoadKeyOrVal is met = still LoadKeyOrVal (Moved LoadKeyOrVal) is (pair_tally v word (m word)) refl refl
-  moved_counts Announce is met = still Announce (Moved Announce) is (record { counts = refl; looks = refl }) refl refl
-  moved_counts LookAnn is met = still LookAnn (Moved LookAnn) is (ann_tally v word (m word)) refl refl
-  moved_counts Cut is met = still Cut (Moved Cut) is (cut_tally t.layout m v word) refl refl
   moved_counts LoadLink is met = link_counts word refl is met
-  moved_counts SetLink is met = still SetLink (Moved SetLink) is (set_tally v word e.value) refl refl
   moved_counts LoadTag is met = tag_counts word refl is met
-  moved_counts SetTag is met = still SetTag (Moved SetTag) is (raised_tag_tally v word e.value) refl refl
+  moved_counts kind is met = still kind (Moved kind) is (quiet_tally t.layout m t.views v word (m word) e.value e.update kind refl refl) refl refl
 
   module _ (w : View) where
     join_tally : (o : Option View) → slice_get t.views e.value ≡ o → e.value ≢ e.seat → slice_get (join_found t.views e.seat v e.value o) e.seat ≡ Some w → Tally v w

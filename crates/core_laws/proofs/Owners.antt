@@ -34,20 +34,20 @@ use Rattle.core_events.specs.LoadMoves.{locks}
 use Rattle.core_events.specs.LoadNeeds.{is_part}
 use Rattle.core_events.specs.PlainNeeds.{is_done_at, owes, may_set_field, may_set_link, may_raise_tag, may_set_tag}
 use Rattle.core_events.specs.LockNeeds.{is_mark, names_pass, may_lock, may_try_lock, may_unlock, may_mark}
-use Rattle.core_events.specs.Needs.{is_lock, is_outside, is_own_section, nothing_pending, may_enter, may_fill}
-use Rattle.core_events.specs.Waits.{may_leave}
-use Rattle.core_events.specs.Announcing.{is_own_announced, is_announcement, may_announce}
+use Rattle.core_events.specs.Needs.{is_lock, nothing_pending, may_fill}
 use Rattle.core_events.specs.CutNeeds.{may_cut}
 use Rattle.core_invariant.proofs.Apart.{in_one_bundle}
 use Rattle.core_invariant.proofs.Cuts.{IsCutAt, cut_at}
-use Rattle.core_events.specs.UpdateNeeds.{may_prepare_head, may_prepare, may_raise, may_finalise}
+use Rattle.core_events.specs.UpdateNeeds.{may_prepare_head, may_prepare, may_finalise}
 use Rattle.core_laws.specs.Owners.{HasFreeNode, HasFreeEntry, IsInLockedBundle, IsSteadyFor, IsSteadyField, IsSteadyPart, IsFixed, KeepsOwners, OwnersLaw}
 use Rattle.core_events.specs.Steps.{needs, carries, allowed_at, after_at, words_after}
 use Rattle.core_invariant.proofs.Frames.{every_at, count-middle}
 use Rattle.core_invariant.proofs.OneView.{item_from_get, seat_at}
 use Rattle.core_events.proofs.Tests.{never, not_true, node_there}
-use Rattle.core_invariant.proofs.Needed.{own_section, own_announced, ready_is}
-use Rattle.core_invariant.proofs.WaitNeeds.{can_leave, can_set}
+use Rattle.core_invariant.proofs.Needed.{ready_is}
+use Rattle.core_invariant.proofs.WaitNeeds.{can_set}
+use Rattle.core_invariant.proofs.WordPrints.{stores, word_keeps}
+use Rattle.std.proofs.lemmas.Bool.Decides.{eqb_tells}
 use Rattle.core_invariant.proofs.Idle.{number_apart}
 use Rattle.core_invariant.proofs.Owned.{once_node, once_entry, held_live, not_in_bundle, in_entries, free_not_live}
 use Rattle.core_invariant.proofs.HeldFacts.{work_holds, locks-count}
@@ -58,6 +58,13 @@ use Rattle.core_invariant.proofs.Locked.{locked_apart, locked_live}
 own_number_is : (n : ℕ) (o : Option ℕ) → o ≡ Some n → is_number n o ≡ false → ⊥
 own_number_is n None is other = cc
 own_number_is n (Some k) is other = let same : k ≡ n = cc in cc (eq-eqb k n same)
+
+not_named : (n : ℕ) (o : Option ℕ) → (o ≡ Some n → ⊥) → is_number n o ≡ false
+not_named n None other = refl
+not_named n (Some k) other = elim (eqb_tells k n) as (λ _. eqb k n ≡ false) [
+  | inl same ↦ absurd (other (ap Some same.1))
+  | inr apart ↦ apart.0
+]
 
 module _ (z : Layout) (m : Memory) (vs : List View) (g : Meaning) (rule : Rule z m vs g) (i : ℕ) (v : View) (at : IsItem vs i v) where
   -- what the seat may store to
@@ -199,18 +206,6 @@ module _ (z : Layout) (words : List ℕ) (vs : List View) (right : InRule z word
   abbrev W : Word → Type 0
   W = Writes z m vs right.meaning right.rule i v at
 
-  own_writes : (u : Word) → is_own_section v.number u ≡ true → W u
-  own_writes u is = let own = own_section v.number u is in subst W (sym own.word) own.named
-
-  enter_writes : may_enter v w value ≡ true → W w
-  enter_writes met =
-      own_writes w (and_parts (is_own_section v.number w) (is_outside v) (and_parts (is_own_section v.number w && is_outside v) (eqb value (v.section_word + 1)) met).0).0
-
-  leave_writes : may_leave m v w value ≡ true → W w
-  leave_writes met =
-      let own = (can_leave m v w value met).own in
-      subst W (sym own.word) own.named
-
   fill_field : (f : Field) (k : ℕ) → is_lock f ≡ false → HasFreeNode v k → W (Node f k)
   fill_field Key k is free = free
   fill_field Val k is free = free
@@ -235,10 +230,6 @@ module _ (z : Layout) (words : List ℕ) (vs : List View) (right : InRule z word
   prepare_writes : (u : Word) → may_prepare m v u value ≡ true → W u
   prepare_writes (Node f k) met = prepare_field f k met
   prepare_writes _ met = absurd (never met)
-
-  raise_writes : (u : Word) (o : Option Update) → may_raise z m vs v u value o ≡ true → W u
-  raise_writes Stamp o met = tt
-  raise_writes _ o met = absurd (never met)
 
   finalise_writes : (u : Word) → may_finalise v u value ≡ true → W u
   finalise_writes (Entry Number e) met =
@@ -307,14 +298,23 @@ module _ (z : Layout) (words : List ℕ) (vs : List View) (right : InRule z word
   set_tag_writes (Node f k) met = set_tag_at f k met
   set_tag_writes _ met = absurd (never met)
 
-  announce_writes : may_announce v w value ≡ true → W w
-  announce_writes met =
-      let own = own_announced v.number w (and_parts (is_own_announced v.number w) (is_announcement v value) met).0 in
-      subst W (sym own.word) own.named
-
   cut_writes : (u : Word) → may_cut z m vs v u value ≡ true → W u
   cut_writes (Entry Next e) met = inr (cut_at z m vs right.meaning right.rule i v at e value met).1
   cut_writes _ met = absurd (never met)
+
+  -- a word of another pass, or a word of a slot
+  record OwnOff (u : Word) : Type 0 where
+    pub section : stores Enter v u ≡ false
+    pub leave : stores Leave v u ≡ false
+    pub announcement : stores Announce v u ≡ false
+    pub stamp : stores Raise v u ≡ false
+
+  own_off : (u : Word) → (W u → ⊥) → OwnOff u
+  own_off Stamp unwritten = absurd (unwritten tt)
+  own_off (Section pass) unwritten =
+      let other = not_named pass v.number unwritten in record { section = other; leave = other; announcement = refl; stamp = refl }
+  own_off (Announced pass) unwritten = record { section = refl; leave = refl; announcement = not_named pass v.number unwritten; stamp = refl }
+  own_off _ unwritten = record { section = refl; leave = refl; announcement = refl; stamp = refl }
 
   module _ (u : Word) (unwritten : W u → ⊥) where
     stored : (x : ℕ) → W w → memory z (set words n x) u ≡ m u
@@ -328,21 +328,25 @@ module _ (z : Layout) (words : List ℕ) (vs : List View) (right : InRule z word
         tried_by false is = refl
         tried_by true is = stored value (try_writes w found met (sym (found_at z words n w found) ∙ eqb-true (slice_index words n) 0 is))
 
+    -- the kinds whose words the table of stores names one by one
+    spared : (kind : Kind) (o : Option Update) → stores kind v u ≡ false → needs kind z m vs i v w value o ≡ true → memory z (words_after kind words n value) u ≡ m u
+    spared kind o off met = word_keeps z words vs i v n w right.size found value o kind u off met
+
     -- a word that the seat may not store to holds after its event what it held
     pub words_kept : (kind : Kind) (o : Option Update) → needs kind z m vs i v w value o ≡ true → memory z (words_after kind words n value) u ≡ m u
-    words_kept Enter o met = stored value (enter_writes met)
-    words_kept Leave o met = stored value (leave_writes met)
     words_kept Fill o met = stored value (fill_writes w met)
     words_kept Prepare o met = stored value (prepare_writes w met)
-    words_kept Raise o met = stored (slice_index words n + 1) (raise_writes w o met)
     words_kept Finalise o met = stored value (finalise_writes w met)
     words_kept TryLock o met = tried met
     words_kept Unlock o met = stored value (unlock_writes w met)
     words_kept MarkNode o met = stored value (mark_writes w met)
-    words_kept Announce o met = stored value (announce_writes met)
     words_kept Cut o met = stored value (cut_writes w met)
     words_kept SetLink o met = stored value (set_link_writes w met)
     words_kept SetTag o met = stored value (set_tag_writes w met)
+    words_kept Enter o met = spared Enter o (own_off u unwritten).section met
+    words_kept Leave o met = spared Leave o (own_off u unwritten).leave met
+    words_kept Announce o met = spared Announce o (own_off u unwritten).announcement met
+    words_kept Raise o met = spared Raise o (own_off u unwritten).stamp met
     words_kept kind o met = refl
 
 owners_at : (t : Table) (e : Event) (o : Option View) (w : Option Word) → slice_get t.views e.seat ≡ o → word_at t.layout e.word ≡ w → IsRight t → allowed_at t e o w ≡ true → KeepsOwners e.seat t (after_at t e o w)

@@ -17,7 +17,7 @@ use Rattle.index_words.specs.declared.word.Field.{Field}
 use Rattle.index_words.specs.declared.word.Field.TheVariants.{Key, Val, Lock, Mark, Head, Link}
 use Rattle.index_words.specs.declared.word.Part.TheVariants.{Child, Stamp as Number, Next}
 use Rattle.index_words.specs.declared.word.Word.{Word}
-use Rattle.index_words.specs.declared.word.Word.TheVariants.{Stamp, Section, Announced, Node, Entry}
+use Rattle.index_words.specs.declared.word.Word.TheVariants.{Stamp, Section, Node, Entry}
 use Rattle.index_words.specs.Views.{spent_view}
 use Rattle.index_words.specs.Words.{Memory, memory, word_at, address, is_there}
 use Rattle.index_words.proofs.Seats.{one_term}

@@ -31,7 +31,7 @@ use Rattle.core_events.specs.Searches.{goes_on_at, place_nodes, search_nodes, se
 use Rattle.index_words.specs.declared.side.Side.{Side}
 use Rattle.index_words.specs.declared.side.Side.TheVariants.{Right}
 use Rattle.index_words.specs.declared.view.reading.Place.{Place}
-use Rattle.index_words.specs.declared.view.reading.Place.TheVariants.{Nowhere, Entry as AtEntry, Node as AtNode, Gap}
+use Rattle.index_words.specs.declared.view.reading.Place.TheVariants.{Nowhere, Node as AtNode}
 use Rattle.index_words.specs.declared.view.reading.Reading.{Reading}
 use Rattle.key_map.proofs.Counting.{count-has}
 use Rattle.core_invariant.proofs.HeldFacts.{count-locks}

@@ -12,17 +12,18 @@ use Rattle.key_map.specs.declared.update.Update.{Update}
 use Rattle.atomic_table.specs.Table.{State, Me, Allows, keeps as nothing}
 use Rattle.core_events.specs.declared.event.Event.{Event}
 use Rattle.core_events.specs.declared.event.Kind.{Kind}
-use Rattle.core_events.specs.declared.event.Kind.TheVariants.{MakeSeat, SplitSeat, JoinSeat, Enter}
+use Rattle.core_events.specs.declared.event.Kind.TheVariants.{MakeSeat, SplitSeat, JoinSeat}
 use Rattle.core_invariant.specs.Rule.{InRule}
 use Rattle.core_events.specs.Steps.{allowed, after, after_at, words_after, views_after, view_after}
 use Rattle.core_events.specs.Tables.{Table}
+use Rattle.core_events.specs.WordMoves.{Move, move_of, words_moved}
+use Rattle.core_events.specs.WordMoves.Move.{Load, Store, Add, Swap, Seats}
 use Rattle.core_laws.specs.ViewNeeds.{May}
 use Rattle.core_invariant.proofs.KeptViews.{joined_kept, layout_kept}
 use Rattle.core_kept.proofs.StepLaw.{keeps}
 use Rattle.core_laws.proofs.ViewTests.{word_named}
 use Rattle.table_rule.specs.Homes.{IsLiveView}
-use Rattle.table_rule.specs.Running.{table, Stands, Happened, Move, move_of, IsLoadMove, IsStoreMove, IsLoad, IsStore}
-use Rattle.table_rule.specs.Running.Move.{Load, Store, Add, Swap, Seats}
+use Rattle.table_rule.specs.Running.{table, Stands, Happened, IsLoadMove, IsStoreMove, IsLoad, IsStore}
 use Rattle.table_rule.proofs.Lists.{get_from_found, get_set, some_same}
 
 -- the kinds that move one word of one seat
@@ -79,24 +80,14 @@ tried_words : (b : Bool) (words : List ℕ) (at value : ℕ) → cond b (set wor
 tried_words true words at value = refl
 tried_words false words at value = same_words words at
 
-abbrev moved_words : Move → List ℕ → ℕ → ℕ → List ℕ
-moved_words Store words at value = set words at value
-moved_words Add words at value = set words at (slice_index words at + 1)
-moved_words Swap words at value = cond (eqb (slice_index words at) 0) (set words at value) words
-moved_words _ words at value = words
-
-words_by : (kind : Kind) (words : List ℕ) (at value : ℕ) → words_after kind words at value ≡ moved_words (move_of kind) words at value
-words_by Enter words at value = refl
-words_by _ words at value = refl
-
-moves_word : (move : Move) (words : List ℕ) (at value : ℕ) → IsWordMove move → moved_words move words at value ≡ set words at (moved_word move value (slice_index words at))
+moves_word : (move : Move) (words : List ℕ) (at value : ℕ) → IsWordMove move → words_moved move words at value ≡ set words at (moved_word move value (slice_index words at))
 moves_word Load words at value is = same_words words at
 moves_word Swap words at value is = tried_words (eqb (slice_index words at) 0) words at value
 moves_word Seats words at value is = absurd is
 moves_word _ words at value is = refl
 
-words_moved : (kind : Kind) (words : List ℕ) (at value : ℕ) → IsMove kind → words_after kind words at value ≡ set words at (word_of kind value (slice_index words at))
-words_moved kind words at value is = words_by kind words at value ∙ moves_word (move_of kind) words at value is
+word_moved : (kind : Kind) (words : List ℕ) (at value : ℕ) → IsMove kind → words_after kind words at value ≡ set words at (word_of kind value (slice_index words at))
+word_moved kind words at value is = moves_word (move_of kind) words at value is
 
 views_moved : (kind : Kind) (z : Layout) (m : Memory) (vs : List View) (i : ℕ) (v : View) (w : Word) (value : ℕ) (o : Option Update) → IsMove kind
     → views_after kind z m vs i v w value o ≡ set vs i (view_after kind z m vs v w (m w) value o)
@@ -120,7 +111,7 @@ module _ (z : Layout) (e : Event) (v : View) (w : Word) (there : is_there z w �
   is_after : after (table z words vs) e ≡ table z (set words e.word (word_of e.kind e.value (slice_index words e.word))) (set vs e.seat moved_view)
   is_after =
       after_known (table z words vs) e v w seat found
-      ∙ ap (λ (us : List ℕ). table z us (views_after e.kind z (memory z words) vs e.seat v w e.value e.update)) (words_moved e.kind words e.word e.value is)
+      ∙ ap (λ (us : List ℕ). table z us (views_after e.kind z (memory z words) vs e.seat v w e.value e.update)) (word_moved e.kind words e.word e.value is)
       ∙ ap (table z (set words e.word (word_of e.kind e.value (slice_index words e.word)))) (views_moved e.kind z (memory z words) vs e.seat v w e.value e.update is)
 
   pub moved_rule : InRule z (set words e.word (word_of e.kind e.value (slice_index words e.word))) (set vs e.seat moved_view)

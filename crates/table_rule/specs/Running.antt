@@ -8,10 +8,11 @@ use Rattle.index_words.specs.declared.word.Word.{Word}
 use Rattle.index_words.specs.Words.{address}
 use Rattle.core_events.specs.declared.event.Event.{Event}
 use Rattle.core_events.specs.declared.event.Kind.{Kind}
-use Rattle.core_events.specs.declared.event.Kind.TheVariants.{MakeSeat, SplitSeat, JoinSeat, LookSec, LoadStamp, LoadHead, LoadTs, LoadPtr, LoadNext, Raise, TryLock, LoadMark, LoadKeyOrVal, LookAnn, LoadLink, LoadTag}
 use Rattle.core_invariant.specs.Rule.{InRule}
 use Rattle.core_events.specs.Steps.{allowed, after}
 use Rattle.core_events.specs.Tables.{Table}
+use Rattle.core_events.specs.WordMoves.{Move, move_of}
+use Rattle.core_events.specs.WordMoves.Move.{Load, Store}
 
 abbrev pub table : Layout → List ℕ → List View → Table
 table z words views = record { layout = z; words = words; views = views }
@@ -47,34 +48,6 @@ pub record Happened (z : Layout) (e : Event) (v : View) (n : ℕ) (w : View) : T
 -- the same without the word found, which a store does not tell
 abbrev pub Stored : Layout → Event → View → View → Type 0
 Stored z e v w = (n : ℕ) × Happened z e v n w
-
--- what an event does to its word: it leaves it, puts its value there, adds one, puts its value where it holds 0, or moves
--- seats and no word
-pub data Move : Type 0 where
-  Load : Move
-  Store : Move
-  Add : Move
-  Swap : Move
-  Seats : Move
-
-abbrev pub move_of : Kind → Move
-move_of MakeSeat = Seats
-move_of SplitSeat = Seats
-move_of JoinSeat = Seats
-move_of Raise = Add
-move_of TryLock = Swap
-move_of LookSec = Load
-move_of LoadStamp = Load
-move_of LoadHead = Load
-move_of LoadTs = Load
-move_of LoadPtr = Load
-move_of LoadNext = Load
-move_of LoadMark = Load
-move_of LoadKeyOrVal = Load
-move_of LookAnn = Load
-move_of LoadLink = Load
-move_of LoadTag = Load
-move_of _ = Store
 
 abbrev pub IsLoadMove : Move → Type 0
 IsLoadMove Load = ⊤

@@ -3,21 +3,8 @@ use Rattle.std.proofs.Common.{ap, [], ◌∷◌, sym, subst, ◌≡◌, ℕ, Lis
 use Rattle.index_words.specs.declared.layout.Layout.{Layout}
 use Rattle.key_map.specs.declared.update.Update.{Update}
 use Rattle.index_words.specs.declared.view.View.{View}
-use Rattle.index_words.specs.declared.view.history.SeenHistory.{SeenHistory}
-use Rattle.index_words.specs.declared.view.history.Counts.{Counts}
-use Rattle.index_words.specs.declared.view.reading.TreeNode.{TreeNode}
-use Rattle.index_words.specs.declared.view.reading.Link.{Link as ViewLink}
-use Rattle.index_words.specs.declared.view.reading.Turn.{Turn}
-use Rattle.index_words.specs.declared.view.reading.Filled.{Filled}
 use Rattle.index_words.specs.declared.view.reading.Place.{Place}
 use Rattle.index_words.specs.declared.view.reading.Place.TheVariants.{Entry as AtEntry}
-use Rattle.index_words.specs.declared.view.slots.Slots.{Slots}
-use Rattle.index_words.specs.declared.view.slots.Looks.{Looks}
-use Rattle.index_words.specs.declared.view.update.HeldNode.{HeldNode}
-use Rattle.index_words.specs.declared.view.update.HeldNext.{HeldNext}
-use Rattle.index_words.specs.declared.view.update.UnsetLink.{UnsetLink}
-use Rattle.index_words.specs.declared.view.update.OwedTag.{OwedTag}
-use Rattle.index_words.specs.declared.view.update.Unlinking.{Unlinking}
 use Rattle.index_words.specs.declared.word.Field.TheVariants.{Head, Link, Tag}
 use Rattle.index_words.specs.declared.word.Part.TheVariants.{Stamp as Number}
 use Rattle.index_words.specs.declared.word.Word.{Word}
@@ -34,104 +21,9 @@ use Rattle.core_events.specs.FillMoves.{filled_with, with_filled, known_before, 
 use Rattle.core_events.specs.LoadMoves.{next_at}
 use Rattle.core_events.specs.LockMoves.{locked_view, met_lock}
 use Rattle.core_events.specs.Steps.{view_after, look_from, head_from, ts_from, ptr_from, next_from, prepared_from, raised_from, finalised_from, tried_from, unlocked_from, mark_from, marked_from, pair_from, ann_from, cut_from, link_from, tag_from, set_from, raised_tag_from}
-use Rattle.core_grace.specs.Holds.{held_slots}
-use Rattle.core_invariant.proofs.Fronts.{held-found, held-known}
-use Rattle.core_kept.proofs.HeadLoads.{side_node}
-use Rattle.core_kept.proofs.Marks.{slots_marked, slots_paired}
-use Rattle.core_kept.proofs.LinkStores.{slots_link}
-use Rattle.core_kept.proofs.TagStores.{slots_tag}
-
--- the groups of a view's fields
-pub data Group : Type 0 where
-  Owner : Group
-  Inside : Group
-  Announcing : Group
-  History : Group
-  Counting : Group
-  Snapshot : Group
-  Tree : Group
-  Standing : Group
-  Links : Group
-  Turns : Group
-  Looking : Group
-  Filling : Group
-  Nodes : Group
-  Locks : Group
-  Nexts : Group
-  Change : Group
-  Pending : Group
-  Unset : Group
-  Owed : Group
-  Leaving : Group
-  Waiting : Group
-  Free : Group
-  Retired : Group
-  Grace : Group
-  Unused : Group
-
-pub record OwnerPart : Type 0 where
-  pub joined : Bool
-  pub layout : Layout
-  pub number : Option ℕ
-  pub to_give : List ℕ
-
-pub record ChangePart : Type 0 where
-  pub raised : Option ℕ
-  pub added : Option ℕ
-  pub taken : List ℕ
-
-abbrev pub PartOf : Group → Type 0
-PartOf Owner = OwnerPart
-PartOf History = SeenHistory
-PartOf Counting = Counts
-PartOf Snapshot = Option ℕ × Option ℕ
-PartOf Tree = List TreeNode
-PartOf Standing = Place × Option ℕ
-PartOf Links = List ViewLink
-PartOf Turns = Option Turn × Option Turn
-PartOf Looking = Option ℕ × List ℕ
-PartOf Filling = List Filled
-PartOf Nodes = List HeldNode
-PartOf Locks = List ℕ
-PartOf Nexts = List HeldNext
-PartOf Change = ChangePart
-PartOf Pending = List ℕ
-PartOf Unset = List UnsetLink
-PartOf Owed = List OwedTag
-PartOf Leaving = Option Unlinking
-PartOf Waiting = Looks
-PartOf Free = Slots
-PartOf Retired = Slots × Slots
-PartOf Grace = Looks
-PartOf Unused = Slots
-PartOf _ = ℕ
-
-abbrev pub part : (g : Group) → View → PartOf g
-part Owner v = record { joined = v.joined; layout = v.layout; number = v.number; to_give = v.to_give }
-part Inside v = v.section_word
-part Announcing v = v.announced
-part History v = v.history
-part Counting v = v.counts
-part Snapshot v = (v.reading.section, v.reading.opened)
-part Tree v = v.reading.tree
-part Standing v = (v.reading.place, v.reading.above)
-part Links v = v.reading.links
-part Turns v = (v.reading.left_turn, v.reading.right_turn)
-part Looking v = (v.reading.least, v.reading.looked)
-part Filling v = v.reading.filled
-part Nodes v = v.held.nodes
-part Locks v = held_slots v.held.nodes
-part Nexts v = v.held.nexts
-part Change v = record { raised = v.update.raised; added = v.update.added; taken = v.update.taken }
-part Pending v = v.update.pending
-part Unset v = v.update.unset
-part Owed v = v.update.owed
-part Leaving v = v.update.unlinking
-part Waiting v = v.update.waiting
-part Free v = v.free
-part Retired v = (v.retired, v.batch)
-part Grace v = v.grace
-part Unused v = v.unused
+use Rattle.core_invariant.proofs.HeldSlots.{slots_known, slots_found, slots_numbered, slots_marked, slots_paired, slots_link, slots_tag}
+use Rattle.core_invariant.proofs.Groups.{Group, PartOf, part}
+use Rattle.core_invariant.proofs.Groups.Group.{Owner, Inside, Announcing, History, Counting, Snapshot, Tree, Standing, Links, Turns, Looking, Filling, Nodes, Locks, Nexts, Change, Pending, Unset, Owed, Leaving, Waiting, Free, Retired, Grace, Unused}
 
 -- a load that stands, and what a search forgets as it goes nowhere
 abbrev walks : Group → Bool
@@ -239,7 +131,7 @@ either : (g : Group) (p : PartOf g) (b : Bool) (x y : View) → part g x ≡ p �
 either g p true x y one two = one
 either g p false x y one two = two
 
-module _ (z : Layout) (v : View) where
+module _ (passes : ℕ) (v : View) where
   taken_keeps : (g : Group) → frees g ≡ false → part g (batch_taken v) ≡ part g v
   taken_keeps g off = either g (part g v) (is_empty v.batch) (record v { retired = no_slots; batch = v.retired; grace = no_looks }) v (by g off) refl
     where
@@ -247,8 +139,8 @@ module _ (z : Layout) (v : View) where
       by Owner off = refl
       by _ off = cc
 
-  settled_keeps : (g : Group) → frees g ≡ false → part g (settled z.passes v) ≡ part g v
-  settled_keeps g off = either g (part g v) (all_passed z.passes v.number v.grace.passed) (batch_freed v) v (by g off) refl
+  settled_keeps : (g : Group) → frees g ≡ false → part g (settled passes v) ≡ part g v
+  settled_keeps g off = either g (part g v) (all_passed passes v.number v.grace.passed) (batch_freed v) v (by g off) refl
     where
       by : (g : Group) → frees g ≡ false → part g (batch_freed v) ≡ part g v
       by Owner off = refl
@@ -274,7 +166,7 @@ module _ (z : Layout) (m : Memory) (vs : List View) (v : View) (x value : ℕ) (
   enter_keeps : Keeps Enter (entered z.passes v value)
   enter_keeps g off =
       let u : View = in_section v value in
-      settled_keeps z (batch_taken u) g (enter_frees g off) ∙ taken_keeps z u g (enter_frees g off) ∙ entered_keeps z v value g off
+      settled_keeps z.passes (batch_taken u) g (enter_frees g off) ∙ taken_keeps z.passes u g (enter_frees g off) ∙ entered_keeps z.passes v value g off
 
   leave_keeps : Keeps Leave (view_after Leave z m vs v Stamp x value o)
   leave_keeps Owner off = refl
@@ -289,7 +181,7 @@ module _ (z : Layout) (m : Memory) (vs : List View) (v : View) (x value : ℕ) (
       let u : View = batch_taken v in
       let free = look_frees g off in
       either g (part g v) (has_no_lock v) (looked z.passes v pass x) (looked_waiting v pass x)
-      (settled_keeps z (record u { grace = looked_at u.grace pass x }) g free ∙ graced pass u g free ∙ taken_keeps z v g free) (by g off)
+      (settled_keeps z.passes (record u { grace = looked_at u.grace pass x }) g free ∙ graced pass u g free ∙ taken_keeps z.passes v g free) (by g off)
     where
       by : Keeps LookSec (looked_waiting v pass x)
       by Owner off = refl
@@ -308,13 +200,13 @@ module _ (z : Layout) (m : Memory) (vs : List View) (v : View) (x value : ℕ) (
 
   head_keeps : (w : Word) (number : ℕ) → Keeps LoadHead (head_from v w x number)
   head_keeps (Node (Head side) k) number Owner off = refl
-  head_keeps (Node (Head side) k) number Locks off = held-found k side x v.held.nodes
+  head_keeps (Node (Head side) k) number Locks off = slots_found k side x v.held.nodes
   head_keeps (Node (Head side) k) number _ off = cc
   head_keeps _ number g off = refl
 
   ts_keeps : (w : Word) → Keeps LoadTs (ts_from v w x)
   ts_keeps (Entry p e) Owner off = refl
-  ts_keeps (Entry p e) Locks off = side_node e x v.held.nodes
+  ts_keeps (Entry p e) Locks off = slots_numbered e x v.held.nodes
   ts_keeps (Entry p e) _ off = cc
   ts_keeps _ g off = refl
 
@@ -334,7 +226,7 @@ module _ (z : Layout) (m : Memory) (vs : List View) (v : View) (x value : ℕ) (
 
   prepare_keeps : (w : Word) → Keeps Prepare (prepared_from v w value)
   prepare_keeps (Node (Head side) k) Owner off = refl
-  prepare_keeps (Node (Head side) k) Locks off = held-known k side (record { entry = value; stamp = None }) v.held.nodes
+  prepare_keeps (Node (Head side) k) Locks off = slots_known k side (record { entry = value; stamp = None }) v.held.nodes
   prepare_keeps (Node (Head side) k) _ off = cc
   prepare_keeps _ g off = refl
 
@@ -458,21 +350,31 @@ abbrev pub parts : (gs : List Group) → View → Parts gs
 parts [] v = tt
 parts (g ∷ gs) v = (part g v, parts gs v)
 
--- a kind touches none of them
+-- none of them is touched
+abbrev pub AreOff : (Group → Bool) → List Group → Type 0
+AreOff touched [] = Unit {0}
+AreOff touched (g ∷ gs) = (touched g ≡ false) × AreOff touched gs
+
+parts_same : (touched : Group → Bool) (u v : View) → ((g : Group) → touched g ≡ false → part g u ≡ part g v) → (gs : List Group) → AreOff touched gs
+    → parts gs u ≡ parts gs v
+parts_same touched u v same [] off = refl
+parts_same touched u v same (g ∷ gs) off =
+    let pair : PartOf g → Parts gs → Parts (g ∷ gs) = λ a b. (a, b) in
+    ap (λ (a : PartOf g). pair a (parts gs u)) (same g off.0) ∙ ap (λ (b : Parts gs). pair (part g v) b) (parts_same touched u v same gs off.1)
+
 abbrev pub Spares : Kind → List Group → Type 0
-Spares kind [] = Unit {0}
-Spares kind (g ∷ gs) = (touches kind g ≡ false) × Spares kind gs
+Spares kind gs = AreOff (touches kind) gs
+
+-- an enter leaves all groups but those of slots that come back, once the seat is in its section
+pub parts_entered : (passes value : ℕ) (v : View) (gs : List Group) → AreOff frees gs → parts gs (entered passes v value) ≡ parts gs (in_section v value)
+parts_entered passes value v =
+    let u : View = in_section v value in
+    parts_same frees (entered passes v value) u (λ g off. settled_keeps passes (batch_taken u) g off ∙ taken_keeps passes u g off)
 
 module _ (z : Layout) (m : Memory) (vs : List View) (v : View) (x value : ℕ) (o : Option Update) (kind : Kind) (w : Word) where
-  abbrev u : View
-  u = view_after kind z m vs v w x value o
+  pub parts_kept : (gs : List Group) → Spares kind gs → parts gs (view_after kind z m vs v w x value o) ≡ parts gs v
+  parts_kept gs off = parts_same (touches kind) (view_after kind z m vs v w x value o) v (λ g free. keeps z m vs v x value o kind w g free) gs off
 
-  pub parts_kept : (gs : List Group) → Spares kind gs → parts gs u ≡ parts gs v
-  parts_kept [] off = refl
-  parts_kept (g ∷ gs) off =
-      let pair : PartOf g → Parts gs → Parts (g ∷ gs) = λ a b. (a, b) in
-      ap (λ (a : PartOf g). pair a (parts gs u)) (keeps z m vs v x value o kind w g off.0) ∙ ap (λ (b : Parts gs). pair (part g v) b) (parts_kept gs off.1)
-
-  -- disjoint, so kept
-  pub quiet_part : (gs : List Group) (P : Parts gs → Type 0) → Spares kind gs → P (parts gs v) → P (parts gs u)
+  -- what is said of these groups is kept by an event of a kind that touches none of them
+  pub quiet_part : (gs : List Group) (P : Parts gs → Type 0) → Spares kind gs → P (parts gs v) → P (parts gs (view_after kind z m vs v w x value o))
   quiet_part gs P off = subst P (sym (parts_kept gs off))

@@ -9,7 +9,7 @@ use Rattle.index_words.specs.declared.word.Field.TheVariants.{Lock, Mark, Head, 
 use Rattle.index_words.specs.declared.word.Part.TheVariants.{Stamp as Number, Next}
 use Rattle.index_words.specs.declared.word.Word.{Word}
 use Rattle.index_words.specs.declared.word.Word.TheVariants.{Stamp, Section, Announced, Node, Entry}
-use Rattle.index_words.specs.Words.{Memory, memory, written, word_at, word_count, same_word}
+use Rattle.index_words.specs.Words.{Memory, memory, word_at, word_count, same_word}
 use Rattle.index_words.proofs.Store.{stored_at, same_word-true}
 use Rattle.core_grace.specs.Batches.{is_number}
 use Rattle.core_events.specs.declared.event.Kind.{Kind}
@@ -24,9 +24,8 @@ use Rattle.core_events.specs.PlainNeeds.{may_set_link, may_set_tag}
 use Rattle.core_events.specs.Needs.{is_own_section, is_outside}
 use Rattle.core_events.specs.Steps.{needs, words_after}
 use Rattle.core_events.proofs.Tests.{never, stamp_named}
-use Rattle.core_invariant.proofs.Needed.{OwnSection, own_section, OwnAnnounced, own_announced}
+use Rattle.core_invariant.proofs.Needed.{OwnSection, own_section, own_announced, raise_needed}
 use Rattle.core_invariant.proofs.WaitNeeds.{can_leave}
-use Rattle.core_kept.proofs.OwnPlaces.{raise_needed}
 
 -- an event of the kind, by a seat with this view, may store to the word
 abbrev pub stores : Kind → View → Word → Bool
