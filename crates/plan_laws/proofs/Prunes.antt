@@ -1,5 +1,6 @@
--- What the loads, the looks and the cuts between the numbers and the marks of an update leave as it was.
-use Rattle.std.proofs.Common.{◌≡◌, ℕ, ◌<◌, List, [], ◌∷◌, ◌++◌, length, map, Bool, true, false, eqb, not, ◌&&◌, refl, ap, sym, ◌∙◌, subst, arith}
+-- What the loads, the looks and the cuts between the numbers and the marks of an update leave as it was, and what they
+-- leave of a pass that cuts without an update.
+use Rattle.std.proofs.Common.{◌≡◌, ℕ, ◌<◌, List, [], ◌∷◌, ◌++◌, length, map, Bool, true, false, eqb, not, ◌&&◌, refl, ap, sym, ◌∙◌, subst, arith, Some}
 use Rattle.std.specs.Prelude.{◌==◌, is_some}
 use Rattle.std.proofs.lemmas.Bool.Decides.{nat_tests}
 use Rattle.std.proofs.lemmas.List.{length-append}
@@ -19,14 +20,16 @@ use Rattle.core_events.specs.Searches.{is_plain}
 use Rattle.core_updates.specs.declared.plan.Plan.{Plan}
 use Rattle.core_updates.specs.declared.plan.PlanSlots.{PlanSlots}
 use Rattle.core_updates.specs.Plans.{sets_of}
-use Rattle.key_map.specs.Lists.{Every, IsItem, has}
+use Rattle.key_map.specs.Lists.{Every, IsItem, count, has}
+use Rattle.core_grace.specs.Sections.{is_even}
 use Rattle.plan_laws.specs.Looks.{IsUnmarked}
 use Rattle.plan_laws.specs.PlainLinks.{HasNotSearched, LeavesLinks}
-use Rattle.plan_laws.specs.Prunes.{HasNumbered, KeepsPruned, StaysNumbered, PruneStepLaw, KeepsPrunedLaw, OwnedIsPrunedLaw}
+use Rattle.plan_laws.specs.Prunes.{HasNumbered, IsCutting, KeepsPruned, StaysCutting, StaysNumbered, PruneStepLaw, CutStepLaw, StartCuttingLaw, EndCuttingLaw, KeepsPrunedLaw, OwnedIsPrunedLaw}
 use Rattle.plan_laws.proofs.Frames.{same-counts, moves-grow, waits-grow}
 use Rattle.plan_laws.proofs.HeldMaps.{found-node, found-mark}
 use Rattle.plan_laws.proofs.Items.{item-map}
 use Rattle.plan_laws.proofs.Kept.{slots-kept}
+use Rattle.plan_laws.proofs.Releases.{none-taken}
 
 -- one link more that is not a plain one
 one-more : (ls : List ViewLink) (l : ViewLink) → is_plain l.source ≡ false → Every (λ (x : ViewLink). is_plain x.source ≡ false) ls
@@ -89,23 +92,57 @@ map-same : (hs : List HeldNode) → hs ≡ map (λ (h : HeldNode). h) hs
 map-same [] = refl
 map-same (h ∷ hs) = ap (λ (xs : List HeldNode). h ∷ xs) (map-same hs)
 
-module _ (v : View) (n : ℕ) (plan : Plan) (slots : PlanSlots) (h : HasNumbered v n plan slots) where
-  head-stays : (node entry number : ℕ) (side : Side) → StaysNumbered v (head_loaded v node side entry number) n plan slots
-  head-stays node entry number side =
+-- Such a step maps the locked nodes one by one, with their slots and their marks as they were; the seat and what
+-- pruning leaves stay. Both stages follow from this.
+record Leaves (v w : View) : Type 0 where
+  f : HeldNode → HeldNode
+  maps : w.held.nodes ≡ map f v.held.nodes
+  node : (h : HeldNode) → (f h).node ≡ h.node
+  mark : (h : HeldNode) → (f h).mark ≡ h.mark
+  seat : KeepsSeat v w
+  pruned : KeepsPruned v w
+
+still-numbered : (v w : View) (n : ℕ) (plan : Plan) (slots : PlanSlots) → Leaves v w → HasNumbered v n plan slots → StaysNumbered v w n plan slots
+still-numbered v w n plan slots l h = record {
+  numbered = numbered-kept l.f v w n plan slots l.maps l.node l.mark l.seat h;
+  keeps = l.pruned;
+}
+
+still-cutting : (v w : View) (n : ℕ) (nodes : List ℕ) → Leaves v w → IsCutting v n nodes → StaysCutting v w n nodes
+still-cutting v w n nodes l h =
+    let keeps = l.seat in
+    record {
+      cutting = record {
+        live = keeps.joined ∙ h.live;
+        own = keeps.number ∙ h.own;
+        inside = ap is_even keeps.word ∙ h.inside;
+        reads = ap is_some keeps.section ∙ h.reads;
+        idle = keeps.update ∙ h.idle;
+        once = h.once;
+        locked = slots-kept l.f v w l.maps l.node ∙ h.locked;
+      };
+      unmarked = still-unmarked l.f v w l.maps l.node l.mark;
+      keeps = l.pruned;
+    }
+
+module _ (v : View) where
+  head-leaves : (node entry number : ℕ) (side : Side) → Leaves v (head_loaded v node side entry number)
+  head-leaves node entry number side =
       let w = head_loaded v node side entry number in
       record {
-        numbered =
-            numbered-kept (found_at node side entry) v w n plan slots refl (found-node node entry side) (found-mark node entry side)
-            (record {
-              joined = refl;
-              number = refl;
-              word = refl;
-              update = refl;
-              section = refl;
-              unsearched = none-more
-                  (entry == 0) v.reading.links node side;
-            }) h;
-        keeps = record {
+        f = found_at node side entry;
+        maps = refl;
+        node = found-node node entry side;
+        mark = found-mark node entry side;
+        seat = record {
+          joined = refl;
+          number = refl;
+          word = refl;
+          update = refl;
+          section = refl;
+          unsearched = none-more (entry == 0) v.reading.links node side;
+        };
+        pruned = record {
           layout = refl;
           joined = refl;
           number = refl;
@@ -119,14 +156,16 @@ module _ (v : View) (n : ℕ) (plan : Plan) (slots : PlanSlots) (h : HasNumbered
         };
       }
 
-  number-stays : (entry x : ℕ) → 0 < x → StaysNumbered v (ts_loaded v entry x) n plan slots
-  number-stays entry x some =
+  number-leaves : (entry x : ℕ) → 0 < x → Leaves v (ts_loaded v entry x)
+  number-leaves entry x some =
       let w = ts_loaded v entry x in
       record {
-        numbered =
-            numbered-kept (node_known entry x) v w n plan slots refl (λ y. refl) (λ y. refl)
-            (record { joined = refl; number = refl; word = refl; update = refl; section = refl; unsearched = λ all. all }) h;
-        keeps = record {
+        f = node_known entry x;
+        maps = refl;
+        node = λ y. refl;
+        mark = λ y. refl;
+        seat = record { joined = refl; number = refl; word = refl; update = refl; section = refl; unsearched = λ all. all };
+        pruned = record {
           layout = refl;
           joined = refl;
           number = refl;
@@ -141,20 +180,23 @@ module _ (v : View) (n : ℕ) (plan : Plan) (slots : PlanSlots) (h : HasNumbered
       }
 
   -- a step that moves no locked node
-  still : (w : View) → w.held.nodes ≡ v.held.nodes → KeepsSeat v w → KeepsPruned v w → StaysNumbered v w n plan slots
+  still : (w : View) → w.held.nodes ≡ v.held.nodes → KeepsSeat v w → KeepsPruned v w → Leaves v w
   still w same keeps pruned = record {
-    numbered = numbered-kept (λ (x : HeldNode). x) v w n plan slots (same ∙ map-same v.held.nodes) (λ x. refl)
-        (λ x. refl) keeps h;
-    keeps = pruned;
+    f = λ (x : HeldNode). x;
+    maps = same ∙ map-same v.held.nodes;
+    node = λ x. refl;
+    mark = λ x. refl;
+    seat = keeps;
+    pruned = pruned;
   }
 
-  as-before : StaysNumbered v v n plan slots
+  as-before : Leaves v v
   as-before =
       still v refl (record { joined = refl; number = refl; word = refl; update = refl; section = refl; unsearched = λ all. all })
       (record { layout = refl; joined = refl; number = refl; history = refl; free = refl; batch = refl; nodes = refl; entries = omega arith; grown = same-counts v v refl; waits = refl })
 
-  next-stays : (entry next : ℕ) (p : Place) → StaysNumbered v (next_at v p entry next) n plan slots
-  next-stays entry next (AtEntry node side e found) =
+  next-leaves : (entry next : ℕ) (p : Place) → Leaves v (next_at v p entry next)
+  next-leaves entry next (AtEntry node side e found) =
       let w = next_at v (AtEntry node side e found) entry next in
       still w refl
       (record {
@@ -167,16 +209,16 @@ module _ (v : View) (n : ℕ) (plan : Plan) (slots : PlanSlots) (h : HasNumbered
             (next == 0 && is_above v entry found) v.reading.links node side;
       })
       (record { layout = refl; joined = refl; number = refl; history = refl; free = refl; batch = refl; nodes = refl; entries = omega arith; grown = same-counts v w refl; waits = refl })
-  next-stays entry next _ = as-before
+  next-leaves entry next _ = as-before
 
-  looked-stays : (pass word : ℕ) → StaysNumbered v (ann_loaded v pass word) n plan slots
-  looked-stays pass word =
+  looked-leaves : (pass word : ℕ) → Leaves v (ann_loaded v pass word)
+  looked-leaves pass word =
       let w = ann_loaded v pass word in
       still w refl (record { joined = refl; number = refl; word = refl; update = refl; section = refl; unsearched = λ all. all })
       (record { layout = refl; joined = refl; number = refl; history = refl; free = refl; batch = refl; nodes = refl; entries = omega arith; grown = same-counts v w refl; waits = refl })
 
-  cut-stays : (entry : ℕ) (back : List ℕ) → StaysNumbered v (cut_view v entry back) n plan slots
-  cut-stays entry back =
+  cut-leaves : (entry : ℕ) (back : List ℕ) → Leaves v (cut_view v entry back)
+  cut-leaves entry back =
       let w = cut_view v entry back in
       still w refl (record { joined = refl; number = refl; word = refl; update = refl; section = refl; unsearched = λ all. all })
       (record {
@@ -194,11 +236,44 @@ module _ (v : View) (n : ℕ) (plan : Plan) (slots : PlanSlots) (h : HasNumbered
 
 pub prune_step : PruneStepLaw
 prune_step v n plan slots h = record {
-  head = head-stays v n plan slots h;
-  number = number-stays v n plan slots h;
-  next = λ entry next. next-stays v n plan slots h entry next v.reading.place;
-  looked = looked-stays v n plan slots h;
-  cut = cut-stays v n plan slots h;
+  head = λ node entry number side. still-numbered v (head_loaded v node side entry number) n plan slots (head-leaves v node entry number side) h;
+  number = λ entry x some. still-numbered v (ts_loaded v entry x) n plan slots (number-leaves v entry x some) h;
+  next = λ entry next. still-numbered v (next_at v v.reading.place entry next) n plan slots (next-leaves v entry next v.reading.place) h;
+  looked = λ pass word. still-numbered v (ann_loaded v pass word) n plan slots (looked-leaves v pass word) h;
+  cut = λ entry back. still-numbered v (cut_view v entry back) n plan slots (cut-leaves v entry back) h;
+}
+
+pub cut_step : CutStepLaw
+cut_step v n nodes h = record {
+  head = λ node entry number side. still-cutting v (head_loaded v node side entry number) n nodes (head-leaves v node entry number side) h;
+  number = λ entry x some. still-cutting v (ts_loaded v entry x) n nodes (number-leaves v entry x some) h;
+  next = λ entry next. still-cutting v (next_at v v.reading.place entry next) n nodes (next-leaves v entry next v.reading.place) h;
+  looked = λ pass word. still-cutting v (ann_loaded v pass word) n nodes (looked-leaves v pass word) h;
+  cut = λ entry back. still-cutting v (cut_view v entry back) n nodes (cut-leaves v entry back) h;
+}
+
+pub start_cutting : StartCuttingLaw
+start_cutting v n nodes t = record {
+  live = t.working.live;
+  own = t.working.own;
+  inside = t.working.inside;
+  reads = ap is_some t.section;
+  idle = t.idle;
+  once = t.once;
+  locked = t.locked;
+}
+
+pub end_cutting : EndCuttingLaw
+end_cutting v n nodes c = record {
+  live = c.live;
+  own = c.own;
+  word = c.inside;
+  once = c.once;
+  locked = c.locked;
+  done = ap (λ (u : Updating). u.pending) c.idle;
+  marked = subst (λ (u : Updating). Every (λ (h : HeldNode). 0 < count h.node u.taken → h.mark ≡ Some 1) v.held.nodes) (sym c.idle) (none-taken v.held.nodes);
+  set = (ap (λ (u : Updating). u.unset) c.idle, ap (λ (u : Updating). u.owed) c.idle, ap (λ (u : Updating). u.unlinking) c.idle);
+  ended = λ none'. c.idle;
 }
 
 pub keeps_pruned : KeepsPrunedLaw

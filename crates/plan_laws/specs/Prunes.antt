@@ -1,10 +1,13 @@
 -- Between the numbers of an update's entries and its marks the bundles that the update changed may be cut. What the
 -- seat's view shows of the update stays, whatever it loads on its way along them, at whomever it looks, and whatever it
--- cuts.
+-- cuts. A pass may also cut without an update: it locks what a search has found, as a try of an update does, cuts the
+-- bundles there, and gives its locks back.
 use Rattle.std.specs.Prelude.{◌≡◌, ℕ, ◌<◌, ◌≤◌, List, [], length, true, false, Some, is_some}
 use Rattle.std.specs.List.{slice_get}
 use Rattle.index_words.specs.declared.side.Side.{Side}
 use Rattle.index_words.specs.declared.view.View.{View}
+use Rattle.index_words.specs.Views.{no_update}
+use Rattle.key_map.specs.Lists.{count}
 use Rattle.core_grace.specs.Holds.{held_slots}
 use Rattle.core_events.specs.Announcing.{ann_loaded}
 use Rattle.core_events.specs.CutMoves.{cut_view}
@@ -18,6 +21,8 @@ use Rattle.plan_laws.specs.Frames.{CountsGrow, KeepsOwned}
 use Rattle.plan_laws.specs.Looks.{IsUnmarked}
 use Rattle.plan_laws.specs.Places.{LocksOnce}
 use Rattle.plan_laws.specs.PlainLinks.{HasNotSearched, LeavesLinks}
+use Rattle.plan_laws.specs.Releases.{IsReleasing}
+use Rattle.plan_laws.specs.Tries.{IsTrying}
 
 -- of each node at which the plan puts an entry in front, the mark was found 0 under its lock
 abbrev pub AreUnmarked : View → Plan → PlanSlots → Type 0
@@ -67,6 +72,42 @@ pub record PrunesOn (v : View) (n : ℕ) (plan : Plan) (slots : PlanSlots) : Typ
 
 abbrev pub PruneStepLaw : Type 0
 PruneStepLaw = (v : View) (n : ℕ) (plan : Plan) (slots : PlanSlots) → HasNumbered v n plan slots → PrunesOn v n plan slots
+
+-- a pass that cuts without an update: inside a section, with a section number, it has locked these nodes, in this order,
+-- and has done nothing else of an update
+pub record IsCutting (v : View) (n : ℕ) (nodes : List ℕ) : Type 0 where
+  pub live : v.joined ≡ false
+  pub own : v.number ≡ Some n
+  pub inside : IsInside v
+  pub reads : is_some v.reading.section ≡ true
+  pub idle : v.update ≡ no_update
+  pub once : (k : ℕ) → count k nodes ≤ 1
+  pub locked : held_slots v.held.nodes ≡ nodes
+
+-- it still is one, and each node that was found unmarked under its lock still is
+pub record StaysCutting (v w : View) (n : ℕ) (nodes : List ℕ) : Type 0 where
+  pub cutting : IsCutting w n nodes
+  pub unmarked : (k : ℕ) → IsUnmarked v k → IsUnmarked w k
+  pub keeps : KeepsPruned v w
+
+-- after each load along a bundle, each look at an announcement, and each cut
+pub record CutsOn (v : View) (n : ℕ) (nodes : List ℕ) : Type 0 where
+  pub head : (node entry number : ℕ) (side : Side) → StaysCutting v (head_loaded v node side entry number) n nodes
+  pub number : (entry x : ℕ) → 0 < x → StaysCutting v (ts_loaded v entry x) n nodes
+  pub next : (entry next : ℕ) → StaysCutting v (next_loaded v entry next) n nodes
+  pub looked : (pass word : ℕ) → StaysCutting v (ann_loaded v pass word) n nodes
+  pub cut : (entry : ℕ) (back : List ℕ) → StaysCutting v (cut_view v entry back) n nodes
+
+abbrev pub CutStepLaw : Type 0
+CutStepLaw = (v : View) (n : ℕ) (nodes : List ℕ) → IsCutting v n nodes → CutsOn v n nodes
+
+-- a try may begin to cut at each of its steps before it fills its slots
+abbrev pub StartCuttingLaw : Type 0
+StartCuttingLaw = (v : View) (n : ℕ) (nodes : List ℕ) → IsTrying v n nodes → IsCutting v n nodes
+
+-- a pass that cuts without an update may give its locks back at each step
+abbrev pub EndCuttingLaw : Type 0
+EndCuttingLaw = (v : View) (n : ℕ) (nodes : List ℕ) → IsCutting v n nodes → IsReleasing v n nodes
 
 abbrev pub KeepsPrunedLaw : Type 0
 KeepsPrunedLaw = (u v w : View) → KeepsPruned u v → KeepsPruned v w → KeepsPruned u w

@@ -4,7 +4,7 @@ ghost use Rattle.plan_laws.specs.Answers.{AnswerLaw, PreparedOwnsLaw, FourEntrie
 ghost use Rattle.plan_laws.specs.Frames.{StepsKeepLaw, KeepsPassLaw, KeepsTryLaw, KeepsOwnedLaw};
 ghost use Rattle.plan_laws.specs.Parting.{StartPartingLaw, LinkCopyLaw, LoadFarTagLaw, UnlockUpperLaw, LeavePartedLaw, LookPartedLaw, MarkFarLaw, UnlinkFarLaw};
 ghost use Rattle.plan_laws.specs.PlainLinks.{SetLaw, TagLaw, NoTagLaw};
-ghost use Rattle.plan_laws.specs.Prunes.{PruneStepLaw, KeepsPrunedLaw, OwnedIsPrunedLaw};
+ghost use Rattle.plan_laws.specs.Prunes.{PruneStepLaw, CutStepLaw, StartCuttingLaw, EndCuttingLaw, KeepsPrunedLaw, OwnedIsPrunedLaw};
 ghost use Rattle.plan_laws.specs.Raises.{RaiseStepLaw, FinaliseStepLaw, FinaliseEndLaw, MarkStartLaw, MarkStepLaw, MarkEndLaw};
 ghost use Rattle.plan_laws.specs.Releases.{GiveUpLaw, NothingLockedLaw, UnlockStepLaw, LeaveStepLaw, TakeBackStepLaw};
 
@@ -45,9 +45,12 @@ pub fn removals_wait()
 {}
 
 /// Between the numbers and the marks the bundles that the update changed may be cut. No step of that takes anything
-/// from what the view shows of the update.
+/// from what the view shows of the update. A try that has filled no slot may cut too, and give its locks back then.
 pub fn bundles_are_pruned()
     ensures step { PruneStepLaw }
+    ensures cutting { CutStepLaw }
+    ensures start { StartCuttingLaw }
+    ensures end { EndCuttingLaw }
     ensures keeps { KeepsPrunedLaw }
     ensures owned { OwnedIsPrunedLaw }
 {}
