@@ -5,9 +5,11 @@
 //! clients, and the exit status.
 #![tactic(auto)]
 
-ghost use Rattle.std.specs.Prelude.{◌≡◌, IfOk, OnErr, OnOk, map, drop, string_bytes};
+ghost use Rattle.std.specs.Prelude.{◌≡◌, ◌≤◌, [], IfOk, map, drop, string_bytes};
+ghost use Rattle.std.specs.Io.Buffered.{writer_buffer};
 ghost use Rattle.std.specs.Process.{exit_status};
 ghost use Rattle.std.specs.Vec.Iter.{into_iter_items};
+ghost use Rattle.outside_io.specs.Streams.{one_more};
 ghost use Rattle.serve_session.specs.Statuses.{exit_code};
 
 use client_run::OpenGate;
@@ -25,32 +27,31 @@ fn main(rt: HostRuntime) -> ExitCode {
     let mut sink = StdSink::new(&rt);
     match words(&rt) {
         Ok(words) => {
-            let mut runner = Threaded::new();
-            let status = serve(
-                &rt,
-                rt.alloc(),
-                &words,
-                &mut source,
-                &mut sink,
-                &OpenGate,
-                &mut runner,
-            );
-            // The process ends with this, and its memory is given back whole.
-            mem::forget(runner);
-            let flushed = sink.flush();
-            end(&rt, written(status, flushed))
+            let status = serve_to_the_end(&rt, &words, &mut source, &mut sink);
+            end(&rt, status)
         }
         Err(status) => end(&rt, status),
     }
 }
 
-// How serving ended whose last bytes the output took, or did not take.
-fn written(status: Status, flushed: Result<(), Failed>) -> Status
-    ensures taken { OnOk flushed (result ≡ status) }
-    ensures not_taken { OnErr flushed (result ≡ Status.WriteFault) }
+// Serves, and hands on what the output's buffer still has: with every end but a write fault, nothing is left there. A
+// write fault is one that the output has counted, while serving or by this.
+fn serve_to_the_end(
+    rt: &HostRuntime,
+    words: &[Text],
+    source: &mut StdSource,
+    sink: &mut StdSink,
+) -> Status
+    ensures emptied { ¬ (result ≡ Status.WriteFault) → writer_buffer sink.new.output ≡ [] }
+    ensures fault_counted { result ≡ Status.WriteFault → one_more sink.old.faults ≤ sink.new.faults }
+    ensures no_other_fault { ¬ (result ≡ Status.WriteFault) → sink.new.faults ≡ sink.old.faults }
 {
-    match flushed {
-        Ok(()) => status,
+    let mut runner = Threaded::new();
+    let served = serve(rt, rt.alloc(), words, source, sink, &OpenGate, &mut runner);
+    // The process ends with this, and its memory is given back whole.
+    mem::forget(runner);
+    match sink.flush() {
+        Ok(()) => served,
         Err(Failed) => Status::WriteFault,
     }
 }

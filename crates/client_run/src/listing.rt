@@ -7,14 +7,32 @@ ghost use Rattle.bucket_terms.specs.PageInRange.{IsInRange};
 ghost use Rattle.client_run.specs.Listing.{ListedAt, LookedOnly};
 
 use bucket_terms::{KeyPass, ListQuery, Page, TokenPoint};
-use key_names::NoMemory;
+use key_names::{Directory, NoMemory};
 use page_rules::{KnownPrefixes, PageCursor};
 use std::alloc::Global;
 use std::sync::Wait;
 
 /// The page of a query, from a point on, in one snapshot, and the place of the snapshot. After both answers
-/// no snapshot is open. A known prefix spares the searches for it.
+/// no snapshot is open.
 pub fn list<P: KeyPass, Rt: Wait>(
+    rt: &Rt,
+    alloc: Global,
+    pass: &mut P,
+    dir: &Directory,
+    query: &ListQuery,
+    point: Option<&TokenPoint>,
+) -> Result<(u64, Page), NoMemory>
+    requires closed { (P.view pass.old).opened ≡ None }
+    ensures listed { IfOk result (λ answer. ListedAt dir.now query.now (option_copied point.entry) (P.view pass.old) (P.view pass.new) answer.0 answer.1) }
+    ensures kept { LookedOnly (P.view pass.old) (P.view pass.new) }
+    ensures home { P.home pass.new ≡ P.home pass.old }
+{
+    let known = KnownPrefixes::none(alloc, dir);
+    list_known(rt, alloc, pass, &known, query, point)
+}
+
+// As `list`, on the names of a directory whose prefixes are known: a known one is not searched for.
+pub(crate) fn list_known<P: KeyPass, Rt: Wait>(
     rt: &Rt,
     alloc: Global,
     pass: &mut P,

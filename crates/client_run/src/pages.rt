@@ -10,7 +10,7 @@ ghost use Rattle.client_run.specs.ClientRun.{answered, Answers, Stopped};
 ghost use Rattle.client_run.specs.Listing.{HasPageInRange, ListedAs};
 ghost use Rattle.client_run.specs.Starts.{IsStartOf, IsStartBehind, resumed, resumed_at};
 
-use crate::list;
+use crate::listing::list_known;
 use crate::updates::{answer_at, refused};
 use bucket_terms::{KeyPass, ListQuery, Page, Placed, Reply, Shared, Token, TokenPoint};
 use key_names::{Directory, NoMemory};
@@ -201,7 +201,7 @@ fn listed<P: KeyPass, Rt: Wait>(
     ensures home { P.home pass.new ≡ P.home pass.old }
 {
     let client = pass.client();
-    let (at, page) = list(rt, alloc, pass, known, query.get(), point.as_ref())?;
+    let (at, page) = list_known(rt, alloc, pass, known, query.get(), point.as_ref())?;
     let page = Shared::new(alloc, page)?;
     Ok(answer_at(client, line, at, Reply::Listed { query, page }))
 }

@@ -5,7 +5,7 @@ ghost use Rattle.bucket_terms.specs.declared.reply.Reply.{Reply};
 ghost use Rattle.client_run.specs.ClientRun.{answered, Answers, Stopped};
 ghost use Rattle.client_run.specs.Listing.{HasPageInRange, ListedV1As};
 
-use crate::list;
+use crate::listing::list_known;
 use crate::updates::answer_at;
 use bucket_terms::{KeyPass, ListQuery, Placed, Reply, Shared, TokenPoint, V1Query};
 use key_names::NoMemory;
@@ -53,7 +53,7 @@ fn listed_v1<P: KeyPass, Rt: Wait>(
     ensures home { P.home pass.new ≡ P.home pass.old }
 {
     let client = pass.client();
-    let (at, page) = list(rt, alloc, pass, known, &plain, point.as_ref())?;
+    let (at, page) = list_known(rt, alloc, pass, known, &plain, point.as_ref())?;
     let page = Shared::new(alloc, page)?;
     Ok(answer_at(client, line, at, Reply::ListedV1 { query, page }))
 }

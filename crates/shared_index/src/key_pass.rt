@@ -33,6 +33,7 @@ impl<'t> KeyPass for IndexPass<'t> {
         ensures spent { IsErrOf result PassError.Spent ↔ ((shown self.old).left ≡ 0) }
         ensures no_slot { IsErrOf result PassError.NoSlot ↔ IsOutOfSlots (shown self.old) }
         ensures unchanged { OnErr result (shown self.new ≡ shown self.old) }
+        ensures waits { self.new.view.counts.waits ≡ self.old.view.counts.waits }
         ensures home { home_of_pass self.new ≡ home_of_pass self.old }
     {
         let answer = tree_update::put(&mut self.pass, rt, line, key, val);
