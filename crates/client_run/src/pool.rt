@@ -1,4 +1,4 @@
-//! Passes hand node slots to one another through a depot: before an update a pass that owns none takes one, and behind
+//! Passes hand node slots to one another through a depot: before an update a pass that owns none takes one, and after
 //! it one that owns more than its own gives the free ones that are too many.
 ghost use Rattle.std.specs.Prelude.{◌≡◌, ◌+◌, ◌<◌, ◌≤◌, ◌⊎◌, None, IfSome, MatchOption};
 ghost use Rattle.bucket_terms.specs.Pool.{Lent};
@@ -9,8 +9,8 @@ use bucket_terms::PoolPass;
 use slot_depot::{Depot, DepotSeat};
 use std::sync::Wait;
 
-/// Takes a node slot out of the depot, where the pass owns none. Behind it the pass owns one, or a look of this call
-/// has found the depot empty.
+/// Takes a node slot out of the depot, where the pass owns none. After it the pass owns one, or `empties` of its seat
+/// has risen by one, which `take` does only after a look that has found the depot empty.
 pub fn top_up<P: PoolPass, Rt: Wait>(
     rt: &Rt,
     pass: &mut P,

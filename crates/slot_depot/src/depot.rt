@@ -64,8 +64,10 @@ impl<T: Tagged + Drop> Depot<T> {
     /// Leaves a parcel for others. It takes no memory, and may wait for another thread that is about to give or take.
     ///
     /// # Errors
-    /// The parcel comes back where a look of this call has found the depot full. `fulls` has then risen by one, and the
-    /// rest of the seat's book is as it was.
+    /// The parcel comes back, and `fulls` has then risen by one; the rest of the seat's book is as it was. The code
+    /// raises it only after a look of this call that has found the depot full. No clause ties the two together: what a
+    /// look finds leaves no trace in the seat's view of the queue, and in a depot of two seats or more `found_full` holds
+    /// of every book.
     pub fn give<Rt: Wait>(&self, rt: &Rt, seat: &mut DepotSeat<T>, parcel: T) -> Result<(), T>
         requires seat { IsSeatOf self.now seat.old }
         requires home { T.home parcel ≡ seat.old.book.terms.home }
@@ -87,9 +89,11 @@ impl<T: Tagged + Drop> Depot<T> {
         }
     }
 
-    /// Takes a parcel that was left, the oldest one. `None` only where a look of this call has found the depot empty.
-    /// `empties` has then risen by one, and the rest of the seat's book is as it was. It takes no memory, and may wait
-    /// for another thread that is about to give or take.
+    /// Takes a parcel that was left, the oldest one. With `None`, `empties` has risen by one, and the rest of the seat's
+    /// book is as it was. The code raises it only after a look of this call that has found the depot empty. No clause
+    /// ties the two together: what a look finds leaves no trace in the seat's view of the queue, and in a depot of two
+    /// seats or more `found_empty` holds of every book. It takes no memory, and may wait for another thread that is about
+    /// to give or take.
     pub fn take<Rt: Wait>(&self, rt: &Rt, seat: &mut DepotSeat<T>) -> Option<T>
         requires seat { IsSeatOf self.now seat.old }
         ensures seat { seat.new.id ≡ seat.old.id }
