@@ -2,9 +2,11 @@
 """Tries the wrong bodies of crates/NAME/more-edits, which the gate leaves out for their cost.
 
     tests/more_edits.py [NAME ..]
+    tests/more_edits.py --changed [COMMIT]
 
-Without a name it tries those of every crate. Each edit must be refused by the prover, as those in must-fail/
-must. A crate is tried on a copy of the sources in which its more-edits/ stand in the place of must-fail/.
+Without a name it tries those of every crate; with --changed those of the crates whose files differ from the commit
+(without one: from the last commit). Each edit must be refused by the prover, as those in must-fail/ must.
+A crate is tried on a copy of the sources in which its more-edits/ stand in the place of must-fail/.
 The script counts, and ends with status 1 where an edit is still proved, cannot be applied or was not tried.
 It says where only a proof that names what the edit took away has refused it: that tells little of the
 contract, and wants an edit of the same shape.
@@ -30,6 +32,15 @@ def copied(folder):
     shutil.copytree(ROOT / "crates", folder / "crates", ignore=shutil.ignore_patterns("out"))
 
 
+def changed(commit):
+    """The crates with more-edits/ of which a file differs from the commit, committed or not."""
+    said = subprocess.run(
+        ["git", "diff", "--name-only", commit, "--", "crates"], cwd=ROOT, capture_output=True, text=True, check=True
+    ).stdout
+    touched = {line.split("/")[1] for line in said.splitlines()}
+    return sorted(name for name in touched if (ROOT / "crates" / name / "more-edits").is_dir())
+
+
 def tried(folder, crate):
     """What each edit of a crate came to, which were refused by their shape alone, and all that was said."""
     home = folder / "crates" / crate
@@ -46,8 +57,13 @@ def tried(folder, crate):
 def main():
     parser = argparse.ArgumentParser(description=__doc__.splitlines()[0])
     parser.add_argument("names", nargs="*", help="crates; without one, all that have more-edits/")
-    names = parser.parse_args().names
-    names = names or sorted(at.parent.name for at in ROOT.glob("crates/*/more-edits"))
+    parser.add_argument("--changed", nargs="?", const="HEAD", metavar="COMMIT", help="the crates that differ from it")
+    args = parser.parse_args()
+    if args.changed:
+        names = changed(args.changed)
+        print("to be tried:", *names or ["none"], flush=True)
+    else:
+        names = args.names or sorted(at.parent.name for at in ROOT.glob("crates/*/more-edits"))
     passed = failed = shapes = 0
     with tempfile.TemporaryDirectory() as made:
         folder = Path(made)
