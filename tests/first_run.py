@@ -31,7 +31,9 @@ bucketidx: key_names key_map arrayvec
 key_map_tests: key_map
 """
 # `rt ci` prints what it does of two crates, and that a third is kept; `rt run` what it does of two. Both leave a program
-# that takes the one word `run`. `rt ci` wants a copy of the program's crates alone, without wrong bodies.
+# that takes the one word `run`. `rt ci` wants a copy of the program's crates alone, without wrong bodies. Where it is slow
+# it becomes the command that sleeps: a shell that starts one as a child can lose a signal which comes between the two, and
+# then waits for the child to the end.
 KIT = """#!/bin/sh
 block() { echo "so far: 1 of 2 functions checked"; echo "crate $1: modules loaded=1"; echo "logic=proved functions=2"; }
 case $1 in
@@ -43,7 +45,7 @@ ci)
     echo "== key_map"; echo "fn key_map::put: proved"; block key_map; echo "rt: key_map proved"
     [ -z "${BROKEN:-}" ] || { echo "== bucketidx"; echo "error: no proof of a clause"; echo "rt: bucketidx NOT PROVED"
         for at in $(seq 50); do echo "rt: more is said"; done; echo "2 passed, 1 failed"; exit 1; }
-    [ -z "${SLOW:-}" ] || sleep 60
+    [ -z "${SLOW:-}" ] || exec sleep 60
     [ -z "${MEANWHILE:-}" ] || { sleep 0.1; touch "$MEANWHILE"; }
     echo "== bucketidx"; block bucketidx; echo "rt: bucketidx proved"
     cd crates/bucketidx; last="3 passed, 0 failed" ;;
