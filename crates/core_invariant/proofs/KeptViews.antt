@@ -1,5 +1,5 @@
 -- What an event of one seat leaves of its view as it is.
-use Rattle.std.proofs.Common.{◌≡◌, ℕ, [], ◌∷◌, List, Bool, true, false, refl, ap, Option}
+use Rattle.std.proofs.Common.{◌≡◌, ℕ, [], ◌∷◌, List, false, refl, ap, Option}
 use Rattle.index_words.specs.declared.layout.Layout.{Layout}
 use Rattle.key_map.specs.declared.update.Update.{Update}
 use Rattle.index_words.specs.declared.view.View.{View}
@@ -7,7 +7,7 @@ use Rattle.index_words.specs.declared.view.history.SeenHistory.{SeenHistory}
 use Rattle.index_words.specs.declared.word.Word.{Word}
 use Rattle.index_words.specs.Words.{Memory}
 use Rattle.core_events.specs.declared.event.Kind.{Kind}
-use Rattle.core_events.specs.declared.event.Kind.TheVariants.{Enter, Leave, LoadStamp, Raise, Announce}
+use Rattle.core_events.specs.declared.event.Kind.TheVariants.{Enter}
 use Rattle.core_events.specs.Moves.{in_section, entered}
 use Rattle.core_events.specs.Steps.{view_after}
 use Rattle.core_invariant.proofs.Groups.{Group, OwnerPart, part}
@@ -26,7 +26,7 @@ pub record SeatPart : Type 0 where
 abbrev pub owner_of : View → OwnerPart
 owner_of v = part Owner v
 
-abbrev seat_groups : List Group
+abbrev pub seat_groups : List Group
 seat_groups = Owner ∷ Inside ∷ Announcing ∷ History ∷ Snapshot ∷ []
 
 abbrev seat_part : Parts seat_groups → SeatPart
@@ -38,30 +38,14 @@ part_of v = seat_part (parts seat_groups v)
 pub entered_part : (passes value : ℕ) (v : View) → part_of (entered passes v value) ≡ part_of (in_section v value)
 entered_part passes value v = ap seat_part (parts_entered passes value v seat_groups (refl, (refl, (refl, (refl, (refl, tt))))))
 
--- an enter and a leave, a load of the stamp, a raise and an announcement change some of it
-abbrev pub is_still : Kind → Bool
-is_still Enter = false
-is_still Leave = false
-is_still LoadStamp = false
-is_still Raise = false
-is_still Announce = false
-is_still _ = true
-
-still_spares : (kind : Kind) → is_still kind ≡ true → Spares kind seat_groups
-still_spares Enter still = cc
-still_spares Leave still = cc
-still_spares LoadStamp still = cc
-still_spares Raise still = cc
-still_spares Announce still = cc
-still_spares _ still = (refl, (refl, (refl, (refl, (refl, tt)))))
-
 owner_off : (kind : Kind) → touches kind Owner ≡ false
 owner_off Enter = refl
 owner_off _ = refl
 
 module _ (z : Layout) (m : Memory) (vs : List View) (v : View) (w : Word) (x value : ℕ) (o : Option Update) where
-  pub still_kept : (kind : Kind) → is_still kind ≡ true → part_of (view_after kind z m vs v w x value o) ≡ part_of v
-  still_kept kind still = ap seat_part (parts_kept z m vs v x value o kind w seat_groups (still_spares kind still))
+  -- a kind that touches none of it
+  pub still_kept : (kind : Kind) → Spares kind seat_groups → part_of (view_after kind z m vs v w x value o) ≡ part_of v
+  still_kept kind off = ap seat_part (parts_kept z m vs v x value o kind w seat_groups off)
 
   -- no event changes what a seat is
   owner_kept : (kind : Kind) → owner_of (view_after kind z m vs v w x value o) ≡ owner_of v

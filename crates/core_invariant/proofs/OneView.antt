@@ -75,14 +75,7 @@ module _ (z : Layout) (m : Memory) (vs : List View) (g : Meaning) where
 
   slots_section : (v : View) (f r b : Slots) (l : Looks) (n : Slots) → SectionRight (λ n. m (Section n)) (λ n. m (Announced n)) v
       → SectionRight (λ n. m (Section n)) (λ n. m (Announced n)) (with_slots v f r b l n)
-  slots_section v f r b l n right = record {
-    section = right.section;
-    announced = right.announced;
-    outside = right.outside;
-    unlocked = right.unlocked;
-    done = right.done;
-    waits = right.waits;
-  }
+  slots_section v f r b l n right = right
 
   slots_seat : (v : View) (f r b : Slots) (l : Looks) (n : Slots) → MarksRight (λ k. m (Node Mark k)) (with_slots v f r b l n) → Every (FilledRight m f v.update) v.reading.filled
       → Seat v → Seat (with_slots v f r b l n)
@@ -92,10 +85,10 @@ module _ (z : Layout) (m : Memory) (vs : List View) (g : Meaning) where
     seen = seat.seen;
     update = seat.update;
     version = seat.version;
-    announced = record { low = seat.announced.low; read = seat.announced.read; least = seat.announced.least };
+    announced = seat.announced;
     tree = seat.tree;
     locks = seat.locks;
-    loaded = record { nodes = seat.loaded.nodes; nexts = seat.loaded.nexts };
+    loaded = seat.loaded;
     marks = marks;
     pending = seat.pending;
     place = seat.place;
@@ -211,7 +204,7 @@ module _ (z : Layout) (m : Memory) (vs : List View) (g : Meaning) where
       let s : ℕ → ℕ = λ n. m (Section n) in
       let a : ℕ → ℕ = λ n. m (Announced n) in
       let marks = (seat_at i v at rule).marks in
-      moved_slots i v v.free v.retired v.batch l v.unused at rule (λ k. omega arith) (record { retired = marks.retired; batch = marks.batch; taken = marks.taken })
+      moved_slots i v v.free v.retired v.batch l v.unused at rule (λ k. omega arith) marks
       (seat_at i v at rule).filled
       (quiet z (linked_by g) HoldsNode (HoldsEntry g.bundles) vs i v w at rule.slots refl refl refl (holds_slots v v.free v.retired v.batch l v.unused) (keeps_slots v v.free v.retired v.batch l v.unused)
       (λ known. look_row z (linked_by g) HoldsNode (HoldsEntry g.bundles) v w pass (m (Section pass)) (λ is. absurd (not_both pass v.number is other)) (λ is even. absurd (not_both pass v.number is other)) known)
@@ -225,7 +218,7 @@ module _ (z : Layout) (m : Memory) (vs : List View) (g : Meaning) where
   used_right i v n at rule =
       let w : View = with_slots v v.free v.retired v.batch v.grace n in
       let marks = (seat_at i v at rule).marks in
-      moved_slots i v v.free v.retired v.batch v.grace n at rule (λ k. omega arith) (record { retired = marks.retired; batch = marks.batch; taken = marks.taken })
+      moved_slots i v v.free v.retired v.batch v.grace n at rule (λ k. omega arith) marks
       (seat_at i v at rule).filled
       (quiet z (linked_by g) HoldsNode (HoldsEntry g.bundles) vs i v w at rule.slots refl refl refl (holds_slots v v.free v.retired v.batch v.grace n) (keeps_slots v v.free v.retired v.batch v.grace n)
       (λ known. same_looks z (linked_by g) HoldsNode (HoldsEntry g.bundles) v w w refl refl known)

@@ -128,8 +128,8 @@ module _ (z : Layout) (m : Memory) (vs : List View) (g : Meaning) (rule : Rule z
           section = record { section = seat.section.section; announced = seat.section.announced; outside = λ even. absurd (inside_only v inside even); unlocked = λ even. absurd (inside_only v inside even); done = λ none. seat.section.done (none_held none); waits = seat.section.waits };
           seen = seat.seen;
           update = seat.update;
-          version = record { past = seat.version.past; opened = seat.version.opened; bare = seat.version.bare; there = seat.version.there };
-          announced = record { low = seat.announced.low; read = seat.announced.read; least = seat.announced.least };
+          version = seat.version;
+          announced = seat.announced;
           tree = seat.tree;
           locks = λ k locked. seat.locks k (subst (λ xs. 0 < count k xs) same locked);
           loaded = record { nodes = nodes_right; nexts = nexts_right };

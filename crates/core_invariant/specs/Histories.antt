@@ -14,12 +14,15 @@ abbrev pub IsGiven : List ℕ → EndedPlace → Type 0
 IsGiven ended p = 0 < count p.pass ended
 
 -- what a view knows is a beginning of the history
-pub record SeenRight (updates : List Update) (h : SeenHistory) : Type 0 where
-  pub seen : h.seen ≡ take (length h.seen) updates
-  pub told : h.told ≡ take (length h.told) updates
-  pub known : length h.told ≤ length h.seen
-  pub found : h.found ≤ length h.seen
-  pub given : Every (IsGiven h.ended) h.ended_places
+pub record SeenRightOf (updates seen_updates told_updates : List Update) (found_number : ℕ) (ended : List ℕ) (ended_places : List EndedPlace) : Type 0 where
+  pub seen : seen_updates ≡ take (length seen_updates) updates
+  pub told : told_updates ≡ take (length told_updates) updates
+  pub known : length told_updates ≤ length seen_updates
+  pub found : found_number ≤ length seen_updates
+  pub given : Every (IsGiven ended) ended_places
+
+abbrev pub SeenRight : List Update → SeenHistory → Type 0
+SeenRight updates h = SeenRightOf updates h.seen h.told h.found h.ended h.ended_places
 
 -- the update at a place; places are counted from 1
 abbrev pub update_at : List Update → ℕ → Option Update

@@ -4,6 +4,7 @@ use Rattle.index_words.specs.declared.layout.Layout.{Layout}
 use Rattle.index_words.specs.declared.side.Side.{Side}
 use Rattle.index_words.specs.declared.side.Side.TheVariants.{Left, Right}
 use Rattle.index_words.specs.declared.view.View.{View}
+use Rattle.index_words.specs.declared.view.update.Held.{Held}
 use Rattle.index_words.specs.declared.view.update.HeldNode.{HeldNode}
 use Rattle.index_words.specs.declared.view.update.HeldNext.{HeldNext}
 use Rattle.index_words.specs.declared.view.update.HeldSide.{HeldSide}
@@ -66,20 +67,29 @@ pub record NextRight (stamp next : ℕ → ℕ) (b : Bundles) (nodes : List Held
 abbrev pub IsNextAt : Memory → Bundles → List HeldNode → HeldNext → Type 0
 IsNextAt m b nodes = NextRight (λ e. m (Entry Number e)) (λ e. m (Entry Next e)) b nodes
 
-pub record LoadedRight (m : Memory) (b : Bundles) (v : View) : Type 0 where
-  pub nodes : Every (IsNodeAt m) v.held.nodes
-  pub nexts : Every (IsNextAt m b v.held.nodes) v.held.nexts
+pub record LoadedRightOf (IsNode : HeldNode → Type 0) (IsNext : HeldNext → Type 0) (held : Held) : Type 0 where
+  pub nodes : Every IsNode held.nodes
+  pub nexts : Every IsNext held.nexts
+
+abbrev pub LoadedRight : Memory → Bundles → View → Type 0
+LoadedRight m b v = LoadedRightOf (IsNodeAt m) (IsNextAt m b v.held.nodes) v.held
 
 -- the update of the view has raised and taken the node out, and the view still holds the node's lock
+abbrev pub IsTakenOutOf : Option ℕ → List ℕ → List ℕ → ℕ → Type 0
+IsTakenOutOf raised out locked k = (is_some raised ≡ true) × (0 < count k out) × (0 < count k locked)
+
 abbrev pub IsTakenOut : View → ℕ → Type 0
-IsTakenOut v k = (is_some v.update.raised ≡ true) × (0 < count k v.update.taken) × (0 < lock_count k v)
+IsTakenOut v k = IsTakenOutOf v.update.raised v.update.taken (held_slots v.held.nodes) k
 
 -- a retired node is marked, but for one whose update has still to mark it; a node of a batch is marked; and
 -- what the update took out is retired
-pub record MarksRight (mark : ℕ → ℕ) (v : View) : Type 0 where
-  pub retired : (k : ℕ) → 0 < count k v.retired.nodes → (mark k ≡ 1) ⊎ IsTakenOut v k
-  pub batch : (k : ℕ) → 0 < count k v.batch.nodes → mark k ≡ 1
-  pub taken : (k : ℕ) → 0 < count k v.update.taken → 0 < count k v.retired.nodes
+pub record MarksRightOf (mark : ℕ → ℕ) (retired_nodes batch_nodes : List ℕ) (raised : Option ℕ) (out locked : List ℕ) : Type 0 where
+  pub retired : (k : ℕ) → 0 < count k retired_nodes → (mark k ≡ 1) ⊎ IsTakenOutOf raised out locked k
+  pub batch : (k : ℕ) → 0 < count k batch_nodes → mark k ≡ 1
+  pub taken : (k : ℕ) → 0 < count k out → 0 < count k retired_nodes
+
+abbrev pub MarksRight : (ℕ → ℕ) → View → Type 0
+MarksRight mark v = MarksRightOf mark v.retired.nodes v.batch.nodes v.update.raised v.update.taken (held_slots v.held.nodes)
 
 -- the root and the nodes of the tree are not marked
 pub record TreeUnmarked (mark : ℕ → ℕ) (tree : List ℕ) : Type 0 where

@@ -6,10 +6,13 @@ use Rattle.key_map.specs.Lists.{Every}
 
 -- what is announced, which the view has plus 1, is at most the stamp; a seat with a section number has announced, and no more
 -- than that number; and a least number is none without a section number, and at most that
-pub record AnnouncedRight (s : ℕ) (v : View) : Type 0 where
-  pub low : v.announced ≤ s + 1
-  pub read : IfSome v.reading.section (λ t. (0 < v.announced) × (v.announced ≤ t + 1))
-  pub least : IfSome v.reading.least (λ n. IsSomeAnd v.reading.section (λ t. n ≤ t))
+pub record AnnouncedRightOf (s announced : ℕ) (section least_number : Option ℕ) : Type 0 where
+  pub low : announced ≤ s + 1
+  pub read : IfSome section (λ t. (0 < announced) × (announced ≤ t + 1))
+  pub least : IfSome least_number (λ n. IsSomeAnd section (λ t. n ≤ t))
+
+abbrev pub AnnouncedRight : ℕ → View → Type 0
+AnnouncedRight s v = AnnouncedRightOf s v.announced v.reading.section v.reading.least
 
 -- the seat has no section number below this one
 abbrev pub ReadsFrom : ℕ → View → Type 0

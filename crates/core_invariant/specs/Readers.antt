@@ -3,6 +3,7 @@ use Rattle.std.specs.Prelude.{◌≡◌, ℕ, ◌<◌, ◌≤◌, ◌⊎◌, tru
 use Rattle.index_words.specs.declared.layout.Layout.{Layout}
 use Rattle.index_words.specs.declared.view.View.{View}
 use Rattle.index_words.specs.declared.view.reading.Reading.{Reading}
+use Rattle.index_words.specs.declared.view.reading.TreeNode.{TreeNode}
 use Rattle.index_words.specs.declared.view.reading.Place.{Place}
 use Rattle.index_words.specs.declared.view.reading.Place.TheVariants.{Entry}
 use Rattle.index_words.specs.declared.view.reading.Link.{Link}
@@ -14,11 +15,14 @@ use Rattle.core_links.specs.Bundle.{select, child_of_entry}
 
 -- the section number is at most the stamp, and an open snapshot has it; without one no tree is read, and the
 -- nodes of a tree are slots of the table
-pub record VersionRight (z : Layout) (s : ℕ) (r : Reading) : Type 0 where
-  pub past : IfSome r.section (λ t. t ≤ s)
-  pub opened : IfSome r.opened (λ t. r.section ≡ Some t)
-  pub bare : r.section ≡ None → r.tree ≡ []
-  pub there : (k : ℕ) → 0 < count k (tree_slots r.tree) → k ≤ z.nodes
+pub record VersionRightOf (z : Layout) (s : ℕ) (section snapshot : Option ℕ) (tree : List TreeNode) : Type 0 where
+  pub past : IfSome section (λ t. t ≤ s)
+  pub opened : IfSome snapshot (λ t. section ≡ Some t)
+  pub bare : section ≡ None → tree ≡ []
+  pub there : (k : ℕ) → 0 < count k (tree_slots tree) → k ≤ z.nodes
+
+abbrev pub VersionRight : Layout → ℕ → Reading → Type 0
+VersionRight z s r = VersionRightOf z s r.section r.opened r.tree
 
 -- the node is the root, or the seat reads it or works on it
 abbrev pub IsReachable : Layout → View → ℕ → Type 0

@@ -3,7 +3,9 @@
 -- has no looks of a wait.
 use Rattle.std.specs.Prelude.{◌≡◌, ℕ, ◌<◌, ◌⊎◌, List, [], true, false, Option, Some, None, is_some}
 use Rattle.index_words.specs.declared.view.View.{View}
+use Rattle.index_words.specs.declared.view.reading.Reading.{Reading}
 use Rattle.index_words.specs.declared.view.update.HeldNode.{HeldNode}
+use Rattle.index_words.specs.declared.view.update.Updating.{Updating}
 use Rattle.index_words.specs.Views.{no_reading, no_update, no_looks}
 use Rattle.key_map.specs.Lists.{count, Every}
 use Rattle.core_grace.specs.Sections.{is_even}
@@ -35,11 +37,16 @@ pub record Waits (number : Option ℕ) (nodes : List HeldNode) (raised added : O
 abbrev pub IsWaiting : View → Type 0
 IsWaiting v = Waits v.number v.held.nodes v.update.raised v.update.added v.update.pending v.update.taken
 
--- over what the section words and the announcements of the passes hold
-pub record SectionRight (section_of announced_of : ℕ → ℕ) (v : View) : Type 0 where
-  pub section : IsOwnWord section_of v.number v.section_word
-  pub announced : IsOwnWord announced_of v.number v.announced
-  pub outside : is_even v.section_word ≡ true → v.reading ≡ no_reading
-  pub unlocked : is_even v.section_word ≡ true → (v.held.nodes ≡ []) ⊎ IsWaiting v
-  pub done : v.held.nodes ≡ [] → v.update ≡ no_update
-  pub waits : is_even v.section_word ≡ false → v.update.waiting ≡ no_looks
+-- over what the section words and the announcements of the passes hold, and over what of a view is read: its number, its
+-- own two words, what it has read and locked, and its update
+pub record SectionRightOf (section_of announced_of : ℕ → ℕ) (number : Option ℕ) (word announcement : ℕ) (reading : Reading) (nodes : List HeldNode)
+    (update : Updating) : Type 0 where
+  pub section : IsOwnWord section_of number word
+  pub announced : IsOwnWord announced_of number announcement
+  pub outside : is_even word ≡ true → reading ≡ no_reading
+  pub unlocked : is_even word ≡ true → (nodes ≡ []) ⊎ Waits number nodes update.raised update.added update.pending update.taken
+  pub done : nodes ≡ [] → update ≡ no_update
+  pub waits : is_even word ≡ false → update.waiting ≡ no_looks
+
+abbrev pub SectionRight : (ℕ → ℕ) → (ℕ → ℕ) → View → Type 0
+SectionRight section_of announced_of v = SectionRightOf section_of announced_of v.number v.section_word v.announced v.reading v.held.nodes v.update

@@ -29,10 +29,13 @@ NoTurns Nowhere left right = (left ≡ None) × (right ≡ None)
 NoTurns _ left right = Unit {0}
 
 -- the turns of one seat, whether it has raised or not
-pub record TurnsRight (g : Graph) (plain : NamedTree) (v : View) : Type 0 where
-  pub left : IfSome v.reading.left_turn (TurnRight g plain v.reading.place Left)
-  pub right : IfSome v.reading.right_turn (TurnRight g plain v.reading.place Right)
-  pub begins : NoTurns v.reading.place v.reading.left_turn v.reading.right_turn
+pub record TurnsRightOf (g : Graph) (plain : NamedTree) (place : Place) (left_turn right_turn : Option Turn) : Type 0 where
+  pub left : IfSome left_turn (TurnRight g plain place Left)
+  pub right : IfSome right_turn (TurnRight g plain place Right)
+  pub begins : NoTurns place left_turn right_turn
+
+abbrev pub TurnsRight : Graph → NamedTree → View → Type 0
+TurnsRight g plain v = TurnsRightOf g plain v.reading.place v.reading.left_turn v.reading.right_turn
 
 -- a node that an update took out is marked before it leaves the plain tree
 abbrev pub LeavesMarked : (ℕ → ℕ) → NamedTree → View → Type 0

@@ -56,8 +56,8 @@ module _ (z : Layout) (m : Memory) (vs : List View) (g : Meaning) (rule : Rule z
     };
     tree = own.tree;
     locks = own.locks;
-    loaded = record { nodes = own.loaded.nodes; nexts = own.loaded.nexts };
-    marks = record { retired = own.marks.retired; batch = own.marks.batch; taken = own.marks.taken };
+    loaded = own.loaded;
+    marks = own.marks;
     pending = own.pending;
     place = own.place;
     filled = every_filled m m' v.free v.free v.update v.update v.reading.filled (λ y is. is) (announced_apart m v.free v.update n value) own.filled;
@@ -82,8 +82,8 @@ module _ (z : Layout) (m : Memory) (vs : List View) (g : Meaning) (rule : Rule z
     announced = of.announced;
     tree = of.tree;
     locks = of.locks;
-    loaded = record { nodes = of.loaded.nodes; nexts = of.loaded.nexts };
-    marks = record { retired = of.marks.retired; batch = of.marks.batch; taken = of.marks.taken };
+    loaded = of.loaded;
+    marks = of.marks;
     pending = of.pending;
     place = of.place;
     filled = every_filled m m' u.free u.free u.update u.update u.reading.filled (λ y own. own) (announced_apart m u.free u.update n value) of.filled;

@@ -284,8 +284,8 @@ module _ (z : Layout) (m : Memory) (vs : List View) (g : Meaning) (rule : Rule z
     };
     seen = own.seen;
     update = own.update;
-    version = record { past = own.version.past; opened = own.version.opened; bare = own.version.bare; there = own.version.there };
-    announced = record { low = own.announced.low; read = own.announced.read; least = own.announced.least };
+    version = own.version;
+    announced = own.announced;
     tree = new_tree i v at own.tree;
     locks = own.locks;
     loaded = record {
@@ -294,7 +294,7 @@ module _ (z : Layout) (m : Memory) (vs : List View) (g : Meaning) (rule : Rule z
           every_passing (IsNextAt m b v.held.nodes) (IsNextAt m' b' v.held.nodes) (λ (l : HeldNext). not (has l.entry back)) (next_cut e)
           v.held.nexts own_next own.loaded.nexts;
     };
-    marks = record { retired = own.marks.retired; batch = own.marks.batch; taken = own.marks.taken };
+    marks = own.marks;
     pending = own.pending;
     place = own_place z m vs g rule i v at e cut v.reading.place own.place;
     filled = every_filled m m' v.free v.free v.update v.update v.reading.filled (λ y is. is) (filled_same i v at) own.filled;
@@ -305,14 +305,7 @@ module _ (z : Layout) (m : Memory) (vs : List View) (g : Meaning) (rule : Rule z
   other_seat : (u : View) → Beside vs i u → SeatRight z m g u → SeatRight z m' g' u
   other_seat u beside of = record {
     layout = of.layout;
-    section = record {
-      section = of.section.section;
-      announced = of.section.announced;
-      outside = of.section.outside;
-      unlocked = of.section.unlocked;
-      done = of.section.done;
-      waits = of.section.waits;
-    };
+    section = of.section;
     seen = of.seen;
     update = of.update;
     version = of.version;
@@ -323,7 +316,7 @@ module _ (z : Layout) (m : Memory) (vs : List View) (g : Meaning) (rule : Rule z
       nodes = of.loaded.nodes;
       nexts = every_map (IsNextAt m b u.held.nodes) (IsNextAt m' b' u.held.nodes) u.held.nexts (other_next u beside) of.loaded.nexts;
     };
-    marks = record { retired = of.marks.retired; batch = of.marks.batch; taken = of.marks.taken };
+    marks = of.marks;
     pending = of.pending;
     place = other_place z m vs g rule i v at e cut u beside u.reading.place of.place;
     filled = every_filled m m' u.free u.free u.update u.update u.reading.filled (λ y is. is) (filled_same beside.place u beside.at) of.filled;

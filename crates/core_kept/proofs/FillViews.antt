@@ -54,12 +54,12 @@ knows_filled z m vs g rule i v at fs inside right =
       };
       seen = seat.seen;
       update = seat.update;
-      version = record { past = seat.version.past; opened = seat.version.opened; bare = seat.version.bare; there = seat.version.there };
-      announced = record { low = seat.announced.low; read = seat.announced.read; least = seat.announced.least };
+      version = seat.version;
+      announced = seat.announced;
       tree = seat.tree;
       locks = seat.locks;
-      loaded = record { nodes = seat.loaded.nodes; nexts = seat.loaded.nexts };
-      marks = record { retired = seat.marks.retired; batch = seat.marks.batch; taken = seat.marks.taken };
+      loaded = seat.loaded;
+      marks = seat.marks;
       pending = seat.pending;
       place = seat.place;
       filled = right;

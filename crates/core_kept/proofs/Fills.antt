@@ -103,14 +103,7 @@ module _ (z : Layout) (m : Memory) (vs : List View) (g : Meaning) (rule : Rule z
       ) in
       record {
         layout = seat.layout;
-        section = record {
-          section = seat.section.section;
-          announced = seat.section.announced;
-          outside = seat.section.outside;
-          unlocked = seat.section.unlocked;
-          done = seat.section.done;
-          waits = seat.section.waits;
-        };
+        section = seat.section;
         seen = seat.seen;
         update = seat.update;
         version = seat.version;
@@ -312,14 +305,7 @@ module _ (z : Layout) (m : Memory) (vs : List View) (g : Meaning) (rule : Rule z
         = λ k some. held_live z vs g rule.slots n k u of (held_holds u k some) (seat.locks k some).0 in
         record {
           layout = seat.layout;
-          section = record {
-            section = seat.section.section;
-            announced = seat.section.announced;
-            outside = seat.section.outside;
-            unlocked = seat.section.unlocked;
-            done = seat.section.done;
-            waits = seat.section.waits;
-          };
+          section = seat.section;
           seen = seat.seen;
           update = seat.update;
           version = seat.version;
@@ -357,7 +343,7 @@ module _ (z : Layout) (m : Memory) (vs : List View) (g : Meaning) (rule : Rule z
                 })
                 seat.loaded.nexts;
           };
-          marks = record { retired = seat.marks.retired; batch = seat.marks.batch; taken = seat.marks.taken };
+          marks = seat.marks;
           pending = every_map
               (IsPending z (λ s j. m (Node (Head s) j)) (λ d. m (Entry Number d)) g.bundles.number u)
               (IsPending z (λ s j. m (Node (Head s) j)) (λ d. written m (Entry p e) x (Entry Number d)) g.bundles.number u)

@@ -223,11 +223,11 @@ module _ (z : Layout) (m : Memory) (vs : List View) (g : Meaning) (rule : Rule z
     seen = own.seen;
     update = record { raised = own.update.raised; first = own.update.first };
     version = own.version;
-    announced = record { low = own.announced.low; read = own.announced.read; least = own.announced.least };
+    announced = own.announced;
     tree = own.tree;
     locks = own.locks;
     loaded = record { nodes = every_map _ _ v.held.nodes node_kept own.loaded.nodes; nexts = nexts_kept v own.loaded.nexts };
-    marks = record { retired = own.marks.retired; batch = own.marks.batch; taken = own.marks.taken };
+    marks = own.marks;
     pending = every_without
         (IsPending z (λ s k. m (Node (Head s) k)) stamp g.bundles.number v) (IsPending z (λ s k. m (Node (Head s) k)) stamp' g.bundles.number w)
         e v.update.pending (λ d within apart right. (other_stamp d apart ∙ right.0, right.1, right.2)) own.pending;
@@ -244,14 +244,7 @@ module _ (z : Layout) (m : Memory) (vs : List View) (g : Meaning) (rule : Rule z
   other_kept : (u : View) → Beside vs i u → SeatRight z m g u → SeatRight z m' g u
   other_kept u beside of = record {
     layout = of.layout;
-    section = record {
-      section = of.section.section;
-      announced = of.section.announced;
-      outside = of.section.outside;
-      unlocked = of.section.unlocked;
-      done = of.section.done;
-      waits = of.section.waits;
-    };
+    section = of.section;
     seen = of.seen;
     update = of.update;
     version = of.version;
@@ -259,7 +252,7 @@ module _ (z : Layout) (m : Memory) (vs : List View) (g : Meaning) (rule : Rule z
     tree = of.tree;
     locks = of.locks;
     loaded = record { nodes = every_map _ _ u.held.nodes node_kept of.loaded.nodes; nexts = nexts_kept u of.loaded.nexts };
-    marks = record { retired = of.marks.retired; batch = of.marks.batch; taken = of.marks.taken };
+    marks = of.marks;
     pending = every_listed
         (IsPending z (λ s k. m (Node (Head s) k)) stamp g.bundles.number u) (IsPending z (λ s k. m (Node (Head s) k)) stamp' g.bundles.number u)
         u.update.pending (λ d within right. (other_stamp d (pending_apart u d beside within) ∙ right.0, right.1, right.2)) of.pending;

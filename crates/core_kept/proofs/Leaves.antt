@@ -119,8 +119,8 @@ module _ (z : Layout) (m : Memory) (vs : List View) (g : Meaning) (rule : Rule z
     announced = announced_idle (m Stamp) w own.announced.low refl refl;
     tree = tt;
     locks = own.locks;
-    loaded = record { nodes = own.loaded.nodes; nexts = own.loaded.nexts };
-    marks = record { retired = own.marks.retired; batch = own.marks.batch; taken = own.marks.taken };
+    loaded = own.loaded;
+    marks = own.marks;
     pending = subst (Every (IsPending z (λ s k. m (Node (Head s) k)) (λ e. m (Entry Number e)) g.bundles.number w)) (sym nothing) tt;
     place = tt;
     filled = tt;
@@ -145,8 +145,8 @@ module _ (z : Layout) (m : Memory) (vs : List View) (g : Meaning) (rule : Rule z
     announced = of.announced;
     tree = of.tree;
     locks = of.locks;
-    loaded = record { nodes = of.loaded.nodes; nexts = of.loaded.nexts };
-    marks = record { retired = of.marks.retired; batch = of.marks.batch; taken = of.marks.taken };
+    loaded = of.loaded;
+    marks = of.marks;
     pending = of.pending;
     place = of.place;
     filled = every_filled m m' u.free u.free u.update u.update u.reading.filled (λ y is. is) (section_apart m u.free u.update n value) of.filled;

@@ -206,7 +206,7 @@ module _ (z : Layout) (m : Memory) (vs : List View) (g : Meaning) (rule : Rule z
     seen = seat.seen;
     update = seat.update;
     version = seat.version;
-    announced = record { low = seat.announced.low; read = seat.announced.read; least = seat.announced.least };
+    announced = seat.announced;
     tree = seat.tree;
     locks = λ j held. seat.locks j (subst (λ xs. 0 < count j xs) locks_same held);
     loaded = record {
@@ -257,14 +257,7 @@ module _ (z : Layout) (m : Memory) (vs : List View) (g : Meaning) (rule : Rule z
   other_now : (u : View) → Beside vs i u → SeatRight z m g u → SeatRight z m' g u
   other_now u beside of = record {
     layout = of.layout;
-    section = record {
-      section = of.section.section;
-      announced = of.section.announced;
-      outside = of.section.outside;
-      unlocked = of.section.unlocked;
-      done = of.section.done;
-      waits = of.section.waits;
-    };
+    section = of.section;
     seen = of.seen;
     update = of.update;
     version = of.version;

@@ -1,5 +1,5 @@
 -- As long as an entry is pending, the link to the node that an update has brought in is still to be set: after every event.
-use Rattle.std.proofs.Common.{◌≡◌, ℕ, cond, List, [], ◌∷◌, length, Bool, true, false, eqb, ◌||◌, set, refl, ap, ◌∙◌, sym, subst, Option, Some, None}
+use Rattle.std.proofs.Common.{◌≡◌, ℕ, List, [], ◌∷◌, Bool, true, eqb, ◌||◌, set, refl, ap, ◌∙◌, sym, Option, Some, None}
 use Rattle.std.specs.List.{All, list_any, slice_get}
 use Rattle.std.proofs.lemmas.Bool.{eq-eqb}
 use Rattle.std.proofs.lemmas.List.Elements.{All-set, All-push}
@@ -14,14 +14,14 @@ use Rattle.index_words.specs.declared.view.update.Updating.{Updating}
 use Rattle.index_words.specs.declared.word.Field.TheVariants.{Head, Link}
 use Rattle.index_words.specs.declared.word.Word.{Word}
 use Rattle.index_words.specs.declared.word.Word.TheVariants.{Node, Entry}
-use Rattle.index_words.specs.Views.{no_update, spent_view}
+use Rattle.index_words.specs.Views.{spent_view}
 use Rattle.index_words.specs.Words.{Memory, memory}
 use Rattle.key_map.specs.Lists.{IsItem}
 use Rattle.index_words.proofs.Seats.{at_item}
 use Rattle.core_trees.specs.NamedTree.{NamedTree, Null, Branch}
 use Rattle.core_events.specs.declared.event.Kind.{Kind}
 use Rattle.core_events.specs.declared.event.Kind.TheVariants.{MakeSeat, SplitSeat, JoinSeat, Leave, Prepare, Raise, Finalise, Unlock, SetLink}
-use Rattle.core_events.specs.LockMoves.{other_nodes, unlocked_view}
+use Rattle.core_events.specs.LockMoves.{other_nodes}
 use Rattle.core_events.specs.Moves.{left, split_left, split_right, joined_with}
 use Rattle.core_events.specs.PlainNeeds.{may_set_link}
 use Rattle.core_events.specs.PlainMoves.{link_set}
@@ -35,33 +35,14 @@ use Rattle.core_trees.specs.Search.{end_node, end_side}
 use Rattle.core_trees.specs.Slots.{joint_slots, added_slots}
 use Rattle.core_trees.specs.TreeStep.{subtree_at}
 use Rattle.core_events.proofs.Tests.{never}
-use Rattle.core_invariant.specs.LinkRule.{LinksLast}
+use Rattle.core_invariant.specs.LinkRule.{LinksLastOf, LinksLast}
 use Rattle.core_invariant.specs.Rule.{InRule}
 use Rattle.core_invariant.proofs.Needed.{ready_is}
 use Rattle.core_invariant.proofs.OneView.{seat_at}
 use Rattle.core_invariant.proofs.WaitNeeds.{can_set, nothing_is}
-use Rattle.core_invariant.proofs.Groups.{ChangePart}
-use Rattle.core_invariant.proofs.Footprints.{touches, keeps}
+use Rattle.core_invariant.proofs.Footprints.{Spares, quiet_part}
+use Rattle.core_kept.proofs.Unlocks.{until_by}
 use Rattle.core_invariant.proofs.Groups.Group.{Change as ChangeGroup, Pending, Unset}
-
--- what of an update it speaks of
-pub record LinkPart : Type 0 where
-  pub added : Option ℕ
-  pub pending : List ℕ
-  pub unset : List UnsetLink
-
-abbrev part_of : Updating → LinkPart
-part_of u = record { added = u.added; pending = u.pending; unset = u.unset }
-
-abbrev part : View → LinkPart
-part v = part_of v.update
-
-pub last_same : (v w : View) → part w ≡ part v → LinksLast v → LinksLast w
-last_same v w same right = record {
-  unlinked = λ k added busy.
-      subst (λ (p : LinkPart). list_any (λ (u : UnsetLink). eqb u.child k) p.unset ≡ true) (sym same)
-      (right.unlinked k (sym (ap (λ (p : LinkPart). p.added) same) ∙ added) (λ none. busy (ap (λ (p : LinkPart). p.pending) same ∙ none)));
-}
 
 -- a view that has brought in nothing
 pub nothing_brought : (v : View) → v.update.added ≡ None → LinksLast v
@@ -73,9 +54,6 @@ nothing_brought v none = record { unlinked = λ k added busy. absurd (no_node k 
 -- one with nothing pending
 done : (v : View) → v.update.pending ≡ [] → LinksLast v
 done v none = record { unlinked = λ k added busy. absurd (busy none) }
-
-part_same : (v w : View) → w.update.added ≡ v.update.added → w.update.pending ≡ v.update.pending → w.update.unset ≡ v.update.unset → part w ≡ part v
-part_same v w added pending unset = cc
 
 -- the node that a raise brings in is the child of the first link that it leaves to be set
 same_slot : (slot k : ℕ) → Some slot ≡ Some k → slot ≡ k
@@ -130,11 +108,8 @@ module _ (z : Layout) (words : List ℕ) (vs : List View) (right : InRule z word
   finalised_last _ = last
 
   unlocked_last : (w : Word) → LinksLast (unlocked_from v w)
-  unlocked_last (Node f k) = by (eqb (length (other_nodes k v.held.nodes)) 0) refl
-    where
-      by : (b : Bool) → eqb (length (other_nodes k v.held.nodes)) 0 ≡ b → LinksLast (unlocked_view v k)
-      by true is = nothing_brought (unlocked_view v k) (ap (λ (c : Bool). (cond c no_update v.update).added) is)
-      by false is = last_same v (unlocked_view v k) (ap (λ (c : Bool). part_of (cond c no_update v.update)) is) last
+  unlocked_last (Node f k) =
+      until_by (λ (u : Updating). LinksLastOf u.added u.pending u.unset) (other_nodes k v.held.nodes) v.update (record { unlinked = λ k added busy. cc }) last
   unlocked_last _ = last
 
   -- nothing is pending where a link is set
@@ -146,21 +121,20 @@ module _ (z : Layout) (words : List ℕ) (vs : List View) (right : InRule z word
   joined_last None = right.linking
   joined_last (Some u) =
       All-set LinksLast (set vs i (joined_with v u)) value spent_view (nothing_brought spent_view refl)
-      (moved (joined_with v u) (last_same v (joined_with v u) refl last))
+      (moved (joined_with v u) last)
 
-  still_last : (kind : Kind) (w : Word) (o : Option Update) → touches kind ChangeGroup ≡ false → touches kind Pending ≡ false → touches kind Unset ≡ false
+  still_last : (kind : Kind) (w : Word) (o : Option Update) → Spares kind (ChangeGroup ∷ Pending ∷ Unset ∷ [])
       → All LinksLast (set vs i (view_after kind z m vs v w (m w) value o))
-  still_last kind w o change pending unset =
-      let u : View = view_after kind z m vs v w (m w) value o in
-      let kept = keeps z m vs v (m w) value o kind w in
-      moved u (last_same v u (part_same v u (ap (λ (p : ChangePart). p.added) (kept ChangeGroup change)) (kept Pending pending) (kept Unset unset)) last)
+  still_last kind w o off =
+      moved (view_after kind z m vs v w (m w) value o)
+      (quiet_part z m vs v (m w) value o kind w (ChangeGroup ∷ Pending ∷ Unset ∷ []) (λ p. LinksLastOf p.0.added p.1.0 p.1.1.0) off last)
 
   -- it is so after an event whose needs are met
   pub linking_after : (kind : Kind) (w : Word) (o : Option Update) → needs kind z m vs i v w value o ≡ true
       → All LinksLast (views_after kind z m vs i v w value o)
   linking_after MakeSeat w o met = right.linking
   linking_after SplitSeat w o met =
-      All-push LinksLast (set vs i (split_left v value)) (split_right v value) (moved (split_left v value) (last_same v (split_left v value) refl last))
+      All-push LinksLast (set vs i (split_left v value)) (split_right v value) (moved (split_left v value) last)
       (nothing_brought (split_right v value) refl)
   linking_after JoinSeat w o met = joined_last (slice_get vs value)
   linking_after Leave w o met = moved (left v value) (nothing_brought (left v value) refl)
@@ -169,4 +143,4 @@ module _ (z : Layout) (words : List ℕ) (vs : List View) (right : InRule z word
   linking_after Finalise w o met = moved _ (finalised_last w)
   linking_after Unlock w o met = moved _ (unlocked_last w)
   linking_after SetLink w o met = moved _ (set_last w met)
-  linking_after kind w o met = still_last kind w o refl refl refl
+  linking_after kind w o met = still_last kind w o (refl, (refl, (refl, tt)))

@@ -122,12 +122,12 @@ module _ (z : Layout) (m : Memory) (vs : List View) (g : Meaning) (rule : Rule z
         };
         seen = seat.seen;
         update = seat.update;
-        version = record { past = seat.version.past; opened = seat.version.opened; bare = seat.version.bare; there = seat.version.there };
+        version = seat.version;
         announced = record { low = seat.announced.low; read = seat.announced.read; least = least_by v.reading.least seat.announced.least };
         tree = seat.tree;
         locks = seat.locks;
-        loaded = record { nodes = seat.loaded.nodes; nexts = seat.loaded.nexts };
-        marks = record { retired = seat.marks.retired; batch = seat.marks.batch; taken = seat.marks.taken };
+        loaded = seat.loaded;
+        marks = seat.marks;
         pending = seat.pending;
         place = seat.place;
         filled = seat.filled;

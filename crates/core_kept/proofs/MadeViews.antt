@@ -38,7 +38,7 @@ use Rattle.core_invariant.proofs.SpentViews.{live_spent}
 use Rattle.core_kept.proofs.TwoViews.{WorksIf, count-take-drop, knows_push, idle_bare}
 use Rattle.core_kept.proofs.FreeWords.{LessOf, subset_less, less_right}
 use Rattle.core_kept.proofs.KnownHeld.{same_known}
-use Rattle.core_kept.proofs.LinkedLast.{last_same, nothing_brought}
+use Rattle.core_kept.proofs.LinkedLast.{nothing_brought}
 use Rattle.core_kept.proofs.MadeSearches.{SameSeat, OnlyFree, tree_made, searches_made, reach_made}
 use Rattle.core_kept.proofs.PlainKept.{quiet_work, quiet_pushed}
 use Rattle.core_kept.proofs.TurnFrames.{same_kept, turns_before}
@@ -65,22 +65,15 @@ module _ (z : Layout) (m : Memory) (vs : List View) (g : Meaning) where
   made_pair v n size seat live none = (
     record {
       layout = seat.layout;
-      section = record {
-        section = seat.section.section;
-        announced = seat.section.announced;
-        outside = seat.section.outside;
-        unlocked = seat.section.unlocked;
-        done = seat.section.done;
-        waits = seat.section.waits;
-      };
-      seen = record { seen = seat.seen.seen; told = seat.seen.told; known = seat.seen.known; found = seat.seen.found; given = seat.seen.given };
+      section = seat.section;
+      seen = seat.seen;
       update = seat.update;
       version = seat.version;
-      announced = record { low = seat.announced.low; read = seat.announced.read; least = seat.announced.least };
+      announced = seat.announced;
       tree = seat.tree;
       locks = seat.locks;
-      loaded = record { nodes = seat.loaded.nodes; nexts = seat.loaded.nexts };
-      marks = record { retired = seat.marks.retired; batch = seat.marks.batch; taken = seat.marks.taken };
+      loaded = seat.loaded;
+      marks = seat.marks;
       pending = seat.pending;
       place = seat.place;
       filled = every_filled m m v.free (made_left v size).free v.update v.update v.reading.filled (made_own v size) (λ w own. refl) seat.filled;
@@ -207,14 +200,14 @@ module _ (z : Layout) (words : List ℕ) where
         still = turns.still;
         known = turns.known;
         linking =
-            All-push LinksLast (set vs i w) y (All-set LinksLast vs i w (last_same v w refl (at_item LinksLast vs i v at right.linking)) right.linking)
+            All-push LinksLast (set vs i w) y (All-set LinksLast vs i w (at_item LinksLast vs i v at right.linking) right.linking)
             (nothing_brought y refl);
         spent = All-push IsSpent (set vs i w) y (All-set IsSpent vs i w (live_spent w may.live) right.spent) (live_spent y refl);
         spare = All-push (IsSpare m) (set vs i w) y (All-set (IsSpare m) vs i w kept right.spare) tt;
         places = All-push KnowsPlaces (set vs i w) y
-            (All-set KnowsPlaces vs i w (record { own = knows.own; given = knows.given; section = knows.section; opened = knows.opened }) right.places)
+            (All-set KnowsPlaces vs i w knows right.places)
             (record { own = refl; given = tt; section = tt; opened = tt });
-        waits = All-push WaitsRight (set vs i w) y (All-set WaitsRight vs i w (record { apart = waits.apart; owned = waits.owned }) right.waits)
+        waits = All-push WaitsRight (set vs i w) y (All-set WaitsRight vs i w waits right.waits)
             (record { apart = λ k some holds. omega (arith, some); owned = λ nameless. (refl, refl) });
         unused =
             All-push (UnusedRight m) (set vs i w) y (All-set (UnusedRight m) vs i w (less_right m v w (left_less v size) unused) right.unused)

@@ -11,7 +11,6 @@ use Rattle.std.proofs.lemmas.Option.{same_Some, IfSome_then}
 use Rattle.index_words.specs.declared.layout.Layout.{Layout}
 use Rattle.key_map.specs.declared.update.Update.{Update}
 use Rattle.index_words.specs.declared.view.View.{View}
-use Rattle.index_words.specs.declared.view.history.SeenHistory.{SeenHistory}
 use Rattle.index_words.specs.declared.view.history.EndedPlace.{EndedPlace}
 use Rattle.index_words.specs.declared.word.Word.{Word}
 use Rattle.index_words.specs.declared.word.Word.TheVariants.{Stamp}
@@ -23,10 +22,10 @@ use Rattle.key_map.proofs.PlacesLaws.{own_places-own, places_take, places_within
 use Rattle.index_words.proofs.Seats.{Beside, at_item, all_moved, sum_moved, two_terms}
 use Rattle.core_grace.proofs.RuleMoves.{every_weaker}
 use Rattle.core_invariant.specs.Meanings.{Meaning}
-use Rattle.core_events.specs.Moves.{own_number, own_ended, longer, entered, left, split_left, split_right, joined_with}
+use Rattle.core_events.specs.Moves.{own_number, own_ended, longer, left, split_left, split_right, joined_with}
 use Rattle.core_invariant.specs.Numbers.{number_count}
 use Rattle.core_invariant.specs.Histories.{IsGiven, update_at, made_by, own_place, ended_place, place_count}
-use Rattle.core_invariant.specs.OwnPlaces.{KnowsPlaces, HasNumber}
+use Rattle.core_invariant.specs.OwnPlaces.{KnowsPlacesOf, KnowsPlaces, HasNumber}
 use Rattle.core_invariant.specs.Rule.{Rule, InRule}
 use Rattle.core_invariant.proofs.OneView.{seat_at, item_from_get}
 use Rattle.core_invariant.proofs.Idle.{cond-le, own_count}
@@ -34,10 +33,10 @@ use Rattle.core_invariant.proofs.Joins.{Begins, begins-le, longer_begins, longer
 use Rattle.index_words.specs.declared.view.reading.TreeNode.{TreeNode}
 use Rattle.core_events.specs.declared.tree_move.TreeMove.{TreeMove}
 use Rattle.core_events.specs.declared.event.Kind.{Kind}
-use Rattle.core_events.specs.declared.event.Kind.TheVariants.{MakeSeat, SplitSeat, JoinSeat, Enter, Leave, LoadStamp, Raise, Announce}
+use Rattle.core_events.specs.declared.event.Kind.TheVariants.{MakeSeat, SplitSeat, JoinSeat, Leave, LoadStamp, Raise}
 use Rattle.core_grace.specs.Batches.{is_number}
 use Rattle.core_events.specs.Needs.{is_stamp}
-use Rattle.core_events.specs.Announcing.{has_announced, announced_view}
+use Rattle.core_events.specs.Announcing.{has_announced}
 use Rattle.core_events.proofs.Allowed.{stamp_needs}
 use Rattle.core_events.specs.LoadMoves.{stamp_reading, longest, stamp_loaded}
 use Rattle.core_events.specs.UpdateMoves.{raised_view}
@@ -47,7 +46,9 @@ use Rattle.core_events.specs.TreeMoves.{tree_move}
 use Rattle.core_events.specs.Steps.{needs, carries, view_after, views_after, join_found, raised_from}
 use Rattle.core_invariant.proofs.Longest.{longest_is}
 use Rattle.core_events.proofs.Tests.{stamp_named}
-use Rattle.core_invariant.proofs.KeptViews.{SeatPart, part_of, entered_part, is_still, still_kept}
+use Rattle.core_invariant.proofs.Groups.{Group}
+use Rattle.core_invariant.proofs.Groups.Group.{Owner, History, Snapshot}
+use Rattle.core_invariant.proofs.Footprints.{Parts, Spares, quiet_part}
 use Rattle.core_invariant.proofs.Needed.{raise_needed}
 
 sum_zero : (f : View → ℕ) (us : List View) → All (λ u. f u ≡ 0) us → sum_by f us ≡ 0
@@ -269,6 +270,12 @@ module _ (z : Layout) (m : Memory) (vs : List View) (g : Meaning) (rule : Rule z
         opened = knows.opened;
       }
 
+abbrev places_groups : List Group
+places_groups = Owner ∷ History ∷ Snapshot ∷ []
+
+abbrev places_of : Parts places_groups → Type 0
+places_of p = KnowsPlacesOf p.0.number p.1.0.seen p.1.0.mine p.1.0.ended_places p.1.0.found p.1.1.0.0 p.1.1.0.1
+
 -- the views after an event
 module _ (z : Layout) (words : List ℕ) (vs : List View) (right : InRule z words vs) (i : ℕ) (v : View) (at : IsItem vs i v) (w : Word) (value : ℕ) where
   abbrev m' : Memory
@@ -276,29 +283,6 @@ module _ (z : Layout) (words : List ℕ) (vs : List View) (right : InRule z word
 
   abbrev knows' : KnowsPlaces v
   knows' = at_item KnowsPlaces vs i v at right.places
-
-  still_places : (u : View) → u.number ≡ v.number → u.history ≡ v.history → u.reading.section ≡ v.reading.section → u.reading.opened ≡ v.reading.opened
-      → KnowsPlaces u
-  still_places u number history section opened = record {
-    own = subst (λ (o : Option ℕ). IfSome o (λ n. u.history.mine ≡ own_places n u.history.seen)) (sym number)
-        (subst (λ (h : SeenHistory). IfSome v.number (λ n. h.mine ≡ own_places n h.seen)) (sym history) knows'.own);
-    given = subst (λ (h : SeenHistory). Every (λ (p : EndedPlace). p.at ≤ length h.seen) h.ended_places) (sym history) knows'.given;
-    section = subst (λ (o : Option ℕ). IfSome o (λ t. t ≤ length u.history.seen)) (sym section)
-        (subst (λ (h : SeenHistory). IfSome v.reading.section (λ t. t ≤ length h.seen)) (sym history) knows'.section);
-    opened = subst (λ (o : Option ℕ). IfSome o (λ t. u.history.found ≡ t)) (sym opened)
-        (subst (λ (h : SeenHistory). IfSome v.reading.opened (λ t. h.found ≡ t)) (sym history) knows'.opened);
-  }
-
-  part_places : (u : View) → part_of u ≡ part_of v → KnowsPlaces u
-  part_places u same =
-      still_places u (ap (λ (p : SeatPart). p.owner.number) same) (ap (λ (p : SeatPart). p.history) same) (ap (λ (p : SeatPart). p.section) same)
-      (ap (λ (p : SeatPart). p.opened) same)
-
-  entered_places : KnowsPlaces (entered z.passes v value)
-  entered_places =
-      let same = entered_part z.passes value v in
-      still_places (entered z.passes v value) (ap (λ (p : SeatPart). p.owner.number) same) (ap (λ (p : SeatPart). p.history) same)
-      (ap (λ (p : SeatPart). p.section) same) (ap (λ (p : SeatPart). p.opened) same)
 
   named_by : (n : ℕ) (number : Option ℕ) → is_number n number ≡ true → number ≡ Some n
   named_by n None e = cc
@@ -324,10 +308,9 @@ module _ (z : Layout) (words : List ℕ) (vs : List View) (right : InRule z word
   moved : (u : View) → KnowsPlaces u → All KnowsPlaces (set vs i u)
   moved u knows = All-set KnowsPlaces vs i u knows right.places
 
-  still : (kind : Kind) (o : Option Update) → is_still kind ≡ true → All KnowsPlaces (set vs i (view_after kind z m' vs v w (m' w) value o))
-  still kind o is =
-      moved (view_after kind z m' vs v w (m' w) value o)
-      (part_places (view_after kind z m' vs v w (m' w) value o) (still_kept z m' vs v w (m' w) value o kind is))
+  -- a kind that touches none of this
+  still : (kind : Kind) (o : Option Update) → Spares kind places_groups → All KnowsPlaces (set vs i (view_after kind z m' vs v w (m' w) value o))
+  still kind o off = moved (view_after kind z m' vs v w (m' w) value o) (quiet_part z m' vs v (m' w) value o kind w places_groups places_of off knows')
 
   joined_by : (o : Option View) → slice_get vs value ≡ o → All KnowsPlaces (join_found vs i v value o)
   joined_by None is = right.places
@@ -339,7 +322,7 @@ module _ (z : Layout) (words : List ℕ) (vs : List View) (right : InRule z word
   split_places : All KnowsPlaces (set vs i (split_left v value) ++ split_right v value ∷ [])
   split_places =
       All-push KnowsPlaces (set vs i (split_left v value)) (split_right v value)
-      (moved (split_left v value) (record { own = knows'.own; given = knows'.given; section = knows'.section; opened = knows'.opened }))
+      (moved (split_left v value) knows')
       (record { own = tt; given = tt; section = tt; opened = tt })
 
   -- each view knows where its own updates stand after an event whose needs are met
@@ -348,10 +331,7 @@ module _ (z : Layout) (words : List ℕ) (vs : List View) (right : InRule z word
   places_after MakeSeat o own met = right.places
   places_after SplitSeat o own met = split_places
   places_after JoinSeat o own met = joined_by (slice_get vs value) refl
-  places_after Enter o own met = moved (entered z.passes v value) entered_places
   places_after Leave o own met = moved (left v value) (record { own = knows'.own; given = knows'.given; section = tt; opened = tt })
   places_after LoadStamp o own met = let needs = stamp_needs v w value met in moved _ (loaded_places (m' w) needs.closed (at_stamp needs.stamp))
   places_after Raise o own met = moved _ (raised_places (m' w) o (at_stamp (raise_needed z m' vs v w value o met)) own)
-  places_after Announce o own met =
-      moved (announced_view v value) (record { own = knows'.own; given = knows'.given; section = knows'.section; opened = knows'.opened })
-  places_after kind o own met = still kind o refl
+  places_after kind o own met = still kind o (refl, (refl, (refl, tt)))

@@ -59,11 +59,11 @@ module _ (z : Layout) (m : Memory) (vs : List View) (g : Meaning) (rule : Rule z
     seen = seat.seen;
     update = record { raised = seat.update.raised; first = seat.update.first };
     version = seat.version;
-    announced = record { low = seat.announced.low; read = seat.announced.read; least = seat.announced.least };
+    announced = seat.announced;
     tree = seat.tree;
     locks = seat.locks;
-    loaded = record { nodes = seat.loaded.nodes; nexts = seat.loaded.nexts };
-    marks = record { retired = seat.marks.retired; batch = seat.marks.batch; taken = seat.marks.taken };
+    loaded = seat.loaded;
+    marks = seat.marks;
     pending = seat.pending;
     place = place_by v.reading.place seat.place;
     filled = every_filled m m v.free v.free v.update y.update v.reading.filled own_word (λ w is. refl) seat.filled;
@@ -75,7 +75,7 @@ module _ (z : Layout) (m : Memory) (vs : List View) (g : Meaning) (rule : Rule z
       own_word _ is = is
 
       place_by : (p : Place) → PlaceRight z (λ e. m (Entry Number e)) g.bundles v p → PlaceRight z (λ e. m (Entry Number e)) g.bundles y p
-      place_by (AtEntry node side entry found) right = record { reach = right.reach; stands = right.stands }
+      place_by (AtEntry node side entry found) right = right
       place_by _ right = tt
 
   -- no part of the rule speaks of what is still to be set and to be raised, nor of looks at a wait

@@ -175,7 +175,7 @@ module _ (z : Layout) (m : Memory) (vs : List View) (g : Meaning) (rule : Rule z
         seen = own.seen;
         update = record { raised = own.update.raised; first = own.update.first };
         version = own.version;
-        announced = record { low = own.announced.low; read = own.announced.read; least = own.announced.least };
+        announced = own.announced;
         tree = tree_now z m vs g rule i k e side v at ready i v at h v'.update v'.free locks_same work_same;
         locks = λ j held. own.locks j (subst (λ xs. 0 < count j xs) locks_same held);
         loaded = record {
@@ -237,14 +237,7 @@ module _ (z : Layout) (m : Memory) (vs : List View) (g : Meaning) (rule : Rule z
   other_now : (u : View) → Beside vs i u → SeatRight z m g u → SeatRight z m' g' u
   other_now u beside of = record {
     layout = of.layout;
-    section = record {
-      section = of.section.section;
-      announced = of.section.announced;
-      outside = of.section.outside;
-      unlocked = of.section.unlocked;
-      done = of.section.done;
-      waits = of.section.waits;
-    };
+    section = of.section;
     seen = of.seen;
     update = of.update;
     version = of.version;
@@ -263,7 +256,7 @@ module _ (z : Layout) (m : Memory) (vs : List View) (g : Meaning) (rule : Rule z
           }) of.loaded.nodes;
       nexts = nexts_now z m vs g rule i k e side v at ready beside.place u beside.at u.held u.update u.free refl refl;
     };
-    marks = record { retired = of.marks.retired; batch = of.marks.batch; taken = of.marks.taken };
+    marks = of.marks;
     pending = pending_now z m vs g rule i k e side v at ready beside.place u beside.at u.held u.update u.free refl refl;
     place = place_now z m vs g rule i k e side v at ready beside.place u beside.at u.held u.update u.free refl refl u.reading.place of.place;
     filled =

@@ -296,14 +296,7 @@ module _ (z : Layout) (m : Memory) (vs : List View) (g : Meaning) (rule : Rule z
   pub other_now : (y : View) → Beside vs i y → SeatRight z m g y → SeatRight z m' g' y
   other_now y beside of = record {
     layout = of.layout;
-    section = record {
-      section = of.section.section;
-      announced = of.section.announced;
-      outside = of.section.outside;
-      unlocked = of.section.unlocked;
-      done = of.section.done;
-      waits = of.section.waits;
-    };
+    section = of.section;
     seen = seen_more z m vs g rule i v u known move at can all y.history of.seen;
     update = record { raised = IfSome_then y.update.raised of.update.raised (λ r is. (is.0, omega (arith, is.1))); first = of.update.first };
     announced = announced_same s (s + 1) y y (omega arith) refl of.announced;
@@ -319,7 +312,7 @@ module _ (z : Layout) (m : Memory) (vs : List View) (g : Meaning) (rule : Rule z
     tree = tree_now z m vs g rule i v u move tree at can moves beside.place y beside.at;
     locks = of.locks;
     loaded = record { nodes = of.loaded.nodes; nexts = nexts_now beside.place y beside.at of };
-    marks = record { retired = of.marks.retired; batch = of.marks.batch; taken = of.marks.taken };
+    marks = of.marks;
     pending = every_listed (IsPending z head stamp g.bundles.number y) (IsPending z head stamp number' y) y.update.pending
         (λ d here is. (is.0, other_number y d beside here ∙ is.1, is.2)) of.pending;
     place = place_now beside.place y y.reading.place beside.at of.version.past of.place;

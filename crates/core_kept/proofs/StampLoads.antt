@@ -161,8 +161,8 @@ module _ (z : Layout) (m : Memory) (vs : List View) (g : Meaning) (rule : Rule z
         announced = record { low = seat.announced.low; read = (told, seat.announced.low); least = omega arith };
         tree = record { tree = g.tree; version = rule.tree; read = whole; gaps = λ k y side here there null gap. gap };
         locks = seat.locks;
-        loaded = record { nodes = seat.loaded.nodes; nexts = seat.loaded.nexts };
-        marks = record { retired = seat.marks.retired; batch = seat.marks.batch; taken = seat.marks.taken };
+        loaded = seat.loaded;
+        marks = seat.marks;
         pending = seat.pending;
         place = tt;
         filled = tt;
@@ -197,12 +197,12 @@ module _ (z : Layout) (m : Memory) (vs : List View) (g : Meaning) (rule : Rule z
         };
         seen = stamp_seen v known fixes nodes seat all;
         update = seat.update;
-        version = record { past = seat.version.past; opened = seat.version.opened; bare = seat.version.bare; there = seat.version.there };
-        announced = record { low = seat.announced.low; read = seat.announced.read; least = seat.announced.least };
+        version = seat.version;
+        announced = seat.announced;
         tree = seat.tree;
         locks = seat.locks;
-        loaded = record { nodes = seat.loaded.nodes; nexts = seat.loaded.nexts };
-        marks = record { retired = seat.marks.retired; batch = seat.marks.batch; taken = seat.marks.taken };
+        loaded = seat.loaded;
+        marks = seat.marks;
         pending = seat.pending;
         place = tt;
         filled = tt;

@@ -116,8 +116,8 @@ module _ (z : Layout) (m : Memory) (vs : List View) (g : Meaning) where
               announced = idle_announced (m Stamp) w idle own.announced.low;
               tree = idle_tree m' w idle;
               locks = own.locks;
-              loaded = record { nodes = own.loaded.nodes; nexts = own.loaded.nexts };
-              marks = record { retired = own.marks.retired; batch = own.marks.batch; taken = own.marks.taken };
+              loaded = own.loaded;
+              marks = own.marks;
               pending = own.pending;
               place = idle_place (λ e. m (Entry Number e)) w idle;
               filled = subst (λ (x : Reading). Every (FilledRight m' w.free w.update) x.filled) (sym idle.reading) tt;
@@ -140,8 +140,8 @@ module _ (z : Layout) (m : Memory) (vs : List View) (g : Meaning) where
               announced = of.announced;
               tree = of.tree;
               locks = of.locks;
-              loaded = record { nodes = of.loaded.nodes; nexts = of.loaded.nexts };
-              marks = record { retired = of.marks.retired; batch = of.marks.batch; taken = of.marks.taken };
+              loaded = of.loaded;
+              marks = of.marks;
               pending = of.pending;
               place = of.place;
               filled = every_filled m m' u.free u.free u.update u.update u.reading.filled (λ y own. own) (section_apart m u.free u.update n word) of.filled;

@@ -279,8 +279,8 @@ module _ (z : Layout) (m : Memory) (vs : List View) (g : Meaning) (rule : Rule z
     };
     seen = own_seat.seen;
     update = own_seat.update;
-    version = record { past = own_seat.version.past; opened = own_seat.version.opened; bare = own_seat.version.bare; there = own_seat.version.there };
-    announced = record { low = own_seat.announced.low; read = own_seat.announced.read; least = own_seat.announced.least };
+    version = own_seat.version;
+    announced = own_seat.announced;
     tree = own_seat.tree;
     locks = λ j locked. elim (eqb_tells j k) as (λ _. (j ≤ z.nodes) × NamesHolder (m' (Node Lock j)) v.number) [
       | inl same ↦ subst (λ x. (x ≤ z.nodes) × NamesHolder (m' (Node Lock x)) v.number) (sym same.1) (live.0, named_now)
@@ -331,14 +331,7 @@ module _ (z : Layout) (m : Memory) (vs : List View) (g : Meaning) (rule : Rule z
   other_now : (u : View) → Beside vs i u → SeatRight z m g u → SeatRight z m' g u
   other_now u beside of = record {
     layout = of.layout;
-    section = record {
-      section = of.section.section;
-      announced = of.section.announced;
-      outside = of.section.outside;
-      unlocked = of.section.unlocked;
-      done = of.section.done;
-      waits = of.section.waits;
-    };
+    section = of.section;
     seen = of.seen;
     update = of.update;
     version = of.version;
@@ -349,8 +342,8 @@ module _ (z : Layout) (m : Memory) (vs : List View) (g : Meaning) (rule : Rule z
       subst (λ x. NamesHolder x u.number)
           (sym (node_other m Lock Lock k j (n + 1) (locker_apart u j beside locked))) (of.locks j locked).1,
     );
-    loaded = record { nodes = of.loaded.nodes; nexts = of.loaded.nexts };
-    marks = record { retired = of.marks.retired; batch = of.marks.batch; taken = of.marks.taken };
+    loaded = of.loaded;
+    marks = of.marks;
     pending = of.pending;
     place = of.place;
     filled = every_filled m m' u.free u.free u.update u.update u.reading.filled (λ y is. is) (lock_apart m u.free u.update k (n + 1)) of.filled;

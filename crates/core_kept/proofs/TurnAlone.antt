@@ -161,7 +161,7 @@ module _ (z : Layout) (words : List ℕ) (vs : List View) (right : InRule z word
       (record {
         turns =
             all_moved (TurnsRight gr0 right.plain_tree) (TurnsRight gr0 right.plain_tree) vs i v x at right.turns
-            (record { left = own.left; right = own.right; begins = own.begins }) (λ t beside is. is);
+            own (λ t beside is. is);
         leaving =
             all_moved (LeavesMarked marks right.plain_tree) (LeavesMarked marks right.plain_tree) vs i v x at right.leaving
             (own_leaving z gr0 marks tags right.plain_tree vs i v x at before) (λ t beside is. is);

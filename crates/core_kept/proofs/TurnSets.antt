@@ -318,7 +318,7 @@ module _ (z : Layout) (words : List ℕ) (vs : List View) (right : InRule z word
   }
     where
       own : TurnsRight gr1 tree1 v → TurnsRight gr1 tree1 (link_set v k side x)
-      own is = record { left = is.left; right = is.right; begins = is.begins }
+      own is = is
 
   pub set_field : TurnsAfter z (written m (Node (Link side) k) x) (set vs i (link_set v k side x))
   set_field plain spelled =

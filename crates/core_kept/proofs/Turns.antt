@@ -39,7 +39,7 @@ module _ (z : Layout) (m : Memory) (vs : List View) (g : Meaning) (rule : Rule z
   entry_same x (inr stands) = inr (record { node = stands.node; side = stands.side; of = stands.of; here = stands.here })
 
   place_by : (p : Place) → PlaceRight z (λ e. m (Entry Number e)) g.bundles v p → PlaceRight z (λ e. m (Entry Number e)) g.bundles y p
-  place_by (AtEntry node side entry found) right = record { reach = right.reach; stands = right.stands }
+  place_by (AtEntry node side entry found) right = right
   place_by _ right = tt
 
   -- no part of the rule speaks of turns
@@ -60,12 +60,12 @@ module _ (z : Layout) (m : Memory) (vs : List View) (g : Meaning) (rule : Rule z
         };
         seen = seat.seen;
         update = seat.update;
-        version = record { past = seat.version.past; opened = seat.version.opened; bare = seat.version.bare; there = seat.version.there };
-        announced = record { low = seat.announced.low; read = seat.announced.read; least = seat.announced.least };
+        version = seat.version;
+        announced = seat.announced;
         tree = seat.tree;
         locks = seat.locks;
-        loaded = record { nodes = seat.loaded.nodes; nexts = seat.loaded.nexts };
-        marks = record { retired = seat.marks.retired; batch = seat.marks.batch; taken = seat.marks.taken };
+        loaded = seat.loaded;
+        marks = seat.marks;
         pending = seat.pending;
         place = place_by v.reading.place seat.place;
         filled = seat.filled;

@@ -78,22 +78,15 @@ module _ (z : Layout) (m : Memory) (vs : List View) (g : Meaning) where
   split_seats v n seat live = (
     record {
       layout = seat.layout;
-      section = record {
-        section = seat.section.section;
-        announced = seat.section.announced;
-        outside = seat.section.outside;
-        unlocked = seat.section.unlocked;
-        done = seat.section.done;
-        waits = seat.section.waits;
-      };
+      section = seat.section;
       seen = seat.seen;
       update = seat.update;
       version = seat.version;
-      announced = record { low = seat.announced.low; read = seat.announced.read; least = seat.announced.least };
+      announced = seat.announced;
       tree = seat.tree;
       locks = seat.locks;
-      loaded = record { nodes = seat.loaded.nodes; nexts = seat.loaded.nexts };
-      marks = record { retired = seat.marks.retired; batch = seat.marks.batch; taken = seat.marks.taken };
+      loaded = seat.loaded;
+      marks = seat.marks;
       pending = seat.pending;
       place = seat.place;
       filled = every_filled m m v.free (split_left v n).free v.update v.update v.reading.filled (split_own v n) (λ w own. refl) seat.filled;
@@ -218,11 +211,11 @@ module _ (z : Layout) (m : Memory) (vs : List View) (g : Meaning) where
     };
     seen = seen_joined g.updates v.history u.history u.number seat.seen other.seen;
     update = seat.update;
-    version = record { past = seat.version.past; opened = seat.version.opened; bare = seat.version.bare; there = seat.version.there };
-    announced = record { low = seat.announced.low; read = seat.announced.read; least = seat.announced.least };
+    version = seat.version;
+    announced = seat.announced;
     tree = seat.tree;
     locks = seat.locks;
-    loaded = record { nodes = seat.loaded.nodes; nexts = seat.loaded.nexts };
+    loaded = seat.loaded;
     marks = joined_marks v u seat other idle;
     pending = seat.pending;
     place = seat.place;

@@ -240,8 +240,8 @@ module _ (z : Layout) (m : Memory) (vs : List View) (g : Meaning) (rule : Rule z
     };
     seen = own_seat.seen;
     update = until_by (UpdateRight (m Stamp)) rest v.update (record { raised = tt; first = λ _. refl }) own_seat.update;
-    version = record { past = own_seat.version.past; opened = own_seat.version.opened; bare = own_seat.version.bare; there = own_seat.version.there };
-    announced = record { low = own_seat.announced.low; read = own_seat.announced.read; least = own_seat.announced.least };
+    version = own_seat.version;
+    announced = own_seat.announced;
     tree = own_seat.tree;
     locks = own_locks;
     loaded = record {
@@ -275,14 +275,7 @@ module _ (z : Layout) (m : Memory) (vs : List View) (g : Meaning) (rule : Rule z
   other_now : (u : View) → Beside vs i u → SeatRight z m g u → SeatRight z m' g u
   other_now u beside of = record {
     layout = of.layout;
-    section = record {
-      section = of.section.section;
-      announced = of.section.announced;
-      outside = of.section.outside;
-      unlocked = of.section.unlocked;
-      done = of.section.done;
-      waits = of.section.waits;
-    };
+    section = of.section;
     seen = of.seen;
     update = of.update;
     version = of.version;
@@ -293,8 +286,8 @@ module _ (z : Layout) (m : Memory) (vs : List View) (g : Meaning) (rule : Rule z
       names_kept u.number j (λ same. omega (arith, locked_apart z m vs g rule i k v u at beside locked, subst (λ x. 0 < lock_count x u) same some))
           (of.locks j some).1,
     );
-    loaded = record { nodes = of.loaded.nodes; nexts = of.loaded.nexts };
-    marks = record { retired = of.marks.retired; batch = of.marks.batch; taken = of.marks.taken };
+    loaded = of.loaded;
+    marks = of.marks;
     pending = of.pending;
     place = of.place;
     filled = every_filled m m' u.free u.free u.update u.update u.reading.filled (λ y is. is) (lock_apart m u.free u.update k 0) of.filled;

@@ -55,7 +55,7 @@ use Rattle.core_kept.proofs.RaiseNew.{waiting_old}
 use Rattle.core_kept.proofs.TreeNeeds.{moves_tree}
 use Rattle.core_kept.proofs.TryLocks.{slots_push}
 use Rattle.core_kept.proofs.Unlocks.{slots_other, until_by}
-use Rattle.core_kept.proofs.WaitingLoads.{less, same, quiet}
+use Rattle.core_kept.proofs.WaitingLoads.{less, quiet}
 
 -- a list that is empty with another one behind it
 both_empty : {X : Type 0} (xs ys : List X) → xs ++ ys ≡ [] → (xs ≡ []) × (ys ≡ [])
@@ -113,7 +113,7 @@ module _ (z : Layout) (words : List ℕ) (vs : List View) (right : InRule z word
   look_by : (pass x : ℕ) → is_even v.section_word ≡ true → (b : Bool) → has_no_lock v ≡ b
       → WaitsRight (cond b (looked z.passes v pass x) (looked_waiting v pass x))
   look_by pass x even true none = slots_looked pass x (idle_if (and_from (is_even v.section_word) (has_no_lock v) even none))
-  look_by pass x even false some = same v own_right (looked_waiting v pass x) refl refl refl refl refl
+  look_by pass x even false some = own_right
 
   look_waits : (u : Word) (x : ℕ) → may_look v u value ≡ true → WaitsRight (look_from z v u x)
   look_waits (Section pass) x met = look_by pass x (can_look v pass value met).even (has_no_lock v) refl
@@ -241,7 +241,7 @@ module _ (z : Layout) (words : List ℕ) (vs : List View) (right : InRule z word
     where
       tried_by : (b : Bool) → count k v.batch.nodes ≡ 0 → WaitsRight (cond b (locked_view v k) (met_lock v value x))
       tried_by true unbatched = locked_waits k unbatched
-      tried_by false unbatched = same v own_right (met_lock v value x) refl refl refl refl refl
+      tried_by false unbatched = own_right
   lock_waits _ x is met = absurd (never met)
 
   unlock_waits : (u : Word) → WaitsRight (unlocked_from v u)
@@ -317,7 +317,7 @@ module _ (z : Layout) (words : List ℕ) (vs : List View) (right : InRule z word
   split_waits : All WaitsRight (set vs i (split_left v value) ++ split_right v value ∷ [])
   split_waits =
       All-push WaitsRight (set vs i (split_left v value)) (split_right v value)
-      (moved (split_left v value) (same v own_right (split_left v value) refl refl refl refl refl)) (nothing_waits (split_right v value) refl refl)
+      (moved (split_left v value) own_right) (nothing_waits (split_right v value) refl refl)
 
   -- each view's slots wait as they should after an event whose needs are met
   pub waits_after : (kind : Kind) (o : Option Update) → carries kind v o ≡ true → needs kind z m vs i v w value o ≡ true
@@ -333,4 +333,4 @@ module _ (z : Layout) (words : List ℕ) (vs : List View) (right : InRule z word
   waits_after TryLock o named met = moved (tried_from v w value (m w)) (lock_waits w (m w) found met)
   waits_after Unlock o named met = moved (unlocked_from v w) (unlock_waits w)
   waits_after Cut o named met = moved (cut_from z m v w) (cut_waits w met)
-  waits_after kind o named met = moved _ (quiet v own_right z m vs (m w) value o kind w refl refl refl refl refl refl)
+  waits_after kind o named met = moved _ (quiet v own_right z m vs (m w) value o kind w (refl, (refl, (refl, (refl, (refl, (refl, tt)))))))

@@ -72,7 +72,7 @@ looked_part z pass word v =
     settled_part z.passes (record taken { grace = looked_at taken.grace pass word }) ∙ taken_part v
 
 pub filled_part : (z : Layout) (v : View) (w : Word) (value : ℕ) → part_of (filled_view v w value) ≡ part_of v
-filled_part z v w value = still_kept z (λ w. 0) Rattle.std.proofs.Common.[] v w 0 value Rattle.std.proofs.Common.None Fill refl
+filled_part z v w value = still_kept z (λ w. 0) Rattle.std.proofs.Common.[] v w 0 value Rattle.std.proofs.Common.None Fill (refl, (refl, (refl, (refl, (refl, tt)))))
 
 -- what a fill leaves of what was locked and of the update's place
 pub filled_still : (v : View) (w : Word) (value : ℕ) → IsStill v (filled_view v w value)
