@@ -4,12 +4,13 @@
     tests/check_rows.py PROGRAM
 
 - VERDICTS: a session with a text, and the first wrong line, or None where the text is legal.
+- CLAUSES: the same for each clause of a legal run: a text in which that clause alone is broken.
 - REFUSED: an input, the line that is refused, and its cause.
 - the text that the program writes for each session of rows.txt, of SLOTS in rows.py, and for two sessions whose clients
   change the same keys: all are legal.
 - a text of 64 MiB less a session, without a line feed: it is one line, and the first wrong one.
 
-Nothing of VERDICTS and REFUSED is taken from the program or from a model. A refused input writes nothing.
+Nothing of VERDICTS, CLAUSES and REFUSED is taken from the program or from a model. A refused input writes nothing.
 """
 import subprocess
 import sys
@@ -93,6 +94,176 @@ VERDICTS = [
     ("the same without a number", ["check"], FEW, b"----\n", FEW_TEXT, 2),
 ]
 
+
+
+def put(at, line, replaced=b"false", client=0):
+    """The reply line of a PUT or PUTNEW line that made an update."""
+    return b'{"At":%d,"Client":%d,"Line":%d,"Replaced":%s,"Status":200}\n' % (at, client, line, replaced)
+
+
+def status(at, line, code, client=0):
+    """A reply line that shows a status alone; `at` is None where nothing was answered."""
+    place = b"null" if at is None else b"%d" % at
+    return b'{"At":%s,"Client":%d,"Line":%d,"Status":%d}\n' % (place, client, line, code)
+
+
+def found(at, line, record):
+    """The reply line of a HEAD line that found the record `PUT key N eN N`."""
+    return b'{"At":%d,"Client":0,"ETag":"e%d","LastModified":%d,"Line":%d,"Size":%d,"Status":200}\n' % (at, record, record, line, record)
+
+
+def page(at, line, key, record):
+    """The reply line of a LIST line whose page has one key."""
+    entry = b'{"ETag":"e%d","Key":"%s","LastModified":%d,"Size":%d}' % (record, key, record, record)
+    return (
+        b'{"At":%d,"Client":0,"CommonPrefixes":[],"Contents":[%s],"IsTruncated":false,"KeyCount":1,"Line":%d,"MaxKeys":1000,'
+        b'"Prefix":"","Status":200}\n' % (at, entry, line)
+    )
+
+
+def made(at, line, key=b"a", verb=b"PUT"):
+    """A journal line of client 0."""
+    return b'{"At":%d,"Client":0,"Key":"%s","Line":%d,"Verb":"%s"}\n' % (at, key, line, verb)
+
+
+def end(updates):
+    return b'{"Updates":%d}\n' % updates
+
+
+PUT_TWICE = b"CLIENT\nPUT a 1 e1 1\nPUT b 2 e2 2\n"
+PUT_NEW = b"CLIENT\nPUT a 1 e1 1\nPUTNEW a 2 e2 2\n"
+TRUNCATED = (
+    b'{"At":2,"Client":0,"CommonPrefixes":[],"Contents":[{"ETag":"e1","Key":"a","LastModified":1,"Size":1}],"IsTruncated":true,'
+    b'"KeyCount":1,"Line":4,"MaxKeys":1,"NextContinuationToken":"MkswMDAwMDAwMGE","Prefix":"","Status":200}\n'
+)
+
+# what it shows, the words behind `check`, the session, the text, and the first wrong line
+CLAUSES = [
+    (
+        "no HEAD is refused for want of slots",
+        ["--slots", "1"],
+        b"CLIENT\nPUT a 1 e1 1\nHEAD a\n",
+        put(1, 2) + status(None, 3, 503) + made(1, 2) + end(1),
+        2,
+    ),
+    (
+        "no LIST is refused for want of slots",
+        ["--slots", "1"],
+        b"CLIENT\nPUT a 1 e1 1\nLIST\n",
+        put(1, 2) + status(None, 3, 503) + made(1, 2) + end(1),
+        2,
+    ),
+    ("of two wrong replies the first client's", [], TWO, TWO_TEXT % (1, 2, b"e2", 2, 2) + TWO_JOURNAL, 1),
+    (
+        "a removal uses up a slot",
+        ["--slots", "2"],
+        b"CLIENT\nPUT a 1 e1 1\nDELETE a\nPUT b 2 e2 2\n",
+        put(1, 2) + status(2, 3, 204) + status(None, 4, 503) + made(1, 2) + made(2, 3, verb=b"DELETE") + end(2),
+        None,
+    ),
+    (
+        "each client has the named number of slots",
+        ["--slots", "2"],
+        PUT_TWICE + b"CLIENT\n",
+        put(1, 2) + status(None, 3, 503) + made(1, 2) + end(1),
+        2,
+    ),
+    (
+        "places do not fall",
+        [],
+        b"CLIENT\nPUT b 2 e2 2\nPUT a 1 e1 1\nLIST\n",
+        put(1, 2) + put(2, 3) + page(1, 4, b"b", 2) + made(1, 2, b"b") + made(2, 3) + end(2),
+        3,
+    ),
+    (
+        "an own update stands above an earlier answer",
+        [],
+        b"CLIENT\nHEAD a\nPUT a 1 e1 1\n",
+        found(1, 2, 1) + put(1, 3) + made(1, 3) + end(1),
+        2,
+    ),
+    (
+        "a removal that made an update stands at its place",
+        [],
+        b"CLIENT\nPUT a 1 e1 1\nDELETE a\nPUT b 1 e1 1\nDELETE b\n",
+        put(1, 2)
+        + status(3, 3, 204)
+        + put(3, 4)
+        + status(4, 5, 204)
+        + made(1, 2)
+        + made(2, 3, verb=b"DELETE")
+        + made(3, 4, b"b")
+        + made(4, 5, b"b", b"DELETE")
+        + end(4),
+        2,
+    ),
+    (
+        "a removal finds a key that is there",
+        [],
+        b"CLIENT\nPUT a 1 e1 1\nDELETE a\n",
+        put(1, 2) + status(1, 3, 204) + made(1, 2) + end(1),
+        2,
+    ),
+    (
+        "a removal that finds no key makes no update",
+        [],
+        b"CLIENT\nDELETE a\n",
+        status(1, 2, 204) + made(1, 2, verb=b"DELETE") + end(1),
+        1,
+    ),
+    (
+        "a PUTNEW line that is answered with 412 makes no update",
+        [],
+        PUT_NEW,
+        put(1, 2) + status(2, 3, 412) + made(1, 2) + made(2, 3) + end(2),
+        2,
+    ),
+    ("412 only where the key is there", [], b"CLIENT\nPUTNEW a 1 e1 1\n", status(0, 2, 412) + end(0), 1),
+    (
+        "a PUTNEW line replaces no record",
+        [],
+        PUT_NEW,
+        put(1, 2) + put(2, 3, b"true") + made(1, 2) + made(2, 3) + end(2),
+        2,
+    ),
+    (
+        "a line that is refused makes no update",
+        ["--slots", "1"],
+        PUT_TWICE,
+        put(1, 2) + status(None, 3, 503) + made(1, 2) + made(2, 3, b"b") + end(2),
+        2,
+    ),
+    ("a LIST without a token is not refused", [], b"CLIENT\nLIST\n", status(None, 2, 400) + end(0), 1),
+    (
+        "a NEXT after a truncated page is not refused",
+        [],
+        b"CLIENT\nPUT a 1 e1 1\nPUT b 1 e1 1\nLIST max-keys=1\nNEXT\n",
+        put(1, 2) + put(2, 3) + TRUNCATED + status(None, 5, 400) + made(1, 2) + made(2, 3, b"b") + end(2),
+        4,
+    ),
+    (
+        "another client's update uses up no slot",
+        ["--slots", "1"],
+        b"CLIENT\nPUT a 1 e1 1\nCLIENT\nPUT a 2 e2 2\n",
+        put(1, 2) + status(None, 4, 503, 1) + made(1, 2) + end(1),
+        2,
+    ),
+    (
+        "a later line's update uses up no slot",
+        ["--slots", "1"],
+        PUT_TWICE,
+        status(None, 2, 503) + put(1, 3) + made(1, 3, b"b") + end(1),
+        1,
+    ),
+    (
+        "a HEAD line makes no update",
+        [],
+        b"CLIENT\nHEAD a\nPUT a 1 e1 1\n",
+        status(0, 2, 404) + put(2, 3, b"true") + made(1, 2) + made(2, 3) + end(2),
+        3,
+    ),
+]
+
 REFUSED = [
     (["check"], SESSION, 6, "NoText"),
     (["check", "--slots=4"], SESSION, 6, "NoText"),
@@ -142,6 +313,8 @@ def rows(program):
     """What each row shows, its words, its input, and how it ends."""
     for name, words, session, between, text, line in VERDICTS:
         yield name, words, session + between + text, of_verdict(line)
+    for name, words, session, text, line in CLAUSES:
+        yield name, ["check", *words], session + b"----\n" + text, of_verdict(line)
     for words, given, line, cause in REFUSED:
         yield "refused", words, given, (3, "", "bucketidx: line %d: %s\n" % (line, cause))
     for row in sessions(SESSIONS.read_text()):

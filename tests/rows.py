@@ -228,6 +228,12 @@ SLOTS = [
             6: '{"Updates":2}',
         },
     ),
+    (
+        "one slot, and the removal of an absent key",
+        1,
+        "CLIENT\nPUT a 1 e1 1\nDELETE b\n",
+        PUT_AND_REFUSED | {3: '{"At":1,"Client":0,"Key":"a","Line":2,"Verb":"PUT"}', 4: '{"Updates":1}'},
+    ),
     ("a session without a client", 1, "", NO_UPDATES),
     ("the most slots, for as many clients as there may be", 8192, "CLIENT\n" * 32, NO_UPDATES),
 ]
@@ -440,6 +446,7 @@ REFUSED = [
     ),
     # a LISTV1 counts with its own number, and changes nothing of what a NEXT counts with
     (b"CLIENT\n" + b"LISTV1\n" * 4001, 4002, "TooManyEntries"),
+    (b"CLIENT\n" + b"LISTV1 delimiter=/\n" * 4001, 4002, "TooManyEntries"),
     (b"CLIENT\nLISTV1\n" + b"NEXT\n" * 10 + b"LIST\n" * 3999 + b"LISTV1 max-keys=1\n", 4012, "TooManyEntries"),
     (b"CLIENT\nLIST\nLISTV1 max-keys=0\n" + b"NEXT\n" * 4000, 4003, "TooManyEntries"),
     (b"\nLISTV1\nCLIENT\n", 2, "NoClient"),
