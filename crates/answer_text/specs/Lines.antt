@@ -17,8 +17,7 @@ use Rattle.bucket_terms.specs.declared.page.PageEntry.TheVariants.{Key, Group}
 use Rattle.bucket_terms.specs.declared.reply.Reply.{Reply}
 use Rattle.bucket_terms.specs.declared.reply.Reply.TheVariants.{Put, Exists, Deleted, Found, Missing, Listed, ListedV1, BadToken, NoSlot}
 use Rattle.bucket_terms.specs.declared.reply.Placed.{Placed}
-use Rattle.bucket_terms.specs.Listing.{group_text, next_token, page_point}
-use Rattle.bucket_terms.specs.V1Listing.{next_marker}
+use Rattle.bucket_terms.specs.Listing.{group_text, next_token, page_point, next_marker}
 use Rattle.bucket_terms.specs.LegalRun.{Run}
 
 -- ---- escapes under `encoding-type=url` (Amazon S3 API reference, ListObjectsV2: `EncodingType`)
@@ -70,18 +69,15 @@ line_of d = compact_text d ++ 10 ∷ []
 
 -- ---- the entries of a page
 
--- the record at a place; behind the last place one that no answer shows
+-- the record at a place; beyond the last place one that no answer shows
 abbrev pub record_at : List Record → ℕ → Record
 record_at records place = slice_index_or records place (record { size = 0; etag = []; modified = 0 })
 
 -- what `Contents` and `CommonPrefixes` show of an entry (Amazon S3 API reference, ListObjectsV2)
-abbrev pub content_data : List ℕ → Record → Data
-content_data key r = object_of (
-    always (codes "ETag") (string r.etag) ∷ always (codes "Key") (string key)
-    ∷ always (codes "LastModified") (whole r.modified) ∷ always (codes "Size") (whole r.size) ∷ [])
-
 abbrev pub content_of : List (List ℕ) → List Record → Bool → PageEntry → Option Data
-content_of dir records url (Key rank val) = Some (content_data (shown url (name_at dir rank)) (record_at records val))
+content_of dir records url (Key rank val) = Some (object_of (
+    always (codes "ETag") (string (record_at records val).etag) ∷ always (codes "Key") (string (shown url (name_at dir rank)))
+    ∷ always (codes "LastModified") (whole (record_at records val).modified) ∷ always (codes "Size") (whole (record_at records val).size) ∷ []))
 content_of dir records url (Group rank len) = None
 
 abbrev pub prefix_of : List (List ℕ) → Bool → PageEntry → Option Data
@@ -94,21 +90,18 @@ prefix_of dir url (Group rank len) = Some (object_of (always (codes "Prefix") (s
 abbrev pub is_given : List ℕ → Bool
 is_given text = not (length text == 0)
 
--- the members behind the place and the client: of a reply that shows no more than whether a record was replaced, of a
--- record, and of any reply of the line. Tokens are never escaped.
+-- the members after the place and the client: of a reply that shows no more than whether a record was replaced, and of
+-- any reply of the line. Tokens are never escaped.
 abbrev pub short_end : ℕ → Option Member → ℕ → List (Option Member)
 short_end line replaced status = always (codes "Line") (whole line) ∷ replaced ∷ always (codes "Status") (whole status) ∷ []
-
-abbrev pub found_end : ℕ → Record → List (Option Member)
-found_end line r =
-    always (codes "ETag") (string r.etag) ∷ always (codes "LastModified") (whole r.modified) ∷ always (codes "Line") (whole line)
-    ∷ always (codes "Size") (whole r.size) ∷ always (codes "Status") (whole 200) ∷ []
 
 abbrev pub reply_end : List (List ℕ) → List Record → ℕ → Reply → List (Option Member)
 reply_end dir records line (Put was) = short_end line (always (codes "Replaced") (boolean was)) 200
 reply_end dir records line Exists = short_end line None 412
 reply_end dir records line Deleted = short_end line None 204
-reply_end dir records line (Found val) = found_end line (record_at records val)
+reply_end dir records line (Found val) =
+    always (codes "ETag") (string (record_at records val).etag) ∷ always (codes "LastModified") (whole (record_at records val).modified)
+    ∷ always (codes "Line") (whole line) ∷ always (codes "Size") (whole (record_at records val).size) ∷ always (codes "Status") (whole 200) ∷ []
 reply_end dir records line Missing = short_end line None 404
 reply_end dir records line (Listed query page) =
     always (codes "CommonPrefixes") (array (items_of (filter_map (prefix_of dir query.url) page.entries)))
@@ -163,10 +156,14 @@ abbrev pub journal_lines : List (List ℕ) → ℕ → List Update → List ℕ
 journal_lines dir place [] = []
 journal_lines dir place (u ∷ us) = line_of (journal_data dir place u) ++ journal_lines dir (place + 1) us
 
+-- the last line of a text of so many updates
+abbrev pub counting_line : ℕ → List ℕ
+counting_line count = line_of (object_of (always (codes "Updates") (whole count) ∷ []))
+
 -- the session text: the replies client by client, in the order of the requests; the journal by place, from 1;
 -- and the number of updates
 abbrev pub session_text : List (List ℕ) → List Record → Run → List ℕ
 session_text dir records run =
     flat_map (flat_map (λ (p : Placed). line_of (reply_data dir records p))) run.replies
     ++ journal_lines dir 1 run.updates
-    ++ line_of (object_of (always (codes "Updates") (whole (length run.updates)) ∷ []))
+    ++ counting_line (length run.updates)

@@ -13,8 +13,7 @@ use Rattle.bucket_terms.specs.declared.token_point.TokenPoint.{TokenPoint}
 use Rattle.bucket_terms.specs.declared.page.Page.{Page}
 use Rattle.bucket_terms.specs.declared.reply.Reply.{Reply}
 use Rattle.bucket_terms.specs.declared.reply.Placed.{Placed}
-use Rattle.bucket_terms.specs.Listing.{next_token, page_point}
-use Rattle.bucket_terms.specs.V1Listing.{next_marker}
+use Rattle.bucket_terms.specs.Listing.{next_token, page_point, next_marker}
 use Rattle.answer_text.specs.Lines.{Member, always, only_if, if_some, whole, object_of, line_of, is_kept, shown, is_given, content_of, prefix_of, reply_end, reply_data}
 
 -- ---- escapes

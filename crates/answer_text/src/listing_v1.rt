@@ -2,7 +2,7 @@
 ghost use Rattle.std.specs.Prelude.{◌≡◌, ◌++◌, string_bytes, OnOk};
 ghost use Rattle.std.specs.Option.{option_map};
 ghost use Rattle.bucket_terms.specs.PageInRange.{IsInRange};
-ghost use Rattle.bucket_terms.specs.V1Listing.{next_marker};
+ghost use Rattle.bucket_terms.specs.Listing.{next_marker};
 ghost use Rattle.answer_text.specs.Lines.{shown};
 ghost use Rattle.answer_text.specs.Shown.{v1_shown};
 ghost use Rattle.answer_text.specs.InRange.{IsPageOf};

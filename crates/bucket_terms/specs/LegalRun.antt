@@ -2,14 +2,13 @@
 -- A session is seen here as each client's list of request lines.
 use Rattle.std.specs.Prelude.{◌≡◌, ℕ, zero, suc, ◌+◌, ◌-◌, ◌<◌, ◌≤◌, ◌⊎◌, ◌==◌, ◌&&◌, nat_lt, Bool, true, false, MatchBool, List, [], ◌∷◌, ◌++◌, length, count_by, filter, All, Any, Option, Some, None, is_some, IfSome, MatchOption, slice_get, slice_index_or}
 use Rattle.std.specs.List.{last_or}
-use Rattle.std.specs.Option.{option_map}
+use Rattle.std.specs.Option.{option_map, unwrap_or}
 use Rattle.key_names.specs.Names.{IsRank}
 use Rattle.key_map.specs.declared.update.Update.{Update}
 use Rattle.key_map.specs.declared.update.Change.{Change}
 use Rattle.key_map.specs.declared.update.Change.TheVariants.{Put as PutVal, Remove}
 use Rattle.key_map.specs.KeyMap.{map_has, map_get, after}
 use Rattle.bucket_terms.specs.declared.list_query.ListQuery.{ListQuery}
-use Rattle.bucket_terms.specs.declared.v1_query.V1Query.{V1Query}
 use Rattle.bucket_terms.specs.declared.token_point.TokenPoint.{TokenPoint}
 use Rattle.bucket_terms.specs.declared.token.Bound.{Bound}
 use Rattle.bucket_terms.specs.declared.page.Page.{Page}
@@ -18,8 +17,7 @@ use Rattle.bucket_terms.specs.declared.request.Request.TheVariants.{Put, PutNew,
 use Rattle.bucket_terms.specs.declared.reply.Reply.{Reply}
 use Rattle.bucket_terms.specs.declared.reply.Reply.TheVariants.{Put as PutReply, Exists, Deleted, Found, Missing, Listed, ListedV1, BadToken, NoSlot}
 use Rattle.bucket_terms.specs.declared.reply.Placed.{Placed}
-use Rattle.bucket_terms.specs.Listing.{IsTokenOf, next_token, bound_of, page_of, page_point}
-use Rattle.bucket_terms.specs.V1Listing.{v1_page}
+use Rattle.bucket_terms.specs.Listing.{IsTokenOf, next_token, bound_of, page_of, page_point, v1_page}
 
 -- one request and the number of its line
 pub record RequestLine : Type 0 where
@@ -51,7 +49,7 @@ abbrev pub IsPointOf : ListQuery → Option TokenPoint → Type 0
 IsPointOf query None = query.token ≡ []
 IsPointOf query (Some point) = (bound : Option Bound) × (IsBoundTo bound query × IsTokenOf (record { point = point; bound = bound }) query.token)
 
--- the query and the point of the page behind a reply
+-- the query and the point with which a listing goes on
 pub record Resumed : Type 0 where
   pub query : ListQuery
   pub point : TokenPoint
@@ -70,7 +68,8 @@ is_listing _ = false
 
 -- the reply of the last LIST or NEXT
 abbrev pub last_listing : List Answered → Option Reply
-last_listing earlier = option_map (λ (a : Answered). a.placed.reply) (last_or None (filter (λ (a : Answered). is_listing a.asked.request) earlier))
+last_listing earlier =
+    option_map (λ (answered : Answered). answered.placed.reply) (last_or None (filter (λ (answered : Answered). is_listing answered.asked.request) earlier))
 
 -- ---- requests that may make an update
 
@@ -92,87 +91,86 @@ is_update request = is_some (asked_change request)
 -- ---- one answer
 
 -- the update is that of this client's line
-pub record IsOf (s : Setting) (line : ℕ) (u : Update) : Type 0 where
-  pub by : u.client ≡ s.client
-  pub for_line : u.line ≡ line
+pub record IsOf (setting : Setting) (line : ℕ) (update : Update) : Type 0 where
+  pub by : update.client ≡ setting.client
+  pub for_line : update.line ≡ line
 
 -- the update at this place of the history, counted from 1
 abbrev pub update_at : Setting → ℕ → Option Update
-update_at s zero = None
-update_at s (suc before) = slice_get s.updates before
+update_at setting zero = None
+update_at setting (suc before) = slice_get setting.updates before
 
--- the line's own update stands at its place, and `was` tells whether the key was there just before it
-pub record UpdateStands (s : Setting) (line : ℕ) (name : List ℕ) (change : Change) (was : Bool) (at : ℕ) : Type 0 where
+-- the line's own update stands at its place, and `was` says whether the key was there before it
+pub record UpdateStands (setting : Setting) (line : ℕ) (name : List ℕ) (change : Change) (was : Bool) (at : ℕ) : Type 0 where
   pub key : ℕ
-  pub rank : IsRank s.dir name key
-  pub update : update_at s at ≡ Some (record { client = s.client; line = line; key = key; change = change })
-  pub before : was ≡ map_has key (after s.updates (at - 1))
+  pub rank : IsRank setting.dir name key
+  pub update : update_at setting at ≡ Some (record { client = setting.client; line = line; key = key; change = change })
+  pub before : was ≡ map_has key (after setting.updates (at - 1))
 
 -- no update of the history is that of the line
 abbrev pub MakesNone : Setting → ℕ → Type 0
-MakesNone s line = All (λ u. ¬ (IsOf s line u)) s.updates
+MakesNone setting line = All (λ update. ¬ (IsOf setting line update)) setting.updates
 
 -- the map at the place has this value for the name, or none
-pub record Finds (s : Setting) (name : List ℕ) (at : ℕ) (found : Option ℕ) : Type 0 where
+pub record Finds (setting : Setting) (name : List ℕ) (at : ℕ) (found : Option ℕ) : Type 0 where
   pub key : ℕ
-  pub rank : IsRank s.dir name key
-  pub value : map_get key (after s.updates at) ≡ found
+  pub rank : IsRank setting.dir name key
+  pub value : map_get key (after setting.updates at) ≡ found
 
 -- the page is the map's at the place, for this query and from this point
 abbrev pub Lists : Setting → ℕ → ListQuery → Option TokenPoint → ListQuery → Page → Type 0
-Lists s at query point shown page = (shown ≡ query) × (page ≡ page_of s.dir query point (after s.updates at))
-
--- the same of a listing of version 1
-abbrev pub ListsV1 : Setting → ℕ → V1Query → V1Query → Page → Type 0
-ListsV1 s at query shown page = (shown ≡ query) × (page ≡ v1_page s.dir query (after s.updates at))
+Lists setting at query point shown page = (shown ≡ query) × (page ≡ page_of setting.dir query point (after setting.updates at))
 
 -- the client's earlier lines have made at least as many updates as it has node slots
 abbrev pub HasUsedItsSlots : Setting → ℕ → Type 0
-HasUsedItsSlots s line = s.slots ≤ count_by (λ (u : Update). (u.client == s.client) && nat_lt u.line line) s.updates
+HasUsedItsSlots setting line =
+    setting.slots ≤ count_by (λ (update : Update). (update.client == setting.client) && nat_lt update.line line) setting.updates
 
 -- the reply is right at its place, where `last` is the reply of the client's last LIST or NEXT. A request is refused,
 -- and so has no place, only for a bad token or for want of slots.
 abbrev pub IsRight : Setting → Option Reply → RequestLine → Option ℕ → Reply → Type 0
-IsRight s last asked at reply = IsRightFor asked.request at reply
+IsRight setting last asked at reply = IsRightFor asked.request at reply
   where
     IsRightFor : Request → Option ℕ → Reply → Type 0
-    IsRightFor (Put name val) (Some at) (PutReply was) = UpdateStands s asked.line name (PutVal val) was at
-    IsRightFor (PutNew name val) (Some at) (PutReply false) = UpdateStands s asked.line name (PutVal val) false at
-    IsRightFor (PutNew name val) (Some at) Exists = ((there : ℕ) × Finds s name at (Some there)) × MakesNone s asked.line
-    IsRightFor (Delete name) (Some at) Deleted = UpdateStands s asked.line name Remove true at ⊎ (Finds s name at None × MakesNone s asked.line)
-    IsRightFor request None NoSlot = MatchBool (is_update request) (HasUsedItsSlots s asked.line) ⊥
-    IsRightFor (Head name) (Some at) (Found val) = Finds s name at (Some val)
-    IsRightFor (Head name) (Some at) Missing = Finds s name at None
-    IsRightFor (ListRequest query) (Some at) (Listed shown page) = (point : Option TokenPoint) × (IsPointOf query point × Lists s at query point shown page)
+    IsRightFor (Put name val) (Some at) (PutReply was) = UpdateStands setting asked.line name (PutVal val) was at
+    IsRightFor (PutNew name val) (Some at) (PutReply false) = UpdateStands setting asked.line name (PutVal val) false at
+    IsRightFor (PutNew name val) (Some at) Exists = ((there : ℕ) × Finds setting name at (Some there)) × MakesNone setting asked.line
+    IsRightFor (Delete name) (Some at) Deleted = UpdateStands setting asked.line name Remove true at ⊎ (Finds setting name at None × MakesNone setting asked.line)
+    IsRightFor request None NoSlot = MatchBool (is_update request) (HasUsedItsSlots setting asked.line) ⊥
+    IsRightFor (Head name) (Some at) (Found val) = Finds setting name at (Some val)
+    IsRightFor (Head name) (Some at) Missing = Finds setting name at None
+    IsRightFor (ListRequest query) (Some at) (Listed shown page) = (point : Option TokenPoint) × (IsPointOf query point × Lists setting at query point shown page)
     IsRightFor (ListRequest query) None BadToken = (point : Option TokenPoint) → ¬ (IsPointOf query point)
-    IsRightFor (ListV1 query) (Some at) (ListedV1 shown page) = ListsV1 s at query shown page
-    IsRightFor Next (Some at) (Listed shown page) = (next : Resumed) × ((next_of s.dir last ≡ Some next) × Lists s at next.query (Some next.point) shown page)
-    IsRightFor Next None BadToken = next_of s.dir last ≡ None
+    IsRightFor (ListV1 query) (Some at) (ListedV1 shown page) = (shown ≡ query) × (page ≡ v1_page setting.dir query (after setting.updates at))
+    IsRightFor Next (Some at) (Listed shown page) = (next : Resumed) × ((next_of setting.dir last ≡ Some next) × Lists setting at next.query (Some next.point) shown page)
+    IsRightFor Next None BadToken = next_of setting.dir last ≡ None
     IsRightFor request at reply = ⊥
 
--- a client's places never fall, and its own update stands above all that it was answered before
-pub record KeepsOrder (s : Setting) (earlier : List Answered) (line at : ℕ) : Type 0 where
-  pub within : at ≤ length s.updates
-  pub not_below : All (λ (a : Answered). IfSome a.placed.at (λ place. place ≤ at)) earlier
-  pub above : IfSome (update_at s at) (λ u. IsOf s line u → All (λ (a : Answered). IfSome a.placed.at (λ place. place < at)) earlier)
+-- the place is one of the history, and none of the client's earlier places is above it; where the update at the place is
+-- that of this line, every place at which the client was answered earlier is below it
+pub record KeepsOrder (setting : Setting) (earlier : List Answered) (line at : ℕ) : Type 0 where
+  pub within : at ≤ length setting.updates
+  pub not_below : All (λ (answered : Answered). IfSome answered.placed.at (λ place. place ≤ at)) earlier
+  pub above : IfSome (update_at setting at)
+      (λ update. IsOf setting line update → All (λ (answered : Answered). IfSome answered.placed.at (λ place. place < at)) earlier)
 
 -- the request has this reply, after these earlier ones
-pub record IsAnswered (s : Setting) (earlier : List Answered) (asked : RequestLine) (placed : Placed) : Type 0 where
-  pub client : placed.client ≡ s.client
+pub record IsAnswered (setting : Setting) (earlier : List Answered) (asked : RequestLine) (placed : Placed) : Type 0 where
+  pub client : placed.client ≡ setting.client
   pub line : placed.line ≡ asked.line
-  pub order : IfSome placed.at (KeepsOrder s earlier asked.line)
-  pub right : IsRight s (last_listing earlier) asked placed.at placed.reply
+  pub order : IfSome placed.at (KeepsOrder setting earlier asked.line)
+  pub right : IsRight setting (last_listing earlier) asked placed.at placed.reply
 
 -- each request has one reply, in order
 abbrev pub AreAnswered : Setting → List Answered → List RequestLine → List Placed → Type 0
-AreAnswered s earlier [] [] = Unit {0}
-AreAnswered s earlier (l ∷ lines) (p ∷ replies) =
-    IsAnswered s earlier l p × AreAnswered s (earlier ++ record { asked = l; placed = p } ∷ []) lines replies
-AreAnswered s earlier lines replies = ⊥
+AreAnswered setting earlier [] [] = Unit {0}
+AreAnswered setting earlier (asked ∷ lines) (placed ∷ replies) =
+    IsAnswered setting earlier asked placed × AreAnswered setting (earlier ++ record { asked = asked; placed = placed } ∷ []) lines replies
+AreAnswered setting earlier lines replies = ⊥
 
 -- requests with their replies
 abbrev pub answered_lines : List RequestLine → List Placed → List Answered
-answered_lines (l ∷ lines) (p ∷ replies) = record { asked = l; placed = p } ∷ answered_lines lines replies
+answered_lines (asked ∷ lines) (placed ∷ replies) = record { asked = asked; placed = placed } ∷ answered_lines lines replies
 answered_lines lines replies = []
 
 -- ---- the whole run
@@ -184,13 +182,14 @@ pub record Run : Type 0 where
 
 -- the update is what this request makes
 abbrev pub IsChangeOf : List (List ℕ) → Update → Request → Type 0
-IsChangeOf dir u request = MatchOption (asked_change request) ⊥ (λ asked. IsRank dir asked.name u.key × (u.change ≡ asked.change))
+IsChangeOf dir update request =
+    MatchOption (asked_change request) ⊥ (λ asked. IsRank dir asked.name update.key × (update.change ≡ asked.change))
 
 -- the update at this place is that of this answered line
-pub record IsMadeBy (dir : List (List ℕ)) (u : Update) (at : ℕ) (a : Answered) : Type 0 where
-  pub line : a.asked.line ≡ u.line
-  pub place : a.placed.at ≡ Some at
-  pub change : IsChangeOf dir u a.asked.request
+pub record IsMadeBy (dir : List (List ℕ)) (update : Update) (at : ℕ) (answered : Answered) : Type 0 where
+  pub line : answered.asked.line ≡ update.line
+  pub place : answered.placed.at ≡ Some at
+  pub change : IsChangeOf dir update answered.asked.request
 
 -- a client's lines, and its replies
 abbrev pub lines_of : List (List RequestLine) → ℕ → List RequestLine
@@ -201,12 +200,17 @@ replies_of run client = slice_index_or run.replies client []
 
 -- the node slots of each client by the lines of all: one more than it has PUT, PUTNEW and DELETE lines
 abbrev pub slots_of : List (List RequestLine) → ℕ → ℕ
-slots_of parts client = count_by (λ (l : RequestLine). is_update l.request) (lines_of parts client) + 1
+slots_of parts client = count_by (λ (asked : RequestLine). is_update asked.request) (lines_of parts client) + 1
 
--- the run is legal for the session of these clients, whose client `c` has `slots c` node slots
+-- or the number that the command line names for each client
+abbrev pub slots_under : Option ℕ → List (List RequestLine) → ℕ → ℕ
+slots_under named parts client = unwrap_or named (slots_of parts client)
+
+-- the run is legal for the session of these clients, each with so many node slots
 pub record IsLegal (dir : List (List ℕ)) (parts : List (List RequestLine)) (slots : ℕ → ℕ) (run : Run) : Type 0 where
   pub clients : length run.replies ≡ length parts
-  pub answered : (c : ℕ) → c < length parts
-      → AreAnswered (record { dir = dir; updates = run.updates; client = c; slots = slots c }) [] (lines_of parts c) (replies_of run c)
-  pub made : (i : ℕ) (u : Update) → slice_get run.updates i ≡ Some u
-      → (u.client < length parts) × Any (IsMadeBy dir u (i + 1)) (answered_lines (lines_of parts u.client) (replies_of run u.client))
+  pub answered : (client : ℕ) → client < length parts
+      → AreAnswered (record { dir = dir; updates = run.updates; client = client; slots = slots client }) [] (lines_of parts client) (replies_of run client)
+  pub made : (before : ℕ) (update : Update) → slice_get run.updates before ≡ Some update
+      → (update.client < length parts)
+      × Any (IsMadeBy dir update (before + 1)) (answered_lines (lines_of parts update.client) (replies_of run update.client))

@@ -1,5 +1,4 @@
 pub mod Listing
-pub mod V1Listing
 pub mod PageEntries
 pub mod PageParts
 pub mod LegalRun

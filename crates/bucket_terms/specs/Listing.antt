@@ -1,8 +1,9 @@
 -- The page of a query on a map: filtered by prefix and resume point, grouped by the delimiter, and cut (Amazon S3 API
--- reference, ListObjectsV2: `Prefix`, `Delimiter`, `CommonPrefixes`, `StartAfter`, `MaxKeys`); and continuation tokens.
+-- reference, ListObjectsV2: `Prefix`, `Delimiter`, `CommonPrefixes`, `StartAfter`, `MaxKeys`); continuation tokens; and
+-- listings of version 1.
 use Rattle.std.specs.Prelude.{◌≡◌, ℕ, ◌+◌, ◌/◌, ◌%◌, ◌≤◌, ◌==◌, ◌&&◌, Bool, true, false, not, nat_lt, if◌then◌else◌, List, [], ◌∷◌, ◌++◌, length, drop, take, map, filter, Option, Some, None, IfSome}
 use Rattle.std.specs.List.{dedup, last_or}
-use Rattle.std.specs.Option.{option_map}
+use Rattle.std.specs.Option.{option_map, option_map_or}
 use Rattle.std.specs.Ordering.{is_lt}
 use Rattle.std.specs.Str.{bytes_eq, IsUtf8}
 use Rattle.base64.specs.Engines.{url_safe_no_pad}
@@ -10,6 +11,7 @@ use Rattle.base64.specs.GeneralPurpose.{encode_of}
 use Rattle.key_names.specs.Names.{byte_order, name_at, begins_with, most_name_bytes, IsFine}
 use Rattle.key_map.specs.declared.pair.Pair.{Pair}
 use Rattle.bucket_terms.specs.declared.list_query.ListQuery.{ListQuery}
+use Rattle.bucket_terms.specs.declared.v1_query.V1Query.{V1Query}
 use Rattle.bucket_terms.specs.declared.token_point.TokenPoint.{TokenPoint}
 use Rattle.bucket_terms.specs.declared.token_point.TokenPoint.TheVariants.{Key as AtKey, Group as AtGroup}
 use Rattle.bucket_terms.specs.declared.token.Token.{Token}
@@ -75,7 +77,7 @@ page_of dir query point m = record {
   truncated = nat_lt 0 query.max_keys && nat_lt query.max_keys (length (entries_of dir query point m));
 }
 
--- the point behind an entry, and where the next page begins: behind the last entry of a truncated page
+-- the point after an entry, and where the next page begins: after the last entry of a truncated page
 abbrev pub entry_point : List (List ℕ) → PageEntry → TokenPoint
 entry_point dir (Key rank val) = AtKey (name_at dir rank)
 entry_point dir (Group rank len) = AtGroup (group_text dir rank len)
@@ -107,30 +109,51 @@ abbrev pub bytes_by : TokenPoint → Option Bound → List ℕ
 bytes_by point None = point_letter point ∷ point_text point
 bytes_by point (Some bound) = 50 ∷ point_letter point ∷ (sized bound.prefix ++ (sized bound.delimiter ++ point_text point))
 
-abbrev pub token_bytes : Token → List ℕ
-token_bytes token = bytes_by token.point token.bound
-
 -- the text of a token: URL-safe base64 without padding (RFC 4648, base64url) of its bytes
 abbrev pub token_text : Token → List ℕ
-token_text token = encode_of url_safe_no_pad (token_bytes token)
+token_text token = encode_of url_safe_no_pad (bytes_by token.point token.bound)
 
 -- a prefix or a delimiter that a token may name: at most 1,024 bytes of UTF-8
 pub record IsShortText (text : List ℕ) : Type 0 where
   pub short : length text ≤ most_name_bytes
   pub utf8 : IsUtf8 text
 
-abbrev pub IsShortBound : Bound → Type 0
-IsShortBound bound = IsShortText bound.prefix × IsShortText bound.delimiter
-
 -- the text is that of a token: its point's own text is a name's, 1 to 1,024 bytes of UTF-8
 pub record IsTokenOf (token : Token) (text : List ℕ) : Type 0 where
   pub fine : IsFine (point_text token.point)
-  pub bound : IfSome token.bound IsShortBound
+  pub bound : IfSome token.bound (λ bound. IsShortText bound.prefix × IsShortText bound.delimiter)
   pub spelled : text ≡ token_text token
 
--- what the tokens of a listing are bound to, and the token that goes on with it behind a point
+-- what the tokens of a listing are bound to, and the token that goes on with it after a point
 abbrev pub bound_of : ListQuery → Bound
 bound_of query = record { prefix = query.prefix; delimiter = query.delimiter }
 
 abbrev pub next_token : ListQuery → TokenPoint → List ℕ
 next_token query point = token_text (record { point = point; bound = Some (bound_of query) })
+
+-- ---- listings of version 1 (Amazon S3 API reference, ListObjects: `Marker`, `NextMarker`)
+
+-- the query of version 2 with the same parameters: no token, and no key to start after
+abbrev pub plain : V1Query → ListQuery
+plain query = record { prefix = query.prefix; delimiter = query.delimiter; start_after = []; token = []; max_keys = query.max_keys; url = query.url }
+
+-- whether the text is a common prefix of the query: it begins with the prefix, and the first delimiter at or after the
+-- prefix's length ends where the text ends
+abbrev pub is_common_prefix : ListQuery → List ℕ → Bool
+is_common_prefix query text =
+    begins_with text query.prefix && option_map_or (λ len. len == length text) (group_len query text) false
+
+-- the point of the marker: none without a marker, after all keys of a common prefix, and else after the key
+abbrev pub marker_point : V1Query → Option TokenPoint
+marker_point query =
+    if length query.marker == 0 then None
+    else Some (if is_common_prefix (plain query) query.marker then AtGroup query.marker else AtKey query.marker)
+
+-- the page of the query on a map
+abbrev pub v1_page : List (List ℕ) → V1Query → List Pair → Page
+v1_page dir query m = page_of dir (plain query) (marker_point query) m
+
+-- the next marker, the key or the common prefix of a truncated page's last entry: it is given with a delimiter alone;
+-- without one the client takes the last key
+abbrev pub next_marker : List (List ℕ) → V1Query → Page → Option (List ℕ)
+next_marker dir query page = if length query.delimiter == 0 then None else option_map point_text (page_point dir page)

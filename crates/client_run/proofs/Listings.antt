@@ -2,7 +2,6 @@
 use Rattle.std.proofs.Common.{◌≡◌, ◌≢◌, ℕ, [], List, Option, Some, None, refl, sym, ap, ◌∙◌, subst}
 use Rattle.bucket_terms.specs.declared.list_query.ListQuery.{ListQuery}
 use Rattle.bucket_terms.specs.declared.v1_query.V1Query.{V1Query}
-use Rattle.bucket_terms.specs.V1Listing.{plain, marker_point}
 use Rattle.bucket_terms.specs.declared.token_point.TokenPoint.{TokenPoint}
 use Rattle.bucket_terms.specs.declared.request.Request.{Request}
 use Rattle.bucket_terms.specs.declared.request.Request.TheVariants.{List as ListRequest, ListV1, Next}
@@ -10,7 +9,7 @@ use Rattle.bucket_terms.specs.declared.reply.Reply.{Reply}
 use Rattle.bucket_terms.specs.declared.reply.Reply.TheVariants.{Listed, ListedV1, BadToken}
 use Rattle.bucket_terms.specs.declared.reply.Placed.{Placed}
 use Rattle.bucket_terms.specs.declared.token.Token.{Token}
-use Rattle.bucket_terms.specs.Listing.{IsTokenOf, page_of}
+use Rattle.bucket_terms.specs.Listing.{IsTokenOf, page_of, plain, marker_point}
 use Rattle.page_token.specs.OneToken.{HasOneToken}
 use Rattle.bucket_terms.specs.PassView.{PassView, KnowsOwn}
 use Rattle.bucket_terms.specs.LegalRun.{Resumed, IsPointOf, IsBoundTo, IsRight, next_of}

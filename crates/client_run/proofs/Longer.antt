@@ -11,20 +11,19 @@ use Rattle.key_map.specs.Map.{map_has, map_get}
 use Rattle.key_map.specs.declared.update.Change.{Change}
 use Rattle.key_map.specs.declared.update.Change.TheVariants.{Put as PutVal, Remove}
 use Rattle.bucket_terms.specs.declared.token_point.TokenPoint.{TokenPoint}
-use Rattle.bucket_terms.specs.Listing.{page_of}
+use Rattle.bucket_terms.specs.Listing.{page_of, v1_page}
 use Rattle.key_map.specs.History.{after}
 use Rattle.key_map.proofs.HistoryLaws.{after-append}
 use Rattle.bucket_terms.specs.declared.list_query.ListQuery.{ListQuery}
 use Rattle.bucket_terms.specs.declared.v1_query.V1Query.{V1Query}
-use Rattle.bucket_terms.specs.V1Listing.{v1_page}
 use Rattle.bucket_terms.specs.declared.page.Page.{Page}
 use Rattle.bucket_terms.specs.declared.request.Request.{Request}
 use Rattle.bucket_terms.specs.declared.request.Request.TheVariants.{Put, PutNew, Delete, Head, List as ListRequest, ListV1, Next}
 use Rattle.bucket_terms.specs.declared.reply.Reply.{Reply}
 use Rattle.bucket_terms.specs.declared.reply.Reply.TheVariants.{Put as PutReply, Exists, Deleted, Found, Missing, Listed, ListedV1, BadToken, NoSlot}
 use Rattle.bucket_terms.specs.declared.reply.Placed.{Placed}
-use Rattle.bucket_terms.specs.LegalRun.{Setting, RequestLine, Answered, IsOf, IsRight, IsAnswered, AreAnswered, KeepsOrder, UpdateStands, Finds, Lists, ListsV1, HasUsedItsSlots, update_at, last_listing}
-use Rattle.bucket_terms.specs.RunParts.{is_earlier_of}
+use Rattle.bucket_terms.specs.LegalRun.{Setting, RequestLine, Answered, IsOf, IsRight, IsAnswered, AreAnswered, KeepsOrder, UpdateStands, Finds, Lists, HasUsedItsSlots, update_at, last_listing}
+use Rattle.bucket_terms.specs.RunParts.{is_earlier_of, ListsV1}
 use Rattle.client_run.proofs.Places.{slice_get-append_front}
 
 -- the same client in a history

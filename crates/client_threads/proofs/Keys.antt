@@ -14,7 +14,7 @@ use Rattle.key_map.specs.Lists.{count}
 use Rattle.bucket_terms.specs.declared.reply.Placed.{Placed}
 use Rattle.bucket_terms.specs.PassView.{PassView, Extends}
 use Rattle.bucket_terms.specs.PlainPass.{fresh}
-use Rattle.bucket_terms.specs.LegalRun.{RequestLine, lines_of}
+use Rattle.bucket_terms.specs.LegalRun.{RequestLine, lines_of, slots_under}
 use Rattle.bucket_terms.specs.RunParts.{updates_in}
 use Rattle.request_lines.specs.declared.session.ClientPart.{ClientPart}
 use Rattle.request_lines.specs.declared.session.Session.{Session}
@@ -26,7 +26,6 @@ use Rattle.table_steps.specs.Closes.{BeginsWithSeen, AreMadeBy, StandAtOwnPlaces
 use Rattle.table_steps.specs.Passes.{Pass}
 use Rattle.shared_index.specs.Keys.{IsKeyOf, AreAllKeys, AreFresh}
 use Rattle.shared_index.specs.Shown.{shown}
-use Rattle.client_threads.specs.ClientSlots.{slots_under}
 use Rattle.client_threads.specs.Clients.{RanEach}
 use Rattle.client_run.specs.Pooling.{capped}
 use Rattle.client_run.proofs.TradedAnswers.{extends_on, extends_same}

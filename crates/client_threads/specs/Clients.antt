@@ -5,10 +5,9 @@ use Rattle.key_map.specs.declared.update.Update.{Update}
 use Rattle.key_map.specs.History.{own_places}
 use Rattle.bucket_terms.specs.declared.reply.Placed.{Placed}
 use Rattle.bucket_terms.specs.PassView.{PassView, Extends}
-use Rattle.bucket_terms.specs.LegalRun.{RequestLine, Run, lines_of, replies_of}
+use Rattle.bucket_terms.specs.LegalRun.{RequestLine, Run, lines_of, replies_of, slots_under}
 use Rattle.request_lines.specs.declared.session.ClientPart.{ClientPart}
 use Rattle.client_run.specs.ClientRun.{RanClient}
-use Rattle.client_threads.specs.ClientSlots.{slots_under}
 use Rattle.client_threads.specs.Runs.{parts_of}
 
 -- one client's lines were answered over the pass of this number, which had made no update before and owned at

@@ -2,8 +2,8 @@
 use Rattle.std.specs.Prelude.{◌≡◌, ℕ, ◌<◌, ◌≤◌, ◌⊎◌, List, [], ◌∷◌, ◌++◌, codes, Option, Some, None}
 use Rattle.std.specs.Fmt.{decimal}
 
--- the word `verb`, and behind it the word `option` with a number from 1 to 8,192 in decimal digits without a leading zero,
--- which is a word of its own, or stands behind an equal sign in the same word
+-- the word `verb`, and after it the word `option` with a number from 1 to 8,192 in decimal digits without a leading zero,
+-- which is a word of its own, or stands after an equal sign in the same word
 pub record HasOption (verb option : List ℕ) (words : List (List ℕ)) (n : ℕ) : Type 0 where
   pub some : 0 < n
   pub most : n ≤ 8192
@@ -20,7 +20,7 @@ abbrev pub IsCheck : List (List ℕ) → Option ℕ → Type 0
 IsCheck words None = words ≡ codes "check" ∷ []
 IsCheck words (Some n) = HasOption (codes "check") (codes "--slots") words n
 
--- the word `sample`, and behind it a number from 1 to 40,000 in decimal digits without a leading zero
+-- the word `sample`, and after it a number from 1 to 40,000 in decimal digits without a leading zero
 pub record IsSample (words : List (List ℕ)) (n : ℕ) : Type 0 where
   pub some : 0 < n
   pub most : n ≤ 40000

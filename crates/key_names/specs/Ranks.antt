@@ -2,7 +2,11 @@
 -- Where names stand in a directory against a text.
 use Rattle.std.specs.Prelude.{◌≡◌, ℕ, ◌<◌, ◌≤◌, ◌↔◌, Bool, ◌||◌, IsTrue, nat_lt, List, length, All}
 use Rattle.std.specs.Ordering.{is_lt, is_le}
-use Rattle.key_names.specs.Names.{byte_order, IsFine, Rises, name_at, begins_with, most_names}
+use Rattle.key_names.specs.Names.{byte_order, IsFine, Rises, name_at, begins_with}
+
+-- the most names of a directory: a rank has 32 bits
+abbrev pub most_names : ℕ
+most_names = 4294967295
 
 -- a directory: fine names that rise strictly, not too many
 pub record IsDirectory (names : List (List ℕ)) : Type 0 where

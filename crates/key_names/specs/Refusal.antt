@@ -4,7 +4,8 @@ use Rattle.std.specs.Prelude.{◌≡◌, ℕ, ◌<◌, List, length, All}
 use Rattle.std.specs.List.{AllWithin}
 use Rattle.key_names.specs.declared.names_error.NamesError.{NamesError}
 use Rattle.key_names.specs.declared.names_error.NamesError.TheVariants.{Empty, TooLong, TooMany, NoMemory}
-use Rattle.key_names.specs.Names.{IsFine, HoldsEachOnce, most_name_bytes, most_names, name_at}
+use Rattle.key_names.specs.Names.{IsFine, HoldsEachOnce, most_name_bytes, name_at}
+use Rattle.key_names.specs.Ranks.{most_names}
 
 -- the name at this place is the first that is not fine, and this is its fault
 pub record IsFirstWith (fault : List ℕ → Type 0) (names : List (List ℕ)) (place : ℕ) : Type 0 where

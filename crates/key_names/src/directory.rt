@@ -1,7 +1,7 @@
 // The sorted list of a session's names. A name's rank stands for it everywhere above.
 ghost use Rattle.std.specs.Prelude.{◌≡◌, ◌<◌, ◌≤◌, length, All, Contains, count_by, IfOk, IfErr, OnErr, IsErrOf, MatchOption};
-ghost use Rattle.key_names.specs.Names.{byte_order, IsFine, Rises, HoldsEachOnce, IsRank, name_at, most_names};
-ghost use Rattle.key_names.specs.Ranks.{is_before, is_upto, is_upto_prefix, StandFirst, StandTogether};
+ghost use Rattle.key_names.specs.Names.{byte_order, IsFine, Rises, HoldsEachOnce, IsRank, name_at};
+ghost use Rattle.key_names.specs.Ranks.{is_before, is_upto, is_upto_prefix, most_names, StandFirst, StandTogether};
 ghost use Rattle.key_names.specs.Refusal.{IsRefusal};
 
 use crate::{NamesError, Text};

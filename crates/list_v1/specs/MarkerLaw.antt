@@ -4,9 +4,9 @@ use Rattle.std.specs.Prelude.{◌≡◌, ℕ, ◌<◌, true, MatchBool, MatchOpt
 use Rattle.key_map.specs.declared.pair.Pair.{Pair}
 use Rattle.bucket_terms.specs.declared.v1_query.V1Query.{V1Query}
 use Rattle.bucket_terms.specs.declared.page.Page.{Page}
-use Rattle.bucket_terms.specs.Listing.{entries_of}
+use Rattle.bucket_terms.specs.Listing.{entries_of, plain, marker_point, v1_page}
+use Rattle.bucket_terms.specs.PageParts.{last_text}
 use Rattle.page_rules.specs.PageLaw.{AreAllEntries, all_entries}
-use Rattle.bucket_terms.specs.V1Listing.{plain, marker_point, v1_page, last_text}
 
 -- the same query from another marker
 abbrev pub from_marker : V1Query → List ℕ → V1Query

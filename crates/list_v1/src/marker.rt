@@ -1,9 +1,8 @@
 ghost use Rattle.std.specs.Prelude.{◌≡◌, IfOk, List};
 ghost use Rattle.key_map.specs.Map.{IsMap};
 ghost use Rattle.key_map.specs.declared.pair.Pair.{Pair};
-ghost use Rattle.bucket_terms.specs.Listing.{point_text};
+ghost use Rattle.bucket_terms.specs.Listing.{point_text, plain, is_common_prefix, marker_point, v1_page, next_marker};
 ghost use Rattle.bucket_terms.specs.PageInRange.{IsInRange};
-ghost use Rattle.bucket_terms.specs.V1Listing.{plain, is_common_prefix, marker_point, v1_page, next_marker};
 ghost use Rattle.list_v1.specs.MarkerLaw.{LeavesTheRest, BeginsAll};
 
 use bucket_terms::{ListQuery, Page, TokenPoint, V1Query};

@@ -6,7 +6,7 @@ use Rattle.std.specs.Prelude.{◌≡◌, ℕ, ◌+◌, ◌-◌, ◌^◌, ◌<◌
 abbrev pub one_more : ℕ → ℕ
 one_more count = min (count + 1) (2 ^ 64 - 1)
 
--- just these bytes were given: what is left has lost them at its start
+-- exactly these bytes were given: what is left has lost them at its start
 abbrev pub IsRead : Option (List ℕ) → Option (List ℕ) → List ℕ → Type 0
 IsRead (Some before) (Some now) bytes = before ≡ bytes ++ now
 IsRead (Some before) None bytes = ⊥
@@ -32,7 +32,7 @@ pub record Gave (before now : Option (List ℕ)) (IsCount : ℕ → Type 0) : Ty
 abbrev pub IsOver : ℕ → ℕ → Type 0
 IsOver limit n = (limit < n) × (n ≤ limit + 65536)
 
--- just these bytes were taken: they stand behind what was taken before
+-- exactly these bytes were taken: they stand after what was taken before
 abbrev pub IsTaken : Option (List ℕ) → Option (List ℕ) → List ℕ → Type 0
 IsTaken (Some before) (Some now) bytes = now ≡ before ++ bytes
 IsTaken (Some before) None bytes = ⊥

@@ -8,7 +8,8 @@ use Rattle.bucket_terms.specs.declared.token_point.TokenPoint.{TokenPoint}
 use Rattle.bucket_terms.specs.declared.token_point.TokenPoint.TheVariants.{Key, Group}
 use Rattle.bucket_terms.specs.declared.token.Token.{Token}
 use Rattle.bucket_terms.specs.declared.token.Bound.{Bound}
-use Rattle.bucket_terms.specs.Listing.{point_text, point_letter, sized, bytes_by, token_bytes, IsShortText, IsShortBound, IsTokenOf}
+use Rattle.bucket_terms.specs.Listing.{point_text, point_letter, sized, bytes_by, IsShortText, IsTokenOf}
+use Rattle.bucket_terms.specs.PageParts.{token_bytes, IsShortBound}
 use Rattle.page_token.specs.OneToken.{HasOneToken, HasText}
 use Rattle.page_token.proofs.TextBytes.{AreBytes, appended, by_index, text_bytes}
 use Rattle.page_token.proofs.Sized.{tail_same, sized_once}

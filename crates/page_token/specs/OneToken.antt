@@ -3,7 +3,8 @@
 use Rattle.std.specs.Prelude.{◌≡◌, ℕ, List, IfSome}
 use Rattle.key_names.specs.Names.{IsFine}
 use Rattle.bucket_terms.specs.declared.token.Token.{Token}
-use Rattle.bucket_terms.specs.Listing.{IsTokenOf, IsShortBound, point_text}
+use Rattle.bucket_terms.specs.Listing.{IsTokenOf, point_text}
+use Rattle.bucket_terms.specs.PageParts.{IsShortBound}
 
 abbrev pub HasOneToken : List ℕ → Type 0
 HasOneToken text = (a b : Token) → IsTokenOf a text → IsTokenOf b text → a ≡ b

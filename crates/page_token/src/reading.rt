@@ -5,7 +5,8 @@ ghost use Rattle.base64.specs.GeneralPurpose.{encode_of, IsBytes};
 ghost use Rattle.key_names.specs.Names.{IsFine};
 ghost use Rattle.bucket_terms.specs.declared.token_point.TokenPoint.{TokenPoint};
 ghost use Rattle.bucket_terms.specs.declared.token.Token.{Token};
-ghost use Rattle.bucket_terms.specs.Listing.{point_text, point_letter, IsShortText, IsTokenOf, token_bytes};
+ghost use Rattle.bucket_terms.specs.Listing.{point_text, point_letter, IsShortText, IsTokenOf};
+ghost use Rattle.bucket_terms.specs.PageParts.{token_bytes};
 ghost use Rattle.page_token.specs.OneToken.{HasOneToken, HasOneText, HasText};
 
 use crate::TokenError;

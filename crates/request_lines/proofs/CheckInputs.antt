@@ -12,8 +12,7 @@ use Rattle.request_lines.specs.declared.session_error.SessionError.{SessionError
 use Rattle.request_lines.specs.declared.session_error.SessionError.TheVariants as errors
 use Rattle.request_lines.specs.Input.{refusal_of}
 use Rattle.request_lines.specs.Refusal.{IsRefused}
-use Rattle.request_lines.specs.TextLines.{text_lines, with_byte}
-use Rattle.request_lines.specs.CheckInput.{is_divider, before_divider, behind_divider, session_part, text_part, check_refusal}
+use Rattle.request_lines.specs.CheckInput.{text_lines, with_byte, is_divider, before_divider, after_divider, session_part, text_part, check_refusal}
 use Rattle.request_lines.specs.CheckAnswers.{IsCheckRefused}
 
 -- ---- the first line
@@ -69,7 +68,7 @@ joined (b ∷ text) =
 pub record HasNoneBefore (bytes : List ℕ) (at : ℕ) : Type 0 where
   pub inside : at ≤ length bytes
   pub session : take at bytes ++ before_divider (text_lines (drop at bytes)) ≡ session_part bytes
-  pub text : behind_divider (text_lines (drop at bytes)) ≡ text_part bytes
+  pub text : after_divider (text_lines (drop at bytes)) ≡ text_part bytes
 
 pub none_yet : (bytes : List ℕ) → HasNoneBefore bytes 0
 unfolding session_part text_part
@@ -94,7 +93,7 @@ not_here bytes line at n none next within other =
     let lines : text_lines left ≡ line ∷ text_lines rest = by_next left line n next in
     let behind : rest ≡ drop (at + n) bytes = drop-drop n at bytes in
     let before : before_divider (text_lines left) ≡ line ++ before_divider (text_lines rest) = ap before_divider lines ∙ rw other refl in
-    let text : behind_divider (text_lines left) ≡ behind_divider (text_lines rest) = ap behind_divider lines ∙ rw other refl in
+    let text : after_divider (text_lines left) ≡ after_divider (text_lines rest) = ap after_divider lines ∙ rw other refl in
     record {
       inside = within;
       session =
@@ -103,7 +102,7 @@ not_here bytes line at n none next within other =
           ∙ append_assoc (take at bytes) line (before_divider (text_lines rest))
           ∙ ap (λ (l : List ℕ). take at bytes ++ l) (sym before)
           ∙ none.session;
-      text = ap (λ (l : List ℕ). behind_divider (text_lines l)) (sym behind) ∙ sym text ∙ none.text;
+      text = ap (λ (l : List ℕ). after_divider (text_lines l)) (sym behind) ∙ sym text ∙ none.text;
     }
 
 pub here_session : (bytes line : List ℕ) (at n : ℕ) → HasNoneBefore bytes at → IsNextLine (drop at bytes) line n → is_divider line ≡ true → take at bytes ≡ session_part bytes
@@ -115,7 +114,7 @@ here_session bytes line at n none next is =
 pub here_text : (bytes line : List ℕ) (at n : ℕ) → HasNoneBefore bytes at → IsNextLine (drop at bytes) line n → is_divider line ≡ true → Some (drop n (drop at bytes)) ≡ text_part bytes
 here_text bytes line at n none next is =
     let left = drop at bytes in
-    let behind : behind_divider (text_lines left) ≡ Some (concat (text_lines (drop n left))) = ap behind_divider (by_next left line n next) ∙ rw is refl in
+    let behind : after_divider (text_lines left) ≡ Some (concat (text_lines (drop n left))) = ap after_divider (by_next left line n next) ∙ rw is refl in
     ap Some (sym (joined (drop n left))) ∙ sym behind ∙ none.text
 
 pub nowhere_session : (bytes : List ℕ) (at : ℕ) → HasNoneBefore bytes at → length bytes ≤ at → bytes ≡ session_part bytes
@@ -126,7 +125,7 @@ nowhere_session bytes at none all =
     ∙ none.session
 
 pub nowhere_text : (bytes : List ℕ) (at : ℕ) → HasNoneBefore bytes at → length bytes ≤ at → None ≡ text_part bytes
-nowhere_text bytes at none all = ap (λ (l : List ℕ). behind_divider (text_lines l)) (sym (drop_all at bytes all)) ∙ none.text
+nowhere_text bytes at none all = ap (λ (l : List ℕ). after_divider (text_lines l)) (sym (drop_all at bytes all)) ∙ none.text
 
 -- ---- the refusal
 

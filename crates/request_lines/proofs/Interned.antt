@@ -8,7 +8,8 @@ use Rattle.std.proofs.lemmas.List.FromFn.{get_or-range_with_len, length-range_wi
 use Rattle.std.proofs.lemmas.List.Elements.{All-head, All-tail, All-push, All-weaker, All-map, Contains-get_or, Contains-push, Contains-push_cases, Contains-append_left}
 use Rattle.std.proofs.lemmas.List.Sorted.{All-permutation, Contains-permutation, IsPermutation-map, length_permutation}
 use Rattle.std.proofs.lemmas.Bool.Decides.{eqb_tells}
-use Rattle.key_names.specs.Names.{HoldsEachOnce, IsFine, most_names, name_at}
+use Rattle.key_names.specs.Names.{HoldsEachOnce, IsFine, name_at}
+use Rattle.key_names.specs.Ranks.{most_names}
 use Rattle.request_lines.proofs.NameCounts.{rising_count}
 use Rattle.request_lines.specs.declared.leads.Numbered.{Numbered}
 use Rattle.request_lines.specs.Interned.{named, names_kept, AreKept, IsInterned, IsKnownAs, AreGroups, HaveNumbers, AreNumbered, AreRanks, IsRankedBy, number_in, name_of}

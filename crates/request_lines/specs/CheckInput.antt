@@ -1,4 +1,4 @@
--- The input of `check`: a session, a line that is `----`, and a written text.
+-- The lines of a text; and the input of `check`: a session, a line that is `----`, and a written text.
 use Rattle.std.specs.Prelude.{◌≡◌, ℕ, ◌+◌, ◌-◌, ◌==◌, Bool, List, [], ◌∷◌, ◌++◌, length, take, codes, slice_index, Option, Some, None, if◌then◌else◌}
 use Rattle.std.specs.List.{concat}
 use Rattle.std.specs.Option.{option_or}
@@ -8,7 +8,16 @@ use Rattle.request_lines.specs.declared.cause.Cause.TheVariants.{NoText}
 use Rattle.request_lines.specs.declared.session.Session.{Session}
 use Rattle.request_lines.specs.declared.session_error.InputError.{InputError}
 use Rattle.request_lines.specs.Input.{IsSessionOf, refusal_of}
-use Rattle.request_lines.specs.TextLines.{text_lines}
+
+-- the byte in front of these lines: it belongs to the first of them
+abbrev pub with_byte : ℕ → List (List ℕ) → List (List ℕ)
+with_byte byte [] = (byte ∷ []) ∷ []
+with_byte byte (line ∷ lines) = (byte ∷ line) ∷ lines
+
+-- the lines of a text, each with its line feed. A last piece without one is a line too.
+abbrev pub text_lines : List ℕ → List (List ℕ)
+text_lines [] = []
+text_lines (byte ∷ text) = if byte == 10 then (byte ∷ []) ∷ text_lines text else with_byte byte (text_lines text)
 
 -- a line without the line feed at its end, where it has one
 abbrev pub strip_line_feed : List ℕ → List ℕ
@@ -18,24 +27,23 @@ strip_line_feed line = if slice_index line (length line - 1) == 10 then take (le
 abbrev pub is_divider : List ℕ → Bool
 is_divider line = bytes_eq (strip_carriage_return (strip_line_feed line)) (codes "----")
 
--- the bytes of these lines before the first line `----`, or of all where there is none
+-- the bytes of the lines before the first line `----`, or of all where there is none; and those of the lines after it
 abbrev pub before_divider : List (List ℕ) → List ℕ
 before_divider [] = []
 before_divider (line ∷ lines) = if is_divider line then [] else line ++ before_divider lines
 
--- the bytes of the lines behind the first line `----`, where there is one
-abbrev pub behind_divider : List (List ℕ) → Option (List ℕ)
-behind_divider [] = None
-behind_divider (line ∷ lines) = if is_divider line then Some (concat lines) else behind_divider lines
+abbrev pub after_divider : List (List ℕ) → Option (List ℕ)
+after_divider [] = None
+after_divider (line ∷ lines) = if is_divider line then Some (concat lines) else after_divider lines
 
--- the part of an input that has the session, and the text behind the line `----`
+-- the part of an input that has the session, and the text after the line `----`
 unfoldable pub session_part : List ℕ → List ℕ
 session_part input = before_divider (text_lines input)
 
 unfoldable pub text_part : List ℕ → Option (List ℕ)
-text_part input = behind_divider (text_lines input)
+text_part input = after_divider (text_lines input)
 
--- where the line `----` is missing, this is told of the line behind the last one
+-- where the line `----` is missing, this is reported at the line after the last one
 abbrev pub missing_text : List ℕ → Option (List ℕ) → Option InputError
 missing_text input None = Some (record { line = length (text_lines input) + 1; cause = NoText })
 missing_text input (Some text) = None

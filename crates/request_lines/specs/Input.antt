@@ -57,7 +57,7 @@ abbrev pub listing_of : Version → Values → Command
 listing_of V1 values = says.ListV1 (v1_query values)
 listing_of V2 values = says.List (list_query values)
 
--- a line of this verb, with these fields behind it
+-- a line of this verb, with these fields after it
 unfoldable pub read_fields : Verb → List (List ℕ) → Result Command Cause
 read_fields verbs.Client [] = Ok says.Client
 read_fields (verbs.Put when) (key ∷ size ∷ etag ∷ modified ∷ []) = put_read when key size etag modified
@@ -128,7 +128,7 @@ lines_from number before (text ∷ texts) =
     else record { number = number; reading = reading_of text; before = before }
     ∷ lines_from (number + 1) (before ++ said (reading_of text)) texts
 
--- the input is cut at each line feed, and one carriage return at the end of a line is dropped. What stands behind the
+-- the input is cut at each line feed, and one carriage return at the end of a line is dropped. What stands after the
 -- last line feed is a line too, perhaps an empty one.
 unfoldable pub input_lines : List ℕ → List Line
 input_lines bytes = lines_from 1 [] (map strip_carriage_return (slice_split (λ b. b == 10) bytes))

@@ -2,7 +2,8 @@
 -- Names that are kept once, with their places in the order of the lines.
 use Rattle.std.specs.Prelude.{◌≡◌, ◌⊎◌, ℕ, ◌<◌, ◌≤◌, List, [], ◌∷◌, ◌++◌, length, map, All, Contains, Option, Some, None, IfSome, slice_index}
 use Rattle.std.specs.List.{range_with_len}
-use Rattle.key_names.specs.Names.{name_at, most_names}
+use Rattle.key_names.specs.Names.{name_at}
+use Rattle.key_names.specs.Ranks.{most_names}
 use Rattle.std.specs.List.Sorted.{IsPermutation}
 use Rattle.request_lines.specs.declared.leads.Numbered.{Numbered}
 

@@ -17,7 +17,6 @@ pub mod Reading
 pub mod SessionLaws
 pub mod Fine
 pub mod Refusal
-pub mod TextLines
 pub mod CheckInput
 pub mod CheckAnswers
 pub mod ReadAnswers

@@ -3,10 +3,9 @@ ghost use Rattle.std.specs.Prelude.{◌≡◌, ◌<◌, ◌≤◌, ◌∷◌, le
 ghost use Rattle.std.specs.Option.{option_map};
 ghost use Rattle.request_lines.specs.Input.{most_input_bytes};
 ghost use Rattle.request_lines.specs.CheckInput as spec;
-ghost use Rattle.request_lines.specs.CheckInput.{IsCheckInput, session_part, text_part, strip_line_feed};
+ghost use Rattle.request_lines.specs.CheckInput.{IsCheckInput, session_part, text_lines, text_part, strip_line_feed};
 ghost use Rattle.request_lines.specs.CheckAnswers.{IsCheckRefused};
 ghost use Rattle.request_lines.specs.SessionLaws.{HasNames, HasRecords, HasRequests, HasLines, IsSmall};
-ghost use Rattle.request_lines.specs.TextLines.{text_lines};
 
 use crate::read::{read_session, without_return};
 use crate::{Cause, InputError, Session, SessionError};
@@ -20,9 +19,9 @@ pub struct CheckInput<'a> {
     pub text: &'a [u8],
 }
 
-/// The session that stands before the first line `----` of an input, and the text behind this line; or the first line
+/// The session that stands before the first line `----` of an input, and the text after this line; or the first line
 /// of the session that has a cause, with its first cause. Where the whole input has no cause and no such line, the line
-/// behind its last one has the cause `NoText`.
+/// after its last one has the cause `NoText`.
 ///
 /// ```
 /// let read = read_check_input(alloc, b"CLIENT\nHEAD a\n----\n{\"Updates\":0}\n")?;
@@ -52,7 +51,7 @@ pub fn read_check_input(alloc: Global, bytes: &[u8]) -> Result<CheckInput<'_>, S
     }
 }
 
-// What stands before the first line `----`, and what stands behind it; the whole, where there is no such line.
+// What stands before the first line `----`, and what stands after it; the whole, where there is no such line.
 fn parts(bytes: &[u8]) -> (&[u8], Option<&[u8]>)
     ensures session { result.0.now ≡ session_part bytes.now }
     ensures text { option_map (λ text. text.now) result.1 ≡ text_part bytes.now }

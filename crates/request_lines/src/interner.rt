@@ -1,7 +1,7 @@
 // Names as they are read: most that come again are not kept again, and behind the last line each distinct one is kept
 // once.
 ghost use Rattle.std.specs.Prelude.{◌≡◌, ◌<◌, ◌≤◌, ◌++◌, ◌∷◌, [], length, map, All, IfOk, OnOk, OnErr, IsOkUnless, replicate, slice_index};
-ghost use Rattle.key_names.specs.Names.{most_names};
+ghost use Rattle.key_names.specs.Ranks.{most_names};
 ghost use Rattle.request_lines.specs.declared.line_error.LineError.TheVariants.{NoMemory as OutOfMemory};
 ghost use Rattle.request_lines.specs.Interned.{AreGroups, AreRanks, HaveNumbers, IsKnownAs, IsRankedBy};
 

@@ -1,6 +1,7 @@
 // The names of a session's lines, each kept once where the session was read.
 ghost use Rattle.std.specs.Prelude.{◌≡◌, ◌<◌, ◌≤◌, ℕ, List, [], length, All, IfOk, IfErr};
-ghost use Rattle.key_names.specs.Names.{HoldsEachOnce, IsFine, most_names, name_at};
+ghost use Rattle.key_names.specs.Names.{HoldsEachOnce, IsFine, name_at};
+ghost use Rattle.key_names.specs.Ranks.{most_names};
 ghost use Rattle.request_lines.specs.Interned.{IsInterned, named};
 
 use key_map::Items;

@@ -1,6 +1,6 @@
 // What is kept of the lines so far.
 ghost use Rattle.std.specs.Prelude.{◌≡◌, ◌≤◌, ℕ, List, ◌∷◌, [], ◌++◌, length, Ok, OnOk, IfOk, IsOkUnless};
-ghost use Rattle.key_names.specs.Names.{most_names};
+ghost use Rattle.key_names.specs.Ranks.{most_names};
 ghost use Rattle.request_lines.specs.declared.line_error.LineError.TheVariants.{NoMemory as OutOfMemory};
 ghost use Rattle.request_lines.specs.declared.session_error.SessionError.TheVariants.{NoMemory as NoSession};
 ghost use Rattle.request_lines.specs.Counting.{IsWithin, counted};

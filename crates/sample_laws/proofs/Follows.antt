@@ -16,18 +16,17 @@ use Rattle.key_map.proofs.MapLaws.{map_remove-absent}
 use Rattle.bucket_terms.proofs.Finds.{map_has-none, map_has-some}
 use Rattle.bucket_terms.specs.declared.list_query.ListQuery.{ListQuery}
 use Rattle.bucket_terms.specs.declared.v1_query.V1Query.{V1Query}
-use Rattle.bucket_terms.specs.V1Listing.{plain, marker_point, v1_page}
 use Rattle.bucket_terms.specs.declared.token_point.TokenPoint.{TokenPoint}
 use Rattle.bucket_terms.specs.declared.page.Page.{Page}
 use Rattle.bucket_terms.specs.declared.request.Request.{Request}
 use Rattle.bucket_terms.specs.declared.request.Request.TheVariants.{Put, PutNew, Delete, Head, List as ListRequest, ListV1}
 use Rattle.bucket_terms.specs.declared.reply.Reply.{Reply}
 use Rattle.bucket_terms.specs.declared.reply.Reply.TheVariants.{Put as PutReply, Exists, Deleted, Listed, ListedV1}
-use Rattle.bucket_terms.specs.Listing.{is_under, is_admitted, entry_of, is_same_group, entries_of, page_of}
+use Rattle.bucket_terms.specs.Listing.{is_under, is_admitted, entry_of, is_same_group, entries_of, page_of, plain, marker_point, v1_page}
 use Rattle.bucket_terms.specs.PageParts.{listing, cut_at}
 use Rattle.std.specs.List.{dedup}
-use Rattle.bucket_terms.specs.RunParts.{head_answer, head_by}
-use Rattle.bucket_terms.specs.LegalRun.{Setting, Answered, IsOf, IsPointOf, update_at, UpdateStands, Finds, Lists, ListsV1, IsChangeOf}
+use Rattle.bucket_terms.specs.RunParts.{head_answer, head_by, ListsV1}
+use Rattle.bucket_terms.specs.LegalRun.{Setting, Answered, IsOf, IsPointOf, update_at, UpdateStands, Finds, Lists, IsChangeOf}
 use Rattle.sample_laws.specs.Alone.{rank_of, map_behind, updates_on, reply_on}
 use Rattle.sample_laws.specs.Own.{is_own, own_pairs, IsNamed}
 use Rattle.sample_laws.proofs.Parts.{made_by, map_has-part, map_get-part, filter-within}

@@ -14,17 +14,17 @@ pub record Done : Type 0 where
 
 -- the number in the name of a client's request
 abbrev pub sample_number : ℕ → ℕ
-sample_number i = 389 * i % 1001
+sample_number request = 389 * request % 1001
 
 abbrev pub done_put : ℕ → Done → Done
-done_put i done = record { pairs = map_put (sample_number i) i done.pairs; listed = done.listed; updates = done.updates + 1 }
+done_put request done = record { pairs = map_put (sample_number request) request done.pairs; listed = done.listed; updates = done.updates + 1 }
 
 -- a removal of an absent key is no update
 abbrev pub done_delete : ℕ → Done → Done
-done_delete i done = record {
-  pairs = map_remove (sample_number i) done.pairs;
+done_delete request done = record {
+  pairs = map_remove (sample_number request) done.pairs;
   listed = done.listed;
-  updates = done.updates + cond (map_has (sample_number i) done.pairs) 1 0;
+  updates = done.updates + cond (map_has (sample_number request) done.pairs) 1 0;
 }
 
 abbrev pub done_list : Done → Done
@@ -33,14 +33,16 @@ done_list done = record { pairs = done.pairs; listed = done.listed + min 100 (le
 -- after the first requests of one client alone, on an empty map
 unfoldable pub sample_done : ℕ → Done
 sample_done zero = record { pairs = []; listed = 0; updates = 0 }
-sample_done (suc i) =
-    if i % 4 == 2 then done_delete i (sample_done i) else if i % 4 == 3 then done_list (sample_done i) else done_put i (sample_done i)
+sample_done (suc request) =
+    if request % 4 == 2 then done_delete request (sample_done request)
+    else if request % 4 == 3 then done_list (sample_done request)
+    else done_put request (sample_done request)
 
 -- the sums over the clients, each of them alone: the four do the same, each on names of its own
 unfoldable pub sample_summary : ℕ → Summary
-sample_summary n = record {
-  keys = sample_clients * length (sample_done n).pairs;
-  listed = sample_clients * (sample_done n).listed;
-  requests = sample_clients * n;
-  updates = sample_clients * (sample_done n).updates;
+sample_summary requests = record {
+  keys = sample_clients * length (sample_done requests).pairs;
+  listed = sample_clients * (sample_done requests).listed;
+  requests = sample_clients * requests;
+  updates = sample_clients * (sample_done requests).updates;
 }

@@ -2,7 +2,7 @@ use Rattle.std.proofs.Common.{◌≡◌, ◌++◌, codes, string_bytes}
 use Rattle.std.proofs.lemmas.Result.{on_ok_weaker}
 use Rattle.std.specs.Option.{option_map}
 use Rattle.json.specs.Print.{quoted}
-use Rattle.bucket_terms.specs.V1Listing.{next_marker}
+use Rattle.bucket_terms.specs.Listing.{next_marker}
 use Rattle.answer_text.specs.Lines.{shown}
 use Rattle.answer_text.specs.Pieces as spec
 use Rattle.answer_text.proofs.Joined.{joined}

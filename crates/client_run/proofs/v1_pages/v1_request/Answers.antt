@@ -1,6 +1,6 @@
 use Rattle.std.proofs.Common.{ap, ◌∙◌}
 use Rattle.std.proofs.lemmas.Result.{IfOk-weaker}
-use Rattle.bucket_terms.specs.V1Listing.{plain, marker_point}
+use Rattle.bucket_terms.specs.Listing.{plain, marker_point}
 use Rattle.client_run.proofs.Listings.{v1_answers, v1_in_range}
 use Rattle.client_run.proofs.v1_pages.v1_request.Goals as goal
 

@@ -1,7 +1,7 @@
 use Rattle.std.proofs.Common.{◌≡◌, Err, sym, ap, ◌∙◌}
 use Rattle.std.proofs.lemmas.Result.{err_from_is_err_and}
 use Rattle.page_token.specs.declared.token_error.TokenError.TheVariants.{Bad}
-use Rattle.bucket_terms.specs.Listing.{token_bytes}
+use Rattle.bucket_terms.specs.PageParts.{token_bytes}
 use Rattle.page_token.proofs.OneTokenLaws.{whole_bytes, has_text, encoded_once, one_token}
 use Rattle.page_token.proofs.reading.read.Goals as goal
 

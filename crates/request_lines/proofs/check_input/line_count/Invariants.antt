@@ -1,5 +1,5 @@
 use Rattle.std.proofs.Common.{◌≡◌, ◌+◌, ◌≤◌, length}
-use Rattle.request_lines.specs.TextLines.{text_lines}
+use Rattle.request_lines.specs.CheckInput.{text_lines}
 use Rattle.request_lines.proofs.check_input.line_count.Given as goal
 
 -- the lines so far, and those that are left
