@@ -17,7 +17,6 @@ use Rattle.key_map.specs.declared.update.Change.TheVariants.{Put as PutVal, Remo
 use Rattle.key_map.specs.KeyMap.{map_has, map_get, updated, after}
 use Rattle.bucket_terms.specs.declared.list_query.ListQuery.{ListQuery}
 use Rattle.bucket_terms.specs.declared.v1_query.V1Query.{V1Query}
-use Rattle.bucket_terms.specs.V1Listing.{v1_page}
 use Rattle.bucket_terms.specs.declared.token_point.TokenPoint.{TokenPoint}
 use Rattle.bucket_terms.specs.declared.page.Page.{Page}
 use Rattle.bucket_terms.specs.declared.request.Request.{Request}
@@ -25,9 +24,9 @@ use Rattle.bucket_terms.specs.declared.request.Request.TheVariants.{Put, PutNew,
 use Rattle.bucket_terms.specs.declared.reply.Reply.{Reply}
 use Rattle.bucket_terms.specs.declared.reply.Reply.TheVariants.{Put as PutReply, Exists, Deleted, Found, Missing, Listed, ListedV1, BadToken, NoSlot}
 use Rattle.bucket_terms.specs.declared.reply.Placed.{Placed}
-use Rattle.bucket_terms.specs.Listing.{page_of}
-use Rattle.bucket_terms.specs.LegalRun.{RequestLine, Setting, Answered, IsRight, IsOf, IsChangeOf, IsMadeBy, HasUsedItsSlots, UpdateStands, Finds, Lists, ListsV1, KeepsOrder, AreAnswered, is_listing, update_at, last_listing, answered_lines, lines_of, replies_of}
-use Rattle.bucket_terms.specs.RunParts.{is_earlier_of}
+use Rattle.bucket_terms.specs.Listing.{page_of, v1_page}
+use Rattle.bucket_terms.specs.LegalRun.{RequestLine, Setting, Answered, IsRight, IsOf, IsChangeOf, IsMadeBy, HasUsedItsSlots, UpdateStands, Finds, Lists, KeepsOrder, AreAnswered, is_listing, update_at, last_listing, answered_lines, lines_of, replies_of}
+use Rattle.bucket_terms.specs.RunParts.{is_earlier_of, ListsV1}
 use Rattle.run_laws.specs.Renamed.{renamed_update, renamed_reply, RenamedLaw}
 
 module _ (new : ℕ → ℕ) (back : (c : ℕ) → new (new c) ≡ c) where

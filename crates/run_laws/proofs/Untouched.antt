@@ -14,7 +14,6 @@ use Rattle.key_map.specs.declared.update.Change.TheVariants.{Put as PutVal, Remo
 use Rattle.key_map.specs.KeyMap.{map_has, map_get, after}
 use Rattle.bucket_terms.specs.declared.list_query.ListQuery.{ListQuery}
 use Rattle.bucket_terms.specs.declared.v1_query.V1Query.{V1Query}
-use Rattle.bucket_terms.specs.V1Listing.{plain, marker_point, v1_page}
 use Rattle.bucket_terms.specs.declared.token_point.TokenPoint.{TokenPoint}
 use Rattle.bucket_terms.specs.declared.page.Page.{Page}
 use Rattle.bucket_terms.specs.declared.request.Request.{Request}
@@ -22,10 +21,10 @@ use Rattle.bucket_terms.specs.declared.request.Request.TheVariants.{Put, PutNew,
 use Rattle.bucket_terms.specs.declared.reply.Reply.{Reply}
 use Rattle.bucket_terms.specs.declared.reply.Reply.TheVariants.{Put as PutReply, Exists, Deleted, Found, Missing, Listed, ListedV1, BadToken, NoSlot}
 use Rattle.bucket_terms.specs.declared.reply.Placed.{Placed}
-use Rattle.bucket_terms.specs.Listing.{is_under, is_admitted, entry_of, is_same_group, next_token, entries_of, page_of, page_point}
+use Rattle.bucket_terms.specs.Listing.{is_under, is_admitted, entry_of, is_same_group, next_token, entries_of, page_of, page_point, plain, marker_point, v1_page}
 use Rattle.bucket_terms.specs.PageParts.{cut_at}
-use Rattle.bucket_terms.specs.LegalRun.{RequestLine, Setting, Answered, Run, IsLegal, IsRight, IsOf, IsChangeOf, IsMadeBy, HasUsedItsSlots, UpdateStands, Finds, Lists, ListsV1, Resumed, AreAnswered, next_of, update_at, last_listing, answered_lines, lines_of, replies_of}
-use Rattle.bucket_terms.specs.RunParts.{IsPlacedBelow, head_by, setting_of}
+use Rattle.bucket_terms.specs.LegalRun.{RequestLine, Setting, Answered, Run, IsLegal, IsRight, IsOf, IsChangeOf, IsMadeBy, HasUsedItsSlots, UpdateStands, Finds, Lists, Resumed, AreAnswered, next_of, update_at, last_listing, answered_lines, lines_of, replies_of}
+use Rattle.bucket_terms.specs.RunParts.{IsPlacedBelow, head_by, setting_of, ListsV1}
 use Rattle.bucket_terms.proofs.Finds.{map_has-none, map_has-some}
 use Rattle.bucket_terms.proofs.LastListing.{last_listing-push}
 use Rattle.sample_laws.specs.Alone.{rank_of}

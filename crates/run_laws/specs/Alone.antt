@@ -12,8 +12,7 @@ use Rattle.bucket_terms.specs.declared.request.Request.TheVariants.{Put, PutNew,
 use Rattle.bucket_terms.specs.declared.reply.Reply.{Reply}
 use Rattle.bucket_terms.specs.declared.reply.Reply.TheVariants.{Put as PutReply, Exists, Deleted, Listed, ListedV1, BadToken}
 use Rattle.bucket_terms.specs.declared.reply.Placed.{Placed}
-use Rattle.bucket_terms.specs.Listing.{page_of}
-use Rattle.bucket_terms.specs.V1Listing.{v1_page}
+use Rattle.bucket_terms.specs.Listing.{page_of, v1_page}
 use Rattle.bucket_terms.specs.LegalRun.{RequestLine, Resumed, IsPointOf, next_of, is_listing}
 use Rattle.bucket_terms.specs.RunParts.{head_answer}
 use Rattle.sample_laws.specs.Alone.{rank_of}

@@ -80,6 +80,13 @@ second_refused = run (put_a ∷ []) ((reply_at 0 2 1 (PutReply false) ∷ no_slo
 abbrev pub first_refused : Run
 first_refused = run (update 0 3 1 (PutVal 8) ∷ []) ((no_slot 0 2 ∷ reply_at 0 3 1 (PutReply false) ∷ []) ∷ [])
 
+-- a client puts `a`, and has another request, which is refused
+abbrev pub put_and : Request → List RequestLine
+put_and request = line 2 (Put (codes "a") 7) ∷ line 3 request ∷ []
+
+abbrev pub put_and_refused : Run
+put_and_refused = run (put_a ∷ []) ((reply_at 0 2 1 (PutReply false) ∷ no_slot 0 3 ∷ []) ∷ [])
+
 -- a client puts `a` where it is not there; a second such line, of the same client or of another one, finds it there
 abbrev pub put_new_a : List RequestLine
 put_new_a = line 2 (PutNew (codes "a") 7) ∷ []
@@ -127,6 +134,11 @@ pub record RunRowsLaw : Type 0 where
   pub by_a_later_line : ¬ (Legal 1 (two_puts ∷ []) first_refused)
   pub by_another_client : ¬ (Legal 1 ((line 4 (Put (codes "b") 8) ∷ []) ∷ two_puts ∷ [])
       (run (update 1 2 0 (PutVal 7) ∷ update 1 3 1 (PutVal 8) ∷ []) ((no_slot 0 4 ∷ []) ∷ (reply_at 1 2 1 (PutReply false) ∷ reply_at 1 3 2 (PutReply false) ∷ []) ∷ [])))
+  -- no look is refused, whatever slots are used up
+  pub head_refused : ¬ (Legal 1 (put_and (Head (codes "a")) ∷ []) put_and_refused)
+  pub list_refused : ¬ (Legal 1 (put_and list_all ∷ []) put_and_refused)
+  pub v1_list_refused : ¬ (Legal 1 (put_and list_v1 ∷ []) put_and_refused)
+  pub next_refused : ¬ (Legal 1 (put_and Next ∷ []) put_and_refused)
   -- the first of two puts of a new key is made, and the second one finds it there
   pub new_and_kept : Legal 9 (put_new_twice ∷ []) (only_replies (put_a ∷ []) (reply_at 0 2 1 (PutReply false) ∷ reply_at 0 3 1 Exists ∷ []))
   pub new_that_replaced : ¬ (Legal 9 (put_new_a ∷ []) (only_replies (put_a ∷ []) (reply_at 0 2 1 (PutReply true) ∷ [])))

@@ -5,8 +5,7 @@ use Rattle.key_map.specs.declared.pair.Pair.{Pair}
 use Rattle.bucket_terms.specs.declared.request.Request.{Request}
 use Rattle.bucket_terms.specs.declared.request.Request.TheVariants.{Put, PutNew, Delete, Head, List as ListRequest, ListV1, Next}
 use Rattle.bucket_terms.specs.declared.reply.Placed.{Placed}
-use Rattle.bucket_terms.specs.Listing.{is_under}
-use Rattle.bucket_terms.specs.V1Listing.{plain}
+use Rattle.bucket_terms.specs.Listing.{is_under, plain}
 use Rattle.bucket_terms.specs.LegalRun.{RequestLine, Run, IsLegal, lines_of, replies_of}
 use Rattle.bucket_terms.specs.RunParts.{updates_in}
 use Rattle.sample_laws.specs.Alone.{rank_of}
