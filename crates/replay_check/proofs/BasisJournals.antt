@@ -8,14 +8,16 @@ use Rattle.bucket_terms.specs.declared.reply.Placed.{Placed}
 use Rattle.request_lines.specs.SessionLaws.{all_requests}
 use Rattle.answer_text.specs.Lines.{line_of}
 use Rattle.answer_text.specs.Shown.{last_data}
-use Rattle.text_laws.specs.WrongLine.{AreAllReplies, IsWrongReply, journal_texts, last_text, requests_of, text_at}
+use Rattle.text_laws.specs.WrongLine.{journal_texts, last_text, requests_of}
+use Rattle.text_laws.specs.WrongParts.{AreAllReplies, IsWrongReply, text_at}
 use Rattle.replay_check.specs.declared.basis.Basis.{Basis}
 use Rattle.replay_check.specs.declared.verdict.Verdict.TheVariants.{Legal, Wrong}
 use Rattle.replay_check.specs.Judging.{IsVerdict}
 use Rattle.replay_check.specs.Looking.{AreMade, HasJournal, IsBasis, against, texts_in}
 use Rattle.replay_check.proofs.BasisLaws.{requests_are}
 use Rattle.replay_check.proofs.MadeUpdates.{are_made, few_updates}
-use Rattle.replay_check.proofs.TextPlaces.{first_within, text_there}
+use Rattle.text_laws.proofs.ReplyPlaces.{first_within}
+use Rattle.replay_check.proofs.TextPlaces.{text_there}
 use Rattle.text_laws.proofs.GoesOn.{journal_length}
 
 module _ (b : Basis) (j : HasJournal b) where

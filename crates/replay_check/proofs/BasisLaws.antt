@@ -13,7 +13,8 @@ use Rattle.request_lines.specs.declared.session.Asked.{Asked}
 use Rattle.request_lines.specs.declared.session.ClientPart.{ClientPart}
 use Rattle.request_lines.specs.Session.{request_line, request_lines}
 use Rattle.request_lines.specs.SessionLaws.{Rise, all_requests}
-use Rattle.text_laws.specs.WrongLine.{first_reply, reply_texts, requests_of, text_at}
+use Rattle.text_laws.specs.WrongLine.{first_reply, reply_texts, requests_of}
+use Rattle.text_laws.specs.WrongParts.{text_at}
 use Rattle.replay_check.specs.declared.basis.Basis.{Basis}
 use Rattle.replay_check.specs.declared.turns.Client.{Client}
 use Rattle.replay_check.specs.Own.{history_of}
@@ -21,7 +22,8 @@ use Rattle.replay_check.specs.Telling.{IsOfSession}
 use Rattle.replay_check.specs.Turns.{IsOwnPlace, used_before}
 use Rattle.replay_check.specs.Looking.{IsBasis, HasComeOn, against, texts_in}
 use Rattle.replay_check.proofs.SessionLines.{lines_are, rising_lines}
-use Rattle.replay_check.proofs.TextPlaces.{line_within, first_within, text_is, text_there}
+use Rattle.text_laws.proofs.ReplyPlaces.{first_within}
+use Rattle.replay_check.proofs.TextPlaces.{line_within, text_is, text_there}
 
 -- what an index finds
 pub there : {A : Type 0} (xs ys : List A) (i : ℕ) (x : A) → ys ≡ xs → i < length xs → x ≡ get_or ys i x → slice_get xs i ≡ Some x

@@ -8,7 +8,8 @@ use Rattle.std.proofs.lemmas.List.Elements.{All-push}
 use Rattle.key_map.specs.declared.update.Update.{Update}
 use Rattle.bucket_terms.specs.declared.reply.Placed.{Placed}
 use Rattle.bucket_terms.specs.LegalRun.{RequestLine, Answered, answered_lines}
-use Rattle.text_laws.specs.WrongLine.{Checked, IsReplyLine, AreReplies, text_at}
+use Rattle.text_laws.specs.WrongLine.{Checked, IsReplyLine, AreReplies}
+use Rattle.text_laws.specs.WrongParts.{text_at}
 use Rattle.replay_check.specs.Turns.{HasSeen}
 use Rattle.replay_check.proofs.Order.{all_up}
 

@@ -14,7 +14,8 @@ use Rattle.request_lines.specs.declared.session.ClientPart.{ClientPart}
 use Rattle.request_lines.specs.Session.{request_lines}
 use Rattle.request_lines.specs.SessionLaws.{Rise}
 use Rattle.answer_text.specs.Lines.{line_of, journal_data}
-use Rattle.text_laws.specs.WrongLine.{Checked, IsJournalLine, AreJournal, AreOfOneLine, text_at}
+use Rattle.text_laws.specs.WrongLine.{Checked, IsJournalLine, AreJournal, AreOfOneLine}
+use Rattle.text_laws.specs.WrongParts.{text_at}
 use Rattle.text_laws.proofs.OneUpdate.{one_place}
 use Rattle.replay_check.specs.declared.journal.Told.{Told}
 use Rattle.replay_check.specs.Turns.{IsOwnPlace}

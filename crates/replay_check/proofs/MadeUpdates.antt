@@ -8,11 +8,12 @@ use Rattle.std.proofs.lemmas.Option.{same_Some, none-some, slice_get_within, get
 use Rattle.std.proofs.lemmas.List.{length-take-le}
 use Rattle.key_map.specs.declared.update.Update.{Update}
 use Rattle.bucket_terms.specs.LegalRun.{RequestLine, lines_of}
-use Rattle.text_laws.specs.WrongLine.{Checked, AreOfOneLine, Makes, AreJournal, IsWrongUpdate, requests_of}
+use Rattle.text_laws.specs.WrongLine.{Checked, AreOfOneLine, Makes, AreJournal, requests_of}
+use Rattle.text_laws.specs.WrongParts.{IsWrongUpdate}
 use Rattle.text_laws.proofs.GoesOn.{journal_length}
 use Rattle.replay_check.specs.Looking.{AreMade}
 use Rattle.replay_check.proofs.UsedBefore.{mark, count_none, count_cons, counts_add, line_of_update}
-use Rattle.replay_check.proofs.TextPlaces.{first_within}
+use Rattle.text_laws.proofs.ReplyPlaces.{first_within}
 
 -- ---- what right journal lines tell
 

@@ -11,7 +11,8 @@ use Rattle.bucket_terms.specs.LegalRun.{RequestLine, Answered, IsOf, IsChangeOf,
 use Rattle.bucket_terms.proofs.LastListing.{last_listing-push}
 use Rattle.client_run.specs.Listing.{HasPageInRange}
 use Rattle.request_lines.specs.SessionLaws.{Rise}
-use Rattle.text_laws.specs.WrongLine.{Checked, IsReplyLine, HasAllParts, Makes, setting, reply_texts, first_reply, text_at}
+use Rattle.text_laws.specs.WrongLine.{Checked, IsReplyLine, Makes, setting, reply_texts, first_reply}
+use Rattle.text_laws.specs.WrongParts.{HasAllParts, text_at}
 use Rattle.text_laws.proofs.Spelled.{line_begins}
 use Rattle.text_laws.proofs.OneReply.{small_place}
 use Rattle.replay_check.specs.declared.replay.Replay.{Replay}

@@ -6,7 +6,8 @@ use Rattle.key_map.specs.declared.update.Update.{Update}
 use Rattle.bucket_terms.specs.declared.record.Record.{Record}
 use Rattle.bucket_terms.specs.declared.reply.Placed.{Placed}
 use Rattle.bucket_terms.specs.LegalRun.{RequestLine, Answered, lines_of}
-use Rattle.text_laws.specs.WrongLine.{Checked, setting, reply_texts, text_at}
+use Rattle.text_laws.specs.WrongLine.{Checked, setting, reply_texts}
+use Rattle.text_laws.specs.WrongParts.{text_at}
 use Rattle.replay_check.specs.declared.basis.Basis.{Basis}
 use Rattle.replay_check.specs.declared.replay.Replay.{Replay}
 use Rattle.replay_check.specs.declared.turns.Client.{Client}

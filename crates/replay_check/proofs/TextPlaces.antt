@@ -1,20 +1,12 @@
 -- Where a client's reply lines stand in a text.
-use Rattle.std.proofs.Common.{◌≡◌, ℕ, zero, suc, ◌+◌, ◌<◌, ◌≤◌, List, [], ◌∷◌, length, take, drop, get_or, ◌∙◌, arith}
+use Rattle.std.proofs.Common.{◌≡◌, ℕ, ◌+◌, ◌<◌, ◌≤◌, List, [], length, drop, get_or, ◌∙◌, arith}
 use Rattle.std.specs.Borrow.{Bor}
 use Rattle.std.proofs.lemmas.List.{get_or-take, get_or-drop, get_or-map, length-take, length-drop}
-use Rattle.bucket_terms.specs.LegalRun.{RequestLine, lines_of}
-use Rattle.text_laws.specs.WrongLine.{Checked, HasAllParts, requests_of, reply_texts, first_reply, text_at}
+use Rattle.bucket_terms.specs.LegalRun.{lines_of}
+use Rattle.text_laws.specs.WrongLine.{Checked, reply_texts, first_reply}
+use Rattle.text_laws.specs.WrongParts.{HasAllParts, text_at}
+use Rattle.text_laws.proofs.ReplyPlaces.{first_within}
 use Rattle.replay_check.specs.Looking.{texts_of}
-
-pub first_more : (parts : List (List RequestLine)) (k : ℕ) → k < length parts → requests_of (take (suc k) parts) ≡ requests_of (take k parts) + length (lines_of parts k)
-first_more [] k inside = absurd (omega arith)
-first_more (p ∷ parts) zero inside = omega arith
-first_more (p ∷ parts) (suc k) inside = let rest = first_more parts k (omega arith) in omega arith
-
-pub first_within : (parts : List (List RequestLine)) (k : ℕ) → k < length parts → requests_of (take k parts) + length (lines_of parts k) ≤ requests_of parts
-first_within [] k inside = absurd (omega arith)
-first_within (p ∷ parts) zero inside = omega arith
-first_within (p ∷ parts) (suc k) inside = let rest = first_within parts k (omega arith) in omega arith
 
 module _ (c : Checked) (texts : List (List ℕ)) (number : ℕ) where
   pub text_is : (n : ℕ) → n < length (lines_of c.parts number) → text_at (reply_texts c texts number) n ≡ text_at texts (first_reply c number + n)

@@ -4,39 +4,16 @@ use Rattle.std.specs.List.{slice_get}
 use Rattle.std.specs.Option.{unwrap_or}
 use Rattle.std.proofs.lemmas.Bool.{cases_lt}
 use Rattle.std.proofs.lemmas.Option.{slice_get-get_or, IfSome_then}
-use Rattle.std.proofs.lemmas.List.{take_all, length_push, get_or_append_left, get_or_push}
+use Rattle.std.proofs.lemmas.List.{take_all}
 use Rattle.key_map.specs.declared.update.Update.{Update}
 use Rattle.bucket_terms.specs.declared.reply.Placed.{Placed}
 use Rattle.bucket_terms.specs.LegalRun.{RequestLine, lines_of}
-use Rattle.text_laws.specs.WrongLine.{Checked, IsReplyLine, AreReplies, AreAllReplies, IsWrongReply, reply_texts, text_at}
+use Rattle.text_laws.specs.WrongLine.{Checked, IsReplyLine, AreReplies, reply_texts}
+use Rattle.text_laws.specs.WrongParts.{AreAllReplies, IsWrongReply, text_at}
+use Rattle.text_laws.proofs.Collected.{collected}
 use Rattle.replay_check.specs.declared.turns.Client.{Client}
 use Rattle.replay_check.specs.Looking.{IsReadyAt, AreReady, answers_of}
 use Rattle.replay_check.proofs.TextPlaces.{few_replies}
-
--- a list for each number below a bound
-abbrev Listed : ℕ → (ℕ → List Placed → Type 0) → List (List Placed) → Type 0
-Listed n P lists = (length lists ≡ n) × ((k : ℕ) → k < n → P k (get_or lists k []))
-
-pub collected : (n : ℕ) (P : ℕ → List Placed → Type 0) → ((k : ℕ) → k < n → (ps : List Placed) × P k ps) → (lists : List (List Placed)) × Listed n P lists
-collected zero P each = ([], (refl, λ k less. absurd (omega arith)))
-collected (suc n) P each =
-    let before = collected n P (λ k less. each k (omega arith)) in
-    let lists = before.0 in
-    let long : length lists ≡ n = before.1.0 in
-    let last = each n (omega arith) in
-    let count : length (lists ++ last.0 ∷ []) ≡ suc n = let more = length_push lists last.0 in omega arith in (
-      lists ++ last.0 ∷ [],
-      (
-        count,
-        λ k less.
-            elim (cases_lt k n) [
-              | inl below ↦ subst (P k) (sym (get_or_append_left lists (last.0 ∷ []) [] k (omega arith))) (before.1.1 k below)
-              | inr most ↦
-                  let same : n ≡ k = omega arith in
-                  subst (P k) (sym (get_or_push lists last.0 [] k (long ∙ same))) (subst (λ (i : ℕ). P i last.0) same last.1)
-            ],
-      ),
-    )
 
 -- all lines of the first clients were found right
 abbrev pub Finished : Checked → List Client → ℕ → Type 0

@@ -9,11 +9,14 @@ use Rattle.request_lines.specs.declared.session.ClientPart.{ClientPart}
 use Rattle.request_lines.specs.declared.session.Session.{Session}
 use Rattle.request_lines.specs.Session.{request_lines}
 use Rattle.request_lines.specs.SessionLaws.{HasLineNumber, Rise, all_requests}
-use Rattle.text_laws.specs.WrongLine.{Checked, HasAllParts, IsWrongLine, journal_texts, requests_of, text_lines}
+use Rattle.request_lines.specs.CheckInput.{text_lines}
+use Rattle.text_laws.specs.WrongLine.{Checked, IsWrongLine, journal_texts, requests_of}
+use Rattle.text_laws.specs.WrongParts.{HasAllParts}
 use Rattle.text_laws.specs.TextLaws.{IsCheckable, IsLegalText}
 use Rattle.text_laws.proofs.FromLegal.{from_legal}
 use Rattle.text_laws.proofs.ToLegal.{to_legal}
-use Rattle.text_laws.proofs.OneWrong.{one_wrong_line, none_wrong_law}
+use Rattle.text_laws.proofs.OneWrong.{one_wrong_line, none_wrong_law, right_text}
+use Rattle.text_laws.proofs.WrongParts.{in_part}
 use Rattle.replay_check.specs.declared.verdict.Verdict.{Verdict}
 use Rattle.replay_check.specs.declared.verdict.Verdict.TheVariants.{Legal, Wrong}
 use Rattle.replay_check.specs.Telling.{IsRead, checked}
@@ -24,13 +27,13 @@ use Rattle.replay_check.proofs.BasisLaws.{requests_are}
 module _ (c : Checked) (text : List ℕ) (fine : IsCheckable c (text_lines text)) where
   pub legal_is : (verdict : Verdict) → IsVerdict c (text_lines text) verdict → (verdict ≡ Legal) ↔ IsLegalText c text
   legal_is Legal right = ((λ same. to_legal c text right), (λ legal. refl))
-  legal_is (Wrong n) wrong = ((λ same. cc), (λ legal. absurd (none_wrong_law c (text_lines text) n fine (from_legal c text fine.rising legal) wrong)))
+  legal_is (Wrong n) wrong = ((λ same. cc), (λ legal. absurd (none_wrong_law c (text_lines text) n (right_text c (text_lines text) (from_legal c text fine.rising legal)) (in_part c (text_lines text) fine n wrong))))
 
   pub wrong_is : (verdict : Verdict) → IsVerdict c (text_lines text) verdict → (line : ℕ) → (verdict ≡ Wrong line) ↔ IsWrongLine c (text_lines text) line
-  wrong_is Legal right line = ((λ same. cc), (λ wrong. absurd (none_wrong_law c (text_lines text) line fine right wrong)))
+  wrong_is Legal right line = ((λ same. cc), (λ wrong. absurd (none_wrong_law c (text_lines text) line (right_text c (text_lines text) right) wrong)))
   wrong_is (Wrong n) wrong line = (
-    (λ same. subst (IsVerdict c (text_lines text)) same wrong),
-    (λ other. ap Wrong (one_wrong_line c (text_lines text) n line fine wrong other)),
+    (λ same. in_part c (text_lines text) fine line (subst (IsVerdict c (text_lines text)) same wrong)),
+    (λ other. ap Wrong (one_wrong_line c (text_lines text) n line (in_part c (text_lines text) fine n wrong) other)),
   )
 
 -- a text can be checked against a session that was read

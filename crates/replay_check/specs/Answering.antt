@@ -11,8 +11,7 @@ use Rattle.bucket_terms.specs.declared.request.Request.{Request}
 use Rattle.bucket_terms.specs.declared.request.Request.TheVariants.{Put, PutNew, Delete, Head, List as ListRequest, ListV1, Next}
 use Rattle.bucket_terms.specs.declared.reply.Reply.{Reply}
 use Rattle.bucket_terms.specs.declared.reply.Reply.TheVariants.{Put as PutReply, Exists, Deleted, Listed, ListedV1, BadToken, NoSlot}
-use Rattle.bucket_terms.specs.Listing.{page_of}
-use Rattle.bucket_terms.specs.V1Listing.{v1_page}
+use Rattle.bucket_terms.specs.Listing.{page_of, v1_page}
 use Rattle.client_run.specs.declared.pages.Start.{Start}
 use Rattle.client_run.specs.declared.pages.Start.TheVariants.{Bad}
 use Rattle.bucket_terms.specs.RunParts.{head_answer}

@@ -7,8 +7,7 @@ ghost use Rattle.bucket_terms.specs.declared.token_point.TokenPoint.{TokenPoint 
 ghost use Rattle.bucket_terms.specs.declared.request.Request.TheVariants.{List as ListRequest, Next};
 ghost use Rattle.bucket_terms.specs.declared.reply.Reply.{Reply as AnyReply};
 ghost use Rattle.bucket_terms.specs.declared.reply.Reply.TheVariants.{Listed, ListedV1};
-ghost use Rattle.bucket_terms.specs.Listing.{page_of};
-ghost use Rattle.bucket_terms.specs.V1Listing.{v1_page};
+ghost use Rattle.bucket_terms.specs.Listing.{page_of, v1_page};
 ghost use Rattle.bucket_terms.specs.LegalRun.{IsPointOf, next_of};
 ghost use Rattle.bucket_terms.specs.PageInRange.{IsInRange};
 ghost use Rattle.bucket_terms.specs.RunParts.{head_answer};

@@ -1,7 +1,7 @@
 // The lines of a text, each with its end.
 ghost use Rattle.std.specs.Prelude.{◌≡◌, ℕ, List, map, IfOk};
 ghost use Rattle.std.specs.Borrow.{Bor};
-ghost use Rattle.text_laws.specs.WrongLine.{text_lines};
+ghost use Rattle.request_lines.specs.CheckInput.{text_lines};
 
 use key_names::NoMemory;
 use request_lines::line_len;

@@ -9,8 +9,10 @@ use Rattle.bucket_terms.specs.LegalRun.{RequestLine, Run, Answered, IsLegal, IsM
 use Rattle.request_lines.specs.SessionLaws.{Rise}
 use Rattle.answer_text.specs.Lines.{line_of, journal_data}
 use Rattle.answer_text.specs.Shown.{last_data}
-use Rattle.text_laws.specs.WrongLine.{Checked, Makes, IsJournalLine, AreJournal, AreReplies, setting, text_lines, requests_of, journal_texts, last_text}
-use Rattle.text_laws.specs.TextLaws.{IsLegalText, AreRight}
+use Rattle.request_lines.specs.CheckInput.{text_lines}
+use Rattle.text_laws.specs.WrongLine.{Checked, Makes, IsJournalLine, AreJournal, AreReplies, setting, requests_of, journal_texts, last_text}
+use Rattle.text_laws.specs.WrongParts.{AreAllRight}
+use Rattle.text_laws.specs.TextLaws.{IsLegalText}
 use Rattle.text_laws.proofs.OneUpdate.{one_place}
 use Rattle.text_laws.proofs.Lined.{reply_list, reply_lists, journal_list, run_cut, lists_length, list_of_client}
 
@@ -146,7 +148,7 @@ module _ (c : Checked) (run : Run) (legal : IsLegal c.dir c.parts c.slots run) (
   abbrev R : List (List ℕ)
   R = reply_lists c.dir c.records run.replies
 
-  lines_right : AreRight c (R ++ (J ++ last ∷ []))
+  lines_right : AreAllRight c (R ++ (J ++ last ∷ []))
   lines_right =
       let texts : List (List ℕ) = R ++ (J ++ last ∷ []) in
       let asked : length R ≡ requests_of c.parts = lists_length c.dir c.records run.replies c.parts legal.clients client_length in
@@ -172,6 +174,6 @@ module _ (c : Checked) (run : Run) (legal : IsLegal c.dir c.parts c.slots run) (
         };
       }
 
-pub from_legal : (c : Checked) (text : List ℕ) → All Rise c.parts → IsLegalText c text → AreRight c (text_lines text)
+pub from_legal : (c : Checked) (text : List ℕ) → All Rise c.parts → IsLegalText c text → AreAllRight c (text_lines text)
 from_legal c text rising h =
-    subst (AreRight c) (sym (ap text_lines h.text_is ∙ run_cut c.dir c.records h.run)) (lines_right c h.run h.legal rising)
+    subst (AreAllRight c) (sym (ap text_lines h.text_is ∙ run_cut c.dir c.records h.run)) (lines_right c h.run h.legal rising)

@@ -8,7 +8,8 @@ use Rattle.key_names.specs.Names.{Rises}
 use Rattle.key_map.specs.declared.update.Update.{Update}
 use Rattle.bucket_terms.specs.declared.reply.Placed.{Placed}
 use Rattle.bucket_terms.specs.LegalRun.{RequestLine, Answered, answered_lines}
-use Rattle.text_laws.specs.WrongLine.{Checked, IsJournalLine, AreJournal, IsReplyLine, AreReplies, text_at}
+use Rattle.text_laws.specs.WrongLine.{Checked, IsJournalLine, AreJournal, IsReplyLine, AreReplies}
+use Rattle.text_laws.specs.WrongParts.{text_at}
 use Rattle.text_laws.specs.TextLaws.{IsCheckable}
 use Rattle.text_laws.proofs.OneReply.{one_reply}
 use Rattle.text_laws.proofs.OneUpdate.{one_update}

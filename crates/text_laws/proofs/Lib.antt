@@ -10,8 +10,12 @@ pub mod OneReply
 pub mod OneUpdate
 -- Right lines go on in one way.
 pub mod GoesOn
--- One first wrong line.
+-- Where the replies of each client begin, and lists of lists.
+pub mod ReplyPlaces
+pub mod Collected
+-- One first wrong line, and in which part it stands.
 pub mod OneWrong
+pub mod WrongParts
 -- No line feed inside a line.
 pub mod Feeds
 -- The lines of the text of a run.

@@ -12,7 +12,8 @@ use Rattle.bucket_terms.specs.declared.reply.Placed.{Placed}
 use Rattle.bucket_terms.specs.LegalRun.{RequestLine, Run}
 use Rattle.answer_text.specs.Lines.{line_of, journal_data, reply_data, journal_lines, session_text}
 use Rattle.answer_text.specs.Shown.{last_data}
-use Rattle.text_laws.specs.WrongLine.{text_lines, with_byte, requests_of}
+use Rattle.request_lines.specs.CheckInput.{text_lines, with_byte}
+use Rattle.text_laws.specs.WrongLine.{requests_of}
 use Rattle.text_laws.proofs.Feeds.{NoFeed, text_free}
 
 -- ---- one line in front

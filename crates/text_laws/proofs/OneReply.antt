@@ -14,8 +14,7 @@ use Rattle.bucket_terms.specs.declared.request.Request.TheVariants.{Put, PutNew,
 use Rattle.bucket_terms.specs.declared.reply.Reply.{Reply}
 use Rattle.bucket_terms.specs.declared.reply.Reply.TheVariants.{Put as PutReply, Exists, Deleted, Found, Missing, Listed, ListedV1, BadToken, NoSlot}
 use Rattle.bucket_terms.specs.declared.reply.Placed.{Placed}
-use Rattle.bucket_terms.specs.Listing.{page_of}
-use Rattle.bucket_terms.specs.V1Listing.{v1_page}
+use Rattle.bucket_terms.specs.Listing.{page_of, v1_page}
 use Rattle.bucket_terms.specs.LegalRun.{RequestLine, Setting, Answered, IsAnswered, IsRight, IsOf, IsPointOf, MakesNone, Resumed, KeepsOrder, next_of, update_at, last_listing, is_update}
 use Rattle.bucket_terms.specs.RunParts.{head_by}
 use Rattle.page_token.proofs.OneTokenLaws.{one_token}

@@ -8,8 +8,10 @@ use Rattle.bucket_terms.specs.declared.reply.Placed.{Placed}
 use Rattle.bucket_terms.specs.LegalRun.{RequestLine, Run, Answered, IsLegal, IsMadeBy, IsChangeOf, AreAnswered, answered_lines, lines_of}
 use Rattle.answer_text.specs.Lines.{line_of, journal_data, session_text}
 use Rattle.answer_text.specs.Shown.{last_data}
-use Rattle.text_laws.specs.WrongLine.{Checked, Makes, AreJournal, AreReplies, setting, text_lines, requests_of, journal_texts, last_text, reply_texts}
-use Rattle.text_laws.specs.TextLaws.{IsLegalText, AreRight}
+use Rattle.request_lines.specs.CheckInput.{text_lines}
+use Rattle.text_laws.specs.WrongLine.{Checked, Makes, AreJournal, AreReplies, setting, requests_of, journal_texts, last_text, reply_texts}
+use Rattle.text_laws.specs.WrongParts.{AreAllRight}
+use Rattle.text_laws.specs.TextLaws.{IsLegalText}
 use Rattle.text_laws.proofs.Lined.{joined, joined_lines, reply_text, reply_list, reply_lists, journal_list, run_lines, run_cut, lists_of_slices}
 
 module _ (c : Checked) (us : List Update) where
@@ -84,7 +86,7 @@ one_left [] one = absurd (omega arith)
 one_left (x ∷ []) one = refl
 one_left (x ∷ y ∷ xs) one = absurd (omega arith)
 
-module _ (c : Checked) (texts : List (List ℕ)) (right : AreRight c texts) where
+module _ (c : Checked) (texts : List (List ℕ)) (right : AreAllRight c texts) where
   abbrev run : Run
   run = record { updates = right.updates; replies = right.replies }
 
@@ -125,7 +127,7 @@ module _ (c : Checked) (texts : List (List ℕ)) (right : AreRight c texts) wher
       ∙ ap (λ (l : List (List ℕ)). l ++ behind) journal
       ∙ ap (λ (l : List (List ℕ)). journal_list c.dir c.records 1 right.updates ++ l) end)
 
-pub to_legal : (c : Checked) (text : List ℕ) → AreRight c (text_lines text) → IsLegalText c text
+pub to_legal : (c : Checked) (text : List ℕ) → AreAllRight c (text_lines text) → IsLegalText c text
 to_legal c text right = record {
   run = run c (text_lines text) right;
   legal = legal c (text_lines text) right;

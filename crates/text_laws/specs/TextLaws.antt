@@ -1,22 +1,17 @@
 -- Helper: the headline does not rest on this file.
 -- A text has one first wrong line at most, and none exactly where it is the text of a legal run.
-use Rattle.std.specs.Prelude.{◌≡◌, ◌↔◌, ℕ, ◌^◌, ◌<◌, List, [], length, All}
-use Rattle.key_map.specs.declared.update.Update.{Update}
+use Rattle.std.specs.Prelude.{◌≡◌, ◌↔◌, ℕ, ◌^◌, ◌<◌, List, length, All}
 use Rattle.key_names.specs.Names.{Rises}
-use Rattle.bucket_terms.specs.declared.reply.Placed.{Placed}
 use Rattle.bucket_terms.specs.LegalRun.{RequestLine, Run, IsLegal}
 use Rattle.answer_text.specs.Lines.{session_text}
 use Rattle.request_lines.specs.SessionLaws.{Rise}
-use Rattle.text_laws.specs.WrongLine.{Checked, HasAllParts, AreJournal, AreAllReplies, IsWrongLine, text_lines, journal_texts, last_text, counting_line}
+use Rattle.request_lines.specs.CheckInput.{text_lines}
+use Rattle.text_laws.specs.WrongLine.{Checked, AreRight, IsWrongLine, requests_of}
 
 -- each line is right
-pub record AreRight (c : Checked) (texts : List (List ℕ)) : Type 0 where
-  pub long : HasAllParts c texts
-  pub updates : List Update
-  pub journal : AreJournal c [] (journal_texts c texts) updates
-  pub last : last_text texts ≡ counting_line (length updates)
-  pub replies : List (List Placed)
-  pub replied : AreAllReplies c updates texts (length c.parts) replies
+pub record IsRightText (c : Checked) (texts : List (List ℕ)) : Type 0 where
+  pub long : requests_of c.parts < length texts
+  pub right : AreRight c texts (length texts)
 
 -- what the texts of a session have: names and each client's lines rise, and clients and lines have numbers of 64 bits
 pub record IsCheckable (c : Checked) (texts : List (List ℕ)) : Type 0 where
@@ -27,10 +22,10 @@ pub record IsCheckable (c : Checked) (texts : List (List ℕ)) : Type 0 where
   pub lines : length texts < 2 ^ 64
 
 abbrev pub OneWrongLineLaw : Type 0
-OneWrongLineLaw = (c : Checked) (texts : List (List ℕ)) (m n : ℕ) → IsCheckable c texts → IsWrongLine c texts m → IsWrongLine c texts n → m ≡ n
+OneWrongLineLaw = (c : Checked) (texts : List (List ℕ)) (m n : ℕ) → IsWrongLine c texts m → IsWrongLine c texts n → m ≡ n
 
 abbrev pub NoneWrongLaw : Type 0
-NoneWrongLaw = (c : Checked) (texts : List (List ℕ)) (n : ℕ) → IsCheckable c texts → AreRight c texts → ¬ (IsWrongLine c texts n)
+NoneWrongLaw = (c : Checked) (texts : List (List ℕ)) (n : ℕ) → IsRightText c texts → ¬ (IsWrongLine c texts n)
 
 -- the text is that of a legal run
 pub record IsLegalText (c : Checked) (text : List ℕ) : Type 0 where
@@ -39,4 +34,4 @@ pub record IsLegalText (c : Checked) (text : List ℕ) : Type 0 where
   pub text_is : text ≡ session_text c.dir c.records run
 
 abbrev pub LegalTextLaw : Type 0
-LegalTextLaw = (c : Checked) (text : List ℕ) → IsCheckable c (text_lines text) → AreRight c (text_lines text) ↔ IsLegalText c text
+LegalTextLaw = (c : Checked) (text : List ℕ) → IsCheckable c (text_lines text) → IsRightText c (text_lines text) ↔ IsLegalText c text

@@ -8,7 +8,7 @@ use Rattle.text_laws.specs.WrongLine.{requests_of}
 use Rattle.replay_check.specs.declared.turns.Client.{Client}
 use Rattle.replay_check.specs.Looking.{IsReadyOn, against}
 use Rattle.replay_check.proofs.BasisLaws.{there, lines_long, first_few, inside, part_count}
-use Rattle.replay_check.proofs.TextPlaces.{first_more}
+use Rattle.text_laws.proofs.ReplyPlaces.{first_more}
 use Rattle.replay_check.proofs.beginning.starts.Goals as goal
 use Rattle.replay_check.proofs.beginning.starts.Goals.{After-len-first}
 

@@ -1,7 +1,8 @@
 use Rattle.std.proofs.Common.{◌≡◌, ℕ, List, [], Option, inl, inr, refl, sym, subst, arith}
 use Rattle.key_map.specs.declared.update.Update.{Update}
 use Rattle.request_lines.specs.declared.session.Session.{Session}
-use Rattle.text_laws.specs.WrongLine.{AreJournal, IsWrongUpdate, journal_texts}
+use Rattle.text_laws.specs.WrongLine.{AreJournal, journal_texts}
+use Rattle.text_laws.specs.WrongParts.{IsWrongUpdate}
 use Rattle.replay_check.specs.declared.journal.Journal.TheVariants.{Right, Wrong as WrongPlace}
 use Rattle.replay_check.specs.Own.{AreOwn}
 use Rattle.replay_check.specs.Telling.{IsOfSession, IsJournalOf, checked}

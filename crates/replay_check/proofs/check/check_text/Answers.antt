@@ -2,7 +2,7 @@ use Rattle.std.proofs.Common.{◌≡◌, ℕ, List, length, refl, ap, ◌∙◌,
 use Rattle.std.specs.Borrow.{Bor}
 use Rattle.std.proofs.lemmas.List.{length-map}
 use Rattle.std.proofs.lemmas.Result.{IfOk-weaker}
-use Rattle.text_laws.specs.WrongLine.{text_lines}
+use Rattle.request_lines.specs.CheckInput.{text_lines}
 use Rattle.text_laws.specs.TextLaws.{IsCheckable}
 use Rattle.replay_check.specs.Telling.{checked}
 use Rattle.replay_check.specs.Judging.{IsVerdict}

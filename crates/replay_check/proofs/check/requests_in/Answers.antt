@@ -6,7 +6,7 @@ use Rattle.request_lines.specs.SessionLaws.{all_requests}
 use Rattle.text_laws.specs.WrongLine.{requests_of}
 use Rattle.bucket_terms.specs.LegalRun.{lines_of}
 use Rattle.replay_check.proofs.BasisLaws.{requests_are}
-use Rattle.replay_check.proofs.TextPlaces.{first_more, first_within}
+use Rattle.text_laws.proofs.ReplyPlaces.{first_more, first_within}
 use Rattle.replay_check.proofs.check.requests_in.Goals as goal
 use Rattle.replay_check.proofs.check.requests_in.Goals.{After-len-count}
 

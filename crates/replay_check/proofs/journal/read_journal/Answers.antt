@@ -2,7 +2,8 @@ use Rattle.std.proofs.Common.{◌≡◌, ℕ, suc, ◌+◌, ◌<◌, List, [], �
 use Rattle.std.specs.Borrow.{Bor}
 use Rattle.std.proofs.lemmas.List.{length-map, length_push}
 use Rattle.key_map.specs.declared.update.Update.{Update}
-use Rattle.text_laws.specs.WrongLine.{AreJournal, IsWrongUpdate, text_at}
+use Rattle.text_laws.specs.WrongLine.{AreJournal}
+use Rattle.text_laws.specs.WrongParts.{IsWrongUpdate, text_at}
 use Rattle.replay_check.specs.Own.{AreOwn}
 use Rattle.replay_check.specs.Telling.{IsTold, IsNext, checked}
 use Rattle.replay_check.specs.Looking.{texts_of}

@@ -5,7 +5,8 @@ use Rattle.bucket_terms.specs.LegalRun.{lines_of}
 use Rattle.request_lines.specs.declared.session.Asked.{Asked}
 use Rattle.request_lines.specs.declared.session.ClientPart.{ClientPart}
 use Rattle.request_lines.specs.Session.{request_line}
-use Rattle.text_laws.specs.WrongLine.{IsReplyLine, reply_texts, text_at}
+use Rattle.text_laws.specs.WrongLine.{IsReplyLine, reply_texts}
+use Rattle.text_laws.specs.WrongParts.{text_at}
 use Rattle.client_run.specs.Listing.{HasPageInRange}
 use Rattle.replay_check.specs.Own.{history_of}
 use Rattle.replay_check.specs.Turns.{IsOwnPlace}

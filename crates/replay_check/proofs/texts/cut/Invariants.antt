@@ -1,6 +1,6 @@
 use Rattle.std.proofs.Common.{◌≡◌, ℕ, List, ◌++◌, length, map}
 use Rattle.std.specs.Borrow.{Bor}
-use Rattle.text_laws.specs.WrongLine.{text_lines}
+use Rattle.request_lines.specs.CheckInput.{text_lines}
 use Rattle.replay_check.proofs.texts.cut.Given as goal
 
 -- the lines so far, and those that are left
