@@ -13,8 +13,7 @@ use Rattle.command_words.specs.Words.{HasOption, IsRun, IsCheck, IsSample, HasFo
 use Rattle.client_threads.specs.ClientSlots.{IsNamable}
 use Rattle.bucket_terms.specs.LegalRun.{Run as LegalRun}
 use Rattle.replay_check.specs.declared.verdict.Verdict.{Verdict}
-use Rattle.serve_session.specs.Served.{HoldsOfInput}
-use Rattle.serve_session.specs.Checks.{HasVerdict}
+use Rattle.serve_session.specs.Served.{HoldsOfInput, HasVerdict}
 
 numerals : IsNumeralModel (λ digits. all_ascii_digits digits ≡ true) (digits_value 10)
 numerals = numerals_by_value _ tells_all_ascii_digits

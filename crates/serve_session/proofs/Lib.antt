@@ -11,3 +11,5 @@ pub mod VerdictLines
 pub mod OneText
 -- The verdict on a text is determined.
 pub mod OneVerdict
+-- What the words of the promise rule out.
+pub mod ServedLaws

@@ -7,7 +7,8 @@ use Rattle.request_lines.specs.declared.session_error.InputError.{InputError}
 use Rattle.request_lines.specs.CheckInput.{IsCheckInput, check_refusal, session_part}
 use Rattle.replay_check.specs.declared.verdict.Verdict.{Verdict}
 use Rattle.replay_check.specs.declared.verdict.Verdict.TheVariants.{Legal, Wrong}
-use Rattle.serve_session.specs.Checks.{IsVerdictOn, IsVerdictOf}
+use Rattle.serve_session.specs.Served.{IsVerdictOn}
+use Rattle.serve_session.specs.Taken.{IsVerdictOf}
 use Rattle.serve_session.specs.OneText.{OneVerdictLaw, RefusedOrCheckedLaw}
 
 same_verdict : (named : Option ℕ) (dir : List (List ℕ)) (session : Session) (text : List ℕ) (v w : Verdict) → IsVerdictOn named dir session text v → IsVerdictOn named dir session text w → v ≡ w
@@ -17,7 +18,7 @@ same_verdict named dir session text (Wrong line) w first second = sym ((second.w
 one_of_session : (named : Option ℕ) (session : Session) (text : List ℕ) (v w : Verdict) → IsVerdictOf named session text v → IsVerdictOf named session text w → v ≡ w
 one_of_session named session text v w first second =
     let dirs : first.dir ≡ second.dir = one_directory session.names first.dir second.dir first.names second.names in
-    same_verdict named first.dir session text v w first.is (subst (λ (dir : List (List ℕ)). IsVerdictOn named dir session text w) (sym dirs) second.is)
+    same_verdict named first.dir session text v w first.holds (subst (λ (dir : List (List ℕ)). IsVerdictOn named dir session text w) (sym dirs) second.holds)
 
 pub verdict_law : OneVerdictLaw
 verdict_law named input after after' v w first second =
@@ -38,6 +39,6 @@ no_refusal input session text e of_input refused =
 
 pub or_checked_law : RefusedOrCheckedLaw
 or_checked_law named input after after' e v refused checked =
-    let of_first : check_refusal input ≡ Some e = ap check_refusal (sym refused.1.0.all.0) ∙ refused.1.1 in
+    let of_first : check_refusal input ≡ Some e = ap check_refusal (sym refused.has_read.all.0) ∙ refused.is in
     let of_input : IsCheckInput input checked.session checked.text = subst (λ (bytes : List ℕ). IsCheckInput bytes checked.session checked.text) checked.has_read.all.0 checked.of_input in
     no_refusal input checked.session checked.text e of_input of_first

@@ -22,7 +22,11 @@ use Rattle.client_threads.proofs.Clients.{each_legal}
 -- what holds of a run of the defined session holds of one of the generated input's
 pub sampled : (n : ℕ) (P : Run → Type 0) → IsSessionOf (sample_text n) (sample_session n) → HoldsOfSampleRun n P → HoldsOfSample n P
 sampled n P of_text ran =
-    (sample_session n, (of_text, record { dir = ran.dir; names = ran.names; text = record { run = ran.run; legal = ran.legal; holds = ran.holds } }))
+    record {
+      session = sample_session n;
+      of_input = of_text;
+      text = record { dir = ran.dir; names = ran.names; holds = record { run = ran.run; legal = ran.legal; holds = ran.holds } };
+    }
 
 -- a run of the clients of the generated session is a legal run of it
 pub record RanSample (n : ℕ) (dir : List (List ℕ)) (run : Run) : Type 0 where

@@ -8,36 +8,40 @@ use Rattle.key_names.specs.Names.{HoldsEachOnce}
 use Rattle.key_map.specs.declared.update.Update.{Update}
 use Rattle.bucket_terms.specs.declared.record.Record.{Record}
 use Rattle.bucket_terms.specs.declared.reply.Placed.{Placed}
-use Rattle.bucket_terms.specs.LegalRun.{IsLegal, Run}
+use Rattle.bucket_terms.specs.LegalRun.{IsLegal, Run, slots_under}
 use Rattle.request_lines.specs.declared.session.ClientPart.{ClientPart}
 use Rattle.request_lines.specs.declared.session.Session.{Session}
 use Rattle.request_lines.specs.Session.{request_lines}
 use Rattle.answer_text.specs.Lines.{line_of, session_text}
 use Rattle.answer_text.specs.Shown.{last_data}
-use Rattle.client_threads.specs.ClientSlots.{slots_under}
 use Rattle.client_threads.specs.Clients.{RanEach}
-use Rattle.serve_session.specs.Served.{HoldsOfInput, HoldsOfSession, HoldsOfRun}
+use Rattle.serve_session.specs.Served.{HoldsOfInput, HoldsOfRun, client_lines}
+use Rattle.serve_session.specs.Taken.{HoldsOfSession}
 use Rattle.client_threads.proofs.Clients.{each_legal}
 
 -- ---- the run of the session
 
 -- what holds of a run of the session without its names holds of one of the session
 pub run_holds : (named : Option ℕ) (session taken : Session) (dir : List (List ℕ)) (P : Run → List ℕ → Type 0) → taken ≡ record session { names = [] } → HoldsEachOnce session.names dir
-    → HoldsOfRun named dir taken.records taken.clients P → HoldsOfSession named session P
-run_holds named session taken dir P is holds text = record {
+    → HoldsOfRun named dir taken P → HoldsOfSession named session P
+run_holds named session taken dir P is names holds = record {
   dir = dir;
-  names = holds;
-  text = subst (λ (s : Session). HoldsOfRun named dir s.records s.clients P) is text;
+  names = names;
+  holds = with_names (subst (λ (s : Session). HoldsOfRun named dir s P) is holds);
 }
+  where
+    with_names : HoldsOfRun named dir (record session { names = [] }) P → HoldsOfRun named dir session P
+    with_names h = record { run = h.run; legal = h.legal; holds = h.holds }
 
 -- a run of the clients, with the parts of what is written as a call was given them
-pub written : (named : Option ℕ) (dir : List (List ℕ)) (records given : List Record) (clients : List ClientPart) (updates shown : List Update) (replies : List (List Placed)) (P : Run → List ℕ → Type 0)
-    → given ≡ records → shown ≡ updates → RanEach dir (map request_lines clients) (slots_under named (map request_lines clients)) (record { updates = updates; replies = replies })
+pub written : (named : Option ℕ) (dir : List (List ℕ)) (session : Session) (given : List Record) (updates shown : List Update) (replies : List (List Placed)) (P : Run → List ℕ → Type 0)
+    → given ≡ session.records → shown ≡ updates
+    → RanEach dir (map request_lines session.clients) (slots_under named (map request_lines session.clients)) (record { updates = updates; replies = replies })
     → P (record { updates = shown; replies = replies }) (session_text dir given (record { updates = shown; replies = replies }))
-    → HoldsOfRun named dir records clients P
-written named dir records given clients updates shown replies P same_records same_updates ran holds =
+    → HoldsOfRun named dir session P
+written named dir session given updates shown replies P same_records same_updates ran holds =
     let run : Run = record { updates = shown; replies = replies } in
-    let parts = map request_lines clients in
+    let parts = map request_lines session.clients in
     record {
       run = run;
       legal =
@@ -65,8 +69,12 @@ pub none_holds : (named : Option ℕ) (session : Session) (dir : List (List ℕ)
 none_holds named session dir P is names holds = record {
   dir = dir;
   names = names;
-  text = subst (λ (cs : List ClientPart). HoldsOfRun named dir session.records cs P) (sym (no_client session.clients is))
-      (record { run = no_run; legal = legal_none named dir; holds = holds });
+  holds = record {
+    run = no_run;
+    legal = subst (λ (clients : List ClientPart). IsLegal dir (client_lines clients) (slots_under named (client_lines clients)) no_run)
+        (sym (no_client session.clients is)) (legal_none named dir);
+    holds = holds;
+  };
 }
 
 -- what holds of a run and its text, and more, holds of it
@@ -80,7 +88,7 @@ input_first named before after P Q both = record {
   text = record {
     dir = both.text.dir;
     names = both.text.names;
-    text = record { run = both.text.text.run; legal = both.text.text.legal; holds = both.text.text.holds.0 };
+    holds = record { run = both.text.holds.run; legal = both.text.holds.legal; holds = both.text.holds.holds.0 };
   };
 }
 

@@ -3,7 +3,6 @@ pub mod Served
 pub mod Taken
 pub mod Texts
 pub mod Sending
-pub mod Summaries
-pub mod Checks
 pub mod Sampled
 pub mod OneText
+pub mod ServedLaws

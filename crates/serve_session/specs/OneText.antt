@@ -6,10 +6,11 @@ use Rattle.bucket_terms.specs.declared.reply.Placed.{Placed}
 use Rattle.request_lines.specs.declared.session_error.InputError.{InputError}
 use Rattle.bucket_terms.specs.LegalRun.{Run}
 use Rattle.replay_check.specs.declared.verdict.Verdict.{Verdict}
-use Rattle.serve_session.specs.Served.{HoldsOfInput, IsRunOf, RefusedInput}
-use Rattle.serve_session.specs.Checks.{HasVerdict, RefusedCheck}
+use Rattle.request_lines.specs.Input.{refusal_of}
+use Rattle.request_lines.specs.CheckInput.{check_refusal}
+use Rattle.serve_session.specs.Served.{HoldsOfInput, HasVerdict, IsRunOf, WasRefused}
 
--- from one input, where it has one client, whose node slots are not named, and behind one text that was taken before,
+-- from one input, where it has one client, whose node slots are not named, and after one text that was taken before,
 -- one text is taken
 abbrev pub OneTextLaw : Type 0
 OneTextLaw =
@@ -18,16 +19,17 @@ OneTextLaw =
     → HoldsOfInput None (Some input) after' (λ (run : Run) (text : List ℕ). IsTaken (Some taken) (Some y) text)
     → length first.session.clients ≡ 1 → x ≡ y
 
--- an input has one refusal at most
+-- an input has one refusal at most, by the words of `run` and by those of `check`
 abbrev pub OneRefusalLaw : Type 0
 OneRefusalLaw =
-    (input : List ℕ) (after after' : Option (List ℕ)) (e f : InputError) → RefusedInput (Some input) after e → RefusedInput (Some input) after' f → e ≡ f
+    (refusal : List ℕ → Option InputError) (input : List ℕ) (after after' : Option (List ℕ)) (e f : InputError)
+    → WasRefused refusal (Some input) after e → WasRefused refusal (Some input) after' f → e ≡ f
 
 -- and none where it has a session with a legal run
 abbrev pub RefusedOrServedLaw : Type 0
 RefusedOrServedLaw =
     (named : Option ℕ) (input : List ℕ) (after after' : Option (List ℕ)) (e : InputError)
-    → RefusedInput (Some input) after e → ¬ (HoldsOfInput named (Some input) after' (λ (run : Run) (text : List ℕ). Unit {0}))
+    → WasRefused refusal_of (Some input) after e → ¬ (HoldsOfInput named (Some input) after' (λ (run : Run) (text : List ℕ). Unit {0}))
 
 -- a run that has replies has those of the runner, whose count of runs is one more
 abbrev pub RunnersRunLaw : Type 0
@@ -45,4 +47,4 @@ OneVerdictLaw =
 abbrev pub RefusedOrCheckedLaw : Type 0
 RefusedOrCheckedLaw =
     (named : Option ℕ) (input : List ℕ) (after after' : Option (List ℕ)) (e : InputError) (v : Verdict)
-    → RefusedCheck (Some input) after e → ¬ (HasVerdict named (Some input) after' v)
+    → WasRefused check_refusal (Some input) after e → ¬ (HasVerdict named (Some input) after' v)

@@ -1,15 +1,17 @@
 -- Helper: the headline does not rest on this file.
--- The parts of a run's text, and the members of a summary.
-use Rattle.std.specs.Prelude.{◌≡◌, ℕ, List, [], ◌∷◌, ◌++◌, All, codes, Option}
+-- The parts of a run's text, and the members of a summary and of a verdict.
+use Rattle.std.specs.Prelude.{◌≡◌, ℕ, List, [], ◌∷◌, ◌++◌, All, true, false, codes, Option}
 use Rattle.std.specs.List.{flat_map}
 use Rattle.key_map.specs.declared.update.Update.{Update}
 use Rattle.bucket_terms.specs.declared.record.Record.{Record}
 use Rattle.bucket_terms.specs.declared.reply.Placed.{Placed}
 use Rattle.bucket_terms.specs.declared.summary.Summary.{Summary}
-use Rattle.serde_json.specs.Data.{Data}
+use Rattle.serde_json.specs.Data.{Data, boolean}
 use Rattle.answer_text.specs.InRange.{IsReplyOf}
 use Rattle.answer_text.specs.Lines.{Member, always, object_of, whole, session_text}
 use Rattle.answer_text.specs.Shown.{reply_lines}
+use Rattle.replay_check.specs.declared.verdict.Verdict.{Verdict}
+use Rattle.replay_check.specs.declared.verdict.Verdict.TheVariants.{Legal, Wrong}
 use Rattle.run_text.specs.declared.pieces.Piece.{Piece}
 use Rattle.run_text.specs.Pieces.{pieces_text, IsPieceOf}
 
@@ -38,3 +40,8 @@ summary_members summary =
 
 abbrev pub summary_data : Summary → Data
 summary_data summary = object_of (summary_members summary)
+
+-- and those of a verdict
+abbrev pub verdict_members : Verdict → List (Option Member)
+verdict_members Legal = always (codes "Legal") (boolean true) ∷ []
+verdict_members (Wrong line) = always (codes "Legal") (boolean false) ∷ always (codes "Wrong") (whole line) ∷ []

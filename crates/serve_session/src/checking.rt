@@ -7,7 +7,9 @@ ghost use Rattle.request_lines.specs.SessionLaws.{HasNames, HasRecords, HasReque
 ghost use Rattle.replay_check.specs.declared.verdict.Verdict.{Verdict as TheVerdict};
 ghost use Rattle.replay_check.specs.declared.verdict.Verdict.TheVariants.{Legal as IsLegal, Wrong as IsWrong};
 ghost use Rattle.serve_session.specs.declared.status.Status.TheVariants.{Done as IsDone, BadWords as HasBadWords};
-ghost use Rattle.serve_session.specs.Checks.{IsVerdictOf, Told, RefusedCheck, verdict_text};
+ghost use Rattle.request_lines.specs.CheckInput.{check_refusal};
+ghost use Rattle.serve_session.specs.Served.{HasVerdict, WasRefused, verdict_text};
+ghost use Rattle.serve_session.specs.Taken.{IsVerdictOf};
 
 use crate::Status;
 use crate::verdict::verdict_line;
@@ -26,20 +28,20 @@ pub(crate) fn serve_check<S: Source, K: Sink>(
     source: &mut S,
     sink: &mut K,
 ) -> Status
-    ensures legal { result ≡ IsDone → Told IsTaken IsLegal slots S.rest source.old source.new K.taken sink.old sink.new }
-    ensures wrong { (line : ℕ) → result ≡ Status.Illegal line → Told IsTaken (IsWrong line) slots S.rest source.old source.new K.taken sink.old sink.new }
+    ensures legal { result ≡ IsDone → HasVerdict slots (S.rest source.old) (S.rest source.new) IsLegal × IsTaken (K.taken sink.old) (K.taken sink.new) (verdict_text IsLegal) }
+    ensures wrong { (line : ℕ) → result ≡ Status.Illegal line → HasVerdict slots (S.rest source.old) (S.rest source.new) (IsWrong line) × IsTaken (K.taken sink.old) (K.taken sink.new) (verdict_text (IsWrong line)) }
 
     // An end before anything is written.
     ensures reads { ¬ (result ≡ HasBadWords) }
     ensures nothing_written { ¬ (result ≡ IsDone) → ((line : ℕ) → ¬ (result ≡ Status.Illegal line)) → ¬ (result ≡ Status.WriteFault) → sink.new ≡ sink.old }
-    ensures bad_input { (e : InputError) → result ≡ Status.BadInput e → RefusedCheck (S.rest source.old) (S.rest source.new) e }
+    ensures bad_input { (e : InputError) → result ≡ Status.BadInput e → WasRefused check_refusal (S.rest source.old) (S.rest source.new) e }
     ensures too_long { result ≡ Status.TooLong → Gave (S.rest source.old) (S.rest source.new) (IsOver most_input_bytes) }
 
     // Faults and want of memory.
     ensures read_fault { result ≡ Status.ReadFault → Gave (S.rest source.old) (S.rest source.new) (λ n. n ≤ most_input_bytes) }
     ensures read_fault_only_where_faulted { result ≡ Status.ReadFault → S.faults source.new ≡ one_more (S.faults source.old) }
     ensures no_other_read_fault { ¬ (result ≡ Status.ReadFault) → S.faults source.new ≡ S.faults source.old }
-    ensures write_fault { result ≡ Status.WriteFault → (verdict : TheVerdict) × Told TakesStart verdict slots S.rest source.old source.new K.taken sink.old sink.new }
+    ensures write_fault { result ≡ Status.WriteFault → (verdict : TheVerdict) × (HasVerdict slots (S.rest source.old) (S.rest source.new) verdict × TakesStart (K.taken sink.old) (K.taken sink.new) (verdict_text verdict)) }
     ensures write_fault_only_where_faulted { result ≡ Status.WriteFault → K.faults sink.new ≡ one_more (K.faults sink.old) }
     ensures no_other_write_fault { ¬ (result ≡ Status.WriteFault) → K.faults sink.new ≡ K.faults sink.old }
     ensures no_memory_source { result ≡ Status.NoMemory → Gave (S.rest source.old) (S.rest source.new) (λ n. n ≤ most_input_bytes) }

@@ -3,8 +3,9 @@ ghost use Rattle.std.specs.Prelude.{◌≡◌, ◌⊎◌, ◌≤◌, ℕ};
 ghost use Rattle.outside_io.specs.Streams.{one_more, Gave, IsOver, IsTaken, TakesStart};
 ghost use Rattle.request_lines.specs.declared.session_error.InputError.{InputError};
 ghost use Rattle.serve_session.specs.declared.status.Status.TheVariants.{Done as IsDone, BadWords as HasBadWords};
-ghost use Rattle.request_lines.specs.Input.{most_input_bytes};
-ghost use Rattle.serve_session.specs.Served.{Wrote, WroteBy, RefusedInput};
+ghost use Rattle.request_lines.specs.Input.{most_input_bytes, refusal_of};
+ghost use Rattle.serve_session.specs.Served.{HoldsOfInput, WasRefused};
+ghost use Rattle.serve_session.specs.Taken.{TookBy, TookStart};
 ghost use Rattle.client_threads.specs.ClientSlots.{IsNamable};
 ghost use Rattle.client_threads.specs.Pools.{named};
 
@@ -36,25 +37,25 @@ pub(crate) fn serve_input<
     runner: &mut R,
 ) -> Status
     requires slots { IsNamable (named slots) }
-    ensures headline { result ≡ IsDone → Wrote IsTaken (named slots) S.rest source.old source.new K.taken sink.old sink.new }
-    ensures runner { result ≡ IsDone → WroteBy (named slots) S.rest source.old source.new K.taken sink.old sink.new R.runs R.replied runner.old runner.new }
+    ensures headline { result ≡ IsDone → HoldsOfInput (named slots) (S.rest source.old) (S.rest source.new) (λ run text. IsTaken (K.taken sink.old) (K.taken sink.new) text) }
+    ensures runner { result ≡ IsDone → HoldsOfInput (named slots) (S.rest source.old) (S.rest source.new) (TookBy K.taken sink.old sink.new R.runs R.replied runner.old runner.new) }
 
     // An end before anything is written.
     ensures reads { ¬ (result ≡ HasBadWords) }
     ensures checks_nothing { (line : ℕ) → ¬ (result ≡ Status.Illegal line) }
     ensures nothing_written { ¬ (result ≡ IsDone) → ¬ (result ≡ Status.WriteFault) → ¬ (result ≡ Status.NoMemory) → sink.new ≡ sink.old }
-    ensures bad_input { (e : InputError) → result ≡ Status.BadInput e → RefusedInput (S.rest source.old) (S.rest source.new) e }
+    ensures bad_input { (e : InputError) → result ≡ Status.BadInput e → WasRefused refusal_of (S.rest source.old) (S.rest source.new) e }
     ensures too_long { result ≡ Status.TooLong → Gave (S.rest source.old) (S.rest source.new) (IsOver most_input_bytes) }
 
     // Faults and want of memory.
     ensures read_fault { result ≡ Status.ReadFault → Gave (S.rest source.old) (S.rest source.new) (λ n. n ≤ most_input_bytes) }
     ensures read_fault_only_where_faulted { result ≡ Status.ReadFault → S.faults source.new ≡ one_more (S.faults source.old) }
     ensures no_other_read_fault { ¬ (result ≡ Status.ReadFault) → S.faults source.new ≡ S.faults source.old }
-    ensures write_fault { result ≡ Status.WriteFault → Wrote TakesStart (named slots) S.rest source.old source.new K.taken sink.old sink.new }
+    ensures write_fault { result ≡ Status.WriteFault → HoldsOfInput (named slots) (S.rest source.old) (S.rest source.new) (TookStart K.taken sink.old sink.new) }
     ensures write_fault_only_where_faulted { result ≡ Status.WriteFault → K.faults sink.new ≡ one_more (K.faults sink.old) }
     ensures no_other_write_fault { ¬ (result ≡ Status.WriteFault) → K.faults sink.new ≡ K.faults sink.old }
     ensures no_memory_source { result ≡ Status.NoMemory → Gave (S.rest source.old) (S.rest source.new) (λ n. n ≤ most_input_bytes) }
-    ensures no_memory { result ≡ Status.NoMemory → (sink.new ≡ sink.old) ⊎ Wrote TakesStart (named slots) S.rest source.old source.new K.taken sink.old sink.new }
+    ensures no_memory { result ≡ Status.NoMemory → (sink.new ≡ sink.old) ⊎ HoldsOfInput (named slots) (S.rest source.old) (S.rest source.new) (TookStart K.taken sink.old sink.new) }
 {
     let input = match read_all(alloc, source, MAX_INPUT_BYTES) {
         Ok(input) => input,

@@ -16,7 +16,7 @@ mod summary;
 mod verdict;
 mod writing;
 
-pub use laws::{one_text, one_verdict};
+pub use laws::{one_text, one_verdict, served};
 pub use serving::serve;
 pub use status::Status;
 pub use summary::summary_line;

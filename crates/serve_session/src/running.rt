@@ -2,8 +2,8 @@
 ghost use Rattle.std.specs.Prelude.{◌≡◌, ◌⊎◌, OnOk, IsErrOf};
 ghost use Rattle.outside_io.specs.Streams.{one_more};
 ghost use Rattle.request_lines.specs.SessionLaws.{HasNames, HasRequests, HasLines, IsSmall};
-ghost use Rattle.serve_session.specs.Served.{HoldsOfSession, HoldsOfRun};
-ghost use Rattle.serve_session.specs.Taken.{TookBy, TookStart};
+ghost use Rattle.serve_session.specs.Served.{HoldsOfRun};
+ghost use Rattle.serve_session.specs.Taken.{HoldsOfSession, TookBy, TookStart};
 ghost use Rattle.client_threads.specs.ClientSlots.{IsNamable};
 ghost use Rattle.client_threads.specs.Pools.{named};
 ghost use Rattle.client_threads.specs.Sizes.{CanServe};
@@ -60,9 +60,9 @@ fn run_clients<K: Sink, G: Gate + Sync, R: Runner<G>, Rt: Threads + Wait + Sync>
 ) -> Result<(), Stop>
     requires slots { IsNamable (named slots) }
     requires can { CanServe dir.now session.now }
-    ensures wrote { OnOk result (HoldsOfRun (named slots) dir.now session.now.records session.now.clients (TookBy K.taken sink.old sink.new R.runs R.replied runner.old runner.new)) }
-    ensures start { IsErrOf result Stop.Fault → HoldsOfRun (named slots) dir.now session.now.records session.now.clients (TookStart K.taken sink.old sink.new) }
-    ensures no_memory { IsErrOf result Stop.NoMemory → (sink.new ≡ sink.old) ⊎ HoldsOfRun (named slots) dir.now session.now.records session.now.clients (TookStart K.taken sink.old sink.new) }
+    ensures wrote { OnOk result (HoldsOfRun (named slots) dir.now session.now (TookBy K.taken sink.old sink.new R.runs R.replied runner.old runner.new)) }
+    ensures start { IsErrOf result Stop.Fault → HoldsOfRun (named slots) dir.now session.now (TookStart K.taken sink.old sink.new) }
+    ensures no_memory { IsErrOf result Stop.NoMemory → (sink.new ≡ sink.old) ⊎ HoldsOfRun (named slots) dir.now session.now (TookStart K.taken sink.old sink.new) }
     ensures fault { IsErrOf result Stop.Fault → K.faults sink.new ≡ one_more (K.faults sink.old) }
     ensures quiet { ¬ (IsErrOf result Stop.Fault) → K.faults sink.new ≡ K.faults sink.old }
 {

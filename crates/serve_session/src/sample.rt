@@ -8,8 +8,7 @@ ghost use Rattle.serve_session.specs.declared.status.Status.TheVariants.{Done as
 ghost use Rattle.index_words.specs.Sizes.{FitTable};
 ghost use Rattle.shared_index.specs.Keys.{AreAllKeys, AreFresh};
 ghost use Rattle.serve_session.specs.Sampled.{HoldsOfSampleRun, IsSampleSession, sample_sizes};
-ghost use Rattle.serve_session.specs.Served.{HoldsOfSample, IsRunOf};
-ghost use Rattle.serve_session.specs.Summaries.{summary_text};
+ghost use Rattle.serve_session.specs.Served.{HoldsOfSample, IsRunOf, summary_text};
 
 use crate::Status;
 use crate::summary::summary_line;

@@ -1,14 +1,13 @@
 // The whole of the program but for the real input and output.
-ghost use Rattle.std.specs.Prelude.{◌≡◌, ◌⊎◌, ◌≤◌, ℕ, Option};
+ghost use Rattle.std.specs.Prelude.{◌≡◌, ◌⊎◌, ◌≤◌, ℕ, [], Option};
 ghost use Rattle.outside_io.specs.Streams.{one_more, Gave, IsOver, IsTaken, TakesStart};
 ghost use Rattle.command_words.specs.Words.{IsRun, IsCheck, IsSample, HasForm};
 ghost use Rattle.request_lines.specs.declared.session_error.InputError.{InputError};
 ghost use Rattle.serve_session.specs.declared.status.Status.TheVariants.{Done as IsDone, BadWords as HasBadWords};
-ghost use Rattle.request_lines.specs.Input.{most_input_bytes};
+ghost use Rattle.request_lines.specs.Input.{most_input_bytes, refusal_of};
+ghost use Rattle.request_lines.specs.CheckInput.{check_refusal};
 ghost use Rattle.sample_laws.specs.Sample.{sample_summary};
-ghost use Rattle.serve_session.specs.Served.{Wrote, WroteBy, HoldsOfSample, RefusedInput, IsRunOf};
-ghost use Rattle.serve_session.specs.Summaries.{summary_text};
-ghost use Rattle.serve_session.specs.Checks.{Told, RefusedCheck};
+ghost use Rattle.serve_session.specs.Served.{HoldsOfInput, HoldsOfSample, HasVerdict, IsRunOf, WasRefused, summary_text, verdict_text};
 ghost use Rattle.replay_check.specs.declared.verdict.Verdict.{Verdict};
 ghost use Rattle.replay_check.specs.declared.verdict.Verdict.TheVariants.{Legal as IsLegal, Wrong as IsWrong};
 
@@ -25,7 +24,7 @@ use std::alloc::Global;
 use std::sync::Wait;
 use std::thread::Threads;
 
-/// Does what the words ask, which are those behind the program's name. The forms `run` read a session, run its clients
+/// Does what the words ask, which are those after the program's name. The forms `run` read a session, run its clients
 /// over one shared index and write its text; the form `sample` runs the generated session and writes its summary. The
 /// forms `check` read a session and a written text, and write whether the text is that of a legal run of the session.
 /// With `--slots N` each client of the session has N node slots, else one more than it has PUT, PUTNEW and DELETE
@@ -52,18 +51,19 @@ pub fn serve<S: Source, K: Sink, G: Gate + Sync, R: Runner<G>, Rt: Threads + Wai
     gate: &G,
     runner: &mut R,
 ) -> Status
-    // A run that ends: one legal run of the input's session, and just its text. The run is the runner's.
-    ensures headline { (slots : Option ℕ) → IsRun words.now slots → result ≡ IsDone → Wrote IsTaken slots S.rest source.old source.new K.taken sink.old sink.new }
-    ensures runner { (slots : Option ℕ) → IsRun words.now slots → result ≡ IsDone → WroteBy slots S.rest source.old source.new K.taken sink.old sink.new R.runs R.replied runner.old runner.new }
+    // A run that ends: one legal run of the input's session, and exactly its text. The run is the runner's; where there
+    // is no client, there are no replies.
+    ensures headline { (slots : Option ℕ) → IsRun words.now slots → result ≡ IsDone → HoldsOfInput slots (S.rest source.old) (S.rest source.new) (λ run text. IsTaken (K.taken sink.old) (K.taken sink.new) text) }
+    ensures runner { (slots : Option ℕ) → IsRun words.now slots → result ≡ IsDone → HoldsOfInput slots (S.rest source.old) (S.rest source.new) (λ run text. IsTaken (K.taken sink.old) (K.taken sink.new) text × ((run.replies ≡ []) ⊎ IsRunOf (R.runs runner.old) (R.runs runner.new) (R.replied runner.new) run)) }
 
     // A sample: the line of the summary, which is a function of the number.
     ensures sample { (n : ℕ) → IsSample words.now n → result ≡ IsDone → IsTaken (K.taken sink.old) (K.taken sink.new) (summary_text (sample_summary n)) }
     ensures sample_runner { (n : ℕ) → IsSample words.now n → result ≡ IsDone → HoldsOfSample n (IsRunOf (R.runs runner.old) (R.runs runner.new) (R.replied runner.new)) }
     ensures sample_ends { (n : ℕ) → IsSample words.now n → (result ≡ IsDone) ⊎ ((result ≡ Status.WriteFault) ⊎ (result ≡ Status.NoMemory)) }
 
-    // A check: the line of the verdict, which is that on the text behind the input's session.
-    ensures check_legal { (slots : Option ℕ) → IsCheck words.now slots → result ≡ IsDone → Told IsTaken IsLegal slots S.rest source.old source.new K.taken sink.old sink.new }
-    ensures check_wrong { (slots : Option ℕ) → (line : ℕ) → IsCheck words.now slots → result ≡ Status.Illegal line → Told IsTaken (IsWrong line) slots S.rest source.old source.new K.taken sink.old sink.new }
+    // A check: the line of the verdict, which is that on the text after the input's session.
+    ensures check_legal { (slots : Option ℕ) → IsCheck words.now slots → result ≡ IsDone → HasVerdict slots (S.rest source.old) (S.rest source.new) IsLegal × IsTaken (K.taken sink.old) (K.taken sink.new) (verdict_text IsLegal) }
+    ensures check_wrong { (slots : Option ℕ) → (line : ℕ) → IsCheck words.now slots → result ≡ Status.Illegal line → HasVerdict slots (S.rest source.old) (S.rest source.new) (IsWrong line) × IsTaken (K.taken sink.old) (K.taken sink.new) (verdict_text (IsWrong line)) }
     ensures wrong_only_where_checked { (line : ℕ) → result ≡ Status.Illegal line → (slots : Option ℕ) × IsCheck words.now slots }
 
     // An end before anything is written: the words, the input or the source are why.
@@ -72,8 +72,8 @@ pub fn serve<S: Source, K: Sink, G: Gate + Sync, R: Runner<G>, Rt: Threads + Wai
     ensures nothing_read { ((slots : Option ℕ) → ¬ (IsRun words.now slots)) → ((slots : Option ℕ) → ¬ (IsCheck words.now slots)) → source.new ≡ source.old }
     ensures nothing_written { ¬ (result ≡ IsDone) → ¬ (result ≡ Status.WriteFault) → ¬ (result ≡ Status.NoMemory) → ((line : ℕ) → ¬ (result ≡ Status.Illegal line)) → sink.new ≡ sink.old }
     ensures nothing_written_without_form { ¬ (HasForm words.now) → sink.new ≡ sink.old }
-    ensures bad_input { (slots : Option ℕ) → (e : InputError) → IsRun words.now slots → result ≡ Status.BadInput e → RefusedInput (S.rest source.old) (S.rest source.new) e }
-    ensures check_bad_input { (slots : Option ℕ) → (e : InputError) → IsCheck words.now slots → result ≡ Status.BadInput e → RefusedCheck (S.rest source.old) (S.rest source.new) e }
+    ensures bad_input { (slots : Option ℕ) → (e : InputError) → IsRun words.now slots → result ≡ Status.BadInput e → WasRefused refusal_of (S.rest source.old) (S.rest source.new) e }
+    ensures check_bad_input { (slots : Option ℕ) → (e : InputError) → IsCheck words.now slots → result ≡ Status.BadInput e → WasRefused check_refusal (S.rest source.old) (S.rest source.new) e }
     ensures too_long { result ≡ Status.TooLong → Gave (S.rest source.old) (S.rest source.new) (IsOver most_input_bytes) }
 
     // Faults and want of memory: a fault is told exactly where one was counted, and what was taken is a start of the
@@ -81,13 +81,13 @@ pub fn serve<S: Source, K: Sink, G: Gate + Sync, R: Runner<G>, Rt: Threads + Wai
     ensures read_fault { result ≡ Status.ReadFault → Gave (S.rest source.old) (S.rest source.new) (λ n. n ≤ most_input_bytes) }
     ensures read_fault_only_where_faulted { result ≡ Status.ReadFault → S.faults source.new ≡ one_more (S.faults source.old) }
     ensures no_other_read_fault { ¬ (result ≡ Status.ReadFault) → S.faults source.new ≡ S.faults source.old }
-    ensures write_fault { (slots : Option ℕ) → IsRun words.now slots → result ≡ Status.WriteFault → Wrote TakesStart slots S.rest source.old source.new K.taken sink.old sink.new }
+    ensures write_fault { (slots : Option ℕ) → IsRun words.now slots → result ≡ Status.WriteFault → HoldsOfInput slots (S.rest source.old) (S.rest source.new) (λ run text. TakesStart (K.taken sink.old) (K.taken sink.new) text) }
     ensures sample_write_fault { (n : ℕ) → IsSample words.now n → result ≡ Status.WriteFault → TakesStart (K.taken sink.old) (K.taken sink.new) (summary_text (sample_summary n)) }
-    ensures check_write_fault { (slots : Option ℕ) → IsCheck words.now slots → result ≡ Status.WriteFault → (verdict : Verdict) × Told TakesStart verdict slots S.rest source.old source.new K.taken sink.old sink.new }
+    ensures check_write_fault { (slots : Option ℕ) → IsCheck words.now slots → result ≡ Status.WriteFault → (verdict : Verdict) × (HasVerdict slots (S.rest source.old) (S.rest source.new) verdict × TakesStart (K.taken sink.old) (K.taken sink.new) (verdict_text verdict)) }
     ensures write_fault_only_where_faulted { result ≡ Status.WriteFault → K.faults sink.new ≡ one_more (K.faults sink.old) }
     ensures no_other_write_fault { ¬ (result ≡ Status.WriteFault) → K.faults sink.new ≡ K.faults sink.old }
     ensures no_memory_source { result ≡ Status.NoMemory → Gave (S.rest source.old) (S.rest source.new) (λ n. n ≤ most_input_bytes) }
-    ensures no_memory { (slots : Option ℕ) → IsRun words.now slots → result ≡ Status.NoMemory → (sink.new ≡ sink.old) ⊎ Wrote TakesStart slots S.rest source.old source.new K.taken sink.old sink.new }
+    ensures no_memory { (slots : Option ℕ) → IsRun words.now slots → result ≡ Status.NoMemory → (sink.new ≡ sink.old) ⊎ HoldsOfInput slots (S.rest source.old) (S.rest source.new) (λ run text. TakesStart (K.taken sink.old) (K.taken sink.new) text) }
     ensures check_no_memory { (slots : Option ℕ) → IsCheck words.now slots → result ≡ Status.NoMemory → sink.new ≡ sink.old }
     ensures sample_no_memory { (n : ℕ) → IsSample words.now n → result ≡ Status.NoMemory → sink.new ≡ sink.old }
 {

@@ -5,7 +5,7 @@ ghost use Rattle.answer_text.specs.MemberOrder.{StandInOrder};
 ghost use Rattle.answer_text.specs.Lines.{always, whole};
 ghost use Rattle.serve_session.specs.Sending.{SendsMember};
 ghost use Rattle.serve_session.specs.Texts.{summary_members, summary_data};
-ghost use Rattle.serve_session.specs.Summaries.{summary_text};
+ghost use Rattle.serve_session.specs.Served.{summary_text};
 
 use bucket_terms::Summary;
 use key_names::{NoMemory, Text};

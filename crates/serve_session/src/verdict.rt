@@ -3,7 +3,8 @@ ghost use Rattle.std.specs.Prelude.{◌≡◌, IfOk, OnOk};
 ghost use Rattle.serde_json.specs.Events.{SendsValue};
 ghost use Rattle.answer_text.specs.Lines.{object_of};
 ghost use Rattle.answer_text.specs.MemberOrder.{StandInOrder};
-ghost use Rattle.serve_session.specs.Checks.{verdict_text, verdict_members};
+ghost use Rattle.serve_session.specs.Served.{verdict_text};
+ghost use Rattle.serve_session.specs.Texts.{verdict_members};
 
 use key_names::{NoMemory, Text};
 use replay_check::Verdict;

@@ -5,11 +5,10 @@ use Rattle.std.proofs.lemmas.List.Elements.{All-map}
 use Rattle.bucket_terms.specs.declared.record.Record.{Record}
 use Rattle.bucket_terms.specs.declared.reply.Placed.{Placed}
 use Rattle.key_map.specs.declared.update.Update.{Update}
-use Rattle.bucket_terms.specs.LegalRun.{Run}
+use Rattle.bucket_terms.specs.LegalRun.{Run, slots_under}
 use Rattle.request_lines.specs.Session.{request_lines}
 use Rattle.request_lines.specs.SessionLaws.{HasRecordBelow}
 use Rattle.answer_text.specs.InRange.{IsReplyOf}
-use Rattle.client_threads.specs.ClientSlots.{slots_under}
 use Rattle.client_threads.specs.Runs.{parts_of}
 use Rattle.client_threads.proofs.Clients.{each_legal}
 use Rattle.serve_session.proofs.Runs.{update_keys, all_recorded}
@@ -37,19 +36,19 @@ pub returns-clause-wrote : goal.returns-clause-wrote
 returns-clause-wrote g c =
     IfOk-weaker c.write_run.result _ _
     (λ done taken.
-    written (named c.args.slots) c.args.dir.now c.args.session.now.records c.as_slice-records.result.now c.args.session.now.clients c.in_ok-updates.updates.items c.deref.result.now
+    written (named c.args.slots) c.args.dir.now c.args.session.now c.as_slice-records.result.now c.in_ok-updates.updates.items c.deref.result.now
     (g.R.Runner.replied c.history_of.new.runner) _ c.as_slice-records.ensures c.deref.ensures.value c.in_ok-updates.ensures.ran
     (taken, inr (c.in_ok-updates.ensures.runs, refl)))
     c.write_run.ensures.taken
 
 pub returns-clause-start : goal.returns-clause-start
 returns-clause-start g c = λ is.
-    written (named c.args.slots) c.args.dir.now c.args.session.now.records c.as_slice-records.result.now c.args.session.now.clients c.in_ok-updates.updates.items c.deref.result.now
+    written (named c.args.slots) c.args.dir.now c.args.session.now c.as_slice-records.result.now c.in_ok-updates.updates.items c.deref.result.now
     (g.R.Runner.replied c.history_of.new.runner) _ c.as_slice-records.ensures c.deref.ensures.value c.in_ok-updates.ensures.ran
     (c.write_run.ensures.start Fault is)
 
 pub returns-clause-no_memory : goal.returns-clause-no_memory
 returns-clause-no_memory g c = λ is.
-    inr (written (named c.args.slots) c.args.dir.now c.args.session.now.records c.as_slice-records.result.now c.args.session.now.clients c.in_ok-updates.updates.items c.deref.result.now
+    inr (written (named c.args.slots) c.args.dir.now c.args.session.now c.as_slice-records.result.now c.in_ok-updates.updates.items c.deref.result.now
     (g.R.Runner.replied c.history_of.new.runner) _ c.as_slice-records.ensures c.deref.ensures.value c.in_ok-updates.ensures.ran
     (c.write_run.ensures.start NoMemory is))

@@ -2,8 +2,7 @@ use Rattle.std.proofs.Common.{ℕ, Some, inl, inr, subst}
 use Rattle.outside_io.specs.Streams.{IsTaken, TakesStart}
 use Rattle.command_words.specs.declared.form.Form.TheVariants.{Run, Pool, Check, Sample}
 use Rattle.sample_laws.specs.Sample.{sample_summary}
-use Rattle.serve_session.specs.Served.{HoldsOfSample, IsRunOf}
-use Rattle.serve_session.specs.Summaries.{summary_text}
+use Rattle.serve_session.specs.Served.{HoldsOfSample, IsRunOf, summary_text}
 use Rattle.client_threads.specs.Pools.{named}
 use Rattle.serve_session.proofs.Forms.{one_number, input_named, check_named, run_found, pool_found, check_found, found_form, found_none, no_form}
 use Rattle.serve_session.proofs.serving.serve.Goals as goal
