@@ -1,10 +1,11 @@
 #!/usr/bin/env python3
-"""Checks that docs/TRUSTED.md lists just the definition files and the types on which the clauses of `serve` rest.
+"""Checks that docs/TRUSTED.md lists exactly the definition files and the types on which the clauses of `serve` rest.
 
     tests/trusted_files.py [--list]
 
 The files are the closure of the imports of the file of `serve`, and of the two traits of its source and sink. The types
 are the Rust types of this repository that these files and the clauses name.
+Each definition in these files is one that a clause of `serve` reaches by names.
 Of the crates that have one of them, each other definition file says in its first line that it is a helper. All
 other crates below `serve` have helpers alone.
 With `--list` the files are printed in place of the check, each with its lines, and with those of them that are
@@ -126,12 +127,13 @@ def main():
         for name in sorted(needed):
             print("%4d %4d  %s" % (*lines_of(name), name))
         print("%d files, %d lines, %d of them neither empty nor an import" % (len(needed), *sums(needed)))
-        return print("not needed: %s" % ", ".join(not_needed(needed)))
+        return print("not needed: %s" % (", ".join(not_needed(needed)) or "none"))
     document = DOCUMENT.read_text()
     listed = re.findall(r"^\d+\. `(crates/[\w/]+\.antt)`", document, re.MULTILINE)
     wrong = ["%s is not listed" % name for name in sorted(needed - set(listed))]
     wrong += ["%s is listed and no clause of serve rests on it" % name for name in sorted(set(listed) - needed)]
     wrong += ["%s is listed twice" % name for name in sorted(set(listed)) if listed.count(name) > 1]
+    wrong += ["%s is a definition in these files, and no clause of serve needs it" % name for name in not_needed(needed)]
     helpers, others = marked(needed)
     wrong += ["%s calls itself a helper, and a clause of serve rests on it" % name for name in sorted(helpers & needed)]
     wrong += ["%s does not call itself a helper in its first line" % name for name in sorted(others - needed)]
