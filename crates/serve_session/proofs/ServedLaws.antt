@@ -1,12 +1,12 @@
 -- What the words of the promise rule out.
-use Rattle.std.proofs.Common.{◌≡◌, ℕ, ◌+◌, ◌<◌, ◌≤◌, List, ◌++◌, length, take, drop, Option, Some, Ok, sym, ap, ◌∙◌, arith, append_assoc}
+use Rattle.std.proofs.Common.{◌≡◌, ℕ, ◌+◌, ◌<◌, ◌≤◌, List, ◌++◌, length, take, drop, Option, Some, None, Ok, sym, ap, ◌∙◌, arith, append_assoc}
 use Rattle.std.proofs.lemmas.List.{length-append, take-append-drop}
 use Rattle.outside_io.specs.Streams.{Gave, IsOver}
 use Rattle.request_lines.specs.Input.{most_input_bytes}
 use Rattle.request_lines.specs.Sample.{sample_text}
 use Rattle.request_lines.specs.SampleSession.{sample_session}
 use Rattle.request_lines.proofs.SampleParts.{text_read}
-use Rattle.sample_laws.proofs.SampleLaw.{sample_input_law}
+use Rattle.sample_laws.specs.SampleLaw.{SampleInputLaw}
 use Rattle.serve_session.specs.ServedLaws.{WithinLimitLaw, TooLongLaw, StartLaw, SampleRunLaw}
 
 pub within_limit : WithinLimitLaw
@@ -37,14 +37,14 @@ start before now text taken = (
       ∙ ap (λ (bytes : List ℕ). bytes ++ drop taken.count text) (sym taken.taken),
 )
 
-pub sample_run : SampleRunLaw
-sample_run requests P few holds =
+pub sample_run : SampleInputLaw → SampleRunLaw
+sample_run law requests old new replied few holds =
     let text = holds.text in
     let run = text.holds.run in (
       run,
       (
         text.holds.holds,
-        sample_input_law (sample_text requests) requests holds.session text.dir run (text_read requests (Ok (sample_session requests)) few) holds.of_input text.names
+        law (sample_text requests) requests holds.session text.dir run (text_read requests (Ok (sample_session requests)) few) holds.of_input text.names
             text.holds.legal,
       ),
     )

@@ -3,11 +3,12 @@
 -- completed to it, and a run of the generated session has its summary.
 use Rattle.std.specs.Prelude.{◌≡◌, ℕ, ◌≤◌, List, ◌++◌, length, Option, Some}
 use Rattle.outside_io.specs.Streams.{Gave, IsOver, IsTaken, TakesStart}
+use Rattle.bucket_terms.specs.declared.reply.Placed.{Placed}
 use Rattle.bucket_terms.specs.LegalRun.{Run}
 use Rattle.request_lines.specs.Input.{most_input_bytes}
 use Rattle.sample_laws.specs.Sample.{sample_summary}
 use Rattle.sample_laws.specs.Totals.{summary_of}
-use Rattle.serve_session.specs.Served.{HasRead, HoldsOfSample}
+use Rattle.serve_session.specs.Served.{HasRead, HoldsOfSample, IsRunOf}
 
 -- all that was left was read, and it is within the limit
 abbrev pub WithinLimitLaw : Type 0
@@ -22,7 +23,8 @@ TooLongLaw =
 abbrev pub StartLaw : Type 0
 StartLaw = (before now text : List ℕ) → TakesStart (Some before) (Some now) text → (rest : List ℕ) × IsTaken (Some now) (Some (before ++ text)) rest
 
--- what holds of a run of the generated session holds of one that has its summary
+-- a runner's run of the generated session has the summary of that session
 abbrev pub SampleRunLaw : Type 0
 SampleRunLaw =
-    (requests : ℕ) (P : Run → Type 0) → requests ≤ 40000 → HoldsOfSample requests P → (run : Run) × (P run × (summary_of run ≡ sample_summary requests))
+    (requests old new : ℕ) (replied : List (List Placed)) → requests ≤ 40000 → HoldsOfSample requests (IsRunOf old new replied)
+    → (run : Run) × (IsRunOf old new replied run × (summary_of run ≡ sample_summary requests))

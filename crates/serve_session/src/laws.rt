@@ -26,4 +26,6 @@ pub fn served()
     ensures too_long { TooLongLaw }
     ensures start { StartLaw }
     ensures sample { SampleRunLaw }
-{}
+{
+    sample_laws::sample_session();
+}

@@ -2,4 +2,4 @@ use Rattle.serve_session.proofs.ServedLaws.{within_limit, too_long, start, sampl
 use Rattle.serve_session.proofs.laws.served.Goals as goal
 
 pub returns : goal.returns
-returns c = record { within = within_limit; too_long = too_long; start = start; sample = sample_run }
+returns c = record { within = within_limit; too_long = too_long; start = start; sample = sample_run c.sample_session.ensures.of_input }
