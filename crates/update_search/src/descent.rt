@@ -23,6 +23,9 @@ use table_steps::TablePass;
 pub struct Gap {
     pub at: Link,
     pub tag: u64,
+    /// The key at which the search last went on to the left. It tells a caller where the next search may begin, and
+    /// nothing rests on it: other passes may put keys below it, or take it out.
+    pub above: Option<u64>,
 }
 
 /// A node at which a search has ended: it has the key.
@@ -84,15 +87,16 @@ pub(crate) fn meet_odd(pass: &mut TablePass<'_>, node: u32, turn: Turn) -> Faile
     Failed::Moved
 }
 
-/// The null link at which the search has ended, with its tag.
-pub(crate) fn end_at(pass: &mut TablePass<'_>, at: Link) -> Gap
+/// The null link at which the search has ended with these turns, and its tag.
+pub(crate) fn end_at(pass: &mut TablePass<'_>, at: Link, turns: Turns) -> Gap
     requires may { MayReadTag pass.old.view at.node }
     ensures same { IsSamePass pass.old pass.new }
     ensures at { result.at ≡ at }
     ensures view { pass.new.view ≡ tag_loaded pass.old.view at.node at.side result.tag }
 {
     let tag = pass.load_tag(at.node, at.side);
-    Gap { at, tag }
+    let above = turns.left_key();
+    Gap { at, tag, above }
 }
 
 /// Where the search for a key ends.
@@ -115,7 +119,7 @@ pub(crate) fn find_end(pass: &mut TablePass<'_>, key: u64) -> Result<End, Failed
     'down: loop {
         let node = pass.load_link(at.node, at.side);
         if node == 0 {
-            return Ok(End::Missing(end_at(pass, at)));
+            return Ok(End::Missing(end_at(pass, at, turns)));
         }
         // They are near then, once the key has told the side.
         pass.fetch_links(node);

@@ -60,7 +60,7 @@ pub fn find_next(pass: &mut TablePass<'_>, walk: Walk) -> Result<NextFound, Fail
         let Walk { at, node, turns } = walk;
         let left = pass.load_link(node, Side::Left);
         if left == 0 {
-            let gap = end_at(pass, link(node, Side::Left));
+            let gap = end_at(pass, link(node, Side::Left), turns);
             return Ok(NextFound { at, node, gap });
         }
         walk = Walk {

@@ -1,6 +1,7 @@
 //! The turns of a search: the nodes at which it last went on to the left and to the right. The keys where it goes on
 //! are strictly between theirs.
 ghost use Rattle.std.specs.Prelude.{◌≡◌};
+ghost use Rattle.core_events.specs.Searches.{turn_key};
 ghost use Rattle.core_updates.specs.Plans.{link_of};
 ghost use Rattle.update_search.specs.Turns.{no_turns, beyond, turned_at, side_to};
 
@@ -48,6 +49,14 @@ impl Turns {
             return Some(turn);
         }
         None
+    }
+
+    /// The key of the last turn to the left, where there is one.
+    pub(crate) fn left_key(&self) -> Option<u64>
+        ensures { result ≡ turn_key self.now.left }
+    {
+        let turn = self.left?;
+        Some(turn.key)
     }
 
     /// The turns behind one to this side, at a node with this key.

@@ -10,6 +10,7 @@ pub mod Fronts
 pub mod Raised
 pub mod LockedBundles
 pub mod Pruned
+pub mod OnlyCuts
 pub mod FreeSlots
 -- The newest entries of bundles of locked nodes.
 pub mod FoundHeads

@@ -47,7 +47,7 @@ use Rattle.table_rule.specs.Homes.{IsLiveView}
 use Rattle.table_rule.specs.Running.{Stands, table}
 use Rattle.table_rule.proofs.Lists.{item_at}
 use Rattle.table_steps.specs.Raises.{HoldsNext, HoldsChain}
-use Rattle.plan_laws.proofs.Prunes.{prune_step}
+use Rattle.plan_laws.proofs.Prunes.{cut_step, prune_step}
 use Rattle.update_try.specs.Pruning.{KeepsUpdate, KeepsLeast}
 use Rattle.update_try.specs.Walked.{StandsOn, HoldsPart, KeepsNexts}
 
@@ -233,7 +233,7 @@ module _ (v : View) (at : Link) (head entry : ℕ) (on : StandsOn v at head entr
     walked_part start es part = part_more w at.node start entry next es (part_kept v w at.node start entry es walked_nexts part) some next_held
 
     pub walked_update : KeepsUpdate v w
-    walked_update = subst (λ (u : View). KeepsUpdate v u) (sym gives) (λ n plan slots h. (prune_step v n plan slots h).next entry next)
+    walked_update = subst (λ (u : View). KeepsUpdate v u) (sym gives) (record { numbered = λ n plan slots h. (prune_step v n plan slots h).next entry next; cutting = λ n nodes c. (cut_step v n nodes c).next entry next })
 
     pub walked_least : KeepsLeast v w
     walked_least = subst (λ (u : View). KeepsLeast v u) (sym view_is) (record { section = refl; least = refl; looked = refl; number = refl; layout = refl; taken = refl })

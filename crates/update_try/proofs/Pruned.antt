@@ -41,7 +41,7 @@ use Rattle.plan_laws.proofs.Items.{last-item}
 use Rattle.plan_laws.proofs.Kept.{entry-kept, mapped, slots-kept}
 use Rattle.plan_laws.proofs.Looks.{head-found}
 use Rattle.plan_laws.proofs.PlanFronts.{front_link}
-use Rattle.plan_laws.proofs.Prunes.{prune_step, keeps_pruned}
+use Rattle.plan_laws.proofs.Prunes.{cut_step, prune_step, keeps_pruned}
 use Rattle.table_rule.specs.Homes.{IsLiveView}
 use Rattle.table_rule.specs.Running.{Happened}
 use Rattle.table_rule.proofs.Happens.{happened_word}
@@ -73,13 +73,22 @@ pruned_same v = record {
 }
 
 pub update_same : (v : View) → KeepsUpdate v v
-update_same v n plan slots h = record { numbered = h; keeps = pruned_same v }
+update_same v = record {
+  numbered = λ n plan slots h. record { numbered = h; keeps = pruned_same v };
+  cutting = λ n nodes c. record { cutting = c; unmarked = λ k is. is; keeps = pruned_same v };
+}
 
 pub update_more : (u v w : View) → KeepsUpdate u v → KeepsUpdate v w → KeepsUpdate u w
-update_more u v w first second n plan slots h =
-    let one = first n plan slots h in
-    let two = second n plan slots one.numbered in
-    record { numbered = two.numbered; keeps = keeps_pruned u v w one.keeps two.keeps }
+update_more u v w first second = record {
+  numbered = λ n plan slots h.
+      let one = first.numbered n plan slots h in
+      let two = second.numbered n plan slots one.numbered in
+      record { numbered = two.numbered; keeps = keeps_pruned u v w one.keeps two.keeps };
+  cutting = λ n nodes c.
+      let one = first.cutting n nodes c in
+      let two = second.cutting n nodes one.cutting in
+      record { cutting = two.cutting; unmarked = λ k is. two.unmarked k (one.unmarked k is); keeps = keeps_pruned u v w one.keeps two.keeps };
+}
 
 pub least_same : (v : View) → KeepsLeast v v
 least_same v = record { section = refl; least = refl; looked = refl; number = refl; layout = refl; taken = refl }
@@ -132,7 +141,7 @@ skips_own v other number own least = record {
 -- a look at another pass
 module _ (v w : View) (other word number : ℕ) (is : w ≡ ann_loaded v other word) where
   pub looked_update : KeepsUpdate v w
-  looked_update = subst (λ (u : View). KeepsUpdate v u) (sym is) (λ n plan slots h. (prune_step v n plan slots h).looked other word)
+  looked_update = subst (λ (u : View). KeepsUpdate v u) (sym is) (record { numbered = λ n plan slots h. (prune_step v n plan slots h).looked other word; cutting = λ n nodes c. (cut_step v n nodes c).looked other word })
 
   pub looked_other : v.reading.least ≡ Some number → smaller number word ≤ number → HasLookedAt v other number (smaller number word) w
   looked_other least low = subst (HasLookedAt v other number (smaller number word)) (sym is) (record {
@@ -236,20 +245,20 @@ begins v w at head number least unmarked idle is there =
     }
 
 pub head_update : (v w : View) (at : Link) (head number : ℕ) → w ≡ head_loaded v at.node at.side head number → KeepsUpdate v w
-head_update v w at head number is = subst (λ (u : View). KeepsUpdate v u) (sym is) (λ n plan slots h. (prune_step v n plan slots h).head at.node head number at.side)
+head_update v w at head number is = subst (λ (u : View). KeepsUpdate v u) (sym is) (record { numbered = λ n plan slots h. (prune_step v n plan slots h).head at.node head number at.side; cutting = λ n nodes c. (cut_step v n nodes c).head at.node head number at.side })
 
 pub head_least : (v w : View) (at : Link) (head number : ℕ) → w ≡ head_loaded v at.node at.side head number → KeepsLeast v w
 head_least v w at head number is = subst (λ (u : View). KeepsLeast v u) (sym is) (record { section = refl; least = refl; looked = refl; number = refl; layout = refl; taken = refl })
 
 -- loads of a number and of a next, whatever they find
 pub number_update : (v w : View) (entry number : ℕ) → 0 < number → w ≡ ts_loaded v entry number → KeepsUpdate v w
-number_update v w entry number some is = subst (λ (u : View). KeepsUpdate v u) (sym is) (λ n plan slots h. (prune_step v n plan slots h).number entry number some)
+number_update v w entry number some is = subst (λ (u : View). KeepsUpdate v u) (sym is) (record { numbered = λ n plan slots h. (prune_step v n plan slots h).number entry number some; cutting = λ n nodes c. (cut_step v n nodes c).number entry number some })
 
 pub number_least : (v w : View) (entry number : ℕ) → w ≡ ts_loaded v entry number → KeepsLeast v w
 number_least v w entry number is = subst (λ (u : View). KeepsLeast v u) (sym is) (record { section = refl; least = refl; looked = refl; number = refl; layout = refl; taken = refl })
 
 pub next_update : (v w : View) (entry next : ℕ) → w ≡ next_loaded v entry next → KeepsUpdate v w
-next_update v w entry next is = subst (λ (u : View). KeepsUpdate v u) (sym is) (λ n plan slots h. (prune_step v n plan slots h).next entry next)
+next_update v w entry next is = subst (λ (u : View). KeepsUpdate v u) (sym is) (record { numbered = λ n plan slots h. (prune_step v n plan slots h).next entry next; cutting = λ n nodes c. (cut_step v n nodes c).next entry next })
 
 pub next_least : (v w : View) (entry next : ℕ) → w ≡ next_loaded v entry next → KeepsLeast v w
 next_least v w entry next is = subst (λ (u : View). KeepsLeast v u) (sym is) (by v.reading.place)
@@ -427,7 +436,7 @@ module _ (v w : View) (at : Link) (least : Least) (head : ℕ) (front : List ℕ
 
 module _ (v w : View) (entry : ℕ) (back : List ℕ) (is : w ≡ cut_view v entry back) where
   pub cut_update : KeepsUpdate v w
-  cut_update = subst (λ (u : View). KeepsUpdate v u) (sym is) (λ n plan slots h. (prune_step v n plan slots h).cut entry back)
+  cut_update = subst (λ (u : View). KeepsUpdate v u) (sym is) (record { numbered = λ n plan slots h. (prune_step v n plan slots h).cut entry back; cutting = λ n nodes c. (cut_step v n nodes c).cut entry back })
 
   pub cut_least : KeepsLeast v w
   cut_least = subst (λ (u : View). KeepsLeast v u) (sym is) (record { section = refl; least = refl; looked = refl; number = refl; layout = refl; taken = refl })

@@ -10,14 +10,15 @@ use Rattle.core_updates.specs.declared.plan.Plan.{Plan}
 use Rattle.core_updates.specs.declared.plan.PlanSlots.{PlanSlots}
 use Rattle.core_updates.specs.PlanEvents.{HoldsEntry}
 use Rattle.plan_laws.specs.Looks.{IsUnmarked}
-use Rattle.plan_laws.specs.Prunes.{HasNumbered, StaysNumbered}
+use Rattle.plan_laws.specs.Prunes.{HasNumbered, IsCutting, StaysCutting, StaysNumbered}
 use Rattle.update_try.specs.Walked.{StandsOn, HoldsPart}
 use Rattle.update_try.specs.declared.pruning.Least.{Least}
 use Rattle.update_try.specs.declared.pruning.Stop.{Stop}
 
--- an update whose entries have their numbers stands as it did
-abbrev pub KeepsUpdate : View → View → Type 0
-KeepsUpdate v w = (n : ℕ) (plan : Plan) (slots : PlanSlots) → HasNumbered v n plan slots → StaysNumbered v w n plan slots
+-- an update whose entries have their numbers stands as it did, and so does a pass that cuts without an update
+pub record KeepsUpdate (v w : View) : Type 0 where
+  pub numbered : (n : ℕ) (plan : Plan) (slots : PlanSlots) → HasNumbered v n plan slots → StaysNumbered v w n plan slots
+  pub cutting : (n : ℕ) (nodes : List ℕ) → IsCutting v n nodes → StaysCutting v w n nodes
 
 -- and so do the section number, the least number, the passes at which the pass has looked for it, and what its update
 -- took out

@@ -78,7 +78,7 @@ pub(crate) fn look_at_gap(pass: &mut TablePass<'_>, gap: Gap) -> Result<(), Fail
     ensures alone { IfErr result (λ failed. ¬ IsAlone pass.new.view) }
 {
     search_laws();
-    let Gap { at, tag } = gap;
+    let Gap { at, tag, .. } = gap;
     look_leads(pass, at, 0)?;
     pass.facts();
     if pass.load_tag(at.node, at.side) != tag {

@@ -200,7 +200,7 @@ fn cut_from(pass: &mut TablePass<'_>, at: Link, least: Least, stop: Stop)
 
 /// Cuts the bundle of a link that the update changed, where something hangs behind what is read. Answers the least
 /// number, for which the pass may have looked at the others here.
-fn prune_link(pass: &mut TablePass<'_>, at: Link, own: Least) -> Least
+pub(crate) fn prune_link(pass: &mut TablePass<'_>, at: Link, own: Least) -> Least
     requires changed { IsChanged pass.old.view at }
     requires least { IsLeast pass.old.view own }
     ensures same { IsSamePass pass.old pass.new }
