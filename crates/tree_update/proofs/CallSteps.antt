@@ -22,7 +22,7 @@ use Rattle.update_try.specs.Outcomes.{KeepsAll}
 use Rattle.tree_update.specs.Settles.{KeepsAllElse, KeepsSlotCounts}
 
 -- one part after another
-extends_more : (us vs ws : List Update) → Extends us vs → Extends vs ws → Extends us ws
+pub extends_more : (us vs ws : List Update) → Extends us vs → Extends vs ws → Extends us ws
 extends_more us vs ws one two = (one.0 ++ two.0, two.1 ∙ ap (λ (xs : List Update). xs ++ two.0) one.1 ∙ append_assoc us one.0 two.0)
 
 pub goes_more : (u v w : View) → GoesOn u v → GoesOn v w → GoesOn u w

@@ -11,3 +11,5 @@ pub mod TryMade
 pub mod Alone
 -- How an update ends.
 pub mod Ends
+-- A pass gathers entries.
+pub mod GatherSteps

@@ -1,3 +1,4 @@
 pub mod Settles
 pub mod Calls
 pub mod Trying
+pub mod Gathering

@@ -12,7 +12,7 @@ ghost use Rattle.tree_update.specs.Trying.{OffersSlots};
 
 use crate::ending::end_removal;
 use crate::trying::{Missed, try_update};
-use crate::waits::{pause, wait_for_cuts, wait_for_slots};
+use crate::waits::{pause, wait_for_slots};
 use core_updates::PlanSlots;
 use index_words::{Change, Pair};
 use key_map::{Done, New, PassError};
@@ -143,7 +143,6 @@ fn make_put<R: Wait>(pass: &mut TablePass<'_>, rt: &R, line: u32, key: u64, val:
     ensures place { IsPlaceOfPut pass.old line key val result pass.new.view }
     ensures waits { pass.new.view.counts.waits ≡ pass.old.view.counts.waits }
 {
-    wait_for_cuts(pass);
     'tries: for _ in rt.forever() {
         let slots = wait_for_slots(pass, rt);
         if let Ok(carried) = try_update(pass, line, key, Change::Put(val), false, &slots) {
@@ -164,7 +163,6 @@ fn make_new<R: Wait>(pass: &mut TablePass<'_>, rt: &R, line: u32, key: u64, val:
     ensures answered { AnswersPutNew pass.old.view pass.new.view pass.old.number line key val result }
     ensures place { IsPlaceOfNew pass.old line key val result pass.new.view }
 {
-    wait_for_cuts(pass);
     'tries: for _ in rt.forever() {
         let slots = wait_for_slots(pass, rt);
         if let Some(answer) = try_new(pass, rt, line, key, val, &slots) {
@@ -184,7 +182,6 @@ fn make_removal<R: Wait>(pass: &mut TablePass<'_>, rt: &R, line: u32, key: u64) 
     ensures answered { AnswersRemoval pass.old.view pass.new.view pass.old.number line key result }
     ensures place { IsPlaceOfRemoval pass.old line key result pass.new.view }
 {
-    wait_for_cuts(pass);
     'tries: for _ in rt.forever() {
         let slots = wait_for_slots(pass, rt);
         if let Some(done) = try_removal(pass, rt, line, key, &slots) {

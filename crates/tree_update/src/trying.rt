@@ -55,7 +55,7 @@ fn is_kept_out(only_new: bool, aim: &Aim) -> bool
 }
 
 /// Leaves the section where nothing was locked.
-fn give_up(pass: &mut TablePass<'_>, at: u64)
+pub(crate) fn give_up(pass: &mut TablePass<'_>, at: u64)
     requires reads { InsideAt pass.old.view at }
     ensures same { IsSamePass pass.old pass.new }
     ensures rest { AtRest pass.new.view }

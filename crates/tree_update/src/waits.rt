@@ -1,9 +1,5 @@
-//! What a call waits for before its update, outside of a section: that the update can cut, and then for free slots.
-//!
-//! Bundles are cut by updates alone, each of the bundles that it changes, and behind what the others have announced. A
-//! pass takes its announcement back behind the end of its section. In between, what the section held becomes free, and
-//! nothing that it could read is cut. A pass of few entries that makes updates all that time has them in a bundle at
-//! last, fewer than four left, and no update any more by which they would come back.
+//! What a call waits for, outside of a section: free slots before an update, and, where it cuts without one, that others
+//! read no more what it could cut.
 ghost use Rattle.std.specs.Prelude.{◌≡◌, ◌<◌, ◌≤◌, is_some, true};
 ghost use Rattle.core_events.specs.Announcing.{smaller};
 ghost use Rattle.table_steps.specs.Passes.{AtRest, Inside, IsSamePass};
@@ -22,14 +18,8 @@ use update_try::plan_slots;
 /// How many pauses of the processor stand before the yield.
 const PAUSES: u32 = 32;
 
-/// A pass of so many entries has the four that an update may take behind its next update too, even if nothing is cut:
-/// an update puts at most two entries in front of bundles, and for each entry of its new node's links it gets one or
-/// more back, with the node that goes out.
-const ENOUGH: usize = 6;
-
-/// So often a pass looks at the others again, at most, and then makes its update all the same: a snapshot may be held
-/// for ever.
-const LOOKS: u32 = 65_536;
+/// So often a pass looks at the others again, at most, before it tries once more.
+const LOOKS: u32 = 256;
 
 /// What a wait does between two tries: a short spin, since another pass may be done soon where it runs on a processor
 /// of its own, and then a yield, which lets other threads run.
@@ -98,29 +88,35 @@ fn look_around(pass: &mut TablePass<'_>) -> Sight
     Sight { own, least }
 }
 
-/// Waits until each announcement is gone that stood below the number of all updates so far, where the pass has so few
-/// entries that its next update might leave it too few for another one. So the update cuts, and brings back what hangs
-/// in its bundles. The wait is bounded.
-pub(crate) fn wait_for_cuts(pass: &mut TablePass<'_>)
+/// Waits until more may be cut: until the least number that is read, which is that of all updates so far where nobody
+/// reads at an older one, has risen. Where keys are left and nobody reads at an older one, the pass may go on at once.
+/// The wait is bounded, and there is none for the number `vain`. Answers the number where it has not risen.
+pub(crate) fn wait_for_more(
+    pass: &mut TablePass<'_>,
+    keys_left: bool,
+    vain: Option<u64>,
+) -> Option<u64>
     requires rest { AtRest pass.old.view }
     ensures same { IsSamePass pass.old pass.new }
     ensures rest { AtRest pass.new.view }
     ensures stays { StaysOn pass.old.view pass.new.view }
     ensures waits { pass.new.view.counts.waits ≡ pass.old.view.counts.waits }
 {
-    if pass.owned_entries() >= ENOUGH {
-        return;
-    }
     let first = look_around(pass);
-    let mut least = first.least;
+    if keys_left && first.least >= first.own {
+        return None;
+    }
+    if vain == Some(first.least) {
+        return vain;
+    }
     'looks: for _ in 0..LOOKS {
-        if least >= first.own {
-            return;
-        }
         pause();
         let next = look_around(pass);
-        least = next.least;
+        if next.least > first.least {
+            return None;
+        }
     }
+    Some(first.least)
 }
 
 /// Waits until the pass has the free slots that an update may take. It owns them, so they become free once the passes

@@ -1,15 +1,15 @@
-use Rattle.std.proofs.Common.{◌∙◌, ℕ, arith, subst}
+use Rattle.std.proofs.Common.{◌∙◌, ℕ, arith, refl, subst}
 use Rattle.key_map.specs.declared.update.Change.TheVariants.{Put}
 use Rattle.tree_update.specs.Calls.{MakesChange}
-use Rattle.tree_update.proofs.CallSteps.{stays_more, fixes_more, made_more}
-use Rattle.bundle_reads.proofs.ReadMoves.{same_more}
+use Rattle.tree_update.proofs.CallSteps.{stays_nothing, stays_more, fixes_more, made_more}
+use Rattle.bundle_reads.proofs.ReadMoves.{same_pass, same_more}
 use Rattle.core_updates.specs.Ready.{update_of}
 use Rattle.table_steps.specs.Raises.{IsRaisedSince}
 use Rattle.table_steps.proofs.Places.{raised_later}
 use Rattle.tree_update.proofs.calls.make_put.Goals as goal
 
 pub tries-init : goal.tries-init
-tries-init g c = (c.wait_for_cuts.ensures.rest, c.wait_for_cuts.ensures.stays, c.wait_for_cuts.ensures.same, c.wait_for_cuts.ensures.waits)
+tries-init g c = let p = c.args.pass.now in (c.requires.rest, stays_nothing p.view, same_pass p, refl)
 
 pub try_update-requires-clause-left : goal.try_update-requires-clause-left
 try_update-requires-clause-left g c =

@@ -1,13 +1,13 @@
 use Rattle.std.proofs.Common.{◌∙◌, ℕ, arith, subst}
 use Rattle.tree_update.specs.Calls.{AnswersRemoval}
-use Rattle.tree_update.proofs.CallSteps.{goes_more}
+use Rattle.tree_update.proofs.CallSteps.{goes_more, stays_nothing}
 use Rattle.tree_update.proofs.CallsMade.{removal_more}
-use Rattle.bundle_reads.proofs.ReadMoves.{same_more}
+use Rattle.bundle_reads.proofs.ReadMoves.{same_pass, same_more}
 use Rattle.tree_update.proofs.Places.{place_later}
 use Rattle.tree_update.proofs.calls.make_removal.Goals as goal
 
 pub tries-init : goal.tries-init
-tries-init g c = (c.wait_for_cuts.ensures.rest, c.wait_for_cuts.ensures.stays.goes, c.wait_for_cuts.ensures.same)
+tries-init g c = let p = c.args.pass.now in (c.requires.rest, (stays_nothing p.view).goes, same_pass p)
 
 pub try_removal-requires-clause-left : goal.try_removal-requires-clause-left
 try_removal-requires-clause-left g c =

@@ -1,7 +1,7 @@
 use Rattle.std.proofs.Common.{◌∙◌}
 use Rattle.tree_update.proofs.CallSteps.{stays_more}
 use Rattle.bundle_reads.proofs.ReadMoves.{same_more}
-use Rattle.tree_update.proofs.waits.wait_for_cuts.Goals as goal
+use Rattle.tree_update.proofs.waits.wait_for_more.Goals as goal
 
 pub looks-init : goal.looks-init
 looks-init c = (c.look_around-first.ensures.rest, c.look_around-first.ensures.stays, c.look_around-first.ensures.same, c.look_around-first.ensures.waits)
@@ -16,8 +16,8 @@ looks-preserved c =
       e.waits ∙ c.looks.invariant.3,
     )
 
-pub returns-then-least-first-clause-waits : goal.returns-then-least-first-clause-waits
-returns-then-least-first-clause-waits c = c.looks.invariant.3
+pub returns-then-least-clause-waits : goal.returns-then-least-clause-waits
+returns-then-least-clause-waits c = c.looks.invariant.3
 
 pub returns-clause-waits : goal.returns-clause-waits
 returns-clause-waits c = c.looks.invariant.3

@@ -1,7 +1,7 @@
 use Rattle.std.proofs.Common.{◌≡◌}
 use Rattle.table_steps.specs.Passes.{AtRest, IsSamePass}
 use Rattle.tree_update.specs.Calls.{StaysOn}
-use Rattle.tree_update.proofs.waits.wait_for_cuts.Given as goal
+use Rattle.tree_update.proofs.waits.wait_for_more.Given as goal
 
 abbrev pub invariant-looks : goal.invariant-looks
 invariant-looks l =
