@@ -5,6 +5,7 @@ pub mod LegalRun
 pub mod RunParts
 pub mod PassView
 pub mod Pool
+pub mod Gathering
 pub mod PlainPass
 pub mod PlainInside
 pub use Rattle.key_map.specs.Map

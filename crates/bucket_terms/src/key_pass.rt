@@ -3,6 +3,7 @@
 ghost use Rattle.std.specs.Prelude.{◌≡◌, ◌↔◌, ℕ, None, Some, IsSome, IfOk, OnErr, IsErrOf};
 ghost use Rattle.key_map.specs.Map.{first_from, value_at};
 ghost use Rattle.key_map.specs.History.{after};
+ghost use Rattle.bucket_terms.specs.Gathering.{Gathered};
 ghost use Rattle.bucket_terms.specs.PassView.{PassView, MadePut, AnsweredPutNew, AnsweredRemoval, Began, KnowsOwn, IsOutOfSlots};
 
 use crate::homed::Homed;
@@ -50,6 +51,14 @@ pub trait KeyPass: Homed {
         ensures no_slot { IsErrOf result PassError.NoSlot ↔ IsOutOfSlots (view self.old) }
         ensures unchanged { OnErr result (view self.new ≡ view self.old) }
         ensures home { Self.home self.new ≡ Self.home self.old };
+
+    /// Gets entry slots for the next update, where the pass lacks some and can get them: it makes no update, and fixes no
+    /// place. A pass that gets none by it need not have this call: then it does nothing.
+    fn gather<Rt: Wait>(&mut self, _rt: &Rt)
+        requires { (view self.old).opened ≡ None }
+        ensures gathered { Gathered (view self.old) (view self.new) }
+        ensures home { Self.home self.new ≡ Self.home self.old }
+    {}
 
     /// Opens a snapshot and answers its place.
     fn begin(&mut self) -> u64
