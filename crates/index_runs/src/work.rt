@@ -164,6 +164,7 @@ fn answer<R: Wait>(
     requires { IsClosed pass.old }
     ensures { GoesOn pass.old pass.new }
 {
+    pass.gather(rt);
     match asked {
         Asked::Put { key, val } => pass.put(rt, line, key, val),
         Asked::PutNew { key, val } => match pass.put_new(rt, line, key, val) {

@@ -17,6 +17,8 @@ pub(crate) enum Row {
     Remove(u64, Result<Done, PassError>),
     TryPut(u64, u64, Result<Try, PassError>),
     TrySettle(Settling),
+    /// The pass gathers entries.
+    Gather,
     /// The first pair from a key on, in a snapshot of its own.
     First(u64, Option<Pair>),
     /// The number of the pass.
@@ -41,6 +43,17 @@ fn put_new<P: KeyPass, R: Wait>(
         Ok(New::Kept { at }) => Ok(New::Kept { at }),
         Err(error) => Err(error),
     }
+}
+
+/// The pass gathers entries, and leaves no snapshot open.
+fn gather<P: KeyPass, R: Wait>(rt: &R, pass: &mut P) -> bool
+    requires closed { (P.view pass.old).opened ≡ None }
+    ensures closed { (P.view pass.new).opened ≡ None }
+    ensures number { (P.view pass.new).number ≡ (P.view pass.old).number }
+    ensures home { P.home pass.new ≡ P.home pass.old }
+{
+    pass.gather(rt);
+    true
 }
 
 /// What a look finds where this is the first pair.
@@ -93,6 +106,7 @@ fn has_answer<P: TestedPass, R: Wait>(rt: &R, pass: &mut P, line: u32, row: &Row
         Row::Remove(key, answer) => remove(rt, pass, line, key) == answer,
         Row::TryPut(key, val, answer) => pass.put_by_try(line, key, val) == answer,
         Row::TrySettle(answer) => pass.settle_by_try() == answer,
+        Row::Gather => gather(rt, pass),
         Row::First(key, answer) => has_first(rt, pass, key, answer),
         Row::Client(answer) => pass.client() == answer,
     }

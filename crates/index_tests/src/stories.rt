@@ -248,6 +248,55 @@ fn a_snapshot_holds_the_slots_of_a_removal(rt: HostRuntime) -> Result<(), Fail> 
     Ok(())
 }
 
+const ONE_KEY: [Row; 1] = [Row::Put(5, 50, Ok(Done { at: 1, was: false }))];
+
+const ONE_KEY_HELD: [Row; 7] = [
+    Row::Put(5, 51, Ok(Done { at: 2, was: true })),
+    Row::Put(5, 52, Ok(Done { at: 3, was: true })),
+    Row::Put(5, 53, Ok(Done { at: 4, was: true })),
+    Row::Put(5, 54, Ok(Done { at: 5, was: true })),
+    Row::Put(5, 55, Err(PassError::NoSlot)),
+    Row::Gather,
+    Row::Put(5, 55, Err(PassError::NoSlot)),
+];
+
+const ONE_KEY_GATHERED: [Row; 4] = [
+    Row::Put(5, 55, Err(PassError::NoSlot)),
+    Row::Gather,
+    Row::Put(5, 56, Ok(Done { at: 6, was: true })),
+    Row::First(0, Some(Pair { key: 5, val: 56 })),
+];
+
+const OLD_OF_ONE: [(u64, Option<Pair>); 1] = [(0, Some(Pair { key: 5, val: 50 }))];
+
+/// While another pass's snapshot is open each put of a key leaves one entry more in the bundle, until too few are owned
+/// for another. Once the snapshot has ended the pass gathers them, and is served again.
+#[test]
+fn a_pass_that_was_refused_gathers_and_is_served(rt: HostRuntime) -> Result<(), Fail> {
+    let sizes = [size(8, 8, 16), size(1, 4, 8)];
+    let holding = Snapshot {
+        at: 1,
+        hears: false,
+        pairs: &OLD_OF_ONE,
+    };
+    let scenes = [
+        first(&ONE_KEY),
+        first_beside(1, &ONE_KEY_HELD, holding),
+        first(&ONE_KEY_GATHERED),
+    ];
+    let updates = [
+        update(0, 1, 5, 50),
+        update(0, 1, 5, 51),
+        update(0, 1, 5, 52),
+        update(0, 1, 5, 53),
+        update(0, 1, 5, 54),
+        update(0, 1, 5, 56),
+    ];
+    let ended = told(&rt, rt.alloc(), &sizes, &scenes, &updates);
+    assert_eq!(rt; ended, Some((3, true)));
+    Ok(())
+}
+
 const NEW_KEYS: [Row; 7] = [
     Row::PutNew(4, 40, Ok(New::Made { at: 1 })),
     Row::PutNew(4, 41, Ok(New::Kept { at: 1 })),

@@ -8,3 +8,5 @@ pub mod Begun
 pub mod Made
 -- A node that was adopted, to the caller.
 pub mod Adopted
+-- A pass that has gathered entries, to its caller.
+pub mod Gathers

@@ -93,6 +93,10 @@ impl SharedIndex {
         let pass = self.table.attach(key);
         own_facts(&pass);
         let way = Way::new();
-        IndexPass { pass, way }
+        IndexPass {
+            pass,
+            way,
+            vain: None,
+        }
     }
 }

@@ -1,6 +1,7 @@
 //! A pass of the index keeps the clauses of a pass. Beside them stands which step of the call gives each place: the
 //! raise of an update of its own, or a load of the stamp.
 ghost use Rattle.std.specs.Prelude.{◌≡◌, ◌↔◌, None, IfOk, OnErr, IsErrOf};
+ghost use Rattle.bucket_terms.specs.Gathering.{Gathered};
 ghost use Rattle.bucket_terms.specs.PassView.{MadePut, AnsweredPutNew, AnsweredRemoval, Began, IsOutOfSlots};
 ghost use Rattle.table_steps.specs.Stamps.{IsFoundAt};
 ghost use Rattle.tree_update.specs.Calls.{IsPlaceOfPut, IsPlaceOfNew, IsPlaceOfRemoval};
@@ -76,6 +77,18 @@ impl<'t> KeyPass for IndexPass<'t> {
         let answer = tree_update::remove(&mut self.pass, rt, line, key);
         own_facts(&self.pass);
         answer
+    }
+
+    /// A pass that owns a node, and fewer than four entries, cuts old entries that nobody reads until it owns enough.
+    /// While others read them it waits, for a bounded time, and for each of their numbers once.
+    fn gather<Rt: Wait>(&mut self, _rt: &Rt)
+        requires closed { (shown self.old).opened ≡ None }
+        ensures gathered { Gathered (shown self.old) (shown self.new) }
+        ensures home { home_of_pass self.new ≡ home_of_pass self.old }
+    {
+        let vain = tree_update::gather(&mut self.pass, self.vain);
+        own_facts(&self.pass);
+        self.vain = vain;
     }
 
     fn begin(&mut self) -> u64

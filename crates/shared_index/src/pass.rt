@@ -28,6 +28,8 @@ pub struct IndexPass<'t> {
     pub(crate) pass: TablePass<'t>,
     /// What the searches of the open snapshot have kept.
     pub(crate) way: Way,
+    /// The least number of others for which the pass has waited in vain when it gathered entries.
+    pub(crate) vain: Option<u64>,
 }
 
 impl<'t> Model for IndexPass<'t> {
