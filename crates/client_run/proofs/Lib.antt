@@ -10,4 +10,5 @@ pub mod Listings
 pub mod Stopping
 pub mod Sessions
 pub mod TradedAnswers
+pub mod GatheredAnswers
 pub mod TradedRuns

@@ -64,7 +64,7 @@ traded_on u v w first second = record {
 
 -- what a pass has newly seen in a trade are updates of others
 module _ (v w : PassView) (trade : Traded v w) (knows : KnowsOwn v) where
-  none_own : (i : ℕ) (u : Update) → length v.seen ≤ i → slice_get w.seen i ≡ Some u → u.client ≡ v.number → ⊥
+  pub none_own : (i : ℕ) (u : Update) → length v.seen ≤ i → slice_get w.seen i ≡ Some u → u.client ≡ v.number → ⊥
   none_own i u from here own = no_own_added v.number v.seen trade.seen.0 places i u from (sym (ap (λ (us : List Update). slice_get us i) trade.seen.1) ∙ here) own
     where
       places : own_places v.number (v.seen ++ trade.seen.0) ≡ own_places v.number v.seen
@@ -96,12 +96,12 @@ module _ (v w : PassView) (trade : Traded v w) (knows : KnowsOwn v) where
         | inr back ↦ absurd (none_own k (get_or w.seen k d) back (slice_get-get_or w.seen k d below) mine)
       ]
 
-setting_traded : (dir : List (List ℕ)) (v w : PassView) (slots : ℕ) (trade : Traded v w) → over (setting dir v slots) (v.seen ++ trade.seen.0) ≡ setting dir w slots
+pub setting_traded : (dir : List (List ℕ)) (v w : PassView) (slots : ℕ) (trade : Traded v w) → over (setting dir v slots) (v.seen ++ trade.seen.0) ≡ setting dir w slots
 setting_traded dir v w slots trade =
     ap (λ (us : List Update). over (setting dir v slots) us) (sym trade.seen.1) ∙ ap (λ (n : ℕ). record (setting dir w slots) { client = n }) (sym trade.number)
 
 -- the count of earlier own updates does not fall
-earlier_traded : (dir : List (List ℕ)) (v w : PassView) (slots line : ℕ) → Traded v w
+pub earlier_traded : (dir : List (List ℕ)) (v w : PassView) (slots line : ℕ) → Traded v w
     → slots ≤ count_by (is_earlier_of (setting dir v slots) line) v.seen → slots ≤ count_by (is_earlier_of (setting dir w slots) line) w.seen
 earlier_traded dir v w slots line trade used =
     subst (λ (s : Setting). slots ≤ count_by (is_earlier_of s line) s.updates) (setting_traded dir v w slots trade)

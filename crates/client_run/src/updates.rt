@@ -1,4 +1,5 @@
-// PUT, PUTNEW, DELETE and HEAD, each answered by calls of the pass.
+// PUT, PUTNEW, DELETE and HEAD, each answered by calls of the pass. Before an update the pass gathers entries, where it
+// lacks some.
 ghost use Rattle.std.specs.Prelude.{◌≡◌, ◌<◌, None, Some, Option, Contains};
 ghost use Rattle.key_names.specs.Names.{IsRank};
 ghost use Rattle.bucket_terms.specs.declared.request.Request.TheVariants.{Put, PutNew, Delete, Head};
@@ -32,6 +33,7 @@ pub(crate) fn put<P: KeyPass, Rt: Wait>(
 {
     let client = pass.client();
     let key = rank_of(dir, name, hint);
+    pass.gather(rt);
     match pass.put(rt, line, key, val) {
         Ok(done) => answer_at(client, line, done.at, Reply::Put { was: done.was }),
         Err(PassError::NoSlot) => refused(client, line, Reply::NoSlot),
@@ -59,6 +61,7 @@ pub(crate) fn put_new<P: KeyPass, Rt: Wait>(
 {
     let client = pass.client();
     let key = rank_of(dir, name, hint);
+    pass.gather(rt);
     match pass.put_new(rt, line, key, val) {
         Ok(New::Made { at }) => answer_at(client, line, at, Reply::Put { was: false }),
         Ok(New::Kept { at }) => answer_at(client, line, at, Reply::Exists),
@@ -86,6 +89,7 @@ pub(crate) fn delete<P: KeyPass, Rt: Wait>(
 {
     let client = pass.client();
     let key = rank_of(dir, name, hint);
+    pass.gather(rt);
     match pass.remove(rt, line, key) {
         Ok(done) => answer_at(client, line, done.at, Reply::Deleted),
         Err(PassError::NoSlot) => refused(client, line, Reply::NoSlot),

@@ -21,6 +21,7 @@ const CLIENT: u32 = 3;
 #[derive(Clone, Copy, Debug, PartialEq, Eq)]
 enum Told {
     Before(u32, u32),
+    Gathered,
     Called,
     After(u32, u32),
 }
@@ -49,7 +50,7 @@ impl Gate for Diary {
     }
 }
 
-// A pass that notes each call that changes the map or opens a snapshot.
+// A pass that notes each call that changes the map, opens a snapshot or gathers entries.
 #[derive(Drop)]
 struct Watched<'a, P> {
     pass: P,
@@ -82,6 +83,11 @@ impl<P: KeyPass> KeyPass for Watched<'_, P> {
     fn remove<Rt: Wait>(&mut self, rt: &Rt, line: u32, key: u64) -> Result<Done, PassError> {
         self.diary.note(Told::Called);
         self.pass.remove(rt, line, key)
+    }
+
+    fn gather<Rt: Wait>(&mut self, rt: &Rt) {
+        self.diary.note(Told::Gathered);
+        self.pass.gather(rt)
     }
 
     fn begin(&mut self) -> u64 {
@@ -140,8 +146,9 @@ fn run_part<Rt: Wait>(
 
 const SESSION: &str = "CLIENT\nPUT a 1 e1 1\n\nHEAD a\nLIST\nDELETE a\nNEXT\n";
 
-const TOLD: [Told; 14] = [
+const TOLD: [Told; 16] = [
     Told::Before(CLIENT, 2),
+    Told::Gathered,
     Told::Called,
     Told::After(CLIENT, 2),
     Told::Before(CLIENT, 4),
@@ -151,6 +158,7 @@ const TOLD: [Told; 14] = [
     Told::Called,
     Told::After(CLIENT, 5),
     Told::Before(CLIENT, 6),
+    Told::Gathered,
     Told::Called,
     Told::After(CLIENT, 6),
     Told::Before(CLIENT, 7),
