@@ -8,12 +8,17 @@ Each text is checked to be that of a legal run, by legal_runs.py. Ended with sta
 - the same client in one slot is not refused behind its first put;
 - a client that replaces one key beside one that lists takes more than three times as long with two slots as with ample
   ones, or is refused;
+- clients that put and delete two keys of their own each, 10,000 lines in no fixed order, are refused more often than once
+  in 500 lines, or one of them in its last tenth: four of three, four and eight slots, alone and beside clients that list
+  and then end, and 32 of four slots;
 - 32 clients of 200,000 puts in all, with 8 slots each, take more memory than with ample slots, or more than twice as much
   as for as many lines that only look.
 How often clients are refused that put and delete the same key depends on the schedule, and is told alone.
 """
 import argparse
+import json
 import os
+import random
 import statistics
 import subprocess
 import sys
@@ -23,6 +28,7 @@ import time
 from legal_runs import fault_of, rule_of, words_of
 from random_sessions import make_ready
 
+REFUSED = '"Status":503}'
 PUT_AND_DELETE = "PUT a 1 e1 1\nDELETE a\n" * 10_000
 
 
@@ -46,13 +52,24 @@ def run(program, session, slots):
         return taken.read().decode(), seconds, usage.ru_maxrss
 
 
-def refused(program, session, slots):
-    """How many requests are refused for want of slots, in a run that is seen to be legal."""
+def legal_text(program, session, slots):
+    """The text of a run that is seen to be legal."""
     text = run(program, session, slots)[0]
     fault = fault_of(session, text, rule_of(slots))
     if fault:
         sys.exit("no legal run: " + fault)
-    return text.count('"Status":503}')
+    return text
+
+
+def refused(program, session, slots):
+    """How many requests are refused for want of slots."""
+    return legal_text(program, session, slots).count(REFUSED)
+
+
+def refused_lines(text):
+    """The refused lines of a text, as pairs of a client and a line."""
+    replies = (json.loads(line) for line in text.splitlines() if line.endswith(REFUSED))
+    return [(reply["Client"], reply["Line"]) for reply in replies]
 
 
 def expect(what, got, holds):
@@ -86,6 +103,39 @@ def try_replacing(program, runs):
         expect("refused", count, count == 0)
 
 
+def keys_of_its_own(chance, client, lines):
+    """Lines of a client that puts and deletes two keys of its own, in no fixed order."""
+    keys = ["c%d/%d" % (client, at) for at in range(2)]
+    verbs = ["PUT %s 1 e1 1\n", "DELETE %s\n"]
+    return "".join(chance.choice(verbs) % chance.choice(keys) for _ in range(lines))
+
+
+def last_tenths(parts):
+    """The lines at which the last tenth of each client begins."""
+    starts, line = [], 0
+    for part in parts:
+        lines = part.count("\n")
+        starts.append(line + 2 + lines - lines // 10)
+        line += 1 + lines
+    return starts
+
+
+def try_own_keys(program, runs):
+    """Each client needs two slots for its keys, and one more for an update."""
+    for count, lines, slots, listers in (4, 10_000, 3, 0), (4, 10_000, 4, 0), (4, 10_000, 8, 0), (4, 10_000, 4, 2), (32, 2_000, 4, 0):
+        refusals, late = [], 0
+        for seed in range(runs):
+            chance = random.Random(seed)
+            parts = [keys_of_its_own(chance, client, lines) for client in range(count)]
+            ends = last_tenths(parts)
+            pairs = refused_lines(legal_text(program, clients(*parts, *["LIST max-keys=60\n" * 1_000] * listers), slots))
+            refusals.append(len(pairs))
+            late += len({client for client, line in pairs if line >= ends[client]})
+        what = "two keys of its own put and deleted by each of %d clients in %d slots, %d that list beside" % (count, slots, listers)
+        expect(what + ", refused of %d lines" % (count * lines), refusals, 500 * sum(refusals) < runs * count * lines)
+        expect("clients refused in their last tenth", late, late == 0)
+
+
 def try_memory(program):
     lines = "".join("PUT k%d 1 e1 1\n" % (at % 7) for at in range(200_000 // 32))
     few, ample = (run(program, clients(*[lines] * 32), slots)[2] for slots in (8, None))
@@ -103,6 +153,7 @@ def main():
     # First: a peak is at least that of this script, in which the process of the program begins.
     try_memory(options.program)
     try_one_key(options.program, options.runs)
+    try_own_keys(options.program, options.runs)
     try_replacing(options.program, options.runs)
 
 
