@@ -48,14 +48,25 @@ def put_line(name, size, etag, modified):
     return "PUT %s %d %s %d" % (escaped(name), size, bare, modified)
 
 
-def print_session(lines):
+def take_wide():
+    """Takes the word --wide out of the words, and tells whether it was there."""
+    wide = "--wide" in sys.argv[1:]
+    sys.argv[1:] = [word for word in sys.argv[1:] if word != "--wide"]
+    return wide
+
+
+def print_session(lines, wide=False):
     """Prints a session of one client with these PUT lines, in an order that looks random and is always the same. The index
     keeps its keys in a tree that is not balanced: names that are put in rising order make it as deep as it can be.
 
-    Prints nothing where there are more lines than a session takes. The requests behind them count too."""
+    Prints nothing where there are more lines than a session takes, unless it may be wide: by_ranges splits such a session.
+    The requests behind them count too."""
     lines = [line for line in lines if line]
     random.Random(1).shuffle(lines)
     session = "\n".join(["CLIENT", *lines, ""])
+    if wide:
+        print(session, end="")
+        return
     if len(lines) > MOST_REQUESTS:
         stop("%d names, and a session takes at most %d requests: take a part of them" % (len(lines), MOST_REQUESTS))
     if len(session.encode()) > MOST_BYTES:
