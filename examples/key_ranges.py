@@ -20,8 +20,9 @@ def bounds_of(requests, count):
     """The lower bounds of all ranges but the first: keys of the session that cut its requests for keys into parts that are about
     as large. There are fewer where one key has the requests of several parts."""
     keys = sorted(request.name.encode() for request in requests if request.name)
-    cuts = {keys[len(keys) * at // count] for at in range(1, count)} if keys else set()
-    return sorted(cuts - {keys[0]} if keys else cuts)
+    starts = [at for at in range(1, len(keys)) if keys[at] != keys[at - 1]]
+    cuts = [bisect.bisect_left(starts, len(keys) * at // count) for at in range(1, count)] if starts else []
+    return sorted({keys[starts[min(at, len(starts) - 1)]] for at in cuts})
 
 
 class Query:
