@@ -156,22 +156,26 @@ pub(crate) fn run<Rt: Threads + Wait + Sync>(
 {
     let (index, keys) = opened(alloc)?;
     let keys = both(keys);
-    let early = both_turns(rt, alloc, &index, keys, dir, query, (first.early, second.early))?;
-    let (giver, taker, handed) = hand_on(&index, early.0.key, early.1.key);
-    let late = both_turns(rt, alloc, &index, (giver, taker), dir, query, (first.late, second.late))?;
-    let keys = vec![in alloc; late.0.key, late.1.key]?;
+    let tasks = (first.early, second.early);
+    let (early, other) = both_turns(rt, alloc, &index, keys, dir, query, tasks)?;
+    let (giver, taker, handed) = hand_on(&index, early.key, other.key);
+    let tasks = (first.late, second.late);
+    let (late, last) = both_turns(rt, alloc, &index, (giver, taker), dir, query, tasks)?;
+    let keys = vec![in alloc; late.key, last.key]?;
     let Ok(history) = index.finish(alloc, keys) else {
         return Err(NoMemory);
     };
+    let first = Turns {
+        early: early.turn,
+        late: late.turn,
+    };
+    let second = Turns {
+        early: other.turn,
+        late: last.turn,
+    };
     Ok(Ran {
-        first: Turns {
-            early: early.0.turn,
-            late: late.0.turn,
-        },
-        second: Turns {
-            early: early.1.turn,
-            late: late.1.turn,
-        },
+        first,
+        second,
         handed,
         history,
     })
