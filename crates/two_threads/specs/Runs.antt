@@ -1,8 +1,9 @@
 -- What a run of the two threads came to.
-use Rattle.std.specs.Prelude.{◌≡◌, ℕ, ◌+◌, ◌<◌, ◌≤◌, Bool, true, if◌then◌else◌, List, [], ◌∷◌, ◌++◌, length, None, IsOk, All}
+use Rattle.std.specs.Prelude.{◌≡◌, ℕ, ◌+◌, ◌<◌, ◌≤◌, Bool, true, if◌then◌else◌, List, [], ◌∷◌, ◌++◌, length, None, IsOk}
 use Rattle.key_map.specs.declared.pass.PassSize.{PassSize}
 use Rattle.key_map.specs.declared.update.Update.{Update}
 use Rattle.key_map.specs.History.{own_places}
+use Rattle.key_map.specs.Lists.{Every}
 use Rattle.bucket_terms.specs.declared.list_query.ListQuery.{ListQuery}
 use Rattle.bucket_terms.specs.PassView.{PassView, Extends}
 use Rattle.table_rule.specs.Homes.{Home}
@@ -14,7 +15,7 @@ use Rattle.two_threads.specs.declared.run.Left.{Left}
 use Rattle.two_threads.specs.declared.run.Ran.{Ran}
 use Rattle.two_threads.specs.declared.run.Tasks.{Tasks}
 use Rattle.two_threads.specs.declared.run.Turns.{Turns}
-use Rattle.two_threads.specs.Turns.{IsRight, TookTurn, places}
+use Rattle.two_threads.specs.Turns.{IsRight, TookTurn, place_of}
 
 -- the sizes of the two passes
 abbrev pub sizes : List PassSize
@@ -47,13 +48,13 @@ pub record IsThread (dir : List (List ℕ)) (query : ListQuery) (history : List 
   pub late_task : turns.late.task ≡ tasks.late
   pub early : IsRight dir query history thread turns.early
   pub late : IsRight dir query history thread turns.late
-  pub own : own_places thread history ≡ places turns.early ++ places turns.late
+  pub own : own_places thread history ≡ place_of turns.early.put ++ place_of turns.late.put
 
 -- there is one history: all answers of both threads are right in it, and it has just the puts that were answered
 pub record IsRun (dir : List (List ℕ)) (query : ListQuery) (first second : Tasks) (ran : Ran) : Type 0 where
-  pub first_is : IsThread dir query ran.history 0 first ran.first
-  pub second_is : IsThread dir query ran.history 1 second ran.second
-  pub only : All (λ (u : Update). u.client < 2) ran.history
+  pub first_is : IsThread dir query ran.history.items 0 first ran.first
+  pub second_is : IsThread dir query ran.history.items 1 second ran.second
+  pub only : Every (λ (u : Update). u.client < 2) ran.history.items
   -- what was refused
   pub early_made : IsOk ran.first.early.put × IsOk ran.second.early.put
   pub first_made : IsOk ran.first.late.put

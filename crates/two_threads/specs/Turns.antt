@@ -27,13 +27,10 @@ pub record IsRight (dir : List (List ℕ)) (query : ListQuery) (history : List U
   pub page : turn.page ≡ page_of dir query None (after history turn.listed_at)
   pub within : turn.listed_at ≤ length history
 
--- the place of the put that was made, if it was
-abbrev pub places : Turn → List ℕ
-places turn = of_put turn.put
-  where
-    of_put : Result Done PassError → List ℕ
-    of_put (Ok done) = done.at ∷ []
-    of_put (Err e) = []
+-- the place of a put that was made, and none of one that was refused
+abbrev pub place_of : Result Done PassError → List ℕ
+place_of (Ok done) = done.at ∷ []
+place_of (Err e) = []
 
 -- a turn was taken by a pass that knew `old` before it and knows `new` behind it
 pub record TookTurn (dir : List (List ℕ)) (query : ListQuery) (task : Task) (old new : PassView) (turn : Turn) : Type 0 where
@@ -41,7 +38,7 @@ pub record TookTurn (dir : List (List ℕ)) (query : ListQuery) (task : Task) (o
   pub right : IsRight dir query new.seen old.number turn
   pub number : new.number ≡ old.number
   pub seen : Extends old.seen new.seen
-  pub mine : new.mine ≡ old.mine ++ places turn
+  pub mine : new.mine ≡ old.mine ++ place_of turn.put
   pub closed : new.opened ≡ None
   -- why a put is refused, and what it takes
   pub spent : IsErrOf turn.put Spent ↔ (old.left ≡ 0)

@@ -94,11 +94,11 @@ fn both_turns<Rt: Threads + Wait + Sync>(
     let ((first, second), (task, other)) = (keys, tasks);
     let here = move || -> Result<Left, NoMemory>
         requires { IsKeyOf index.now first }
-        ensures { IfOk result (LaidDown index.entry.now dir.entry.now query.entry.now task.entry first.entry) }
+        ensures { IfOk result (LaidDown index.entry.now dir.entry.now query.entry.now task first) }
     { turn_of(rt, alloc, index, first, dir, query, task) };
     let there = move || -> Result<Left, NoMemory>
         requires { IsKeyOf index.now second }
-        ensures { IfOk result (LaidDown index.entry.now dir.entry.now query.entry.now other.entry second.entry) }
+        ensures { IfOk result (LaidDown index.entry.now dir.entry.now query.entry.now other second) }
     { turn_of(rt, alloc, index, second, dir, query, other) };
     let (first, second) = join(rt, here, there);
     Ok((first?, second?))
