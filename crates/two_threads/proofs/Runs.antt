@@ -1,5 +1,5 @@
 -- From the calls of a run to its one history.
-use Rattle.std.proofs.Common.{◌≡◌, ℕ, ◌+◌, ◌<◌, ◌≤◌, ◌==◌, ◌↔◌, Bool, true, false, if◌then◌else◌, List, [], ◌∷◌, ◌++◌, length, map, Result, Ok, Err, refl, sym, ap, ◌∙◌, subst, inl, inr, arith}
+use Rattle.std.proofs.Common.{◌≡◌, ℕ, ◌+◌, ◌<◌, ◌≤◌, ◌==◌, ◌↔◌, nat_lt, Bool, true, false, if◌then◌else◌, List, [], ◌∷◌, ◌++◌, length, map, Result, Ok, Err, refl, sym, ap, ◌∙◌, subst, inl, inr, arith}
 use Rattle.std.specs.Prelude.{IsErrOf, IsOk}
 use Rattle.std.proofs.lemmas.Bool.Decides.{nat_tests}
 use Rattle.key_map.specs.declared.pass.Done.{Done}
@@ -78,6 +78,12 @@ kept_back index first second giver taker last other handed of_first of_second is
     subst (HandedOn index first second last other) (sym is)
     (subst (λ (p : Pass). HandedOn index first second p other false) (sym (is_last ∙ is_first))
     (subst (λ (p : Pass). HandedOn index first second first p false) (sym (is_other ∙ is_second)) (none_handed index first second of_first of_second)))
+
+pub some_free : (nodes : ℕ) → 0 < nodes → nat_lt 0 nodes ≡ true
+some_free nodes some = grind (arith, nat_tests)
+
+pub none_free : (nodes : ℕ) → nodes ≡ 0 → nat_lt 0 nodes ≡ false
+none_free nodes none = grind (arith, nat_tests)
 
 -- ---- the keys behind a run
 

@@ -2,6 +2,7 @@ use Rattle.std.proofs.Common.{◌≡◌, List, [], ◌∷◌, refl, sym, subst}
 use Rattle.table_steps.specs.Closes.{AreMadeBy, BeginsWithSeen, StandAtOwnPlaces}
 use Rattle.table_steps.specs.Passes.{Pass}
 use Rattle.shared_index.specs.Keys.{AreAllKeys, AreFresh}
+use Rattle.two_threads.specs.declared.run.Turns.{Turns}
 use Rattle.two_threads.specs.Runs.{sizes}
 use Rattle.two_threads.proofs.Runs.{keys_back, run_is}
 use Rattle.two_threads.proofs.run.run.Goals as goal
@@ -27,8 +28,8 @@ returns g c =
     let back = c.hand_on-giver.result in
     let history = c.in-Ok.history in
     let two : c.in_ok-keys.keys.items ≡ c.in_ok-late.late.key ∷ c.in_ok-late.last.key ∷ [] = c.in_ok-keys.ensures.items in
-    let first = record { early = c.in_ok-early.early.turn; late = c.in_ok-late.late.turn } in
-    let second = record { early = c.in_ok-early.other.turn; late = c.in_ok-late.last.turn } in
+    let first : Turns = record { early = c.in_ok-early.early.turn; late = c.in_ok-late.late.turn } in
+    let second : Turns = record { early = c.in_ok-early.other.turn; late = c.in_ok-late.last.turn } in
     record {
       run =
           run_is index c.args.dir.now c.args.query.now c.args.first c.args.second keys.0 keys.1 back.0 back.1 c.in_ok-early.early c.in_ok-early.other c.in_ok-late.late
