@@ -1,9 +1,9 @@
 """How by_ranges cuts a session of one client into sessions of key ranges, and makes its text of theirs.
 
 A listing is asked in each range that it may touch, with its own query. What it lists is put together of their pages, range by
-range, until its page is full. A NEXT asks for the page behind a token that only the joined page tells. So it is asked as NEXT
+range, until its page is full. A NEXT asks for the page after a token that only the joined page has. So it is asked as NEXT
 in the first range of its listing, whose own page it goes on from where that page was full; where it was not, it becomes a LIST
-with the token, in another round, in each range behind that token.
+with the token, in another round, in each range after that token.
 """
 import base64
 import bisect
@@ -26,7 +26,7 @@ def bounds_of(requests, count):
 
 
 class Query:
-    """The query of a LIST or LISTV1 line, so far as it tells which ranges it touches."""
+    """The query of a LIST or LISTV1 line, so far as it decides which ranges it touches."""
 
     def __init__(self, request):
         self.verb = request.verb
@@ -41,20 +41,20 @@ class Query:
         return min(int(most), MOST_OF_A_PAGE) if most.isascii() and most.isdecimal() else MOST_OF_A_PAGE
 
     def start(self):
-        """A text at or behind which all keys of the page are. What a token says is not looked at."""
+        """A text that is at most each key of the page. What a token says is not looked at."""
         after = self.given.get("marker", "") if self.verb == "LISTV1" else self.given.get("start-after", "")
         return "" if self.given.get("continuation-token") else after
 
     def touched(self, bounds, start):
         """The ranges that have keys which begin with the prefix and are not below the start. There is at least one."""
         prefix = self.given.get("prefix", "").encode()
-        behind = prefix[:-1] + bytes([prefix[-1] + 1]) if prefix else None
-        last = bisect.bisect_left(bounds, behind) if behind else len(bounds)
+        above = prefix[:-1] + bytes([prefix[-1] + 1]) if prefix else None
+        last = bisect.bisect_left(bounds, above) if above else len(bounds)
         first = bisect.bisect_right(bounds, max(prefix, start.encode()))
         return range(min(first, last), last + 1)
 
     def with_token(self, token):
-        """The line that asks for the page behind this token."""
+        """The line that asks for the page after this token."""
         kept = [pair for pair in self.pairs if pair.partition("=")[0] != "continuation-token"]
         return "LIST " + "&".join([*kept, "continuation-token=" + token])
 

@@ -3,8 +3,8 @@
 
     tests/going_on.py PROGRAM [--sessions N] [--lines N] [--seed N]
 
-- A session is run in two parts, the second one behind what go_on makes of the first. At the end that run has the records
-  which the model of random_sessions.py has behind the whole session; and of a session of several clients go_on puts what
+- A session is run in two parts, the second one after what go_on makes of the first. At the end that run has the records
+  which the model of random_sessions.py has after the whole session; and of a session of several clients go_on puts what
   the journal of its text says.
 - A session is split into ranges, they are run as the page of by_ranges says it, and joined: the text is that of the model for
   the whole session, byte for byte. A session of 20,000 lines over four ranges has the text of one run.
@@ -67,7 +67,7 @@ def records_of(listing):
 
 
 def try_two_parts(program, session, cut):
-    """The records behind a run in two parts: the lines from the cut on stand behind the records of the others."""
+    """The records after a run in two parts: the lines from the cut on follow the records of the others."""
     lines = session.lines[1:]
     first, second = (["CLIENT", *lines[:cut]], lines[cut:])
     with tempfile.TemporaryDirectory() as folder:
@@ -76,7 +76,7 @@ def try_two_parts(program, session, cut):
     text = text_of([program, "run"], whole).decode()
     listing = json.loads(text.split("\n")[len(list(lines_of(whole))) - 2])
     if records_of(listing) != session.model.records:
-        sys.exit("other records behind two parts, cut at line %d of\n%s" % (cut, "\n".join(session.lines)))
+        sys.exit("other records after two parts, cut at line %d of\n%s" % (cut, "\n".join(session.lines)))
 
 
 def try_clients(program, path):
@@ -93,7 +93,7 @@ def try_clients(program, path):
         start = text_of([EXAMPLES / "go_on", *written(folder, session=session, text=text)])
     listing = text_of([program, "run"], start + b"LIST\n").decode().split("\n")[start.count(b"\n") - 1]
     if records_of(json.loads(listing)) != records:
-        sys.exit("other records behind %s:\n%s\n%s" % (path, text.decode(), start.decode()))
+        sys.exit("other records after %s:\n%s\n%s" % (path, text.decode(), start.decode()))
 
 
 # ---- a session over ranges
@@ -298,7 +298,7 @@ def main():
     with ThreadPoolExecutor(4) as pool:
         list(pool.map(lambda each: try_two_parts(program, *each), zip(sessions, cuts)))
         rounds = collections.Counter(pool.map(lambda each: try_ranges(program, *each), zip(sessions, counts)))
-    for name in () and ("clients", "compete", "pool"):
+    for name in ("clients", "compete", "pool"):
         try_clients(program, EXAMPLES / (name + ".txt"))
     longest = try_long(program, rng, options.lines)
     print("go_on and by_ranges: %d sessions in two parts, and over ranges, in rounds %s" % (len(sessions), sorted(rounds.items())))

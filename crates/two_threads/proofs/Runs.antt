@@ -85,7 +85,7 @@ some_free nodes some = grind (arith, nat_tests)
 pub none_free : (nodes : ℕ) → nodes ≡ 0 → nat_lt 0 nodes ≡ false
 none_free nodes none = grind (arith, nat_tests)
 
--- ---- the keys behind a run
+-- ---- the keys after a run
 
 pub all_back : (index : Home) (first second last other : Pass) → AreAllKeys index (first ∷ second ∷ []) → IsKeyOf index last → IsKeyOf index other
     → number_of last ≡ number_of first → number_of other ≡ number_of second → AreAllKeys index (last ∷ other ∷ [])

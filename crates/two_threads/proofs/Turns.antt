@@ -128,7 +128,7 @@ after_put old new task (Err e) made unchanged = record {
 
 -- ---- a turn
 
--- the view behind a look-up whose snapshot is closed
+-- the view after a look-up whose snapshot is closed
 abbrev closed_view : PassView → PassView
 closed_view v = record v { opened = None }
 
@@ -142,8 +142,8 @@ pub took : (dir : List (List ℕ)) (query : ListQuery) (task : Task) (old made b
 took dir query task old made begun looked closed new put looked_at found listed_at page if_made unchanged spent no_slot began same value ended listed only = record {
   task_is = refl;
   right = record {
-    put = if_ok put (StandsAt made.seen old.number task) (StandsAt new.seen old.number task) behind.stands (λ done. stands_on made.seen new.seen old.number task done all);
-    sees_own = if_ok put (λ done. done.at ≡ length made.seen) (λ done. done.at ≤ looked_at) behind.place
+    put = if_ok put (StandsAt made.seen old.number task) (StandsAt new.seen old.number task) after_it.stands (λ done. stands_on made.seen new.seen old.number task done all);
+    sees_own = if_ok put (λ done. done.at ≡ length made.seen) (λ done. done.at ≤ looked_at) after_it.place
         (λ done is. omega (arith, is, extends_length made.seen begun.seen began.looked.continues.seen, began.looked.place));
     found =
         value ∙ sym (map_get-first_from task.looks_up 0 (after begun.seen looked_at) (IsMap-after begun.seen looked_at))
@@ -152,19 +152,19 @@ took dir query task old made begun looked closed new put looked_at found listed_
     page = listed.is_page;
     within = omega (arith, listed.looked.place);
   };
-  number = only.number ∙ ap (λ (v : PassView). v.number) is ∙ began.looked.continues.number ∙ behind.number;
-  seen = extends_on old.seen made.seen new.seen behind.seen all;
-  mine = only.mine ∙ ap (λ (v : PassView). v.mine) is ∙ began.looked.mine ∙ behind.mine;
+  number = only.number ∙ ap (λ (v : PassView). v.number) is ∙ began.looked.continues.number ∙ after_it.number;
+  seen = extends_on old.seen made.seen new.seen after_it.seen all;
+  mine = only.mine ∙ ap (λ (v : PassView). v.mine) is ∙ began.looked.mine ∙ after_it.mine;
   closed = only.closed;
   spent = spent;
   no_slot = no_slot;
-  left = omega (arith, only.left, ap (λ (v : PassView). v.left) is, began.looked.left, behind.left);
-  nodes = omega (arith, only.nodes, ap (λ (v : PassView). v.nodes) is, began.looked.nodes, behind.nodes);
-  entries = omega (arith, only.entries, ap (λ (v : PassView). v.entries) is, began.looked.entries, behind.entries);
+  left = omega (arith, only.left, ap (λ (v : PassView). v.left) is, began.looked.left, after_it.left);
+  nodes = omega (arith, only.nodes, ap (λ (v : PassView). v.nodes) is, began.looked.nodes, after_it.nodes);
+  entries = omega (arith, only.entries, ap (λ (v : PassView). v.entries) is, began.looked.entries, after_it.entries);
 }
   where
-    behind : AfterPut old made task put
-    behind = after_put old made task put if_made unchanged
+    after_it : AfterPut old made task put
+    after_it = after_put old made task put if_made unchanged
 
     is : closed ≡ closed_view begun
     is = ended ∙ ap closed_view same

@@ -21,7 +21,7 @@ use Rattle.two_threads.specs.Turns.{IsRight, TookTurn, place_of}
 abbrev pub sizes : List PassSize
 sizes = record { nodes = 3; entries = 8; calls = 2 } ∷ record { nodes = 1; entries = 8; calls = 2 } ∷ []
 
--- the pass of the index was laid down behind a turn
+-- the pass of the index was laid down after a turn
 pub record LaidDown (index : Home) (dir : List (List ℕ)) (query : ListQuery) (task : Task) (key : Pass) (left : Left) : Type 0 where
   pub of : IsKeyOf index left.key
   pub took : TookTurn dir query task (shown key) (shown left.key) left.turn
@@ -50,7 +50,7 @@ pub record IsThread (dir : List (List ℕ)) (query : ListQuery) (history : List 
   pub late : IsRight dir query history thread turns.late
   pub own : own_places thread history ≡ place_of turns.early.put ++ place_of turns.late.put
 
--- there is one history: all answers of both threads are right in it, and it has just the puts that were answered
+-- there is one history: all answers of both threads are right in it, and it has exactly the puts that were answered
 pub record IsRun (dir : List (List ℕ)) (query : ListQuery) (first second : Tasks) (ran : Ran) : Type 0 where
   pub first_is : IsThread dir query ran.history.items 0 first ran.first
   pub second_is : IsThread dir query ran.history.items 1 second ran.second

@@ -12,7 +12,7 @@ use Rattle.bucket_terms.specs.PassView.{PassView, Extends, IsOutOfSlots}
 use Rattle.two_threads.specs.declared.turn.Task.{Task}
 use Rattle.two_threads.specs.declared.turn.Turn.{Turn}
 
--- the put stands at its place of the history, as that of this thread, and tells whether the name was there before it
+-- the put stands at its place of the history, as that of this thread, and says whether the name was there before it
 pub record StandsAt (history : List Update) (thread : ℕ) (task : Task) (done : Done) : Type 0 where
   pub some : 0 < done.at
   pub update : slice_get history (done.at - 1) ≡ Some (record { client = thread; line = task.line; key = task.puts; change = Put task.val })
@@ -32,7 +32,7 @@ abbrev pub place_of : Result Done PassError → List ℕ
 place_of (Ok done) = done.at ∷ []
 place_of (Err e) = []
 
--- a turn was taken by a pass that knew `old` before it and knows `new` behind it
+-- a turn was taken by a pass that knew `old` before it and knows `new` after it
 pub record TookTurn (dir : List (List ℕ)) (query : ListQuery) (task : Task) (old new : PassView) (turn : Turn) : Type 0 where
   pub task_is : turn.task ≡ task
   pub right : IsRight dir query new.seen old.number turn

@@ -50,7 +50,7 @@ pub(crate) struct Ran {
     pub(crate) history: Vec<Update>,
 }
 
-/// A pass that was laid down behind a turn, and what it was answered.
+/// A pass that was laid down after a turn, and what it was answered.
 #[derive(Drop)]
 pub(crate) struct Left {
     pub(crate) key: PassKey,

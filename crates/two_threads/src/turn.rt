@@ -10,7 +10,7 @@ use page_rules::KnownPrefixes;
 use std::alloc::Global;
 use std::sync::Wait;
 
-/// What is asked in a turn. Names are told by their ranks in the directory.
+/// What is asked in a turn. A name is given by its rank in the directory.
 #[derive(Clone, Copy, Debug)]
 pub(crate) struct Task {
     /// The number by which the put is known in the history.
@@ -34,7 +34,7 @@ pub(crate) struct Turn {
     pub(crate) page: Page,
 }
 
-/// Takes a turn by a pass. A look-up and a listing have a snapshot each, which is closed behind them, so that slots which
+/// Takes a turn by a pass. A look-up and a listing have a snapshot each, which is closed at once, so that slots which
 /// other passes give back can become free.
 pub(crate) fn take_turn<P: KeyPass, Rt: Wait>(
     rt: &Rt,
