@@ -172,9 +172,9 @@ module _ (index : Home) (dir : List (List ℕ)) (query : ListQuery) (first secon
         (λ u some. of_two u.client (number_of late.key) (number_of late_other.key) first_number second_number some) by;
     early_made = (
       subst (λ (ts : Turns). IsOk ts.early.put) (sym first_is) (made early.turn.put (shown key) took.took.spent took.took.no_slot
-      (omega (arith, left_first)) (omega (arith, nodes_first)) (omega (arith, entries_first))),
+          (omega (arith, left_first)) (omega (arith, nodes_first)) (omega (arith, entries_first))),
       subst (λ (ts : Turns). IsOk ts.early.put) (sym second_is) (made early_other.turn.put (shown other) took_other.took.spent took_other.took.no_slot
-      (omega (arith, left_second)) (omega (arith, nodes_second)) (omega (arith, entries_second))),
+          (omega (arith, left_second)) (omega (arith, nodes_second)) (omega (arith, entries_second))),
     );
     first_made =
         subst (λ (ts : Turns). IsOk ts.late.put) (sym first_is) (made late.turn.put (shown giver) took_late.took.spent took_late.took.no_slot

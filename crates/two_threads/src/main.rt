@@ -84,5 +84,9 @@ fn report(rt: &HostRuntime, dir: &Directory, ran: Result<Ran, NoMemory>) -> io::
             }
         }
     }
-    println!(rt; "{} updates, a slot handed on: {}", ran.history.len(), ran.handed)
+    println!(rt;
+        "{} updates, a slot handed on: {}",
+        ran.history.len(),
+        ran.handed
+    )
 }
