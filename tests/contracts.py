@@ -1,12 +1,13 @@
 #!/usr/bin/env python3
-"""Makes docs/CONTRACTS.md from the source, and compares the clauses that the documents name with it.
+"""Prints the contracts of the public functions, and compares the clauses that the documents name with the source.
 
-    tests/contracts.py --write    makes docs/CONTRACTS.md
-    tests/contracts.py --check    says where the documents differ from the source, and ends with status 1 then
+    tests/contracts.py                    prints the contracts of all crates, as a page in Markdown
+    tests/contracts.py page_rules         prints those of the named crates
+    tests/contracts.py --check            reports where the documents differ from the source, and then ends with status 1
 
 A function is public where it is named by `pub use` in the crate's root file, or is a method of a type or trait
 that is. The page has each of them with its comment and its clauses; what an `impl Display` says of its bytes is the
-clause `output` of its `fmt`. In docs/PROVED.md, and wherever README or
+clause `output` of its `fmt`. The repository does not keep the page. In docs/PROVED.md, and wherever README or
 a page of docs/ says "clause `c` of `f`", each function has a clause of that name.
 """
 import re
@@ -14,7 +15,6 @@ import sys
 from pathlib import Path
 
 TOP = Path(__file__).resolve().parent.parent
-CONTRACTS = TOP / "docs" / "CONTRACTS.md"
 NAMELESS = "–"
 
 
@@ -144,11 +144,11 @@ def public_functions(crate):
     return {name: clauses for name, (clauses, _) in documented_functions(crate).items()}
 
 
-# ---- docs/CONTRACTS.md
+# ---- the page
 
 HEAD = """# The contracts
 
-For each crate, its public functions: the comment and the clauses of each as they stand in the source. `tests/contracts.py` makes this page from it. A clause that begins with *needs* has to hold before the call, each other one holds after it. A dash stands for a clause without a name.
+For each crate, its public functions: the comment and the clauses of each as they stand in the source. A clause that begins with *needs* has to hold before the call, each other one holds after it. A dash stands for a clause without a name.
 
 In a clause, `result` is the answer. `x.old` and `x.new` are a borrowed value before and after the call; `x.now` is a value that is only read. `x.entry` is the value of a parameter when the call begins. `IfOk result P` says P of the value of a success. `OnOk result P` says P where the call succeeds. `IfErr` and `OnErr` are the same for an error. `IfSome result P` says P of the value where there is one. `MatchOption result P Q` says P where there is no value, and Q of the value where there is one. `IsErrOf result e` says that the error is `e`.
 
@@ -160,10 +160,10 @@ def written(clause):
     return "- %s%s: `%s`" % ("*needs* " if kind == "requires" else "", name, text)
 
 
-def page():
-    """The whole of docs/CONTRACTS.md."""
+def page(names):
+    """The contracts of these crates."""
     parts = [HEAD]
-    for crate in crates():
+    for crate in names:
         functions = {name: told for name, told in documented_functions(crate).items() if any(told)}
         if functions:
             parts.append("## " + crate)
@@ -171,11 +171,6 @@ def page():
             needed_first = sorted(clauses, key=lambda clause: clause[0] != "requires")
             parts.append("\n".join(["### `%s`" % name, ""] + [comment] * bool(comment) + [""] * bool(comment and clauses) + list(map(written, needed_first))))
     return "\n\n".join(parts) + "\n"
-
-
-def differences():
-    if not CONTRACTS.exists() or CONTRACTS.read_text() != page():
-        yield "docs/CONTRACTS.md is not that of the source; tests/contracts.py --write makes it"
 
 
 # ---- the clauses that other pages name
@@ -217,17 +212,22 @@ def wrong_names():
                 yield "%s: no `%s` has a clause `%s`" % (path.name, function, clause)
 
 
-def main():
-    if sys.argv[1:] == ["--write"]:
-        CONTRACTS.write_text(page())
-    elif sys.argv[1:] != ["--check"]:
-        sys.exit(__doc__)
-    wrong = list(differences()) + list(wrong_names())
+def check():
+    wrong = list(wrong_names())
     print("\n".join(wrong), end="\n" if wrong else "")
     if wrong:
         sys.exit("%d differences" % len(wrong))
     clauses = sum(len(c) for crate in crates() for c in public_functions(crate).values())
-    print("CONTRACTS.md has the %d clauses of the public functions" % clauses)
+    print("the public functions have %d clauses, and each one that the documents name is there" % clauses)
+
+
+def main():
+    if sys.argv[1:] == ["--check"]:
+        return check()
+    unknown = [name for name in sys.argv[1:] if name not in crates()]
+    if unknown:
+        sys.exit("no crate is named %s\n\n%s" % (", ".join(unknown), __doc__))
+    print(page(sys.argv[1:] or crates()), end="")
 
 
 if __name__ == "__main__":

@@ -12,7 +12,7 @@ it says to open first is there. docs/DEFINITIONS.md has a section for each file 
 A name in code style, such as `serve` or `AnswersList.same_page`, is declared in the source, or stands in one of its
 texts, in a script, in crates.txt or in the name of a file; the parts of one with a dot or `::` stand in one file of the
 source. Of a line in code style with spaces, such as a session's or a command's, the words are tried that have `_` or a
-capital inside. docs/CONTRACTS.md is made from the source, and so is not tried.
+capital inside.
 """
 import re
 import sys
@@ -162,8 +162,7 @@ def main():
     names, words_of_files = declared(texts), [set(re.findall(r"\w+", text)) for text in texts.values()]
     for page in pages():
         faults = [*wrong_links(page), *wrong_merges(page), *wrong_files(page)]
-        if page.name != "CONTRACTS.md":
-            faults += wrong_names(page, names, words_of_files)
+        faults += wrong_names(page, names, words_of_files)
         wrong += ["%s: %s" % (page.relative_to(TOP), fault) for fault in faults]
     print("\n".join(wrong) if wrong else "each link of %d pages leads somewhere" % len(pages()))
     sys.exit(len(wrong) > 0)
