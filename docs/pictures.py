@@ -69,36 +69,31 @@ MONO, SMALL = "t m", "s"
 
 def history():
     """The session of README: the journal, and each answer at its place."""
-    p = Picture(800, 306, "A journal of six changes, and each answer at its place")
-    updates = [
-        ("PUT", "…/January/", "sample.jpg"), ("PUT", "…/February/", "sample2.jpg"), ("PUT", "…/February/", "sample3.jpg"),
-        ("PUT", "photos/2006/", "index.html"), ("PUT", "", "sample.jpg"), ("DELETE", "", "sample.jpg"),
-    ]
+    p = Picture(800, 226, "A journal of three changes, and each answer at its place")
+    updates = [("PUT", "…/January/", "sample.jpg"), ("PUT", "photos/2006/", "index.html"), ("DELETE", "photos/2006/", "index.html")]
     p.text(10, 22, "the journal", "s", 12, "start")
-    left, step = 24, 120
+    left, step = 60, 224
     for at, (verb, folder, name) in enumerate(updates):
         x = left + step * at
         lines = [(str(at + 1) + "  " + verb, "t b", 13)] + [(part, "t m", 11) for part in (folder, name) if part]
-        p.labelled(x + 8, 34, step - 16, 64, lines)
-    p.text(left, 226, "the answers, each at its place:", "s", 12, "start")
-    p.text(left, 242, "it is true after so many changes", "s", 12, "start")
-    for at in range(7):
+        p.labelled(x + 30, 34, step - 60, 64, lines)
+    p.text(10, 160, "the answers, each at its", "s", 12, "start")
+    p.text(10, 176, "place: it is true after", "s", 12, "start")
+    p.text(10, 192, "so many changes", "s", 12, "start")
+    for at in range(len(updates) + 1):
         x = left + step * at
         p.line(x, 34, x, 114, "dash")
         p.text(x, 130, str(at), "t b", 13)
     answers = {
-        1: [("line 2", "200")], 2: [("line 3", "200")], 3: [("line 4", "200")], 4: [("line 5", "200")],
-        5: [("line 6", "200"), ("7 LIST", "200"), ("8 NEXT", "200"), ("9 HEAD", "200")],
-        6: [("10 DELETE", "204"), ("11 HEAD", "404")],
+        1: [("line 2  PUT", "200")],
+        2: [("line 3  PUT", "200"), ("line 4  LIST", "200")],
+        3: [("line 5  DELETE", "204"), ("line 6  HEAD", "404")],
     }
     for place, rows in answers.items():
         for row, (line, status) in enumerate(rows):
-            kind = "key" if "LIST" in line or "NEXT" in line else "box"
-            p.labelled(left + step * place - 52, 142 + 30 * row, 104, 24, [(line + "  " + status, "t", 12)], kind)
-    p.line(left, 274, left + 5 * step, 274, "span")
-    for x in (left, left + 5 * step):
-        p.line(x, 268, x, 280, "span")
-    p.text(left + 2.5 * step, 294, "both pages are read from the bucket after these five changes, and from no other moment", "s", 12)
+            kind = "key" if "LIST" in line else "box"
+            p.labelled(left + step * place - 64, 142 + 30 * row, 128, 24, [(line + "  " + status, "t", 12)], kind)
+    p.text(left + 2 * step, 218, "the page is read from the bucket after these two changes, and from no other moment", "s", 12)
     return p
 
 

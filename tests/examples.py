@@ -2,6 +2,7 @@
 """Runs all examples, and compares what the program writes with what stands beside them.
 
     tests/examples.py PROGRAM
+    tests/examples.py --model     compares the examples and the sessions of the documents with the model alone, which needs no program
     tests/examples.py --write     writes the answers of examples/ anew: by the model, and never by the program
 
 - Each session examples/NAME.txt is answered, with the slots that SLOTS names for it, by examples/NAME.out, which is also what the model of
@@ -10,8 +11,9 @@
   writes is to be a legal run.
 - Each session examples/refused/CAUSE.txt is refused for this cause, at the line that the model names.
 - In README.md, docs/ and examples/README.md, each block marked `sh` that a block marked `output` follows
-  prints just that, run at the top of the repository; and each block marked `session` is answered by the
-  block marked `output` behind it. Lines that use jq are run where jq is there.
+  prints exactly that, run at the top of the repository; and each block marked `session` is answered by the
+  block marked `output` after it, or by one marked `folded`, whose long lines are cut (`folded` below).
+  Lines that use jq are run where jq is there.
 """
 import re
 import shutil
@@ -33,6 +35,9 @@ LONG = {
     "TooManyEntries": b"CLIENT\n" + b"LIST\n" * 4001,
 }
 
+
+# How long the lines of a block marked `folded` are at most.
+FOLD = 108
 
 # The examples whose clients have a named number of node slots; the others are run by the one word `run`.
 SLOTS = {"few_slots": 2}
@@ -104,21 +109,44 @@ def blocks(path):
     return [(text[: block.start()].count("\n") + 1, block.group(1), block.group(2)) for block in found]
 
 
+def folded(text):
+    """The text with each line cut to at most FOLD characters; what follows a cut is set in by two spaces."""
+    lines = []
+    for line in text.splitlines():
+        lines.append(line[:FOLD])
+        rest = line[FOLD:]
+        while rest:
+            lines.append("  " + rest[: FOLD - 2])
+            rest = rest[FOLD - 2 :]
+    return "".join(line + "\n" for line in lines)
+
+
 def check_pages(program, tally):
     for path in PAGES:
         found = blocks(path) if path.exists() else []
-        for (line, mark, text), (_, mark_behind, wanted) in zip(found, found[1:]):
+        for (line, mark, text), (_, mark_after, wanted) in zip(found, found[1:]):
             where = "%s:%d" % (path.relative_to(TOP), line)
-            if mark == "session" and mark_behind == "output":
+            if mark == "session" and mark_after in ("output", "folded"):
+                shown = folded if mark_after == "folded" else str
                 # A page shows what standard output gets, or what standard error does.
-                tally.compare(where + " and the model", "".join(model(text.encode())[:2]), wanted)
-                tally.compare(where, "".join(run(program, text.encode())[:2]), wanted)
-            if mark == "sh" and mark_behind == "output":
+                tally.compare(where + " and the model", shown("".join(model(text.encode())[:2])), wanted)
+                if program:
+                    tally.compare(where, shown("".join(run(program, text.encode())[:2])), wanted)
+            if program and mark == "sh" and mark_after == "output":
                 if re.search(r"\bjq\b", text) and not shutil.which("jq"):
                     tally.left_out += 1
                     continue
                 ran = subprocess.run(["sh", "-c", text], cwd=TOP, stdin=subprocess.DEVNULL, capture_output=True)
                 tally.compare(where, ran.stdout.decode(), wanted)
+
+
+def check_by_model(tally):
+    """What can be compared where no program is built."""
+    for path in sorted(EXAMPLES.glob("*.txt")):
+        wanted = model(path.read_bytes(), SLOTS.get(path.stem))
+        if wanted[0] is not None:
+            tally.compare("%s and the model" % path.name, wanted, (path.with_suffix(".out").read_text(), "", 0))
+    check_pages(None, tally)
 
 
 def write():
@@ -133,14 +161,19 @@ def main():
         return write()
     if len(sys.argv) != 2:
         sys.exit(__doc__)
-    program, tally = str(Path(sys.argv[1]).resolve()), Tally()
-    make_ready(program)
-    check_sessions(program, tally)
-    check_refused(program, tally)
-    check_pages(program, tally)
-    left_out = ", %d left out for want of jq" % tally.left_out if tally.left_out else ""
+    tally = Tally()
+    if sys.argv[1] == "--model":
+        check_by_model(tally)
+    else:
+        program = str(Path(sys.argv[1]).resolve())
+        make_ready(program)
+        check_sessions(program, tally)
+        check_refused(program, tally)
+        check_pages(program, tally)
+    left_out = ", %d left out because jq is not there" % tally.left_out if tally.left_out else ""
     print("examples: %d comparisons agree, %d do not%s" % (tally.passed, tally.failed, left_out))
     sys.exit(tally.failed > 0)
 
 
-main()
+if __name__ == "__main__":
+    main()

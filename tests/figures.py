@@ -1,11 +1,14 @@
 #!/usr/bin/env python3
-"""Counts what docs/PROVED.md says of the repository in figures.
+"""Counts what docs/PROVED.md says of the repository in figures, and compares other numbers of the documents.
 
-    tests/figures.py            prints them
-    tests/figures.py --check    compares them with the page
-    tests/figures.py --write    puts them in there
+    tests/figures.py            prints the figures of PROVED.md
+    tests/figures.py --check    compares them with the page, and the other numbers
+    tests/figures.py --write    puts the figures in there
 
 The table of the page stands between the lines `<!-- NAME: .. -->` and `<!-- end -->`.
+The limits that README.md and docs/FORMAT.md name are those of the definitions. What README.md says was measured at a commit
+stands in the section of bench/README.md that names this commit. README.md has at most 120 lines of at most 110 characters.
+All documents together have at most 310,000 bytes.
 """
 import re
 import sys
@@ -80,11 +83,67 @@ def parts():
     yield TOP / "docs" / "PROVED.md", "figures", figures()
 
 
+# ---- other numbers of the documents
+
+# By page: a sentence with limits, and for each of its numbers the file of the definition, the definition, and the unit.
+LIMITS = [
+    ("README.md", r"([\d,]+) MiB, ([\d,]+) requests, ([\d,]+) clients, and pages of ([\d,]+) entries", [
+        ("request_lines/specs/Input.antt", r"most_input_bytes = (\d+)", 1 << 20),
+        ("request_lines/specs/InputParts.antt", r"most_requests = (\d+)", 1),
+        ("request_lines/specs/InputParts.antt", r"most_clients = (\d+)", 1),
+        ("request_lines/specs/InputParts.antt", r"most_listed = (\d+)", 1),
+    ]),
+    ("README.md", r"Up to ([\d,]+) clients", [("request_lines/specs/InputParts.antt", r"most_clients = (\d+)", 1)]),
+    ("docs/FORMAT.md", r"the input has more than ([\d,]+) bytes", [("request_lines/specs/Input.antt", r"most_input_bytes = (\d+)", 1)]),
+    ("docs/FORMAT.md", r"There are at most ([\d,]+) clients", [("request_lines/specs/InputParts.antt", r"most_clients = (\d+)", 1)]),
+    ("docs/FORMAT.md", r"can have more than ([\d,]+) entries", [("request_lines/specs/InputParts.antt", r"most_listed = (\d+)", 1)]),
+    ("docs/FORMAT.md", r"`N` from 1 to ([\d,]+) without", [("command_words/specs/Words.antt", r"n ≤ (8\d+)", 1)]),
+    ("docs/FORMAT.md", r"a number from 1 to ([\d,]+) in decimal", [("request_lines/specs/SampleSession.antt", r"most_sample_requests = (\d+)", 1)]),
+]
+
+
+def wrong_limits():
+    for page, sentence, wanted in LIMITS:
+        found = re.search(sentence.replace(" ", r"\s+"), (TOP / page).read_text())
+        numbers = [number.replace(",", "") for number in found.groups()] if found else []
+        known = [re.search(definition, (CRATES / file).read_text()) for file, definition, _ in wanted]
+        meant = [str(int(limit.group(1)) // unit) if limit else "?" for limit, (_, _, unit) in zip(known, wanted)]
+        if numbers != meant:
+            yield "%s: the limits of '%s' are %s, and the definitions have %s" % (page, sentence, numbers, meant)
+
+
+def wrong_measurements():
+    """Each number in a sentence of README that names a commit stands in the part of bench/README.md with this commit."""
+    readme = " ".join((TOP / "README.md").read_text().split())
+    bench = re.split(r"\n(?=## )", (TOP / "bench" / "README.md").read_text())
+    for commit in re.findall(r"at commit ([0-9a-f]{8})", readme):
+        part = "".join(text for text in bench if commit in text)
+        sentence = next(text for text in re.split(r"(?<=[.;]) (?=[A-Z-])", readme) if commit in text)
+        for number in re.findall(r"\d+\.\d+", sentence):
+            if not re.search(r"(?<![\d.])%s(?![\d.]*\d)" % re.escape(number), part):
+                yield "README.md: bench/README.md does not have %s as measured at %s" % (number, commit)
+
+
+def documents():
+    """README.md and the pages of docs/, bench/, examples/ and crates/."""
+    folders = ("docs", "bench", "examples", "crates")
+    return [TOP / "README.md"] + [path for folder in folders for path in sorted((TOP / folder).glob("*.md"))]
+
+
+def wrong_sizes():
+    lines = (TOP / "README.md").read_text().splitlines()
+    if len(lines) > 120 or max(map(len, lines)) > 110:
+        yield "README.md has %d lines, the longest of %d characters" % (len(lines), max(map(len, lines)))
+    size = sum(len(path.read_bytes()) for path in documents())
+    if size > 310_000:
+        yield "all documents together have %s bytes" % count(size)
+
+
 def main():
     if sys.argv[1:] == []:
         print(figures())
     elif sys.argv[1:] in (["--check"], ["--write"]):
-        wrong = [error for part in parts() for error in held(*part)]
+        wrong = [error for part in parts() for error in held(*part)] + [*wrong_limits(), *wrong_measurements(), *wrong_sizes()]
         print("\n".join(wrong) or "the figures are those of the source")
         sys.exit(len(wrong) > 0)
     else:
