@@ -1,7 +1,7 @@
 #!/usr/bin/env python3
 """Tries each link of the documents, each file of the repository that they name, and each name in code style; and
-compares the floor plan of crates/README.md with crates.txt, and docs/DEFINITIONS.md with docs/TRUSTED.md. A page with the
-marks of a merge that was not finished is told.
+compares the floor plan of crates/README.md with crates.txt, docs/DEFINITIONS.md with docs/TRUSTED.md, and the parts of the
+rule in docs/CHANGING.md with the files of the core. A page with the marks of a merge that was not finished is reported.
 
     tests/links.py
 
@@ -155,8 +155,29 @@ def wrong_definitions():
         yield "the sections are not the files of docs/TRUSTED.md: " + ", ".join(other)
 
 
+def wrong_parts():
+    """The rows of the rule's parts: each record is declared in the file of its definition, and stands in each file that shows it kept."""
+    section = (TOP / "docs" / "CHANGING.md").read_text().split("\n## A part of the rule\n")[-1].split("\n## ")[0]
+    rows = re.findall(r"^\|([^|]*)\| ((?:`\w+`(?:, )?)+) \| `([\w/.]+)` \| (.*) \|$", section, re.M)
+    if len(rows) < 20:
+        yield "the table of the rule's parts has %d rows that can be read" % len(rows)
+    for _, records, definition, proofs in rows:
+        names = re.findall(r"`(\w+)`", records)
+        text = (TOP / "crates" / definition).read_text() if (TOP / "crates" / definition).exists() else ""
+        for name in names:
+            if not re.search(r"(?m)^(?:pub )?(?:abbrev |record |data )(?:pub )?%s\b" % name, text):
+                yield "%s does not declare %s" % (definition, name)
+        for files, crate in re.findall(r"((?:`\w+`(?:, )?)+) of (\w+)", proofs):
+            for file in re.findall(r"`(\w+)`", files):
+                path = TOP / "crates" / crate / "proofs" / (file + ".antt")
+                words = set(re.findall(r"\w+", path.read_text())) if path.exists() else set()
+                if not words & set(names):
+                    yield "%s of %s has none of %s" % (file, crate, ", ".join(names))
+
+
 def main():
     wrong = ["crates/README.md: " + fault for fault in wrong_floors()]
+    wrong += ["docs/CHANGING.md: " + fault for fault in wrong_parts()]
     wrong += ["docs/DEFINITIONS.md: " + fault for fault in wrong_definitions()]
     texts = dict(sources())
     names, words_of_files = declared(texts), [set(re.findall(r"\w+", text)) for text in texts.values()]

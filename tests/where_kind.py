@@ -1,8 +1,10 @@
 #!/usr/bin/env python3
-"""Prints where a name of the core stands (a kind of event, a field, a group of a view): each file of crates/ that has it outside of
-its imports, lowest crate first, with the number of lines.
+"""Prints where a name of the core stands: a kind of event, a field of a node, a group of a view, a record of the rule.
 
-usage: where_kind.py NAME
+    tests/where_kind.py SetTag
+
+Each file of crates/ that has the name outside of imports and comments is printed, lowest crate first, with the number of lines.
+Where no file has it, the script ends with status 1.
 """
 import pathlib
 import re
@@ -18,9 +20,9 @@ def crates():
 
 
 def lines_with(path, name):
-    """How many lines of the file have the name, beside imports."""
+    """How many lines of the file have the name, outside of imports and comments."""
     found = re.compile(rf"\b{re.escape(name)}\b")
-    is_import = re.compile(r"\s*(pub |ghost )?use ")
+    is_import = re.compile(r"\s*((pub |ghost )?use |//|--)")
     return sum(1 for line in path.read_text().splitlines() if found.search(line) and not is_import.match(line))
 
 
@@ -36,6 +38,7 @@ def main():
                     files += 1
                     print(f"{path.relative_to(ROOT)} {count}")
     print(f"{files} files")
+    sys.exit(files == 0)
 
 
 if __name__ == "__main__":
