@@ -8,7 +8,7 @@
 The table of the page stands between the lines `<!-- NAME: .. -->` and `<!-- end -->`.
 The limits that README.md and docs/FORMAT.md name are those of the definitions. What README.md says was measured at a commit
 stands in the section of bench/README.md that names this commit. README.md has at most 120 lines of at most 110 characters.
-All documents together have at most 310,000 bytes.
+All documents together have at most 280,000 bytes.
 """
 import re
 import sys
@@ -135,7 +135,7 @@ def wrong_sizes():
     if len(lines) > 120 or max(map(len, lines)) > 110:
         yield "README.md has %d lines, the longest of %d characters" % (len(lines), max(map(len, lines)))
     size = sum(len(path.read_bytes()) for path in documents())
-    if size > 310_000:
+    if size > 280_000:
         yield "all documents together have %s bytes" % count(size)
 
 
