@@ -1,7 +1,8 @@
 #!/usr/bin/env python3
 """Tries each link of the documents, each file of the repository that they name, and each name in code style; and
 compares the floor plan of crates/README.md with crates.txt, docs/DEFINITIONS.md with docs/TRUSTED.md, and the parts of the
-rule in docs/CHANGING.md with the files of the core. A page with the marks of a merge that was not finished is reported.
+rule in docs/CHANGING.md with the files of the core, and the page on use of ./bucketidx with docs/FORMAT.md. A page with the
+marks of a merge that was not finished is reported.
 
     tests/links.py
 
@@ -175,8 +176,40 @@ def wrong_parts():
                     yield "%s of %s has none of %s" % (file, crate, ", ".join(names))
 
 
+def usage():
+    """The page on use that ./bucketidx shows, and the parts of it that say the lines of a session and the exit statuses."""
+    page = (TOP / "bucketidx").read_text().split("<<END\n")[1].split("\nEND\n")[0]
+    lines = page.split("one request a line:\n\n")[1].split("\n\n")[0]
+    return page, lines, page.split("exit status:\n")[1].split("\n\n")[0]
+
+
+def wrong_usage():
+    """The page has each line of a session with its fields, each exit status, and each number of these in docs/FORMAT.md."""
+    page, lines, statuses = usage()
+    text = (TOP / "docs" / "FORMAT.md").read_text()
+    table = text.split("| Line | What it asks |\n")[1].split("\n\n")[0]
+    # The last form of a row is the one with all fields.
+    wanted = {re.findall(r"`([^`]+)`", row.split("|")[1])[-1] for row in table.splitlines()[1:]}
+    shown = {re.split(r"  +", line.strip())[0] for line in lines.splitlines() if re.match(r"    \S", line)}
+    yield from ("the line `%s` is in one of the two alone" % line for line in sorted(wanted ^ shown))
+    for fields in {line.split(" ", 1)[1] for line in wanted if " " in line and "query" not in line}:
+        for field in fields.split():
+            if not re.search(r"(?m)^    %s   ?" % field, page):
+                yield "the field `%s` is not explained" % field
+    ends = text.split("\n## How it ends\n")[1]
+    numbers = set(re.findall(r"(?m)^\| (\d+) \|", ends))
+    if numbers != set(re.findall(r"\d+", " ".join(re.findall(r"(?m)^    (\d[\d, ]*) ", statuses)))):
+        yield "the exit statuses are not those of the page on use"
+    numbers_of = lambda some: {number.replace(",", "") for number in re.findall(r"\d[\d,]*\d|\d", some)}
+    yield from ("docs/FORMAT.md does not have the number %s" % number for number in sorted(numbers_of(page) - numbers_of(text)))
+    for parameter in set(re.findall(r"([a-z-]+)=", lines)):
+        if "| `%s` |" % parameter not in text:
+            yield "docs/FORMAT.md has no parameter `%s`" % parameter
+
+
 def main():
     wrong = ["crates/README.md: " + fault for fault in wrong_floors()]
+    wrong += ["bucketidx and docs/FORMAT.md: " + fault for fault in wrong_usage()]
     wrong += ["docs/CHANGING.md: " + fault for fault in wrong_parts()]
     wrong += ["docs/DEFINITIONS.md: " + fault for fault in wrong_definitions()]
     texts = dict(sources())
