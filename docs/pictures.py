@@ -190,7 +190,7 @@ def grace():
 
 
 def prune():
-    p = Picture(800, 356, "A cut beside a reader that announces late, and one that reads at an older number")
+    p = Picture(800, 356, "A cut next to a reader that announces late, and one that reads at an older number")
     rows = [("the stamp", 27), ("pass 0 cuts", 87), ("pass 1 comes late", 163), ("pass 2 reads", 227)]
     for name, y in rows:
         p.text(12, y + 4, name, "t", 12, "start")
@@ -208,7 +208,7 @@ def prune():
     event(312, 87, "looks at 1:", "finds 0")
     event(388, 87, "looks at 2:", "finds 6")
     event(455, 87, "raises", "to 8")
-    event(560, 87, "cuts behind the entry", "that 5 selects")
+    event(560, 87, "cuts after the entry", "that 5 selects")
     p.line(312, 95, 312, 163, "dash")
     p.line(388, 95, 388, 214, "dash")
     p.text(394, 124, "its least number is 5 now", "s", 11, "start")
@@ -314,7 +314,7 @@ def layers():
         return y - 12
 
     p.text(16, 26, "the program, and what it rests on", "s", 12, "start")
-    p.text(span + 28, 26, "beside it, and not in the program", "s", 12, "start")
+    p.text(span + 28, 26, "next to it, and not in the program", "s", 12, "start")
     bottom = p.height - 10
     for name, names in inside:
         bottom = floor(16, bottom, name, names, "key" if "core" in name else "box")

@@ -79,7 +79,7 @@ def v1_pages_of_moto(s3, bucket, query):
 
 
 def v1_shown(page):
-    """What both tell of a page of version 1."""
+    """What both say of a page of version 1."""
     return {
         "Contents": [(item["Key"], item["ETag"].strip('"'), item["Size"]) for item in page.get("Contents", [])],
         "CommonPrefixes": [item["Prefix"] for item in page.get("CommonPrefixes", [])],
@@ -99,7 +99,7 @@ def v1_pages_of_program(program, session, query, markers):
 
 
 def shown(page):
-    """What both tell of a page. Times are not compared, and an etag without its quotes."""
+    """What both say of a page. Times are not compared, and an etag without its quotes."""
     return {
         "Contents": [(item["Key"], item["ETag"].strip('"'), item["Size"]) for item in page.get("Contents", [])],
         "CommonPrefixes": [item["Prefix"] for item in page.get("CommonPrefixes", [])],

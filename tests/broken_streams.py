@@ -6,7 +6,7 @@
 The session is the first of rows.txt, whose whole text stands there, worked out by hand.
 
 - Pieces: the text does not depend on how many bytes a read gives.
-- Reads: the input fails behind each piece, also behind the last one. Nothing is written then.
+- Reads: the input fails after each piece, also after the last one. Nothing is written then.
 - Writes: the output takes so many bytes and no more, for each number of them. Just these were written.
 - Lines: they are kept back until there are some kilobytes of them, and all have been written at the end. Those of a
   piece of a long text come by one write.
@@ -127,7 +127,7 @@ def compared_by(program, form, raw, text, done):
         yield "%s: pieces of %d bytes" % (form, step), from_pieces(program, cut(raw, step), False, form), (done, text)
     pieces = cut(raw, 10)
     for count in range(len(pieces) + 1):
-        yield "%s: a read that fails behind %d pieces" % (form, count), from_pieces(program, pieces[:count], True, form), (READ_FAULT, b"")
+        yield "%s: a read that fails after %d pieces" % (form, count), from_pieces(program, pieces[:count], True, form), (READ_FAULT, b"")
     for room in range(len(text)):
         yield "%s: room for %d bytes" % (form, room), into_room(program, raw, room, form), (WRITE_FAULT, text[:room])
     yield form + ": room for all bytes", into_room(program, raw, len(text), form), (done, text)

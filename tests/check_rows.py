@@ -1,5 +1,5 @@
 #!/usr/bin/env python3
-"""Compares the verdicts of `check` with rows that were written by hand from the definitions.
+"""Compares the verdicts of `check` with handwritten rows, made from the definitions.
 
     tests/check_rows.py PROGRAM
 
@@ -41,7 +41,7 @@ def with_line(number, line):
 
 
 WHOLE = b"".join(TEXT)
-# The text in which each client looks at the key before both of them put it, and one in which each looks behind both.
+# The text in which each client looks at the key before both of them put it, and one in which each looks after both.
 TWO = b"CLIENT\nHEAD a\nPUT a 1 e1 1\nCLIENT\nPUT a 2 e2 2\nHEAD a\n"
 TWO_JOURNAL = b'{"At":1,"Client":1,"Key":"a","Line":5,"Verb":"PUT"}\n{"At":2,"Client":0,"Key":"a","Line":3,"Verb":"PUT"}\n{"Updates":2}\n'
 TWO_TEXT = (
@@ -66,7 +66,7 @@ VERDICTS = [
     ("the last line left out", ["check"], SESSION, b"----\n", with_line(8, b""), 7),
     ("another number of updates", ["check"], SESSION, b"----\n", with_line(8, b'{"Updates":2}\n'), 8),
     ("a last line without LF", ["check"], SESSION, b"----\n", WHOLE[:-1], 8),
-    ("a line behind the last one", ["check"], SESSION, b"----\n", WHOLE + b"\n", 8),
+    ("a line after the last one", ["check"], SESSION, b"----\n", WHOLE + b"\n", 8),
     ("a CR at the end of a line", ["check"], SESSION, b"----\n", with_line(1, TEXT[0].replace(b"\n", b"\r\n")), 1),
     ("a space more", ["check"], SESSION, b"----\n", with_line(2, TEXT[1].replace(b":2,", b": 2,")), 2),
     ("a place with a leading zero", ["check"], SESSION, b"----\n", with_line(2, TEXT[1].replace(b":2,", b":02,")), 2),
@@ -75,9 +75,9 @@ VERDICTS = [
     ("bytes that are no text", ["check"], SESSION, b"----\n", with_line(1, b"\xff\n"), 1),
     ("two wrong lines, the journal's first", ["check"], SESSION, b"----\n", with_line(1, b"{}\n").replace(b'"Key":"a"', b'"Key":"c"'), 6),
     ("two updates of one line", ["check"], SESSION, b"----\n", with_line(7, TEXT[4].replace(b'"At":1', b'"At":3')), 7),
-    ("no text behind the line", ["check"], SESSION, b"----\n", b"", 1),
-    ("no line feed behind the line", ["check"], SESSION, b"----", b"", 1),
-    ("CR alone behind the line", ["check"], SESSION, b"----\r", b"", 1),
+    ("no text after the line", ["check"], SESSION, b"----\n", b"", 1),
+    ("no line feed after the line", ["check"], SESSION, b"----", b"", 1),
+    ("CR alone after the line", ["check"], SESSION, b"----\r", b"", 1),
     ("fewer lines than requests", ["check"], SESSION, b"----\n", b"".join(TEXT[:3]), 4),
     ("as many lines as requests, none of them right", ["check"], SESSION, b"----\n", b"\n\n\n\n", 5),
     ("a session without a client", ["check"], b"", b"----\n", b'{"Updates":0}\n', None),
@@ -85,10 +85,10 @@ VERDICTS = [
     ("the line once more in the text", ["check"], b"CLIENT\n", b"----\n", b'----\n{"Updates":0}\n', 1),
     ("a session whose last line is empty", ["check"], b"CLIENT\n\n", b"----\n", b'{"Updates":0}\n', None),
     ("looks at old places", ["check"], TWO, b"----\n", TWO_TEXT % (0, 1, b"e2", 2, 2) + TWO_JOURNAL, None),
-    ("looks behind both updates", ["check"], TWO, b"----\n", TWO_TEXT % (0, 2, b"e1", 1, 1) + TWO_JOURNAL, None),
+    ("looks after both updates", ["check"], TWO, b"----\n", TWO_TEXT % (0, 2, b"e1", 1, 1) + TWO_JOURNAL, None),
     ("an answer of another place", ["check"], TWO, b"----\n", TWO_TEXT % (0, 2, b"e2", 2, 2) + TWO_JOURNAL, 4),
     ("a look where the key is there", ["check"], TWO, b"----\n", TWO_TEXT % (1, 1, b"e2", 2, 2) + TWO_JOURNAL, 1),
-    ("a refusal for want of slots", ["check", "--slots", "1"], FEW, b"----\n", FEW_TEXT, None),
+    ("a refusal because slots ran out", ["check", "--slots", "1"], FEW, b"----\n", FEW_TEXT, None),
     ("the same with slots enough", ["check", "--slots", "2"], FEW, b"----\n", FEW_TEXT, 2),
     ("the same without a number", ["check"], FEW, b"----\n", FEW_TEXT, 2),
 ]
@@ -105,7 +105,7 @@ REFUSED = [
     (["check"], b"HEAD a\n----\n" + WHOLE, 1, "NoClient"),
     (["check"], SESSION + b"PUT a\n----\n" + WHOLE, 6, "WrongFields"),
     (["check"], SESSION + b"PUT a", 6, "WrongFields"),
-    # Lines that are nearly the one between, and what stands behind them.
+    # Lines that are nearly the one between, and what stands after them.
     (["check"], SESSION + b"-----\n" + WHOLE, 6, "UnknownVerb"),
     (["check"], SESSION + b"---\n" + WHOLE, 6, "UnknownVerb"),
     (["check"], SESSION + b" ----\n" + WHOLE, 6, "UnknownVerb"),

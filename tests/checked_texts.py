@@ -124,7 +124,7 @@ def journal_text(asked, at):
 
 
 def behind_place(asked):
-    """A journal line behind its place."""
+    """A journal line after its place."""
     return journal_text(asked, 0).removeprefix(b'{"At":0')
 
 

@@ -61,7 +61,7 @@ def clauses_from(lines, start, indent):
 
 
 def comment_before(lines, at):
-    """The doc comment that ends just before a line, as one paragraph."""
+    """The doc comment that ends immediately before a line, as one paragraph."""
     said = []
     while at > 0 and re.match(r"\s*(///|#\[)", lines[at - 1]):
         at -= 1

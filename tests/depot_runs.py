@@ -9,10 +9,10 @@ this is checked:
 
 - each tag below P was given once, from one seat;
 - each tag that was given stands once among those that were taken and those that were left, and no other tag does;
-- what each seat tells that it gave and took are as many tags as it lists;
+- what each seat reports that it gave and took are as many tags as it lists;
 - no more parcels are left than the depot holds.
 
-How many looks have found the depot empty and full is told.
+How many looks have found the depot empty and full is reported.
 """
 import argparse
 import subprocess
@@ -36,10 +36,10 @@ def checked(lines, words):
         else:
             return f"{line}", None
     if len(told) != words.seats:
-        return f"{len(told)} seats have told", None
+        return f"{len(told)} seats have reported", None
     for seat, (given, taken, *_) in told.items():
         if (given, taken) != (by_seat["G", seat], by_seat["T", seat]):
-            return f"seat {seat} tells {given} and {taken}, and lists {by_seat['G', seat]} and {by_seat['T', seat]}", None
+            return f"seat {seat} reports {given} and {taken}, and lists {by_seat['G', seat]} and {by_seat['T', seat]}", None
     if gave != Counter(map(str, range(words.parcels))):
         return f"{len(gave)} tags were given, {gave.most_common(1)} the most often", None
     if took + left != gave:

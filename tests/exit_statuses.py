@@ -69,7 +69,7 @@ def run(program, words, source, target):
             file.seek(0)
         given = file.fileno() if isinstance(source, bytes) else os.open(source, os.O_RDONLY)
         ran = subprocess.run([program, *words], stdin=given, stdout=output, stderr=subprocess.PIPE)
-        # The page on use, which ./bucketidx shows where the words ask for it, is not the program's.
+        # The page on use, which ./bucketidx shows where the arguments ask for it, is not the program's.
         said = ran.stderr.decode().partition("\nusage: ")[0]
         # The program has moved the place in the file that it shares with this script.
         return ran.returncode, said, bool(ran.stdout), os.lseek(file.fileno(), 0, os.SEEK_CUR) > 0

@@ -3,7 +3,7 @@
 
     tests/failed_allocations.py PROGRAM [SESSION ..]
 
-Without names it takes each text of examples/ that has its answers beside it, tests/three_clients.txt, whose text does
+Without names it takes each text of examples/ that has its answers next to it, tests/three_clients.txt, whose text does
 not depend on the schedule, a session whose text is put together in several pieces on threads, one whose lines are read
 in several blocks, the sessions of tests/rows.py whose clients have a named number of node slots, and two texts that
 `check` is given, one legal and one not. Wanted of each failure: status 7, a start of the whole text, down to nothing,
@@ -137,7 +137,7 @@ def failures_of(tried, session, text=None, words=("run",)):
 def main():
     if len(sys.argv) < 2:
         sys.exit(__doc__)
-    # The answers of several clients depend on the schedule: such a session has none beside it.
+    # The answers of several clients depend on the schedule: such a session has none next to it.
     found = (path for path in (HERE / "examples").glob("*.txt") if path.with_suffix(".out").exists())
     names = sys.argv[2:] or sorted(map(str, found)) + [str(THREE)]
     with tempfile.TemporaryDirectory() as folder:
@@ -155,7 +155,7 @@ def main():
             count, begun, borne = failures_of(tried, session, text, words)
             if count == 0:
                 sys.exit("%s: no allocation was seen" % name)
-            print("%s: %d allocations failed in turn, %d of them behind the first line, %d borne" % (name, count, begun, borne))
+            print("%s: %d allocations failed in turn, %d of them after the first line, %d borne" % (name, count, begun, borne))
 
 
 if __name__ == "__main__":

@@ -1,16 +1,16 @@
 #!/usr/bin/env python3
-"""Runs clients that have few node slots through many updates, and tells how many requests were refused for want of them.
+"""Runs clients that have few node slots through many updates, and reports how many requests were refused because these ran out.
 
     tests/few_slots.py PROGRAM [--runs N]
 
 Each text is checked to be that of a legal run, by legal_runs.py. Ended with status 1 where one is not, or where
-- a client that puts and deletes one key in two slots, alone or beside clients that only list, is refused;
-- the same client in one slot is not refused behind its first put;
-- a client that replaces one key beside one that lists takes more than three times as long with two slots as with ample
+- a client that puts and deletes one key in two slots, alone or next to clients that only list, is refused;
+- the same client in one slot is not refused after its first put;
+- a client that replaces one key next to one that lists takes more than three times as long with two slots as with ample
   ones, or is refused;
 - 32 clients of 200,000 puts in all, with 8 slots each, take more memory than with ample slots, or more than twice as much
   as for as many lines that only look.
-How often clients are refused that put and delete the same key depends on the schedule, and is told alone.
+How often clients are refused that put and delete the same key depends on the schedule, and is only reported.
 """
 import argparse
 import os
@@ -47,7 +47,7 @@ def run(program, session, slots):
 
 
 def refused(program, session, slots):
-    """How many requests are refused for want of slots, in a run that is seen to be legal."""
+    """How many requests are refused because slots ran out, in a run that is seen to be legal."""
     text = run(program, session, slots)[0]
     fault = fault_of(session, text, rule_of(slots))
     if fault:
@@ -69,7 +69,7 @@ def try_one_key(program, runs):
     for listers, lists in (1, 20_000), (7, 3_000), (31, 1_500):
         others = ["LIST max-keys=60\n" * lists] * listers
         counts = [refused(program, clients(PUT_AND_DELETE, *others), 2) for _ in range(runs)]
-        expect("the same in two slots, beside %d clients that list" % listers, counts, not any(counts))
+        expect("the same in two slots, next to %d clients that list" % listers, counts, not any(counts))
     counts = [refused(program, clients(PUT_AND_DELETE, PUT_AND_DELETE), 2) for _ in range(runs)]
     expect("two clients that put and delete the same key so, in two slots each, of 40,000 requests", counts, True)
 
@@ -80,7 +80,7 @@ def try_replacing(program, runs):
         session = clients(putting, "LIST max-keys=1\n" * lists)
         few = statistics.median(run(program, session, 2)[1] for _ in range(runs))
         ample = statistics.median(run(program, session, None)[1] for _ in range(runs))
-        what = "one key replaced %d times beside %d listings, seconds with two slots and with ample ones" % (puts, lists)
+        what = "one key replaced %d times next to %d listings, seconds with two slots and with ample ones" % (puts, lists)
         expect(what, "%.2f, %.2f" % (few, ample), few <= 3 * ample)
         count = refused(program, session, 2)
         expect("refused", count, count == 0)

@@ -113,7 +113,7 @@ def try_words(top):
         status, out, said = run(top, words, "no kit")
         line, _, page = said.partition("\n")
         expect("%r is refused without the kit" % words, (status, out, line) == (2, "", "bucketidx: bad words"))
-        expect("the page on use comes where the words ask for it: %r" % words, (page != "") == (words in HELP))
+        expect("the page on use comes where the arguments ask for it: %r" % words, (page != "") == (words in HELP))
     for words in FORMS:
         status, _, said = run(top, words, "no kit")
         expect("%r is not refused" % words, status == 70 and "called" in said)
@@ -146,7 +146,7 @@ def try_builds(top):
     expect("the first run builds", status == 0 and out == "a session\n")
     told = [line for line in said.splitlines() if "proved" in line and " of 3 crates" in line]
     names = [line.split(",")[0] for line in told]
-    expect("it tells of each crate: " + said, names == ["bucketidx: proved key_map", "bucketidx: proved bucketidx"])
+    expect("it reports each crate: " + said, names == ["bucketidx: proved key_map", "bucketidx: proved bucketidx"])
     expect("and counts what is kept", "2 of 3" in told[0] and "3 of 3" in told[1])
     expect("no copy is left", not [path for path in (top / "tmp").iterdir() if path.is_dir()])
     expect("the second run is silent", run(top, ["run"]) == (0, "a session\n", ""))
@@ -178,7 +178,7 @@ def main():
         try_a_stop(top)
         try_builds(top)
         try_program(top)
-    print("./bucketidx: the first run, a failed build, and bad words, as they should be")
+    print("./bucketidx: the first run, a failed build, and bad arguments, as they should be")
 
 
 main()

@@ -17,7 +17,7 @@
 PROGRAM is the built `crates/index_runs`. Each run is a process of its own, with a bound on its seconds. Of what it prints
 this is checked, by a map of the script's own that the history is replayed on:
 
-- each update stands in the history once, at the place that its pass was told, with the pass's number, its line, key and value,
+- each update stands in the history once, at the place that was reported to its pass, with the pass's number, its line, key and value,
   and nothing else stands there;
 - the places of a pass rise, also over its listings, the removals that found no key and the puts of a new key that found it;
 - an answer says that the key was there exactly where the map before its place has it; a put of a new key was made exactly
@@ -30,31 +30,31 @@ this is checked, by a map of the script's own that the history is replayed on:
 
 With `--entries E` each pass has so few entries. Then an update may also be refused where the pass owns nodes: which pass
 owns an entry depends on the schedule, and while a snapshot is open the entries that it reads stay where they are. How many
-were refused is told.
+were refused is reported.
 
 With `--held` the first pass makes its requests, all updates; then each other pass opens a snapshot and is held inside it
 while the first one makes MEANWHILE more updates, whose removals are of the least key: that one has no child to its left, so its
 removal waits for nobody. Their listings come after these: they are the map at the place that
-was theirs. Behind each of the updates a try to settle is held by pass 1 in its first section, once something was taken out;
-behind the end of the snapshots one settles. With `--nodes N --entries E` the first pass has so few slots, and still no
+was theirs. After each of the updates a try to settle is held by pass 1 in its first section, once something was taken out;
+after the end of the snapshots one settles. With `--nodes N --entries E` the first pass has so few slots, and still no
 update may be refused. With `--puts` all updates are puts.
 
 With `--visits` one pass of few slots puts and removes one key by turns, R requests, while readers come and go: each opens a
 snapshot, stays in it for T turns, reads it and closes it, T turns between two visits, until the requests are made. Once they
 are gone the pass makes one more update. An update is refused only where a reader was at a visit at some time of the call, by
-the readers' own counts of visits begun and ended. How many were refused is told.
+the readers' own counts of visits begun and ended. How many were refused is reported.
 
-With `--few` P passes of few slots make updates beside such readers. When all is done one pass behind
-another puts each key and removes it, and each tells which of its slots are free. Beside the history this is checked:
+With `--few` P passes of few slots make updates next to such readers. When all is done one pass after
+another puts each key and removes it, and each reports which of its slots are free. Beside the history this is checked:
 
 - no slot is free in two places, or twice, and no slot is free that the table has not;
 - as many nodes are not free as the map has keys. It is empty at the end, but where the passes that own slots own too few to
   empty it: such a run counts as not emptied, and where no run is emptied that is a failure;
-- where the map is empty just two entries are not free, which the one bundle left keeps: that of the last removal, and the
+- where the map is empty exactly two entries are not free, which the one bundle left keeps: that of the last removal, and the
   one that it found, of the put before it. These two updates are of one pass that nobody works beside, so the removal cuts
-  what is behind.
+  what comes after it.
 
-How many updates were refused is told, how many of them while a reader was at a visit, and fewer than M updates in a hundred
+How many updates were refused is reported, how many of them while a reader was at a visit, and fewer than M updates in a hundred
 requests are a failure.
 
 With `--far` a pass puts 31 keys, so that the tree has five full levels. READERS open a snapshot and are held inside it. Then seven
@@ -68,8 +68,8 @@ With `--tries` each request is one try of a put. With `--least-met N` fewer than
 held, that found that something had moved, or that found an entry without a number, are a failure.
 
 With `--sections` four passes enter, leave, fill and look four times TURNS times, while a fifth one stays inside its
-section. Each of them has met the other three at work four times; it has made just the looks that it was to make; no word had
-fallen between two looks; and each other pass's word rose by just 2 for each of its turns, that of the fifth not at all.
+section. Each of them has met the other three at work four times; it has made exactly the looks that it was to make; no word had
+fallen between two looks; and each other pass's word rose by exactly 2 for each of its turns, that of the fifth not at all.
 
 With `--waits` a pass stops in the middle of an update, with its entries in front of their bundles, and gives the processor
 away TURNS times, while eight others look for a pair there and seven put the same key. All are on one processor, and the run
@@ -86,7 +86,7 @@ from collections import defaultdict
 
 def checked(lines, nodes, scarce=False):
     """What is wrong with a run, or None; and how many updates, listings and refusals it has. Where entries are scarce an
-    update may be refused for want of them."""
+    update may be refused when these run out."""
     requests, history, links = defaultdict(list), [], []
     for line in lines:
         kind, *fields = line.split()
@@ -108,17 +108,17 @@ def checked(lines, nodes, scarce=False):
             at = int(fields[1] if kind in "PRI" else fields[0])
             made = kind == "P" or (kind in "RI" and (fields[-1] == "true") == (kind == "R"))
             if at < last or (made and at == last):
-                return f"pass {number}: place {at} behind place {last}", None
+                return f"pass {number}: place {at} after place {last}", None
             last = at
             left += (kind == "R" and made) - (kind == "P" and fields[4] == "false") - (kind == "I" and made)
             by_place[at].append((number, kind, fields))
             if made:
                 if at in told:
-                    return f"place {at} was told twice", None
+                    return f"place {at} was reported twice", None
                 value = fields[3] if kind in "PI" else None
                 told[at] = [str(number), fields[0], fields[2]] + ([value] if value is not None else [])
     if len(told) != len(history):
-        return f"{len(told)} updates were told, the history has {len(history)}", None
+        return f"{len(told)} updates were reported, the history has {len(history)}", None
     state, listings = {}, 0
     for at in range(len(history) + 1):
         before = dict(state) if at == 0 else None
@@ -126,7 +126,7 @@ def checked(lines, nodes, scarce=False):
         if at > 0:
             place, *update = history[at - 1]
             if int(place) != at or update != told.get(at):
-                return f"place {at}: {update} in the history, {told.get(at)} told", None
+                return f"place {at}: {update} in the history, {told.get(at)} reported", None
             key = update[2]
             was = key in state
             if len(update) == 4:
@@ -143,7 +143,7 @@ def checked(lines, nodes, scarce=False):
                     return f"place {at}: pass {number} listed {fields[3:]}, and not {wanted}", None
             elif kind == "P":
                 if (fields[4] == "true") != was:
-                    return f"place {at}: pass {number} was told {fields[4]}", None
+                    return f"place {at}: pass {number} was answered {fields[4]}", None
             elif kind == "I":
                 if fields[4] == "false" and was:
                     return f"place {at}: pass {number} put key {fields[2]} though it was there", None
@@ -155,7 +155,7 @@ def checked(lines, nodes, scarce=False):
             elif fields[2] in state:
                 return f"place {at}: pass {number} did not find key {fields[2]}", None
     if links != [str(2 * len(state) + 1)]:
-        return f"the map has {len(state)} keys, and of the plain links was told: {links}", None
+        return f"the map has {len(state)} keys, and of the plain links it reports: {links}", None
     return None, (len(history), listings, refused)
 
 
@@ -226,7 +226,7 @@ def refused_beside(lines):
 
 
 def run_beside_visits(words, seed):
-    """A run of one pass beside readers that come and go: what is wrong, and what it had."""
+    """A run of one pass next to readers that come and go: what is wrong, and what it had."""
     nodes, entries = words.nodes or 3, words.entries or 12
     lines = printed(
         words, "visits", passes=1, readers=words.visits, keys=1, requests=words.requests, updates=100, page=1,
@@ -238,11 +238,11 @@ def run_beside_visits(words, seed):
     beside, alone = refused_beside(lines)
     if alone > 0:
         return f"{alone} updates were refused while nobody read", None
-    # a removal behind a refused put finds no key, and is no update
+    # a removal after a refused put finds no key, and is no update
     asked = sum(line[0] in "PRN" for line in lines)
     if asked != words.requests + 1:
         return f"{asked} requests were answered", None
-    return None, {"requests": asked, "updates": counts[0], "visits": counts[1], "refused, all of them beside a reader": beside}
+    return None, {"requests": asked, "updates": counts[0], "visits": counts[1], "refused, all of them next to a reader": beside}
 
 
 def places_of(lines, nodes, entries, keys):
@@ -266,7 +266,7 @@ def places_of(lines, nodes, entries, keys):
 
 
 def run_with_few_slots(words, seed):
-    """A run of passes with few slots beside readers: what is wrong, and what it had."""
+    """A run of passes with few slots next to readers: what is wrong, and what it had."""
     passes, readers, each = words.passes, words.few, words.requests
     nodes, entries = words.nodes or 3, words.entries or 12
     lines = printed(
@@ -290,7 +290,7 @@ def run_with_few_slots(words, seed):
     if counts[0] * 100 < words.least_made * passes * each:
         return f"{counts[0]} updates of {passes * each} requests were made", None
     return None, {
-        "updates": counts[0], "visits": counts[1], "refused": counts[2], "of them beside a reader": refused_beside(lines)[0],
+        "updates": counts[0], "visits": counts[1], "refused": counts[2], "of them next to a reader": refused_beside(lines)[0],
         "not emptied": int(bool(state)),
     }
 
@@ -317,7 +317,7 @@ def run_of_far_removals(words, seed):
         wanted = (str(keys), keys) if int(number) > removals else (str(keys + removals), keys - removals)
         if (at, len(pairs)) != wanted:
             return f"pass {number} listed {len(pairs)} keys at place {at}, and not {wanted}", None
-    return None, {"removals beside readers": removals, "updates meanwhile": words.meanwhile}
+    return None, {"removals next to readers": removals, "updates meanwhile": words.meanwhile}
 
 
 def run_in_a_deep_tree(words, seed):
@@ -359,7 +359,7 @@ def run_in_sections(words, _seed):
     lines = printed(words, "sections", turns=turns)
     found = [line.split()[1:] for line in lines if line[0] == "S"]
     history = [line for line in lines if line[0] == "J"]
-    # The puts were made one behind another: each pass's number as the key, with the values 1 and 2.
+    # The puts were made one after another: each pass's number as the key, with the values 1 and 2.
     if history != [f"J {2 * n + i} {n} {i} {n} {i}" for n in range(4) for i in (1, 2)]:
         return f"the history is {history}", None
     if [fields[0] for fields in found] != ["0", "1", "2", "3"]:

@@ -14,7 +14,7 @@ ends with status 1 too where there are fewer of them than asked for. With --roun
 clients that put the same seven names, list them and remove them, each so many times. With --contenders so many clients put
 one name once, each where it is not there: exactly one of them is answered 200, and all others 412. With --whole each session
 has as many clients, requests of each client and names as it may have at most. With --slots each client has so many node
-slots, by the program's option, and may be refused for want of them. With --pool it has so many too, and clients hand spare
+slots, by the program's option, and may be refused once these run out. With --pool it has so many too, and clients hand spare
 ones to one another.
 """
 import argparse
@@ -176,7 +176,7 @@ def resolved(lines, replies):
 
 
 def check_refusals(lines, replies, listings, places, slots):
-    """A request is refused only for a bad token or for want of slots, and has no place just then."""
+    """A request is refused only for a bad token or because slots ran out, and exactly then has no place."""
     made = 0
     for asked, reply, listing in zip(lines, replies, listings):
         refused = dict(At=None, Client=asked.client, Line=asked.line)
@@ -185,7 +185,7 @@ def check_refusals(lines, replies, listings, places, slots):
         elif reply["Status"] == 503:
             want(asked.verb in UPDATES, "line", asked.line, "is no update and lacks slots")
             want(is_same(reply, dict(refused, Status=503)), "line", asked.line, "is refused in another form")
-            want(made >= slots, "line", asked.line, "is refused behind", made, "updates")
+            want(made >= slots, "line", asked.line, "is refused after", made, "updates")
             want(asked.line not in places, "line", asked.line, "is refused and has an update")
         else:
             want(reply["At"] is not None, "line", asked.line, "has no place")
@@ -410,7 +410,7 @@ def run_sessions(options):
     told = "%d sessions, %d requests: each text is of a legal run, and %d are of no run of the clients one after another"
     print(told % (options.sessions, requests, interleaved), file=sys.stderr)
     if slots is not None:
-        print("%d requests were refused for want of slots" % refused, file=sys.stderr)
+        print("%d requests were refused because slots ran out" % refused, file=sys.stderr)
     if interleaved < options.least_interleaved:
         sys.exit("fewer than the %d asked for" % options.least_interleaved)
 

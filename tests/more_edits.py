@@ -6,7 +6,7 @@
 Without a name it tries those of every crate. Each edit must be refused by the prover, as those in must-fail/
 must. A crate is tried on a copy of the sources in which its more-edits/ stand in the place of must-fail/.
 The script counts, and ends with status 1 where an edit is still proved, cannot be applied or was not tried.
-It says where only a proof that names what the edit took away has refused it: that tells little of the
+It says where only a proof that names what the edit took away has refused it: that says little about the
 contract, and wants an edit of the same shape.
 """
 import argparse
@@ -19,7 +19,7 @@ from pathlib import Path
 
 ROOT = Path(__file__).resolve().parent.parent
 RESULT = re.compile(r"must-fail (\S+)/(\S+\.edit): (refused|NOT REFUSED|BAD EDIT|NOT TRIED)(.*)")
-# What `rt must-fail` says behind a refusal of that kind.
+# What `rt must-fail` says after a refusal of that kind.
 BY_SHAPE = "only because a proof file names what the edit took away"
 
 

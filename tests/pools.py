@@ -1,15 +1,15 @@
 #!/usr/bin/env python3
-"""Runs clients that put keys beside clients that take them out, with slots of their own and with a pool of them.
+"""Runs clients that put keys next to clients that take them out, with slots of their own and with a pool of them.
 
     tests/pools.py PROGRAM [--runs N] [--pairs N] [--slots N] [--puts N] [--look LINE] [--looks N] [--sweeps N]
                    [--most-share X] [--model-every N]
 
-Of each pair one client puts names of its own, with so many looks behind each; the other deletes the same names again and
-again, with a quarter as many looks behind each sweep. A look takes some ten microseconds, so each client has many turns on
+Of each pair one client puts names of its own, with so many looks after each; the other deletes the same names again and
+again, with a quarter as many looks after each sweep. A look takes some ten microseconds, so each client has many turns on
 its processor: else most clients would have put all their names before the other one of the pair runs at all. The runs
 without a pool and with one take turns. Each text is checked to be that of a legal run by the program's own `check --slots
 N`, and one in so many by legal_runs.py (with 0 none), which takes a hundred times as long. Told is how many requests are
-refused for want of slots. Ended with status 1 where a text is not legal, or where with a pool more than that share of those
+refused because slots ran out. Ended with status 1 where a text is not legal, or where with a pool more than that share of those
 without are refused.
 """
 import argparse

@@ -5,7 +5,7 @@
 
 Several seats put, remove and look up keys at once, by the procedures of a Citrus tree with bundled
 references; a scheduler lets one of them make its next step. A seat announces before it reads, and cuts
-bundles of nodes that it has locked behind what nobody can select any more. The model keeps the words by
+bundles of nodes that it has locked where nobody can select the rest any more. The model keeps the words by
 itself. Whenever a seat has a section number, and at the stamp, the words must spell the tree of the map
 after so many updates. PROGRAM reads the sizes and the events, and prints the words at the end, or the first
 event that it refuses. Events without which a later one must be refused are left out, and cuts are moved to
@@ -48,7 +48,7 @@ class Table:
         # Places of the looks with which a waiting removal passes another pass, and of the mark of its successor, each
         # with the place of the set link that unlinks the successor.
         self.unlinks = []
-        # Places of the marks of successors that are unlinked behind a wait: no unlock before it needs these.
+        # Places of the marks of successors that are unlinked after a wait: no unlock before it needs these.
         self.marks = set()
 
     def section(self, seat):
@@ -275,7 +275,7 @@ class Seat:
             yield
 
     def prune(self, node, side):
-        """Cuts the bundle of a link of a locked, unmarked node behind the entry that the least number selects."""
+        """Cuts the bundle of a link of a locked, unmarked node after the entry that the least number selects."""
         table = self.table
         if len(self.looked) < table.passes - 1:
             yield from self.look_at_announcements()
@@ -300,7 +300,7 @@ class Seat:
         self.store("Cut", table.entry(entry, NEXT), 0)
         self.retired[1].extend(behind)
         table.cut_off += len(behind)
-        table.cases["cut, %s" % ("behind an older reader" if self.least < self.at else "behind the newest entry read")] += 1
+        table.cases["cut, %s" % ("after an older reader" if self.least < self.at else "after the newest entry read")] += 1
 
     def look(self, other):
         self.take_batch()
@@ -1065,7 +1065,7 @@ def nested_run(rng, count):
 NEEDED_BY = {"Prepare": "Raise", "Mark": "Unlock", "Finalise": "Unlock", "SetLink": "Unlock", "SetTag": "Unlock", "Announce": "LookAnn", "LookAnn": "Cut"}
 CASES = {"insert", "replace", "remove, 0 children", "remove, 1 children", "remove, 2 children, deep", "remove, 2 children, right child"}
 WAITS = {"waits"}
-CUTS = {"cut, behind an older reader", "cut, behind the newest entry read"}
+CUTS = {"cut, after an older reader", "cut, after the newest entry read"}
 
 
 def answer(program, sizes, events):

@@ -5,7 +5,7 @@
 
 The model below is written from docs/DEFINITIONS.md and shares no code with the program. It prints the
 first session that the program answers otherwise, and ends with status 1 then. With `--hostile` the sessions
-are broken first, as `hostile_sessions.py` does it, and one session below, at and above each limit comes behind. With
+are broken first, as `hostile_sessions.py` does it, and one session below, at and above each limit follows. With
 `--tokens` nearly each listing has a continuation token, many of them broken or of another listing.
 """
 import argparse
@@ -30,7 +30,7 @@ def base64url(raw):
 
 
 def sized(text):
-    """A text behind its length in bytes, as four digits."""
+    """A text after its length in bytes, as four digits."""
     raw = text.encode()
     return b"%04d" % len(raw) + raw
 
@@ -42,7 +42,7 @@ def token_text(entry, prefix, delimiter):
 
 
 def cut_sized(raw):
-    """The text behind its length, and the bytes behind that. Where the length does not fit, `ValueError`."""
+    """The text after its length, and the bytes after that. Where the length does not fit, `ValueError`."""
     if not re.fullmatch(rb"[0-9]{4}", raw[:4]):
         raise ValueError
     end = 4 + int(raw[:4])
@@ -87,7 +87,7 @@ def kind_of(text):
 
 
 def is_behind(key, query, point):
-    """Whether a listing that begins at this point, or behind `start-after`, comes to the key."""
+    """Whether a listing that begins at this point, or after `start-after`, reaches the key."""
     if point is None:
         after = query["start_after"].encode()
         return not after or key > after
@@ -138,7 +138,7 @@ def page_members(records, query, point):
 
 
 def is_common_prefix(query, text):
-    """Whether the text is a common prefix of the query: it begins with the prefix, and the first delimiter behind the
+    """Whether the text is a common prefix of the query: it begins with the prefix, and the first delimiter after the
     prefix's length ends it."""
     prefix, delimiter = query["prefix"], query["delimiter"]
     if not delimiter or not text.startswith(prefix):
@@ -148,7 +148,7 @@ def is_common_prefix(query, text):
 
 
 def marker_point(query):
-    """Behind what a listing of version 1 begins: None, a key or a common prefix."""
+    """After what a listing of version 1 begins: None, a key or a common prefix."""
     marker = query["marker"]
     if not marker:
         return None
@@ -246,7 +246,7 @@ class Model:
 
 
 class Session:
-    """A random session: its text, and the model that was told of each request. `with_token` is the share of its listings
+    """A random session: its text, and the model that was given each request. `with_token` is the share of its listings
     that have a token."""
 
     def __init__(self, rng, with_token=0.3):
@@ -402,7 +402,7 @@ class Session:
 
 
 def make_ready(program):
-    """Runs the program once, so that it is built, and tells of that, before its answers are compared."""
+    """Runs the program once, so that it is built, and reports that, before its answers are compared."""
     subprocess.run([program, "run"], input=b"", stdout=subprocess.DEVNULL)
 
 

@@ -1,14 +1,14 @@
 #!/usr/bin/env python3
-"""Compares what the program writes with rows that were written by hand from the definitions.
+"""Compares what the program writes with handwritten rows, made from the definitions.
 
     tests/rows.py PROGRAM
 
 - rows.txt: sessions of one client, and lines of their text at their places, counted from 1.
 - TEXTS: the same, of inputs that the file cannot show: ends of lines, no request, long ones.
 - LIMITS: what fits a limit exactly.
-- SLOTS: sessions whose clients have a named number of node slots, in both forms of the words, and with a pool.
+- SLOTS: sessions whose clients have a named number of node slots, in both forms of the arguments, and with a pool.
 - TOKENS: the value of a continuation token, and whether it is read. BOUND: those that name their listing.
-- RIGHT: lines behind `CLIENT` that are not refused.
+- RIGHT: lines after `CLIENT` that are not refused.
 - FAULTY: a line between good ones, and its cause.
 - REFUSED: an input, the line that is refused, and its cause.
 - STARTS: how each start of one session, cut at every byte, ends.
@@ -240,7 +240,7 @@ TOKENS = [(token, True) for token in ["UGEv", "S2E", "S2I", "S2E_", "S2E-", "S8O
 TOKENS += [(base64url(b"K" + b"k" * 1024), True), (base64url(b"K" + b"k" * 1025), False)]
 TOKENS += [(token, False) for token in ["UGEv=", "S2F", "UA", "Sw", "WGE", "S2E+", "S2E/", "S2E%20", "S_8", "Mg", "MlAwMDAwMDAwMS9hLw"]]
 
-# A token with a bound: `2` and the letter; the prefix and the delimiter of its listing, each behind its length in bytes as
+# A token with a bound: `2` and the letter; the prefix and the delimiter of its listing, each after its length in bytes as
 # four digits; and the key or the common prefix. Here by the prefix and the delimiter of the LIST that has it, whether it
 # is read, and its bytes.
 PREFIX, DELIMITER = "p" * 1024, "é" * 512
@@ -590,7 +590,7 @@ def faults(row, status, text, said):
             yield "line %d, from character %d on\n    got    %.400s\n    wanted %.400s" % (place, start, found[start:], line[start:])
     last = max(row.lines, default=0)
     if row.lines.get(last, "").startswith('{"Updates":') and written[last:] != [""]:
-        yield "the text does not end behind line %d" % last
+        yield "the text does not end after line %d" % last
 
 
 def main():

@@ -4,7 +4,7 @@
     tests/sample_inputs.py PROGRAM [--most N]
 
 PROGRAM prints the input for the number of requests that its word says. It is run for each number from 1 to 300 (or to
-N), and for 40,000. For 5 requests of each client the lines are also written by hand.
+N), and for 40,000. For 5 requests of each client the lines are also handwritten.
 """
 import argparse
 import subprocess
@@ -39,7 +39,7 @@ def main():
     parser.add_argument("--most", type=int, default=300)
     args = parser.parse_args()
     if model(5) != BY_HAND:
-        sys.exit("the model differs from the lines written by hand for 5")
+        sys.exit("the model differs from the handwritten lines for 5")
     numbers = [*range(1, args.most + 1), 40000]
     for n in numbers:
         ran = subprocess.run([args.program, str(n)], capture_output=True)

@@ -3,8 +3,8 @@
 
     tests/samples.py PROGRAM [--times N]
 
-For 1, 7 and 1003 requests of each client the lines are also written by hand. The model makes the requests of one client
-after the other, and shares no code with the program. With bad words nothing is read and nothing but one line is told.
+For 1, 7 and 1003 requests of each client the lines are also handwritten. The model makes the requests of one client
+after the other, and shares no code with the program. With bad arguments nothing is read and nothing but one line is reported.
 """
 import argparse
 import json
@@ -69,7 +69,7 @@ def try_bad_words(program):
         for words in bad_words():
             file.seek(0)
             ran = subprocess.run([program, *words], stdin=file.fileno(), capture_output=True)
-            # The page on use, which ./bucketidx shows where the words ask for it, is not the program's.
+            # The page on use, which ./bucketidx shows where the arguments ask for it, is not the program's.
             said = ran.stderr.partition(b"\nusage: ")[0]
             got = (ran.returncode, ran.stdout, said, os.lseek(file.fileno(), 0, os.SEEK_CUR))
             if got != (2, b"", b"bucketidx: bad words\n", 0):
@@ -92,14 +92,14 @@ def main():
     rows = {**{n: model(n) for n in OTHERS}, **BY_HAND}
     for n, wanted in rows.items():
         if model(n) != wanted:
-            sys.exit("the model differs from the line written by hand for %d" % n)
+            sys.exit("the model differs from the handwritten line for %d" % n)
         for _ in range(args.times):
             ran = subprocess.run([args.program, "sample", str(n)], stdin=subprocess.DEVNULL, capture_output=True)
             if (ran.returncode, ran.stdout, ran.stderr) != (0, wanted, b""):
                 sys.exit("sample %d\n  got    %r, status %d\n  wanted %r" % (n, ran.stdout, ran.returncode, wanted))
     bad = try_bad_words(args.program)
     try_full_device(args.program)
-    print("%d numbers, %d times each: the same summary; %d lists of bad words" % (len(rows), args.times, bad), file=sys.stderr)
+    print("%d numbers, %d times each: the same summary; %d lists of bad arguments" % (len(rows), args.times, bad), file=sys.stderr)
 
 
 if __name__ == "__main__":

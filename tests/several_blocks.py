@@ -5,8 +5,8 @@
 
 A block has at least 256 KiB: `BLOCK_BYTES` of crates/request_lines/src/blocks.rt. A session has eight to twelve of them,
 so a machine with four threads reads them in several rounds. Of two out of three sessions up to four lines are faulty, in
-the same block or in several, or pass a limit; the first one is to be told, with its first cause. The first session that
-the program answers or refuses otherwise is told, and the status is 1 then.
+the same block or in several, or pass a limit; the first one is to be reported, with its first cause. The first session that
+the program answers or refuses otherwise is reported, and the status is 1 then.
 """
 import argparse
 import collections
@@ -36,7 +36,7 @@ def good_line(rng, keys, number):
 
 def at_a_border(lines, border):
     """With a line more, so that its line feed is the byte of the input with this number, counted from 0: the first byte
-    that a search behind a block's bytes looks at."""
+    that a search after a block's bytes looks at."""
     size = 0
     for at, line in enumerate(lines):
         if 5 < border - size <= 1029:

@@ -30,6 +30,6 @@ def long_lines(listings=150, names=100):
 
 
 def short_lines(count=40000, names=1000):
-    """Many lines, each of which is short beside the buffer of the output."""
+    """Many lines, each of which is short next to the buffer of the output."""
     keys = [name(number, 60) for number in range(names)]
     return checked(puts(keys) + ["HEAD " + keys[number * 7 % names] for number in range(count)])

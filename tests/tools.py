@@ -112,7 +112,7 @@ def main():
         listings = text_of([EXAMPLES / "to_listing"], answer)
         back = text_of([EXAMPLES / "from_listing"], listings)
         if sorted_lines(back) != sorted_lines(session):
-            sys.exit("another session came back behind %r:\n%s\n%s" % (asked, session, back))
+            sys.exit("another session came back after %r:\n%s\n%s" % (asked, session, back))
     listing = text_of([EXAMPLES / "to_listing"], text_of(program, session + "LIST\n"))
     back = text_of([EXAMPLES / "from_listing", "--url"], escaped(listing))
     if sorted_lines(back) != sorted_lines(session):

@@ -1,5 +1,5 @@
 #!/usr/bin/env python3
-"""Checks that docs/TRUSTED.md lists just the definition files and the types on which the clauses of `serve` rest.
+"""Checks that docs/TRUSTED.md lists exactly the definition files and the types on which the clauses of `serve` rest.
 
     tests/trusted_files.py [--list]
 
