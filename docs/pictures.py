@@ -4,7 +4,8 @@
     docs/pictures.py            draws them
     docs/pictures.py --check    says whether they are as drawn here
 
-The picture of the floors is made from crates.txt, and the files in that of the headline are those of TRUSTED.md. Colours follow the reader's light or dark scheme.
+The picture of the floors is made from crates.txt, and the files in that of the headline are those of TRUSTED.md.
+Colours follow the reader's light or dark scheme.
 """
 import re
 import sys
@@ -97,8 +98,8 @@ def history():
     return p
 
 
-# The files that the headline rests on, by crate, below the part of it that they say. Those of the generated session and of
-# checks are not in the picture.
+# The files that the headline rests on, by crate, below the part of it that they say. Those of the generated session
+# and of checks are not in the picture.
 PARTS = [
     ("HasRead, IsTaken", ["the word run; the bytes", "read, and those written"], ["command_words", "outside_io"]),
     ("IsSessionOf", ["the session that", "the input's text says"], ["request_lines"]),

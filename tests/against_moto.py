@@ -123,8 +123,8 @@ def session_of(s3, bucket):
 def compare(program, buckets, seed):
     rng, pages, left_out = random.Random(seed), 0, 0
     s3 = boto3.client("s3", region_name="us-east-1", aws_access_key_id="none", aws_secret_access_key="none")
-    # boto3 asks a listing of version 1 for escaped texts by itself, and takes a plus sign for an escaped space; moto escapes
-    # no common prefix there
+    # boto3 asks a listing of version 1 for escaped texts by itself, and takes a plus sign for an escaped space; moto
+    # escapes no common prefix there
     s3.meta.events.unregister("before-parameter-build.s3.ListObjects", set_list_objects_encoding_type_url)
     for bucket in ("bucket-%d" % at for at in range(buckets)):
         keys = sorted({word(rng, 1, 5) for _ in range(rng.randint(1, 15))})

@@ -3,9 +3,9 @@
 
     tests/both_versions.py PROGRAM [--maps N] [--queries N] [--seed N]
 
-A session puts random names. Each query is asked as a LIST, whose pages go on with NEXT, and as a LISTV1, whose pages go on
-with a marker: the next marker where one is given, else the name of the last key. Page by page the keys, the common prefixes
-and whether more is left have to be the same.
+A session puts random names. Each query is asked as a LIST, whose pages go on with NEXT, and as a LISTV1, whose pages
+go on with a marker: the next marker where one is given, else the name of the last key. Page by page the keys, the
+common prefixes and whether more is left have to be the same.
 """
 import argparse
 import json

@@ -4,11 +4,11 @@
     tests/checked_texts.py PROGRAM [--sessions N] [--changes N] [--most-clients N] [--requests N] [--seed N]
 
 Each random session gets a text of a legal run: what the program writes for it, or one that the model makes, where the
-clients' requests follow one another in any order and a look may be answered at any place from its client's last one on.
-`check` has to call it legal. Then come so many texts with one change each: a digit of a place, two lines changed about, a
-line left out or doubled, a line of the journal moved, a byte anywhere, a cut end. `check` has to name the first wrong line
-as the model does. The model looks for a reply at each place of the history, so it reads no number from a line. Where it
-names no line, tests/legal_runs.py has to find no fault, and else one.
+clients' requests follow one another in any order and a look may be answered at any place from its client's last one
+on. `check` has to call it legal. Then come so many texts with one change each: a digit of a place, two lines changed
+about, a line left out or doubled, a line of the journal moved, a byte anywhere, a cut end. `check` has to name the
+first wrong line as the model does. The model looks for a reply at each place of the history, so it reads no number
+from a line. Where it names no line, tests/legal_runs.py has to find no fault, and else one.
 """
 import argparse
 import collections

@@ -71,7 +71,8 @@ def comment_before(lines, at):
 
 
 def functions_of(path):
-    """Each function of the file that may be public, as (owner, name, clauses, comment); the owner is a type or a trait."""
+    """Each function of the file that may be public, as (owner, name, clauses, comment); the owner is a type or a
+    trait."""
     lines = path.read_text().splitlines()
     owner, is_trait, output = None, False, []
     for at, line in enumerate(lines):

@@ -3,9 +3,9 @@
 
     tests/depot_runs.py PROGRAM [--runs N] [--seats S] [--room R] [--parcels P] [--seconds S]
 
-PROGRAM is the built `crates/depot_runs`. Each run is a process of its own, with a bound on its seconds. So many parcels are
-given from the seats, and some of them taken, each seat on a thread of its own; then the depot is closed. Of what is printed
-this is checked:
+PROGRAM is the built `crates/depot_runs`. Each run is a process of its own, with a bound on its seconds. So many
+parcels are given from the seats, and some of them taken, each seat on a thread of its own; then the depot is closed.
+Of what is printed this is checked:
 
 - each tag below P was given once, from one seat;
 - each tag that was given stands once among those that were taken and those that were left, and no other tag does;

@@ -5,10 +5,10 @@
     tests/examples.py --model     compares the examples and the sessions of the documents with the model alone, which needs no program
     tests/examples.py --write     writes the answers of examples/ anew: by the model, and never by the program
 
-- Each session examples/NAME.txt is answered, with the slots that SLOTS names for it, by examples/NAME.out, which is also what the model of
-  session_model.py answers. The pair that the program's crate is checked with is the first session of rows.txt.
-  A session of several clients has no answers next to it, since they depend on the schedule: what the program
-  writes is to be a legal run.
+- Each session examples/NAME.txt is answered, with the slots that SLOTS names for it, by examples/NAME.out, which is
+  also what the model of session_model.py answers. The pair that the program's crate is checked with is the first
+  session of rows.txt. A session of several clients has no answers next to it, since they depend on the schedule: what
+  the program writes is to be a legal run.
 - Each session examples/refused/CAUSE.txt is refused for this cause, at the line that the model names.
 - In README.md, docs/ and examples/README.md, each block marked `sh` that a block marked `output` follows
   prints exactly that, run at the top of the repository; and each block marked `session` is answered by the

@@ -3,14 +3,15 @@
 
     tests/failed_allocations.py PROGRAM [SESSION ..]
 
-Without names it takes each text of examples/ that has its answers next to it, tests/three_clients.txt, whose text does
-not depend on the schedule, a session whose text is put together in several pieces on threads, one whose lines are read
-in several blocks, the sessions of tests/rows.py whose clients have a named number of node slots, and two texts that
-`check` is given, one legal and one not. Wanted of each failure: status 7, a start of the whole text, down to nothing,
-and one line on standard error; or the same end as without a failure, where a thread could not be started, and its client
-was run, its piece made or its block read without one. A session of several clients needs answers that do not depend on
-the schedule. PROGRAM is the built program itself, crates/bucketidx/out/bucketidx. A small library, which is compiled with cc and loaded before the C library, counts the
-program's allocations and refuses one of them; those of the C library itself are let through. Not part of the gate.
+Without names it takes each text of examples/ that has its answers next to it, tests/three_clients.txt, whose text
+does not depend on the schedule, a session whose text is put together in several pieces on threads, one whose lines
+are read in several blocks, the sessions of tests/rows.py whose clients have a named number of node slots, and two
+texts that `check` is given, one legal and one not. Wanted of each failure: status 7, a start of the whole text, down
+to nothing, and one line on standard error; or the same end as without a failure, where a thread could not be started,
+and its client was run, its piece made or its block read without one. A session of several clients needs answers that
+do not depend on the schedule. PROGRAM is the built program itself, crates/bucketidx/out/bucketidx. A small library,
+which is compiled with cc and loaded before the C library, counts the program's allocations and refuses one of them;
+those of the C library itself are let through. Not part of the gate.
 """
 import os
 import subprocess
@@ -113,7 +114,8 @@ def refused_rightly(ran, whole):
 
 
 def failures_of(tried, session, text=None, words=("run",)):
-    """How many allocations were refused in turn, at how many of them something was written, and at how many all of it."""
+    """How many allocations were refused in turn, at how many of them something was written, and at how many all of
+    it."""
     ran = tried.run(session, words=words)
     ended = ran.returncode, ran.stdout, ran.stderr
     if ran.returncode not in (0, 8):

@@ -5,10 +5,10 @@
     tests/figures.py --check    compares them with the page, and the other numbers
     tests/figures.py --write    puts the figures in there
 
-The table of the page stands between the lines `<!-- NAME: .. -->` and `<!-- end -->`.
-The limits that README.md and docs/FORMAT.md name are those of the definitions. What README.md says was measured at a commit
-stands in the section of bench/README.md that names this commit. README.md has at most 120 lines of at most 110 characters.
-All documents together have at most 280,000 bytes.
+The table of the page stands between the lines `<!-- NAME: .. -->` and `<!-- end -->`. The limits that README.md and
+docs/FORMAT.md name are those of the definitions. What README.md says was measured at a commit stands in the section
+of bench/README.md that names this commit. README.md has at most 120 lines of at most 110 characters. All documents
+together have at most 280,000 bytes.
 """
 import re
 import sys
@@ -113,7 +113,8 @@ def wrong_limits():
 
 
 def wrong_measurements():
-    """Each number in a sentence of README that names a commit stands in the part of bench/README.md with this commit."""
+    """Each number in a sentence of README that names a commit stands in the part of bench/README.md with this
+    commit."""
     readme = " ".join((TOP / "README.md").read_text().split())
     bench = re.split(r"\n(?=## )", (TOP / "bench" / "README.md").read_text())
     for commit in re.findall(r"at commit ([0-9a-f]{8})", readme):

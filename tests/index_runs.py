@@ -14,67 +14,72 @@
     tests/index_runs.py PROGRAM --sections TURNS [--runs N]
     tests/index_runs.py PROGRAM --waits TURNS [--runs N] [--seconds S]
 
-PROGRAM is the built `crates/index_runs`. Each run is a process of its own, with a bound on its seconds. Of what it prints
-this is checked, by a map of the script's own that the history is replayed on:
+PROGRAM is the built `crates/index_runs`. Each run is a process of its own, with a bound on its seconds. Of what it
+prints this is checked, by a map of the script's own that the history is replayed on:
 
-- each update stands in the history once, at the place that was reported to its pass, with the pass's number, its line, key and value,
-  and nothing else stands there;
-- the places of a pass rise, also over its listings, the removals that found no key and the puts of a new key that found it;
-- an answer says that the key was there exactly where the map before its place has it; a put of a new key was made exactly
-  where it has not, and one that was not made stands at a place where the map has the key;
+- each update stands in the history once, at the place that was reported to its pass, with the pass's number, its
+  line, key and value, and nothing else stands there;
+- the places of a pass rise, also over its listings, the removals that found no key and the puts of a new key that
+  found it;
+- an answer says that the key was there exactly where the map before its place has it; a put of a new key was made
+  exactly where it has not, and one that was not made stands at a place where the map has the key;
 - a listing has the first pairs of the map at its place, from its key on;
-- an update is refused exactly where its pass owns no node: one less after each put of a new key, one more after each removal
-  (the passes have entries for all updates);
-- when all passes have laid their work down each plain link of the tree holds the child that the tree at the stamp has there, and
-  the tree has one link more than twice the keys of the map.
+- an update is refused exactly where its pass owns no node: one less after each put of a new key, one more after each
+  removal (the passes have entries for all updates);
+- when all passes have laid their work down each plain link of the tree holds the child that the tree at the stamp has
+  there, and the tree has one link more than twice the keys of the map.
 
-With `--entries E` each pass has so few entries. Then an update may also be refused where the pass owns nodes: which pass
-owns an entry depends on the schedule, and while a snapshot is open the entries that it reads stay where they are. How many
-were refused is reported.
+With `--entries E` each pass has so few entries. Then an update may also be refused where the pass owns nodes: which
+pass owns an entry depends on the schedule, and while a snapshot is open the entries that it reads stay where they
+are. How many were refused is reported.
 
-With `--held` the first pass makes its requests, all updates; then each other pass opens a snapshot and is held inside it
-while the first one makes MEANWHILE more updates, whose removals are of the least key: that one has no child to its left, so its
-removal waits for nobody. Their listings come after these: they are the map at the place that
-was theirs. After each of the updates a try to settle is held by pass 1 in its first section, once something was taken out;
-after the end of the snapshots one settles. With `--nodes N --entries E` the first pass has so few slots, and still no
+With `--held` the first pass makes its requests, all updates; then each other pass opens a snapshot and is held inside
+it while the first one makes MEANWHILE more updates, whose removals are of the least key: that one has no child to its
+left, so its removal waits for nobody. Their listings come after these: they are the map at the place that was theirs.
+After each of the updates a try to settle is held by pass 1 in its first section, once something was taken out; after
+the end of the snapshots one settles. With `--nodes N --entries E` the first pass has so few slots, and still no
 update may be refused. With `--puts` all updates are puts.
 
-With `--visits` one pass of few slots puts and removes one key by turns, R requests, while readers come and go: each opens a
-snapshot, stays in it for T turns, reads it and closes it, T turns between two visits, until the requests are made. Once they
-are gone the pass makes one more update. An update is refused only where a reader was at a visit at some time of the call, by
-the readers' own counts of visits begun and ended. How many were refused is reported.
+With `--visits` one pass of few slots puts and removes one key by turns, R requests, while readers come and go: each
+opens a snapshot, stays in it for T turns, reads it and closes it, T turns between two visits, until the requests are
+made. Once they are gone the pass makes one more update. An update is refused only where a reader was at a visit at
+some time of the call, by the readers' own counts of visits begun and ended. How many were refused is reported.
 
 With `--few` P passes of few slots make updates next to such readers. When all is done one pass after
 another puts each key and removes it, and each reports which of its slots are free. Beside the history this is checked:
 
 - no slot is free in two places, or twice, and no slot is free that the table has not;
-- as many nodes are not free as the map has keys. It is empty at the end, but where the passes that own slots own too few to
-  empty it: such a run counts as not emptied, and where no run is emptied that is a failure;
-- where the map is empty exactly two entries are not free, which the one bundle left keeps: that of the last removal, and the
-  one that it found, of the put before it. These two updates are of one pass that nobody works beside, so the removal cuts
-  what comes after it.
+- as many nodes are not free as the map has keys. It is empty at the end, but where the passes that own slots own too
+  few to empty it: such a run counts as not emptied, and where no run is emptied that is a failure;
+- where the map is empty exactly two entries are not free, which the one bundle left keeps: that of the last removal,
+  and the one that it found, of the put before it. These two updates are of one pass that nobody works beside, so the
+  removal cuts what comes after it.
 
-How many updates were refused is reported, how many of them while a reader was at a visit, and fewer than M updates in a hundred
-requests are a failure.
+How many updates were refused is reported, how many of them while a reader was at a visit, and fewer than M updates in
+a hundred requests are a failure.
 
-With `--far` a pass puts 31 keys, so that the tree has five full levels. READERS open a snapshot and are held inside it. Then seven
-passes remove a key each, all at once: each key has two children, and its successor hangs further down. When all seven keys are
-gone for the first pass it puts another key M times, and gives the processor away T times; none of the removals has returned by
-then, and the readers still list all 31 keys. Then the snapshots are closed, and all removals return.
+With `--far` a pass puts 31 keys, so that the tree has five full levels. READERS open a snapshot and are held inside
+it. Then seven passes remove a key each, all at once: each key has two children, and its successor hangs further down.
+When all seven keys are gone for the first pass it puts another key M times, and gives the processor away T times;
+none of the removals has returned by then, and the readers still list all 31 keys. Then the snapshots are closed, and
+all removals return.
 
-With `--deep` one pass puts K random keys below K, and then all P passes remove R keys each: the first one from a random key on.
+With `--deep` one pass puts K random keys below K, and then all P passes remove R keys each: the first one from a
+random key on.
 
-With `--tries` each request is one try of a put. With `--least-met N` fewer than N tries in all the runs that found a lock
-held, that found that something had moved, or that found an entry without a number, are a failure.
+With `--tries` each request is one try of a put. With `--least-met N` fewer than N tries in all the runs that found a
+lock held, that found that something had moved, or that found an entry without a number, are a failure.
 
 With `--sections` four passes enter, leave, fill and look four times TURNS times, while a fifth one stays inside its
-section. Each of them has met the other three at work four times; it has made exactly the looks that it was to make; no word had
-fallen between two looks; and each other pass's word rose by exactly 2 for each of its turns, that of the fifth not at all.
+section. Each of them has met the other three at work four times; it has made exactly the looks that it was to make;
+no word had fallen between two looks; and each other pass's word rose by exactly 2 for each of its turns, that of the
+fifth not at all.
 
-With `--waits` a pass stops in the middle of an update, with its entries in front of their bundles, and gives the processor
-away TURNS times, while eight others look for a pair there and seven put the same key. All are on one processor, and the run
-may use S seconds of it: a pass that waits and keeps the processor for its whole turn uses some milliseconds in each of the
-TURNS, and one that lets the others run next to nothing. What each found or did is as worked by hand.
+With `--waits` a pass stops in the middle of an update, with its entries in front of their bundles, and gives the
+processor away TURNS times, while eight others look for a pair there and seven put the same key. All are on one
+processor, and the run may use S seconds of it: a pass that waits and keeps the processor for its whole turn uses some
+milliseconds in each of the TURNS, and one that lets the others run next to nothing. What each found or did is as
+worked by hand.
 """
 import argparse
 import os
@@ -172,7 +177,8 @@ def printed(words, task, **numbers):
 
 
 def run_of_requests(words, seed):
-    """A run in which each pass makes its requests: what is wrong, and how many updates, listings and refusals it has."""
+    """A run in which each pass makes its requests: what is wrong, and how many updates, listings and refusals it
+    has."""
     nodes = words.requests if words.nodes is None else words.nodes
     entries = 4 * words.requests + 4 if words.entries is None else words.entries
     lines = printed(
@@ -186,7 +192,8 @@ def run_of_requests(words, seed):
 
 
 def run_while_held(words, seed):
-    """A run in which all passes but the first are held: what is wrong, and how many updates, listings and held tries it has."""
+    """A run in which all passes but the first are held: what is wrong, and how many updates, listings and held tries
+    it has."""
     readers = words.passes - 1
     nodes = words.nodes or words.requests + words.held + 1
     lines = printed(
@@ -216,7 +223,8 @@ def run_while_held(words, seed):
 
 
 def refused_beside(lines):
-    """How many updates were refused while a reader was at a visit at some time of the call, and how many while nobody was."""
+    """How many updates were refused while a reader was at a visit at some time of the call, and how many while nobody
+    was."""
     beside = alone = 0
     for line in lines:
         if line[0] == "N":

@@ -8,14 +8,14 @@
 
 Which of several legal texts is written depends on the schedule, so nothing is compared here: `fault_of` takes a
 session and a text, and says what is wrong with it, from the definition of a legal run in docs/DEFINITIONS.md alone.
-The first form runs random sessions, with few names and with many, and ends with status 1 at the first faulty text, or at
-the first run that takes too many seconds. It counts the texts that no run of the clients one after another writes, and
-ends with status 1 too where there are fewer of them than asked for. With --rounds each session is the same: two
-clients that put the same seven names, list them and remove them, each so many times. With --contenders so many clients put
-one name once, each where it is not there: exactly one of them is answered 200, and all others 412. With --whole each session
-has as many clients, requests of each client and names as it may have at most. With --slots each client has so many node
-slots, by the program's option, and may be refused once these run out. With --pool it has so many too, and clients hand spare
-ones to one another.
+The first form runs random sessions, with few names and with many, and ends with status 1 at the first faulty text, or
+at the first run that takes too many seconds. It counts the texts that no run of the clients one after another writes,
+and ends with status 1 too where there are fewer of them than asked for. With --rounds each session is the same: two
+clients that put the same seven names, list them and remove them, each so many times. With --contenders so many
+clients put one name once, each where it is not there: exactly one of them is answered 200, and all others 412. With
+--whole each session has as many clients, requests of each client and names as it may have at most. With --slots each
+client has so many node slots, by the program's option, and may be refused once these run out. With --pool it has so
+many too, and clients hand spare ones to one another.
 """
 import argparse
 import bisect
@@ -308,7 +308,8 @@ def random_session(rng, options):
 
 
 def rounds_session(rounds):
-    """Two clients that put the same seven names, list them and remove them, each so many times. No two puts are alike."""
+    """Two clients that put the same seven names, list them and remove them, each so many times. No two puts are
+    alike."""
     names, lines = "abcdefg", []
     for client in range(2):
         lines.append("CLIENT")

@@ -1,14 +1,15 @@
 #!/usr/bin/env python3
 """Tries each link of the documents, each file of the repository that they name, and each name in code style; and
-compares the floor plan of crates/README.md with crates.txt, docs/DEFINITIONS.md with docs/TRUSTED.md, and the parts of the
-rule in docs/CHANGING.md with the files of the core, and the page on use of ./bucketidx with docs/FORMAT.md. A page with the
-marks of a merge that was not finished is reported.
+compares the floor plan of crates/README.md with crates.txt, docs/DEFINITIONS.md with docs/TRUSTED.md, and the parts
+of the rule in docs/CHANGING.md with the files of the core, and the page on use of ./bucketidx with docs/FORMAT.md. A
+page with the marks of a merge that was not finished is reported.
 
     tests/links.py
 
 A link leads to a file, or to a heading of one, as GitHub names headings. Addresses on the network are not tried. The
-floor plan has the headings of crates.txt and the crates below each, in the same order, and the file of each crate that
-it says to open first is there. docs/DEFINITIONS.md has a section for each file that docs/TRUSTED.md lists, in its order.
+floor plan has the headings of crates.txt and the crates below each, in the same order, and the file of each crate
+that it says to open first is there. docs/DEFINITIONS.md has a section for each file that docs/TRUSTED.md lists, in
+its order.
 
 A name in code style, such as `serve` or `AnswersList.same_page`, is declared in the source, or stands in one of its
 texts, in a script, in crates.txt or in the name of a file; the parts of one with a dot or `::` stand in one file of the
@@ -93,7 +94,8 @@ def sources():
 
 
 def declared(texts):
-    """The names that the source declares, the words of its texts, of scripts, of crates.txt, and of the names of files."""
+    """The names that the source declares, the words of its texts, of scripts, of crates.txt, and of the names of
+    files."""
     names = set()
     for path, text in texts.items():
         for form in DECLARES[path.suffix]:
@@ -157,7 +159,8 @@ def wrong_definitions():
 
 
 def wrong_parts():
-    """The rows of the rule's parts: each record is declared in the file of its definition, and stands in each file that shows it kept."""
+    """The rows of the rule's parts: each record is declared in the file of its definition, and stands in each file
+    that shows it kept."""
     section = (TOP / "docs" / "CHANGING.md").read_text().split("\n## A part of the rule\n")[-1].split("\n## ")[0]
     rows = re.findall(r"^\|([^|]*)\| ((?:`\w+`(?:, )?)+) \| `([\w/.]+)` \| (.*) \|$", section, re.M)
     if len(rows) < 20:
@@ -177,14 +180,16 @@ def wrong_parts():
 
 
 def usage():
-    """The page on use that ./bucketidx shows, and the parts of it that say the lines of a session and the exit statuses."""
+    """The page on use that ./bucketidx shows, and the parts of it that say the lines of a session and the exit
+    statuses."""
     page = (TOP / "bucketidx").read_text().split("<<END\n")[1].split("\nEND\n")[0]
     lines = page.split("one request a line:\n\n")[1].split("\n\n")[0]
     return page, lines, page.split("exit status:\n")[1].split("\n\n")[0]
 
 
 def wrong_usage():
-    """The page has each line of a session with its fields, each exit status, and each number of these in docs/FORMAT.md."""
+    """The page has each line of a session with its fields, each exit status, and each number of these in
+    docs/FORMAT.md."""
     page, lines, statuses = usage()
     text = (TOP / "docs" / "FORMAT.md").read_text()
     table = text.split("| Line | What it asks |\n")[1].split("\n\n")[0]

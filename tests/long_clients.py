@@ -3,12 +3,12 @@
 
     tests/long_clients.py PROGRAM [--clients N] [--lines N] [--names N] [--runs N] [--seconds S] [--check N] [--seed N]
 
-The session has as many lines as clients may have together, of all kinds but NEXT, over few or many names. A run that takes
-more seconds than allowed is a failure, and so is one that ends otherwise than by status 0 without a word. Every N-th text
-(--check) is checked to be that of a legal run, by legal_runs.py. At the end stand the number of different texts, and by
-how much the peak of the last quarter of the runs is above that of the first. The peak is the greatest resident size that
-the system counted for the process of a run. It is at least that of this script, in which the process begins; so checks
-are processes of their own.
+The session has as many lines as clients may have together, of all kinds but NEXT, over few or many names. A run that
+takes more seconds than allowed is a failure, and so is one that ends otherwise than by status 0 without a word. Every
+N-th text (--check) is checked to be that of a legal run, by legal_runs.py. At the end stand the number of different
+texts, and by how much the peak of the last quarter of the runs is above that of the first. The peak is the greatest
+resident size that the system counted for the process of a run. It is at least that of this script, in which the
+process begins; so checks are processes of their own.
 """
 import argparse
 import hashlib

@@ -147,8 +147,8 @@ class Seat:
     # ---- what its search on plain links knows
 
     def nowhere(self):
-        # The place: None, or ("entry",), ("node", node, key), ("gap", node, side). The turns, each with its key. The plain
-        # links: node, side, child, tag, and the keys of the turns to the left and to the right.
+        # The place: None, or ("entry",), ("node", node, key), ("gap", node, side). The turns, each with its key. The
+        # plain links: node, side, child, tag, and the keys of the turns to the left and to the right.
         self.place, self.turns, self.links = None, [None, None], []
 
     def is_inside(self):
@@ -520,7 +520,8 @@ class Seat:
         return answered
 
     def plain_search(self, key):
-        """The link at which the search on plain links for a key ends: node, side and child. None where it met another update."""
+        """The link at which the search on plain links for a key ends: node, side and child. None where it met another
+        update."""
         table, node, side = self.table, 0, RIGHT
         while True:
             child = self.load("LoadLink", table.link(node, side))
@@ -782,7 +783,8 @@ class Seat:
         ahead += [parent, child]
 
     def remove_above(self, key, parent, first):
-        """Inside its section, with the successor and the node above it locked: begins at the root again, and removes a key."""
+        """Inside its section, with the successor and the node above it locked: begins at the root again, and removes
+        a key."""
         self.load_stamp(0)
         yield
         node, side, child = yield from self.plain_search(key)
@@ -800,7 +802,8 @@ class Seat:
         return locked
 
     def plain_successor(self, child, right):
-        """The parent and the slot of the successor, with the tag of its null left link; None where another update was met."""
+        """The parent and the slot of the successor, with the tag of its null left link; None where another update was
+        met."""
         table, parent, here = self.table, child, right
         while True:
             key = self.load("LoadKeyOrVal", table.node(here, KEY))
@@ -972,7 +975,8 @@ def check(table, seats):
 
 
 def check_links(table, seats):
-    """Each plain link of the tree leads where the tree does, but where a seat has still to set it; tags lie below numbers."""
+    """Each plain link of the tree leads where the tree does, but where a seat has still to set it; tags lie below
+    numbers."""
     stamp = table.words[0]
     nodes = table.slots(stamp)
     links = {(0, RIGHT)} | {(node, side) for node in nodes for side in (LEFT, RIGHT)}
@@ -1016,8 +1020,8 @@ def random_run(rng, count, inserts):
 def nested_run(rng, count):
     """Two removals wait, the second one of the node with which the first replaced its own; then all seats go on at random.
 
-    By the procedures the second one would be stopped at the successor of the first, which is locked. So it has locked the
-    link to its own successor before, on its way past that node."""
+    By the procedures the second one would be stopped at the successor of the first, which is locked. So it has locked
+    the link to its own successor before, on its way past that node."""
     sizes = [(14, 60, count)] * 4
     table, seats = Table(sizes, False), []
     for number in range(4):
@@ -1104,7 +1108,8 @@ def fail(run, what, said):
 
 
 def compare(program, rng, table, run):
-    """The program's answers to a run, to the run without one event, and to one with a cut too far, are as they must be."""
+    """The program's answers to a run, to the run without one event, and to one with a cut too far, are as they must
+    be."""
     said = answer(program, table.sizes, table.events)
     if said != " ".join(map(str, table.words)) + "\n":
         print("run %d: %s" % (run, said[:400]))

@@ -159,8 +159,8 @@ LIMITS = [
     ("32 clients", "CLIENT\n" * 32, NO_UPDATES),
 ]
 
-# A put of a new key takes a node slot, and one of a present key gives back as many as it takes. Where none is left, each
-# PUT, PUTNEW and DELETE is refused, also one that would change nothing.
+# A put of a new key takes a node slot, and one of a present key gives back as many as it takes. Where none is left,
+# each PUT, PUTNEW and DELETE is refused, also one that would change nothing.
 PUT_AND_REFUSED = {
     1: '{"At":1,"Client":0,"Line":2,"Replaced":false,"Status":200}',
     2: '{"At":null,"Client":0,"Line":3,"Status":503}',
@@ -232,17 +232,17 @@ SLOTS = [
     ("the most slots, for as many clients as there may be", 8192, "CLIENT\n" * 32, NO_UPDATES),
 ]
 
-# A token without a bound is `K` and a key or `P` and a common prefix, in URL-safe base64 without padding. These are of
-# `Pa/`, `Ka`, `Kb`, `Ka?`, `Ka>` and `Ké€𝄞`; and the others: padding, bits left over, a letter alone, another letter, symbols
-# of another alphabet, a space, bytes that are no text, `2` alone, `2P00000001/a/` of a listing with a delimiter. A key has
-# 1,024 bytes at most.
+# A token without a bound is `K` and a key or `P` and a common prefix, in URL-safe base64 without padding. These are
+# of `Pa/`, `Ka`, `Kb`, `Ka?`, `Ka>` and `Ké€𝄞`; and the others: padding, bits left over, a letter alone, another
+# letter, symbols of another alphabet, a space, bytes that are no text, `2` alone, `2P00000001/a/` of a listing with a
+# delimiter. A key has 1,024 bytes at most.
 TOKENS = [(token, True) for token in ["UGEv", "S2E", "S2I", "S2E_", "S2E-", "S8Op4oKs8J2Eng"]]
 TOKENS += [(base64url(b"K" + b"k" * 1024), True), (base64url(b"K" + b"k" * 1025), False)]
 TOKENS += [(token, False) for token in ["UGEv=", "S2F", "UA", "Sw", "WGE", "S2E+", "S2E/", "S2E%20", "S_8", "Mg", "MlAwMDAwMDAwMS9hLw"]]
 
-# A token with a bound: `2` and the letter; the prefix and the delimiter of its listing, each after its length in bytes as
-# four digits; and the key or the common prefix. Here by the prefix and the delimiter of the LIST that has it, whether it
-# is read, and its bytes.
+# A token with a bound: `2` and the letter; the prefix and the delimiter of its listing, each after its length in
+# bytes as four digits; and the key or the common prefix. Here by the prefix and the delimiter of the LIST that has
+# it, whether it is read, and its bytes.
 PREFIX, DELIMITER = "p" * 1024, "é" * 512
 BOUND = [
     ("", "", True, b"2K00000000a"),

@@ -4,7 +4,8 @@
     tests/samples.py PROGRAM [--times N]
 
 For 1, 7 and 1003 requests of each client the lines are also handwritten. The model makes the requests of one client
-after the other, and shares no code with the program. With bad arguments nothing is read and nothing but one line is reported.
+after the other, and shares no code with the program. With bad arguments nothing is read and nothing but one line is
+reported.
 """
 import argparse
 import json

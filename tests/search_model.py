@@ -1,4 +1,5 @@
-"""What the rule says of the plain tree and of searches on plain links, checked of the words and the seats of random_runs.py.
+"""What the rule says of the plain tree and of searches on plain links, checked of the words and the seats of
+random_runs.py.
 
 A point is twice a key, so that an odd point lies between two neighbouring keys.
 """
@@ -260,7 +261,8 @@ class Rule:
         return found
 
     def check_turns(self, seat):
-        """A turn was made at a node with its key; as long as it is in the plain tree, paths from the place come below it."""
+        """A turn was made at a node with its key; as long as it is in the plain tree, paths from the place come below
+        it."""
         self.says(seat.place or not any(seat.turns), "a search that begins has turned")
         for side in (LEFT, RIGHT):
             if seat.turns[side]:

@@ -1,9 +1,9 @@
 """A model of a session's grammar and of its answers, written from docs/FORMAT.md and docs/DEFINITIONS.md.
 
-`answers(raw)` is what the program is to write for an input: its text, or the faulty line and its cause. It
-shares no code with the program. What a bucket answers is the model in random_sessions.py. The text of several
-clients depends on the schedule; legal_runs.py checks it. `answers(raw, slots)` is the same for a client that has so many
-node slots, in a session in which its entry slots suffice.
+`answers(raw)` is what the program is to write for an input: its text, or the faulty line and its cause. It shares no
+code with the program. What a bucket answers is the model in random_sessions.py. The text of several clients depends
+on the schedule; legal_runs.py checks it. `answers(raw, slots)` is the same for a client that has so many node slots,
+in a session in which its entry slots suffice.
 """
 import re
 
@@ -133,8 +133,8 @@ class Limits:
 
 
 class FewSlots(Model):
-    """A bucket whose one client has so many node slots. A put of a new key takes one, a removal gives one back, and a put of
-    a present key gives back what it takes. Without a slot each request that may make an update is refused."""
+    """A bucket whose one client has so many node slots. A put of a new key takes one, a removal gives one back, and a
+    put of a present key gives back what it takes. Without a slot each request that may make an update is refused."""
 
     def __init__(self, slots):
         super().__init__()

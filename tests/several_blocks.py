@@ -3,10 +3,10 @@
 
     tests/several_blocks.py PROGRAM [--sessions N] [--seed N]
 
-A block has at least 256 KiB: `BLOCK_BYTES` of crates/request_lines/src/blocks.rt. A session has eight to twelve of them,
-so a machine with four threads reads them in several rounds. Of two out of three sessions up to four lines are faulty, in
-the same block or in several, or pass a limit; the first one is to be reported, with its first cause. The first session that
-the program answers or refuses otherwise is reported, and the status is 1 then.
+A block has at least 256 KiB: `BLOCK_BYTES` of crates/request_lines/src/blocks.rt. A session has eight to twelve of
+them, so a machine with four threads reads them in several rounds. Of two out of three sessions up to four lines are
+faulty, in the same block or in several, or pass a limit; the first one is to be reported, with its first cause. The
+first session that the program answers or refuses otherwise is reported, and the status is 1 then.
 """
 import argparse
 import collections

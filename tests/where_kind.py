@@ -3,8 +3,8 @@
 
     tests/where_kind.py SetTag
 
-Each file of crates/ that has the name outside of imports and comments is printed, lowest crate first, with the number of lines.
-Where no file has it, the script ends with status 1.
+Each file of crates/ that has the name outside of imports and comments is printed, lowest crate first, with the number
+of lines. Where no file has it, the script ends with status 1.
 """
 import pathlib
 import re
