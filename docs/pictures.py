@@ -7,6 +7,7 @@
 The picture of the floors is made from crates.txt, and the files in that of the headline are those of TRUSTED.md.
 Colours follow the reader's light or dark scheme.
 """
+import argparse
 import re
 import sys
 from pathlib import Path
@@ -329,10 +330,13 @@ PICTURES = {"history": history, "headline": headline, "grace": grace, "prune": p
 
 
 def main():
+    parser = argparse.ArgumentParser(description=__doc__.split("\n")[0])
+    parser.add_argument("--check", action="store_true")
+    checks = parser.parse_args().check
     wrong = []
     for name, draw in PICTURES.items():
         path, svg = DOCS / (name + ".svg"), draw().svg()
-        if sys.argv[1:] == ["--check"]:
+        if checks:
             if not path.exists() or path.read_text() != svg:
                 wrong.append("docs/%s.svg is not what docs/pictures.py draws" % name)
         else:
@@ -341,4 +345,5 @@ def main():
     sys.exit(len(wrong) > 0)
 
 
-main()
+if __name__ == "__main__":
+    main()
