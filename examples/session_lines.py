@@ -52,7 +52,7 @@ def print_session(lines):
     """Prints a session of one client with these PUT lines, in an order that looks random and is always the same. The index
     keeps its keys in a tree that is not balanced: names that are put in rising order make it as deep as it can be.
 
-    Prints nothing where there are more lines than a session takes. The requests after them count too."""
+    Prints nothing where there are more lines than a session takes. The requests behind them count too."""
     lines = [line for line in lines if line]
     random.Random(1).shuffle(lines)
     session = "\n".join(["CLIENT", *lines, ""])

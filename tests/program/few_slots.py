@@ -49,7 +49,7 @@ def run(program, session, slots):
 
 
 def refused(program, session, slots):
-    """How many requests are refused because slots ran out, in a run that is seen to be legal."""
+    """How many requests are refused for want of slots, in a run that is seen to be legal."""
     text = run(program, session, slots)[0]
     fault = fault_of(session, text, rule_of(slots))
     if fault:

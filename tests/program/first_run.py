@@ -31,8 +31,8 @@ bucketidx: key_names key_map arrayvec
 
 key_map_tests: key_map
 """
-# `rt ci` prints what it does of two crates, and that a third is kept; `rt run` what it does of two. Both leave a
-# program that takes the one word `run`. `rt ci` wants a copy of the program's crates alone, without wrong bodies.
+# `rt ci` prints what it does of two crates, and that a third is kept; `rt run` what it does of two. Both leave a program
+# that takes the one word `run`. `rt ci` wants a copy of the program's crates alone, without wrong bodies.
 KIT = """#!/bin/sh
 block() { echo "so far: 1 of 2 functions checked"; echo "crate $1: modules loaded=1"; echo "logic=proved functions=2"; }
 case $1 in
