@@ -1,4 +1,4 @@
-// The same lines of listings, written by hand in Rust: 1,000 keys, so many times. bench/lines compares.
+// The same lines of listings, handwritten in Rust: 1,000 keys, so many times. bench/lines compares.
 use std::env;
 use std::io::{self, Write};
 

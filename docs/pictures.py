@@ -4,8 +4,10 @@
     docs/pictures.py            draws them
     docs/pictures.py --check    says whether they are as drawn here
 
-The picture of the floors is made from crates.txt, and the files in that of the headline are those of TRUSTED.md. Colours follow the reader's light or dark scheme.
+The picture of the floors is made from crates.txt, and the files in that of the headline are those of TRUSTED.md.
+Colours follow the reader's light or dark scheme.
 """
+import argparse
 import re
 import sys
 from pathlib import Path
@@ -69,41 +71,36 @@ MONO, SMALL = "t m", "s"
 
 def history():
     """The session of README: the journal, and each answer at its place."""
-    p = Picture(800, 306, "A journal of six changes, and each answer at its place")
-    updates = [
-        ("PUT", "…/January/", "sample.jpg"), ("PUT", "…/February/", "sample2.jpg"), ("PUT", "…/February/", "sample3.jpg"),
-        ("PUT", "photos/2006/", "index.html"), ("PUT", "", "sample.jpg"), ("DELETE", "", "sample.jpg"),
-    ]
+    p = Picture(800, 226, "A journal of three changes, and each answer at its place")
+    updates = [("PUT", "…/January/", "sample.jpg"), ("PUT", "photos/2006/", "index.html"), ("DELETE", "photos/2006/", "index.html")]
     p.text(10, 22, "the journal", "s", 12, "start")
-    left, step = 24, 120
+    left, step = 60, 224
     for at, (verb, folder, name) in enumerate(updates):
         x = left + step * at
         lines = [(str(at + 1) + "  " + verb, "t b", 13)] + [(part, "t m", 11) for part in (folder, name) if part]
-        p.labelled(x + 8, 34, step - 16, 64, lines)
-    p.text(left, 226, "the answers, each at its place:", "s", 12, "start")
-    p.text(left, 242, "it is true after so many changes", "s", 12, "start")
-    for at in range(7):
+        p.labelled(x + 30, 34, step - 60, 64, lines)
+    p.text(10, 160, "the answers, each at its", "s", 12, "start")
+    p.text(10, 176, "place: it is true after", "s", 12, "start")
+    p.text(10, 192, "so many changes", "s", 12, "start")
+    for at in range(len(updates) + 1):
         x = left + step * at
         p.line(x, 34, x, 114, "dash")
         p.text(x, 130, str(at), "t b", 13)
     answers = {
-        1: [("line 2", "200")], 2: [("line 3", "200")], 3: [("line 4", "200")], 4: [("line 5", "200")],
-        5: [("line 6", "200"), ("7 LIST", "200"), ("8 NEXT", "200"), ("9 HEAD", "200")],
-        6: [("10 DELETE", "204"), ("11 HEAD", "404")],
+        1: [("line 2  PUT", "200")],
+        2: [("line 3  PUT", "200"), ("line 4  LIST", "200")],
+        3: [("line 5  DELETE", "204"), ("line 6  HEAD", "404")],
     }
     for place, rows in answers.items():
         for row, (line, status) in enumerate(rows):
-            kind = "key" if "LIST" in line or "NEXT" in line else "box"
-            p.labelled(left + step * place - 52, 142 + 30 * row, 104, 24, [(line + "  " + status, "t", 12)], kind)
-    p.line(left, 274, left + 5 * step, 274, "span")
-    for x in (left, left + 5 * step):
-        p.line(x, 268, x, 280, "span")
-    p.text(left + 2.5 * step, 294, "both pages are read from the bucket after these five changes, and from no other moment", "s", 12)
+            kind = "key" if "LIST" in line else "box"
+            p.labelled(left + step * place - 64, 142 + 30 * row, 128, 24, [(line + "  " + status, "t", 12)], kind)
+    p.text(left + 2 * step, 218, "the page is read from the bucket after these two changes, and from no other moment", "s", 12)
     return p
 
 
-# The files that the headline rests on, by crate, below the part of it that they say. Those of the generated session and of
-# checks are not in the picture.
+# The files that the headline rests on, by crate, below the part of it that they say. Those of the generated session
+# and of checks are not in the picture.
 PARTS = [
     ("HasRead, IsTaken", ["the word run; the bytes", "read, and those written"], ["command_words", "outside_io"]),
     ("IsSessionOf", ["the session that", "the input's text says"], ["request_lines"]),
@@ -195,7 +192,7 @@ def grace():
 
 
 def prune():
-    p = Picture(800, 356, "A cut beside a reader that announces late, and one that reads at an older number")
+    p = Picture(800, 356, "A cut next to a reader that announces late, and one that reads at an older number")
     rows = [("the stamp", 27), ("pass 0 cuts", 87), ("pass 1 comes late", 163), ("pass 2 reads", 227)]
     for name, y in rows:
         p.text(12, y + 4, name, "t", 12, "start")
@@ -213,7 +210,7 @@ def prune():
     event(312, 87, "looks at 1:", "finds 0")
     event(388, 87, "looks at 2:", "finds 6")
     event(455, 87, "raises", "to 8")
-    event(560, 87, "cuts behind the entry", "that 5 selects")
+    event(560, 87, "cuts after the entry", "that 5 selects")
     p.line(312, 95, 312, 163, "dash")
     p.line(388, 95, 388, 214, "dash")
     p.text(394, 124, "its least number is 5 now", "s", 11, "start")
@@ -319,7 +316,7 @@ def layers():
         return y - 12
 
     p.text(16, 26, "the program, and what it rests on", "s", 12, "start")
-    p.text(span + 28, 26, "beside it, and not in the program", "s", 12, "start")
+    p.text(span + 28, 26, "next to it, and not in the program", "s", 12, "start")
     bottom = p.height - 10
     for name, names in inside:
         bottom = floor(16, bottom, name, names, "key" if "core" in name else "box")
@@ -333,10 +330,13 @@ PICTURES = {"history": history, "headline": headline, "grace": grace, "prune": p
 
 
 def main():
+    parser = argparse.ArgumentParser(description=__doc__.split("\n")[0])
+    parser.add_argument("--check", action="store_true")
+    checks = parser.parse_args().check
     wrong = []
     for name, draw in PICTURES.items():
         path, svg = DOCS / (name + ".svg"), draw().svg()
-        if sys.argv[1:] == ["--check"]:
+        if checks:
             if not path.exists() or path.read_text() != svg:
                 wrong.append("docs/%s.svg is not what docs/pictures.py draws" % name)
         else:
@@ -345,4 +345,5 @@ def main():
     sys.exit(len(wrong) > 0)
 
 
-main()
+if __name__ == "__main__":
+    main()

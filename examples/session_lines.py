@@ -16,8 +16,8 @@ def stop(why):
 
 
 def ready(about):
-    """Prints what the script is for, where a word asks for help. Else it writes UTF-8 and LF from now on, and a reader that
-    has enough, such as `head`, ends it without a word."""
+    """Prints what the script is for, where a word asks for help. Else it writes UTF-8 and LF from now on, and a reader
+    that has enough, such as `head`, ends it without a word."""
     if HELP.intersection(sys.argv[1:]):
         print(about.strip())
         sys.exit()

@@ -1,4 +1,4 @@
-// A whole session over std's BTreeMap behind a RwLock: the program that someone would write by hand in Rust.
+// A whole session over std's BTreeMap behind a RwLock: the program that someone would write in Rust without any proof.
 // It takes sessions without a fault, and writes the same text as bucketidx. bench/compare runs both.
 mod lines;
 mod session;
@@ -33,7 +33,7 @@ pub struct Page<'a> {
     last: Option<(&'a str, bool)>,
 }
 
-/// The group of a key: up to the first delimiter behind the prefix.
+/// The group of a key: up to the first delimiter after the prefix.
 fn group_of<'a>(query: &Query, key: &'a str) -> Option<&'a str> {
     if query.delimiter.is_empty() {
         return None;
@@ -43,7 +43,7 @@ fn group_of<'a>(query: &Query, key: &'a str) -> Option<&'a str> {
     Some(&key[..query.prefix.len() + at + query.delimiter.len()])
 }
 
-/// The first name behind all that begin with this group; None where there is no such name.
+/// The first name after all that begin with this group; None where there is no such name.
 fn behind_group(group: &str) -> Bound<Vec<u8>> {
     let mut bytes = group.as_bytes().to_vec();
     while let Some(last) = bytes.pop() {
@@ -55,7 +55,7 @@ fn behind_group(group: &str) -> Bound<Vec<u8>> {
     Bound::Unbounded
 }
 
-/// Where the page begins: behind what was listed, and from the prefix on.
+/// Where the page begins: after what was listed, and from the prefix on.
 fn first_bound(query: &Query) -> Bound<&str> {
     let point = match &query.point {
         Some(Point::Key(text)) | Some(Point::Group(text)) => text.as_str(),
@@ -69,7 +69,7 @@ fn first_bound(query: &Query) -> Bound<&str> {
     }
 }
 
-/// The group that the listing goes on behind; nothing begins with it where there is none.
+/// The group that the listing goes on after; nothing begins with it where there is none.
 fn left_out(query: &Query) -> Option<&str> {
     match &query.point {
         Some(Point::Group(text)) => Some(text),

@@ -131,7 +131,7 @@ fn base64(bytes: &[u8]) -> String {
 }
 
 /// What stands before the text of a point in a token of the query: the form, the kind, and the prefix and the delimiter, each
-/// behind its length.
+/// after its length.
 fn front_of(kind: u8, query: &Query) -> Vec<u8> {
     let (prefix, delimiter) = (&query.prefix, &query.delimiter);
     let mut bytes = vec![b'2', kind];
