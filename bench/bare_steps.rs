@@ -1,6 +1,6 @@
-// The stores and loads of a section, without a table: the own word is stored, the stamp loaded, what it held plus 1 stored as
-// announced, the stamp loaded again, the own word stored, and the announcement stored as 0, so many times. It prints how many
-// sections, and in how many nanoseconds.
+// The stores and loads of a section, without a table: the own word is stored, the stamp loaded, what it held plus 1
+// stored as announced, the stamp loaded again, the own word stored, and the announcement stored as 0, so many times. It
+// prints how many sections, and in how many nanoseconds.
 use std::env;
 use std::hint::black_box;
 use std::sync::atomic::{AtomicU64, Ordering::SeqCst};

@@ -1,6 +1,7 @@
-// The work of `crates/index_runs`, over a map of Rust's standard library behind one lock. The first word is `mutex` or `rwlock`,
-// the numbers after it are the passes, keys, requests, updates, listings, page and seed of `index_runs`. Each update has a
-// place and stands in a history, as in the index; a listing is made under the lock, so it is of one moment.
+// The work of `crates/index_runs`, over a map of Rust's standard library behind one lock. The first word is `mutex` or
+// `rwlock`, the numbers after it are the passes, keys, requests, updates, listings, page and seed of `index_runs`. Each
+// update has a place and stands in a history, as in the index; a listing is made under the lock, so it is of one
+// moment.
 use std::collections::BTreeMap;
 use std::env;
 use std::sync::{Mutex, RwLock};

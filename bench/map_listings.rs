@@ -1,8 +1,8 @@
-// The listings of `crates/listing_times`, of a map of Rust's standard library. The first word is `iterator`, `range`, `beside` or
-// `beside_each`; then how many keys, and how many listings. It prints for each thread how much it made, and in how many
-// nanoseconds. `iterator` goes through the map; `range` looks for each key anew. With `beside` three threads list under
-// a lock that they hold for a whole listing, and another one puts all keys anew so many times; with `beside_each` the lock is held
-// for one entry, so that a listing is not of one moment.
+// The listings of `crates/listing_times`, of a map of Rust's standard library. The first word is `iterator`, `range`,
+// `beside` or `beside_each`; then how many keys, and how many listings. It prints for each thread how much it made, and
+// in how many nanoseconds. `iterator` goes through the map; `range` looks for each key anew. With `beside` three
+// threads list under a lock that they hold for a whole listing, and another one puts all keys anew so many times; with
+// `beside_each` the lock is held for one entry, so that a listing is not of one moment.
 use std::collections::BTreeMap;
 use std::env;
 use std::hint::black_box;

@@ -187,7 +187,8 @@ def named_in_table(path):
         for part in cells[2].split(";"):
             functions, colon, clauses = part.partition(": ")
             for function in re.findall(r"`([\w:]+)`", functions):
-                for clause in re.findall(r"`(\w+)`", clauses) if colon else [None]:
+                # A function without clauses, or with "each clause", has to be there all the same.
+                for clause in (re.findall(r"`(\w+)`", clauses) if colon else []) or [None]:
                     yield cells[0].strip("`"), function, clause
 
 
