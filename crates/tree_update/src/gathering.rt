@@ -67,6 +67,7 @@ fn cut_at(pass: &mut TablePass<'_>, key: u64) -> Option<u64>
 
 /// Goes along some keys, from this one on, until the pass owns enough entries. Answers where to go on: after the last
 /// key at the first one again.
+#[tactic(auto, using(crate::proofs::GatherSteps::gathers_more))]
 fn go_along(pass: &mut TablePass<'_>, from: u64) -> u64
     requires rest { AtRest pass.old.view }
     ensures same { IsSamePass pass.old pass.new }
@@ -86,20 +87,16 @@ fn go_along(pass: &mut TablePass<'_>, from: u64) -> u64
     key
 }
 
-/// Gets entries, where the pass owns a node, and fewer entries than an update may take: it cuts old ones, which nobody
-/// reads. It makes no update, and takes no memory. It may find none, where all that hangs is still read. Then it waits
-/// for the least number that is read to rise, and tries again, for a bounded time. Answers that number where all was in
-/// vain; a later call that is given it as `vain` gives up as soon as it finds the same.
-pub fn gather(pass: &mut TablePass<'_>, vain: Option<u64>) -> Option<u64>
+/// Cuts old entries, which nobody reads, until the pass owns as many as an update may take. It may find none, where all
+/// that hangs is still read. Then it waits for the least number that is read to rise, and tries again, for a bounded
+/// time. Answers that number where all was in vain, and gives up as soon as it finds `vain`.
+#[tactic(auto, using(crate::proofs::GatherSteps::gathers_more, crate::proofs::GatherSteps::stays_gathers))]
+fn gather_needed(pass: &mut TablePass<'_>, vain: Option<u64>) -> Option<u64>
     requires rest { AtRest pass.old.view }
     ensures same { IsSamePass pass.old pass.new }
     ensures rest { AtRest pass.new.view }
     ensures gathers { Gathers pass.old.view pass.new.view }
-    ensures enough { 4 ≤ owned_entries pass.old.view → pass.new ≡ pass.old }
 {
-    if pass.owned_nodes() == 0 || pass.owned_entries() >= NEEDED {
-        return vain;
-    }
     let mut key = 0;
     let mut waited = None;
     'stretches: for _ in 0..STRETCHES {
@@ -113,4 +110,25 @@ pub fn gather(pass: &mut TablePass<'_>, vain: Option<u64>) -> Option<u64>
         }
     }
     waited
+}
+
+/// Gets entries, where the pass owns a node, and fewer entries than an update may take: it cuts old ones, which nobody
+/// reads. It makes no update, and takes no memory. Where others still read what hangs it waits for them, for a bounded
+/// time. Answers the least number that was read where all was in vain; a later call that is given it as `vain` does not
+/// wait for it again.
+#[tactic(auto, using(crate::proofs::GatherSteps::gathers_nothing))]
+pub fn gather(pass: &mut TablePass<'_>, vain: Option<u64>) -> Option<u64>
+    requires rest { AtRest pass.old.view }
+    ensures same { IsSamePass pass.old pass.new }
+    ensures rest { AtRest pass.new.view }
+    ensures gathers { Gathers pass.old.view pass.new.view }
+    ensures enough { 4 ≤ owned_entries pass.old.view → pass.new ≡ pass.old }
+{
+    if pass.owned_entries() >= NEEDED {
+        return vain;
+    }
+    if pass.owned_nodes() == 0 {
+        return vain;
+    }
+    gather_needed(pass, vain)
 }

@@ -109,12 +109,14 @@ pub(crate) fn wait_for_more(
     if vain == Some(first.least) {
         return vain;
     }
+    let mut least = first.least;
     'looks: for _ in 0..LOOKS {
-        pause();
-        let next = look_around(pass);
-        if next.least > first.least {
+        if least > first.least {
             return None;
         }
+        pause();
+        let next = look_around(pass);
+        least = next.least;
     }
     Some(first.least)
 }

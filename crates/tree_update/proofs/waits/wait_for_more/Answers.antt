@@ -16,8 +16,8 @@ looks-preserved c =
       e.waits ∙ c.looks.invariant.3,
     )
 
-pub returns-then-least-clause-waits : goal.returns-then-least-clause-waits
-returns-then-least-clause-waits c = c.looks.invariant.3
+pub returns-then-least-first-clause-waits : goal.returns-then-least-first-clause-waits
+returns-then-least-first-clause-waits c = c.looks.invariant.3
 
 pub returns-clause-waits : goal.returns-clause-waits
 returns-clause-waits c = c.looks.invariant.3

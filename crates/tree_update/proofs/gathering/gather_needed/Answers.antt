@@ -1,6 +1,6 @@
 use Rattle.bundle_reads.proofs.ReadMoves.{same_pass, same_more}
 use Rattle.tree_update.proofs.GatherSteps.{gathers_more, gathers_nothing, stays_gathers}
-use Rattle.tree_update.proofs.gathering.gather.Goals as goal
+use Rattle.tree_update.proofs.gathering.gather_needed.Goals as goal
 
 pub stretches-init : goal.stretches-init
 stretches-init c = (c.requires.rest, gathers_nothing c.args.pass.now.view, same_pass c.args.pass.now)
