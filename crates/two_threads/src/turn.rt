@@ -6,7 +6,6 @@ use bucket_terms::{KeyPass, ListQuery, Page};
 use client_run::list;
 use key_map::{Done, PassError};
 use key_names::{Directory, NoMemory};
-use page_rules::KnownPrefixes;
 use std::alloc::Global;
 use std::sync::Wait;
 
@@ -52,8 +51,7 @@ pub(crate) fn take_turn<P: KeyPass, Rt: Wait>(
     let looked_at = pass.begin();
     let found = pass.value_of(rt, task.looks_up);
     pass.end();
-    let known = KnownPrefixes::none(alloc, dir);
-    let (listed_at, page) = list(rt, alloc, pass, &known, query, None)?;
+    let (listed_at, page) = list(rt, alloc, pass, dir, query, None)?;
     Ok(Turn {
         task,
         put,

@@ -1,5 +1,3 @@
-use Rattle.std.proofs.Common.{ℕ, List, subst}
-use Rattle.two_threads.specs.Turns.{TookTurn}
 use Rattle.two_threads.proofs.Turns.{took}
 use Rattle.two_threads.proofs.turn.take_turn.Goals as goal
 
@@ -11,13 +9,9 @@ returns-clause-turn g c =
     let found = c.value_of-found.result in
     let listed_at = c.in_ok-listed_at.listed_at in
     let page = c.in_ok-listed_at.page in
-    subst
-    (λ (dir : List (List ℕ)). TookTurn dir c.args.query.now c.args.task (view c.args.pass.now) (view c.list.new.pass)
-    (record { task = c.args.task; put = put; looked_at = looked_at; found = found; listed_at = listed_at; page = page }))
-    c.none-known.ensures
-    (took c.none-known.result c.args.query.now c.args.task (view c.args.pass.now) (view c.put-put.new.self) (view c.begin-looked_at.new.self)
+    took c.args.dir.now c.args.query.now c.args.task (view c.args.pass.now) (view c.put-put.new.self) (view c.begin-looked_at.new.self)
     (view c.value_of-found.new.self) (view c.end.new.self) (view c.list.new.pass) put looked_at found listed_at page
     c.put-put.ensures.made c.put-put.ensures.unchanged c.put-put.ensures.spent c.put-put.ensures.no_slot
     c.begin-looked_at.ensures.began c.value_of-found.ensures.same
     (c.value_of-found.ensures.value looked_at c.begin-looked_at.ensures.began.opened) c.end.ensures.closed
-    c.in_ok-listed_at.ensures.listed c.list.ensures.kept)
+    c.in_ok-listed_at.ensures.listed c.list.ensures.kept
