@@ -104,11 +104,11 @@ def history():
 PARTS = [
     ("HasRead, IsTaken", ["the word run; the bytes", "read, and those written"], ["command_words", "outside_io"]),
     ("IsSessionOf", ["the session that", "the input's text says"], ["request_lines"]),
-    ("IsLegal", ["one journal; each answer", "right at its place"], ["bucket_terms", "client_threads", "key_map", "key_names"]),
+    ("IsLegal", ["one journal; each answer", "right at its place"], ["bucket_terms", "key_map", "key_names"]),
     ("session_text", ["its lines of JSON,", "byte for byte"], ["answer_text"]),
 ]
 TOP_FILES = "serve_session"
-OF_OTHER_FORMS = re.compile("Sampl|Summar|Check|WrongLine|TextLines")
+OF_OTHER_FORMS = re.compile("Sampl|Summar|Check|WrongLine")
 
 
 def trusted():
