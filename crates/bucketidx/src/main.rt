@@ -20,6 +20,8 @@ use serve_session::{Status, serve};
 use std::alloc::Global;
 use std::process::ExitCode;
 use std::rt::Env;
+use std::sync::Wait;
+use std::thread::Threads;
 use std::{env, io, mem};
 
 fn main(rt: HostRuntime) -> ExitCode {
@@ -36,8 +38,8 @@ fn main(rt: HostRuntime) -> ExitCode {
 
 // Serves, and hands on what the output's buffer still has: with every end but a write fault, nothing is left there. A
 // write fault is one that the output has counted, while serving or by this.
-fn serve_to_the_end(
-    rt: &HostRuntime,
+fn serve_to_the_end<Rt: Threads + Wait + Sync + AllocGlobal>(
+    rt: &Rt,
     words: &[Text],
     source: &mut StdSource,
     sink: &mut StdSink,
