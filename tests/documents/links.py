@@ -75,15 +75,11 @@ def wrong_merges(page):
             yield "line %d has the mark of a merge" % number
 
 
-# Files that a page still names by the place where they stood before; the page follows with its next change.
-MOVED = {"TRUSTED.md": {"tests/trusted_files.py"}}
-
-
 def wrong_files(page):
     """Files in code style, such as `docs/FORMAT.md` and `crates/key_map/src/items.rt`."""
     for name in re.findall(r"`((?:%s)/[\w./-]+)`" % "|".join(map(re.escape, FOLDERS)), page.read_text()):
         # What a build makes is not there in a clean clone.
-        if "/out/" not in name and not (TOP / name).exists() and name not in MOVED.get(page.name, ()):
+        if "/out/" not in name and not (TOP / name).exists():
             yield "there is no file `%s`" % name
     for name in re.findall(r"(?<![\w/])(\w+/(?:specs|proofs|src)/[\w/]+\.\w+)", page.read_text()):
         if not (TOP / "crates" / name).exists():
