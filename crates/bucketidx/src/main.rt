@@ -5,7 +5,7 @@
 //! clients, and the exit status.
 #![tactic(auto)]
 
-ghost use Rattle.std.specs.Prelude.{◌≡◌, ◌≤◌, [], IfOk, map, drop, string_bytes};
+ghost use Rattle.std.specs.Prelude.{◌≡◌, ◌≤◌, [], IfOk, OnErr, OnOk, map, drop, string_bytes};
 ghost use Rattle.std.specs.Io.Buffered.{writer_buffer};
 ghost use Rattle.std.specs.Process.{exit_status};
 ghost use Rattle.std.specs.Vec.Iter.{into_iter_items};
@@ -52,8 +52,17 @@ fn serve_to_the_end<Rt: Threads + Wait + Sync + AllocGlobal>(
     let served = serve(rt, rt.alloc(), words, source, sink, &OpenGate, &mut runner);
     // The process ends with this, and its memory is given back whole.
     mem::forget(runner);
-    match sink.flush() {
-        Ok(()) => served,
+    let flushed = sink.flush();
+    written(served, flushed)
+}
+
+// How serving ended whose last bytes the output took, or did not take.
+fn written(status: Status, flushed: Result<(), Failed>) -> Status
+    ensures taken { OnOk flushed (result ≡ status) }
+    ensures not_taken { OnErr flushed (result ≡ Status.WriteFault) }
+{
+    match flushed {
+        Ok(()) => status,
         Err(Failed) => Status::WriteFault,
     }
 }
