@@ -48,7 +48,7 @@ use Rattle.plain_trees.specs.Matching.{Undone, IsUnset, IsOut, IsBypassed, IsHei
 use Rattle.plain_trees.specs.Points.{Meets}
 use Rattle.plain_trees.proofs.Nodes.{top-or-below}
 use Rattle.plain_trees.proofs.Points.{leads-keep, from-keep}
-use Rattle.plain_trees.proofs.Settling.{spelled-some}
+use Rattle.plain_trees.proofs.Matched.{spelled-some}
 
 -- the link to the node is still to be set
 pub record IsLeft (u : Undone) (x : ℕ) : Type 0 where

@@ -40,7 +40,7 @@ use Rattle.core_invariant.proofs.SearchNodes.{IsCalm, calm_reach, same_search}
 use Rattle.core_kept.proofs.SearchSteps.{locked_said}
 use Rattle.core_kept.proofs.SearchStores.{stored}
 use Rattle.core_kept.proofs.TryLocks.{slots_push}
-use Rattle.plain_trees.proofs.Settling.{spelled-some}
+use Rattle.plain_trees.proofs.Matched.{spelled-some}
 
 module _ (z : Layout) (words : List ℕ) (vs : List View) (right : InRule z words vs) (i : ℕ) (v : View) (at : IsItem vs i v) (n : ℕ) (value : ℕ) where
   abbrev m : Memory

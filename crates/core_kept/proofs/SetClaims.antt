@@ -40,7 +40,7 @@ use Rattle.plain_trees.specs.Points.{Meets}
 use Rattle.plain_trees.specs.Settling.{MaySet, IsSet, IsCopy}
 use Rattle.plain_trees.specs.Stores.{Relinks, Grows, Replaces, LiftsRight, LiftsLeft, Copies, Joins, IsStore, Insert, LiftRight, LiftLeft, Replace, Copy, Join, IsTest, Stores, ReachesNoNew}
 use Rattle.plain_trees.specs.Successors.{LeadsTo, LeadsFrom}
-use Rattle.plain_trees.proofs.Settling.{spelled-some}
+use Rattle.plain_trees.proofs.Matched.{spelled-some}
 use Rattle.plain_trees.proofs.Stores.{store}
 
 -- links of the same test of the nodes above them

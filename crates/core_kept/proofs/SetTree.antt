@@ -38,7 +38,8 @@ use Rattle.core_kept.proofs.MaySet.{item, sets, may, moves, off, copy_apart, ask
 use Rattle.core_invariant.proofs.Undone.{taken_out, tree_stays, root_stays, orderly, in_one, in_pair_second}
 use Rattle.plain_trees.specs.Matching.{IsOut}
 use Rattle.plain_trees.specs.Settling.{IsSet}
-use Rattle.plain_trees.proofs.Settling.{spelled-some, set_law}
+use Rattle.plain_trees.proofs.Matched.{spelled-some}
+use Rattle.plain_trees.proofs.Settling.{set_law}
 use Rattle.core_invariant.proofs.HeldSlots.{slots_link}
 
 or_left : (a b : Bool) → a ≡ true → (a || b) ≡ true

@@ -3,20 +3,18 @@ use Rattle.std.proofs.Common.{◌≡◌, ℕ, List, true, false, not, ◌&&◌, 
 use Rattle.std.specs.List.{All, slice_get}
 use Rattle.std.proofs.lemmas.Bool.{and_parts}
 use Rattle.index_words.specs.declared.layout.Layout.{Layout}
-use Rattle.key_map.specs.declared.update.Update.{Update}
 use Rattle.index_words.specs.declared.view.View.{View}
 use Rattle.index_words.specs.declared.word.Word.{Word}
-use Rattle.index_words.specs.Words.{Memory, memory, word_at}
-use Rattle.key_map.specs.Lists.{IsItem}
+use Rattle.index_words.specs.Words.{memory, word_at}
 use Rattle.core_events.specs.declared.event.Event.{Event}
-use Rattle.core_events.specs.declared.event.Kind.{Kind}
 use Rattle.core_events.specs.declared.event.Kind.TheVariants.{MakeSeat, SplitSeat, JoinSeat, Enter, Leave, LookSec, Fill, LoadStamp, LoadHead, LoadTs, LoadPtr, LoadNext, Prepare, Raise, Finalise, TryLock, Unlock, LoadMark, Mark as MarkNode, LoadKeyOrVal, Announce, LookAnn, Cut, LoadLink, SetLink, LoadTag, SetTag}
 use Rattle.core_events.specs.Tables.{Table, held_by}
 use Rattle.core_invariant.specs.Reached.{plain_graph}
 use Rattle.core_invariant.specs.Rule.{InRule, IsRight}
 use Rattle.core_invariant.specs.LinkLaw.{KeepsSelections}
-use Rattle.core_events.specs.Steps.{needs, carries, allowed, allowed_at, after, after_at, views_after, words_after}
+use Rattle.core_events.specs.Steps.{needs, carries, allowed, allowed_at, after, after_at}
 use Rattle.core_kept.specs.KeepsRule.{KeepsLaw}
+use Rattle.core_kept.specs.KindLaws.{RuleLaw}
 use Rattle.core_kept.specs.SearchLaws.{SearchesAfter}
 use Rattle.core_kept.specs.TurnLaws.{TurnsAfter}
 use Rattle.core_invariant.specs.LinkRule.{LinksLast}
@@ -33,7 +31,7 @@ use Rattle.core_kept.proofs.SectionWords.{spare_after}
 use Rattle.core_kept.proofs.OwnPlaces.{places_after}
 use Rattle.core_kept.proofs.WaitingSlots.{waits_after}
 use Rattle.core_kept.proofs.UnusedSlots.{unused_after}
-use Rattle.core_invariant.specs.KeptRule.{After}
+use Rattle.core_invariant.specs.KeptRule.{After, KeepsRuleAt}
 use Rattle.core_kept.proofs.StepLoads.{stamp_law, head_law, number_law, child_law, next_law}
 use Rattle.core_kept.proofs.StepUpdates.{prepare_law, raise_law, finalise_law}
 use Rattle.core_kept.proofs.StepLocks.{lock_law, unlock_law, load_mark_law, mark_law, load_pair_law}
@@ -44,43 +42,38 @@ use Rattle.core_kept.proofs.LinkedLast.{linking_after}
 use Rattle.core_kept.proofs.StepSearches.{searches_after}
 use Rattle.core_kept.proofs.StepTurns.{turns_after}
 
-module _ (z : Layout) (words : List ℕ) (vs : List View) (right : InRule z words vs) (i : ℕ) (v : View) (at : IsItem vs i v) (live : v.joined ≡ false) (n : ℕ)
-    (w : Word) (found : word_at z n ≡ Some w) (value : ℕ) where
-  abbrev m : Memory
-  m = memory z words
+-- no event makes a seat
+none_made : KeepsRuleAt MakeSeat
+none_made z words vs right i v at live n w found value o own met = absurd (never met)
 
-  abbrev Gives : List ℕ → List View → Type 0
-  Gives = After z words vs right
-
-  kind_right : (kind : Kind) (o : Option Update) → carries kind v o ≡ true → needs kind z m vs i v w value o ≡ true
-      → Gives (words_after kind words n value) (views_after kind z m vs i v w value o)
-  kind_right MakeSeat o own met = absurd (never met)
-  kind_right SplitSeat o own met = split_law z words vs right i v at live n w found value o own met
-  kind_right JoinSeat o own met = join_law z words vs right i v at live n w found value o own met
-  kind_right Enter o own met = enter_law z words vs right i v at live n w found value o own met
-  kind_right Leave o own met = leave_law z words vs right i v at live n w found value o own met
-  kind_right LookSec o own met = look_law z words vs right i v at live n w found value o own met
-  kind_right Fill o own met = fill_law z words vs right i v at live n w found value o own met
-  kind_right LoadStamp o own met = stamp_law z words vs right i v at live n w found value o own met
-  kind_right LoadHead o own met = head_law z words vs right i v at live n w found value o own met
-  kind_right LoadTs o own met = number_law z words vs right i v at live n w found value o own met
-  kind_right LoadPtr o own met = child_law z words vs right i v at live n w found value o own met
-  kind_right LoadNext o own met = next_law z words vs right i v at live n w found value o own met
-  kind_right Prepare o own met = prepare_law z words vs right i v at live n w found value o own met
-  kind_right Raise o own met = raise_law z words vs right i v at live n w found value o own met
-  kind_right Finalise o own met = finalise_law z words vs right i v at live n w found value o own met
-  kind_right TryLock o own met = lock_law z words vs right i v at live n w found value o own met
-  kind_right Unlock o own met = unlock_law z words vs right i v at live n w found value o own met
-  kind_right LoadMark o own met = load_mark_law z words vs right i v at live n w found value o own met
-  kind_right MarkNode o own met = mark_law z words vs right i v at live n w found value o own met
-  kind_right LoadKeyOrVal o own met = load_pair_law z words vs right i v at live n w found value o own met
-  kind_right Announce o own met = announce_law z words vs right i v at live n w found value o own met
-  kind_right LookAnn o own met = look_ann_law z words vs right i v at live n w found value o own met
-  kind_right Cut o own met = cut_law z words vs right i v at live n w found value o own met
-  kind_right LoadLink o own met = load_link_law z words vs right i v at live n w found value o own met
-  kind_right SetLink o own met = set_link_law z words vs right i v at live n w found value o own met
-  kind_right LoadTag o own met = load_tag_law z words vs right i v at live n w found value o own met
-  kind_right SetTag o own met = set_tag_law z words vs right i v at live n w found value o own met
+pub rule_after : RuleLaw
+rule_after MakeSeat = none_made
+rule_after SplitSeat = split_law
+rule_after JoinSeat = join_law
+rule_after Enter = enter_law
+rule_after Leave = leave_law
+rule_after LookSec = look_law
+rule_after Fill = fill_law
+rule_after LoadStamp = stamp_law
+rule_after LoadHead = head_law
+rule_after LoadTs = number_law
+rule_after LoadPtr = child_law
+rule_after LoadNext = next_law
+rule_after Prepare = prepare_law
+rule_after Raise = raise_law
+rule_after Finalise = finalise_law
+rule_after TryLock = lock_law
+rule_after Unlock = unlock_law
+rule_after LoadMark = load_mark_law
+rule_after MarkNode = mark_law
+rule_after LoadKeyOrVal = load_pair_law
+rule_after Announce = announce_law
+rule_after LookAnn = look_ann_law
+rule_after Cut = cut_law
+rule_after LoadLink = load_link_law
+rule_after SetLink = set_link_law
+rule_after LoadTag = load_tag_law
+rule_after SetTag = set_tag_law
 
 -- the table after an event, and the rule of it
 pub record AfterTable (t u : Table) : Type 0 where
@@ -128,7 +121,7 @@ after_right t e (Some v) (Some w) is found right met =
     let two = and_parts a b one.0 in
     let live : v.joined ≡ false = not_true v.joined two.1 in
     let at = item_from_get t.views e.seat v is in
-    let gives = kind_right t.layout t.words t.views right e.seat v at live e.word w found e.value e.kind e.update two.0 one.1 in
+    let gives = rule_after e.kind t.layout t.words t.views right e.seat v at live e.word w found e.value e.update two.0 one.1 in
     after_of t.layout t.words t.views right _ _ gives
     (searches_after t.layout t.words t.views right e.seat v at live e.word w found e.value e.update e.kind gives two.0 one.1)
     (turns_after e.kind t.layout t.words t.views right e.seat v at live e.word w found e.value e.update two.0 one.1)

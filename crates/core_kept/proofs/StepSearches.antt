@@ -31,35 +31,39 @@ use Rattle.core_kept.proofs.SearchUnlocks.{unlock_searches}
 use Rattle.core_kept.proofs.SearchWaits.{look_searches}
 use Rattle.core_kept.proofs.StampWords.{stamp_stays}
 
+-- no event makes a seat
+none_made : KeepsSearchesAt MakeSeat
+none_made z words vs right i v at live n w found value o own met = absurd (never met)
+
 -- each kind but a raise
-kind_searches : (kind : Kind) → (kind ≡ Raise → ⊥) → KeepsSearchesAt kind
-kind_searches MakeSeat other z words vs right i v at live n w found value o own met = absurd (never met)
-kind_searches SplitSeat other z words vs right i v at live n w found value o own met = split_searches z words vs right i v at live n w found value o own met
-kind_searches JoinSeat other z words vs right i v at live n w found value o own met = join_searches z words vs right i v at live n w found value o own met
-kind_searches Enter other z words vs right i v at live n w found value o own met = enter_searches z words vs right i v at live n w found value o own met
-kind_searches Leave other z words vs right i v at live n w found value o own met = leave_searches z words vs right i v at live n w found value o own met
-kind_searches LookSec other z words vs right i v at live n w found value o own met = look_searches z words vs right i v at live n w found value o own met
-kind_searches Fill other z words vs right i v at live n w found value o own met = fill_searches z words vs right i v at live n w found value o own met
-kind_searches LoadStamp other z words vs right i v at live n w found value o own met = stamp_searches z words vs right i v at live n w found value o own met
-kind_searches LoadHead other z words vs right i v at live n w found value o own met = head_searches z words vs right i v at live n w found value o own met
-kind_searches LoadTs other z words vs right i v at live n w found value o own met = ts_searches z words vs right i v at live n w found value o own met
-kind_searches LoadPtr other z words vs right i v at live n w found value o own met = ptr_searches z words vs right i v at live n w found value o own met
-kind_searches LoadNext other z words vs right i v at live n w found value o own met = next_searches z words vs right i v at live n w found value o own met
-kind_searches Prepare other z words vs right i v at live n w found value o own met = prepare_searches z words vs right i v at live n w found value o own met
-kind_searches Raise other z words vs right i v at live n w found value o own met = absurd (other refl)
-kind_searches Finalise other z words vs right i v at live n w found value o own met = finalise_searches z words vs right i v at live n w found value o own met
-kind_searches TryLock other z words vs right i v at live n w found value o own met = lock_searches z words vs right i v at live n w found value o own met
-kind_searches Unlock other z words vs right i v at live n w found value o own met = unlock_searches z words vs right i v at live n w found value o own met
-kind_searches LoadMark other z words vs right i v at live n w found value o own met = mark_searches z words vs right i v at live n w found value o own met
-kind_searches MarkNode other z words vs right i v at live n w found value o own met = marked_searches z words vs right i v at live n w found value o own met
-kind_searches LoadKeyOrVal other z words vs right i v at live n w found value o own met = pair_searches z words vs right i v at live n w found value o own met
-kind_searches Announce other z words vs right i v at live n w found value o own met = announce_searches z words vs right i v at live n w found value o own met
-kind_searches LookAnn other z words vs right i v at live n w found value o own met = look_ann_searches z words vs right i v at live n w found value o own met
-kind_searches Cut other z words vs right i v at live n w found value o own met = cut_searches z words vs right i v at live n w found value o own met
-kind_searches LoadLink other z words vs right i v at live n w found value o own met = link_searches z words vs right i v at live n w found value o own met
-kind_searches SetLink other z words vs right i v at live n w found value o own met = set_searches z words vs right i v at live n w found value o own met
-kind_searches LoadTag other z words vs right i v at live n w found value o own met = tag_searches z words vs right i v at live n w found value o own met
-kind_searches SetTag other z words vs right i v at live n w found value o own met = set_tag_searches z words vs right i v at live n w found value o own met
+pub kind_searches : (kind : Kind) → (kind ≡ Raise → ⊥) → KeepsSearchesAt kind
+kind_searches MakeSeat other = none_made
+kind_searches SplitSeat other = split_searches
+kind_searches JoinSeat other = join_searches
+kind_searches Enter other = enter_searches
+kind_searches Leave other = leave_searches
+kind_searches LookSec other = look_searches
+kind_searches Fill other = fill_searches
+kind_searches LoadStamp other = stamp_searches
+kind_searches LoadHead other = head_searches
+kind_searches LoadTs other = ts_searches
+kind_searches LoadPtr other = ptr_searches
+kind_searches LoadNext other = next_searches
+kind_searches Prepare other = prepare_searches
+kind_searches Raise other = absurd (other refl)
+kind_searches Finalise other = finalise_searches
+kind_searches TryLock other = lock_searches
+kind_searches Unlock other = unlock_searches
+kind_searches LoadMark other = mark_searches
+kind_searches MarkNode other = marked_searches
+kind_searches LoadKeyOrVal other = pair_searches
+kind_searches Announce other = announce_searches
+kind_searches LookAnn other = look_ann_searches
+kind_searches Cut other = cut_searches
+kind_searches LoadLink other = link_searches
+kind_searches SetLink other = set_searches
+kind_searches LoadTag other = tag_searches
+kind_searches SetTag other = set_tag_searches
 
 module _ (z : Layout) (words : List ℕ) (vs : List View) (right : InRule z words vs) (i : ℕ) (v : View) (at : IsItem vs i v) (live : v.joined ≡ false) (n : ℕ)
     (w : Word) (found : word_at z n ≡ Some w) (value : ℕ) (o : Option Update) where

@@ -53,7 +53,7 @@ use Rattle.core_invariant.proofs.Undone.{copied_is, in_one, in_pair_second}
 use Rattle.plain_trees.specs.Matching.{Undone, IsUnset, IsOut, IsBypassed}
 use Rattle.plain_trees.specs.Reaching.{IsReached}
 use Rattle.plain_trees.specs.Settling.{IsSet, IsNew, MaySet}
-use Rattle.plain_trees.proofs.Settling.{spelled-some}
+use Rattle.plain_trees.proofs.Matched.{spelled-some}
 use Rattle.plain_trees.proofs.TurnPaths.{store_turned}
 use Rattle.core_invariant.specs.StillRule.{IsSourceKnown, IsLinkKnown, KnownRight}
 use Rattle.core_kept.proofs.KnownHeld.{link_kept_links, link_kept_tags, link_known_here}

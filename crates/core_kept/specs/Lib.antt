@@ -6,3 +6,4 @@ pub mod KeepsRule
 pub mod SearchLaws
 pub mod RaiseOwes
 pub mod TurnLaws
+pub mod KindLaws

@@ -16,7 +16,7 @@ use Rattle.core_invariant.proofs.OneView.{item_from_get, seat_at}
 use Rattle.core_invariant.proofs.Idle.{number_low}
 use Rattle.core_laws.specs.ViewNeeds.{event_at, MayAnnounce, MayTakeBack, MayLookAnn, AnnounceLaw, TakeBackLaw, LookAnnLaw}
 use Rattle.core_laws.proofs.ViewTests.{both, below, not_of, none_is, other_number}
-use Rattle.core_laws.proofs.ViewNeeds.{alive, named_alive, allowed_by}
+use Rattle.core_laws.proofs.AtWork.{alive, named_alive, allowed_by}
 use Rattle.index_words.specs.Words.{memory}
 
 module _ (z : Layout) (words : List ℕ) (vs : List View) (right : InRule z words vs) (i : ℕ) (v : View) (is : slice_get vs i ≡ Some v) where

@@ -41,7 +41,7 @@ use Rattle.core_laws.specs.Cuts.{HasWalkedAt, HasWalkedTo, MayCut, CutNeedLaw}
 use Rattle.core_laws.specs.ViewNeeds.{event_at}
 use Rattle.core_laws.proofs.Remembered.{every_item}
 use Rattle.core_laws.proofs.ViewTests.{at_most, both, below, left_of, right_of, not_of}
-use Rattle.core_laws.proofs.ViewNeeds.{locked_alive, allowed_by}
+use Rattle.core_laws.proofs.AtWork.{locked_alive, allowed_by}
 
 -- one that passes is among the items
 any_item : {X : Type 0} (test : X → Bool) (xs : List X) (i : ℕ) (x : X) → IsItem xs i x → test x ≡ true → list_any test xs ≡ true

@@ -10,6 +10,8 @@ pub mod Laws
 pub mod Owners
 -- What a view shows, as the tests of needs find it.
 pub mod ViewTests
+-- What a view at work has: it was not joined away, its words are in the table, and nothing of it is pending where it may leave.
+pub mod AtWork
 -- A seat whose view meets the need of an event may make it, in every table that meets the rule.
 pub mod ViewNeeds
 -- A seat whose view shows that it may announce, take its announcement back, or look at another pass's may do so.
@@ -32,6 +34,8 @@ pub mod Tallies
 pub mod CountTests
 -- The view of a seat in a list of views in which one was set.
 pub mod SetViews
+-- Where the counts of a view rise at a load.
+pub mod CountLoads
 -- Where the counts of a view rise.
 pub mod Counts
 -- What a seat knows from its view where a count is to rise.
@@ -42,6 +46,8 @@ pub mod NumberLoads
 pub mod SlotSums
 -- Numbers of passes, places of updates and chains, as far as it is asked who did something.
 pub mod AloneFacts
+-- What is met in a table, and this seat did not do, another pass did.
+pub mod Elsewhere
 -- What is met where a count rises is what another pass did.
 pub mod Alone
 -- A tree is determined by the list of its nodes.

@@ -33,7 +33,7 @@ use Rattle.core_invariant.proofs.OneView.{item_from_get, seat_at}
 use Rattle.core_laws.specs.PlainNeeds.{MayReadLink, MayReadTag, MayUnlink, MaySetLink, MaySetTag, ReadLinkLaw, ReadTagLaw, SetLinkLaw, SetTagLaw}
 use Rattle.core_laws.specs.ViewNeeds.{event_at, IsInside}
 use Rattle.core_laws.proofs.ViewTests.{at_most, both, left_of, not_of, right_of, found-locks, stands_searched}
-use Rattle.core_laws.proofs.ViewNeeds.{locked_alive, inside_alive, allowed_by, reach_there, searched_there, done_by}
+use Rattle.core_laws.proofs.AtWork.{locked_alive, inside_alive, allowed_by, reach_there, searched_there, done_by}
 
 count_front : (k : ℕ) (xs ys : List ℕ) → 0 < count k xs → 0 < count k (xs ++ ys)
 count_front k xs ys some = omega (arith, some, count-append k xs ys)

@@ -1,63 +1,55 @@
 -- A seat whose view meets the need of an event may make it, in every table that meets the rule.
-use Rattle.std.proofs.Common.{◌≡◌, ◌≢◌, ℕ, zero, suc, ◌+◌, ◌<◌, ◌≤◌, ◌⊎◌, cond, List, [], length, Bool, true, false, not, eqb, ◌&&◌, ◌||◌, arith, refl, ap, ◌∙◌, sym, subst, inl, inr, Option, Some, None, is_none}
-use Rattle.std.specs.Prelude.{IfSome, nat_lt, nat_le}
-use Rattle.std.specs.List.{slice_get, list_all}
+use Rattle.std.proofs.Common.{◌≡◌, ◌≢◌, ℕ, ◌+◌, ◌<◌, ◌≤◌, ◌⊎◌, cond, List, length, Bool, true, false, not, eqb, ◌&&◌, ◌||◌, arith, refl, ap, ◌∙◌, subst, inl, inr, Option, Some, None, is_none}
+use Rattle.std.specs.Prelude.{nat_lt, nat_le}
+use Rattle.std.specs.List.{slice_get}
 use Rattle.std.proofs.lemmas.Bool.{eq-eqb, ne_eqb}
 use Rattle.index_words.specs.declared.layout.Layout.{Layout}
 use Rattle.index_words.specs.declared.side.Side.{Side}
-use Rattle.index_words.specs.declared.side.Side.TheVariants.{Right}
 use Rattle.index_words.specs.declared.view.View.{View}
 use Rattle.index_words.specs.declared.view.reading.Place.{Place}
 use Rattle.index_words.specs.declared.view.reading.Place.TheVariants.{Entry as AtEntry}
 use Rattle.index_words.specs.declared.view.update.HeldNode.{HeldNode}
 use Rattle.index_words.specs.declared.view.update.LoadedHead.{LoadedHead}
-use Rattle.index_words.specs.declared.view.update.Updating.{Updating}
 use Rattle.index_words.specs.declared.word.Part.{Part}
 use Rattle.index_words.specs.declared.word.Field.{Field}
-use Rattle.index_words.specs.declared.word.Field.TheVariants.{Key, Val, Lock, Mark, Head, Link}
+use Rattle.index_words.specs.declared.word.Field.TheVariants.{Key, Val, Lock, Mark, Head}
 use Rattle.index_words.specs.declared.word.Part.TheVariants.{Child, Stamp as Number, Next}
 use Rattle.index_words.specs.declared.word.Word.{Word}
 use Rattle.index_words.specs.declared.word.Word.TheVariants.{Stamp, Section, Node, Entry}
-use Rattle.index_words.specs.Views.{spent_view}
-use Rattle.index_words.specs.Words.{Memory, memory, word_at, address, is_there}
+use Rattle.index_words.specs.Words.{Memory, memory, is_there}
 use Rattle.index_words.proofs.Seats.{one_term}
-use Rattle.index_words.proofs.Seats.{at_item}
-use Rattle.key_map.specs.Lists.{count, has, Every, IsItem}
+use Rattle.key_map.specs.Lists.{count, has, IsItem}
 use Rattle.key_map.proofs.Counting.{count-has}
 use Rattle.core_grace.specs.Batches.{is_number, is_empty}
 use Rattle.core_grace.specs.Sections.{is_even, left_word}
 use Rattle.core_grace.specs.Slots.{own, nodes_of, entries_in}
-use Rattle.core_events.specs.declared.event.Kind.{Kind}
 use Rattle.core_events.specs.declared.event.Kind.TheVariants.{SplitSeat, JoinSeat, Enter, Leave, LookSec, Fill, LoadStamp, LoadHead, LoadTs, LoadPtr, LoadNext, Prepare, Finalise, TryLock, Unlock, LoadMark, Mark as MarkNode, LoadKeyOrVal}
 use Rattle.core_events.specs.Tables.{Table}
 use Rattle.core_events.proofs.Tests.{has_announced-is}
 use Rattle.core_invariant.specs.BundleRule.{IsPending}
-use Rattle.core_invariant.specs.Locks.{IsNodeAt, IsTakenOut}
 use Rattle.core_invariant.specs.Readers.{IsLocked}
-use Rattle.core_invariant.specs.Reached.{plain_graph, ReachesRight}
 use Rattle.core_invariant.specs.Rule.{InRule}
 use Rattle.core_invariant.specs.SeatRule.{SeatRight}
 use Rattle.core_events.specs.Announcing.{has_announced}
 use Rattle.core_events.specs.LoadMoves.{locks, is_above}
 use Rattle.core_events.specs.LoadNeeds.{is_reachable, stands_at, may_go_on, is_part}
 use Rattle.core_events.specs.LockNeeds.{is_pair, may_lock, names_pass}
-use Rattle.core_events.specs.Searches.{search_nodes}
 use Rattle.core_events.specs.PlainNeeds.{is_done_at}
-use Rattle.core_events.specs.Needs.{is_lock, is_outside, is_marked_node, is_marked_out, is_own_section, is_stamp, is_successor, nothing_pending, has_none_waiting, may_join_found}
+use Rattle.core_events.specs.Needs.{is_lock, is_outside, is_own_section, is_stamp, nothing_pending, has_none_waiting, may_join_found}
 use Rattle.core_events.specs.Waits.{has_no_lock, has_to_look, is_waiting}
 use Rattle.core_laws.specs.Owners.{HasFreeNode, HasFreeEntry}
-use Rattle.core_events.specs.Steps.{needs, allowed, allowed_at, carries}
+use Rattle.core_events.specs.Steps.{allowed}
 use Rattle.core_invariant.specs.FilledRule.{FilledRight}
 use Rattle.core_events.specs.UpdateNeeds.{held_at, is_next_of, is_ready, is_slot_number, is_written, side_of}
 use Rattle.core_laws.proofs.Remembered.{every_item}
-use Rattle.core_laws.specs.ViewNeeds.{event_at, IsInside, IsKnownMarked, IsInReach, IsSearched, IsAtEntry, MayEnter, MayLeave, MayLook, MayFill, MayReadHead, MayReadNumber, MayReadChild, MayReadNext, HasFilled, MayPrepare, MayFinalise, MayLock, MayUnlock, MayReadMark, MayReadPair, MayMark, MaySplit, MayJoin, EnterLaw, LeaveLaw, LookLaw, FillLaw, LoadStampLaw, FixLaw, ReadHeadLaw, ReadNumberLaw, ReadChildLaw, ReadNextLaw, PrepareLaw, FinaliseLaw, LockLaw, UnlockLaw, ReadMarkLaw, MarkLaw, ReadKeyLaw, ReadValLaw, SplitLaw, JoinLaw}
+use Rattle.core_laws.specs.ViewNeeds.{event_at, IsInside, IsAtEntry, MayEnter, MayLeave, MayLook, MayFill, MayReadHead, MayReadNumber, MayReadChild, MayReadNext, HasFilled, MayPrepare, MayFinalise, MayLock, MayUnlock, MayReadMark, MayReadPair, MayMark, MaySplit, MayJoin, EnterLaw, LeaveLaw, LookLaw, FillLaw, LoadStampLaw, FixLaw, ReadHeadLaw, ReadNumberLaw, ReadChildLaw, ReadNextLaw, PrepareLaw, FinaliseLaw, LockLaw, UnlockLaw, ReadMarkLaw, MarkLaw, ReadKeyLaw, ReadValLaw, SplitLaw, JoinLaw}
 use Rattle.core_invariant.proofs.OneView.{item_from_get, seat_at}
-use Rattle.core_invariant.proofs.Frames.{every_at, every_map}
+use Rattle.core_invariant.proofs.Frames.{every_at}
 use Rattle.core_invariant.proofs.HeldFacts.{work_holds, locks-count, count-locks}
 use Rattle.core_invariant.proofs.LiveHeads.{chain_head}
-use Rattle.core_invariant.proofs.Idle.{number_low}
 use Rattle.core_invariant.proofs.Owned.{entry_there, free_entry_some, held_live, in_entries, slot_high}
-use Rattle.core_laws.proofs.ViewTests.{word_named, reaches, lock_tested, some_searched, both, left_of, right_of, not_of, never_of, at_most, below, live_of, found-locks, none_is, none_waiting, number_is, other_number, own_section_is, empty_length, some_length, outside_is, all_tested, held_item, every_two}
+use Rattle.core_laws.proofs.ViewTests.{reaches, lock_tested, both, left_of, right_of, not_of, never_of, at_most, below, found-locks, none_is, none_waiting, number_is, other_number, own_section_is, empty_length, some_length, outside_is}
+use Rattle.core_laws.proofs.AtWork.{alive, inside_alive, named_alive, locked_alive, allowed_by, reach_there, searched_there, section_there, own_there, nothing_by, done_by}
 
 module _ (z : Layout) (words : List ℕ) (vs : List View) (right : InRule z words vs) (i : ℕ) (v : View) (is : slice_get vs i ≡ Some v) where
   abbrev m : Memory
@@ -72,96 +64,9 @@ module _ (z : Layout) (words : List ℕ) (vs : List View) (right : InRule z word
   seat : SeatRight z m right.meaning v
   seat = seat_at z m vs right.meaning i v at right.rule
 
-  pub alive : (P : View → Type 0) → P v → (P spent_view → ⊥) → v.joined ≡ false
-  alive P holds none = live_of z words vs i v P right at holds none
-
-  pub inside_alive : IsInside v → v.joined ≡ false
-  inside_alive inside = alive IsInside inside (λ none. cc)
-
-  pub named_alive : (n : ℕ) → v.number ≡ Some n → v.joined ≡ false
-  named_alive n own = alive (λ (x : View). x.number ≡ Some n) own (λ none. cc)
-
-  pub locked_alive : (k : ℕ) → IsLocked v k → v.joined ≡ false
-  locked_alive k locked = alive (λ x. IsLocked x k) locked (λ none. omega (arith, none))
-
-  pub allowed_by : (kind : Kind) (w : Word) (value : ℕ) → v.joined ≡ false → is_there z w ≡ true → carries kind v None ≡ true → needs kind z m vs i v w value None ≡ true
-      → allowed t (event_at z i kind w value) ≡ true
-  allowed_by kind w value live there own met =
-      ap (λ o. allowed_at t (event_at z i kind w value) o (word_at z (address z w))) is
-      ∙ ap (allowed_at t (event_at z i kind w value) (Some v)) (word_named z w there)
-      ∙ both (carries kind v None && not v.joined) (needs kind z m vs i v w value None) (both (carries kind v None) (not v.joined) own (not_of v.joined live)) met
-
-  node_high : (k : ℕ) → IsInReach v k → k ≤ z.nodes
-  node_high k (inl root) = omega (arith, root)
-  node_high k (inr (inl tree)) = seat.version.there k tree
-  node_high k (inr (inr locked)) = (seat.locks k locked).0
-
-  pub reach_there : (f : Field) (k : ℕ) → IsInReach v k → is_there z (Node f k) ≡ true
-  reach_there f k reach = at_most k z.nodes (node_high k reach)
-
-  -- a node that was searched is one of the table
-  search_high : (k : ℕ) → IsInside v → 0 < count k (search_nodes 0 v.reading) → k ≤ z.nodes
-  search_high zero inside searched = omega arith
-  search_high (suc k) inside searched =
-      (at_item (ReachesRight z (plain_graph m) vs) vs i v at right.reach).there (suc k) (record {
-        inside = inside;
-        some = omega arith;
-        from = suc k;
-        searched = some_searched (suc k) (m (Node (Link Right) 0)) v.reading.place _ (omega arith) searched;
-        reached = ([], refl);
-      })
-
-  pub searched_there : (f : Field) (k : ℕ) → IsInside v → IsSearched v k → is_there z (Node f k) ≡ true
-  searched_there f k inside (inl root) = at_most k z.nodes (omega (arith, root))
-  searched_there f k inside (inr searched) = at_most k z.nodes (search_high k inside searched)
-
-  pub section_there : (n : ℕ) → n < v.layout.passes → v.joined ≡ false → is_there z (Section n) ≡ true
-  section_there n low live = below n z.passes (subst (λ (y : Layout). n < y.passes) (seat.layout live) low)
-
-  own_there : (n : ℕ) → v.number ≡ Some n → is_there z (Section n) ≡ true
-  own_there n own = below n z.passes (number_low z vs i v n right.rule.numbers at own)
-
-  -- nothing pending, where no lock is held
-  nothing_by : v.held.nodes ≡ [] → nothing_pending m v ≡ true
-  nothing_by none = ap (λ (u : Updating). eqb (length u.pending) 0 && list_all (is_marked_out m u) u.taken) (seat.section.done none)
-
-  -- nor where what is pending is none, and each locked node that was taken out is marked
-  taken_marked : Every (IsKnownMarked v.update) v.held.nodes → (k : ℕ) → 0 < count k v.update.taken → is_marked_out m v.update k ≡ true
-  taken_marked marked k taken =
-      elim (seat.marks.retired k (seat.marks.taken k taken)) as (λ _. is_marked_out m v.update k ≡ true) [
-        | inl one ↦ left_of (is_marked_node m k) (is_successor k v.update.unlinking) (eq-eqb (m (Node Mark k)) 1 one)
-        | inr out ↦ locked_marked out
-      ]
-    where
-      Loaded : HeldNode → Type 0
-      Loaded h = IfSome h.mark (λ x. m (Node Mark h.node) ≡ x)
-
-      mark_is : (h : HeldNode) → Loaded h → h.mark ≡ Some 1 → m (Node Mark h.node) ≡ 1
-      mark_is h loaded is = subst (λ (o : Option ℕ). IfSome o (λ x. m (Node Mark h.node) ≡ x)) is loaded
-
-      one_marked : (h : HeldNode) → Loaded h → (h.mark ≡ Some 1) ⊎ (is_successor h.node v.update.unlinking ≡ true) → is_marked_out m v.update h.node ≡ true
-      one_marked h loaded (inl known) =
-          left_of (is_marked_node m h.node) (is_successor h.node v.update.unlinking) (eq-eqb (m (Node Mark h.node)) 1 (mark_is h loaded known))
-      one_marked h loaded (inr successor) = right_of (is_marked_node m h.node) (is_successor h.node v.update.unlinking) successor
-
-      locked_marked : IsTakenOut v k → is_marked_out m v.update k ≡ true
-      locked_marked out =
-          let held = held_item (λ (h : HeldNode). Loaded h × IsKnownMarked v.update h) k v.held.nodes
-          (every_two Loaded (IsKnownMarked v.update) v.held.nodes loaded_marks marked) out.2 in
-          subst (λ j. is_marked_out m v.update j ≡ true) held.same
-          (one_marked held.item held.has_it.0 (held.has_it.1 (subst (λ j. 0 < count j v.update.taken) (sym held.same) taken)))
-        where
-          loaded_marks : Every Loaded v.held.nodes
-          loaded_marks = every_map (IsNodeAt m) Loaded v.held.nodes (λ h known. known.mark) seat.loaded.nodes
-
-  pub done_by : v.update.pending ≡ [] → Every (IsKnownMarked v.update) v.held.nodes → nothing_pending m v ≡ true
-  done_by none marked =
-      both (eqb (length v.update.pending) 0) (list_all (is_marked_out m v.update) v.update.taken) (empty_length v.update.pending none)
-      (all_tested (is_marked_out m v.update) v.update.taken (taken_marked marked))
-
   pub enter_may : (n : ℕ) → MayEnter v n → allowed t (event_at z i Enter (Section n) (v.section_word + 1)) ≡ true
   enter_may n may =
-      allowed_by Enter (Section n) (v.section_word + 1) (named_alive n may.own) (own_there n may.own) refl
+      allowed_by z words vs right i v is Enter (Section n) (v.section_word + 1) (named_alive z words vs right i v is n may.own) (own_there z words vs right i v is n may.own) refl
       (both (is_own_section v.number (Section n) && is_outside v) (eqb (v.section_word + 1) (v.section_word + 1))
       (both (is_own_section v.number (Section n)) (is_outside v) (own_section_is n v.number may.own) (outside_is v may.outside)) (eq-eqb (v.section_word + 1) (v.section_word + 1) refl))
 
@@ -172,13 +77,13 @@ module _ (z : Layout) (words : List ℕ) (vs : List View) (right : InRule z word
       let b = not (is_even v.section_word) in
       let c = has_no_lock v || is_waiting v in
       let d = nothing_pending m v in
-      allowed_by Leave (Section n) (left_word v.section_word) (named_alive n own) (own_there n own) refl
+      allowed_by z words vs right i v is Leave (Section n) (left_word v.section_word) (named_alive z words vs right i v is n own) (own_there z words vs right i v is n own) refl
       (both (a && b && c && d) (eqb (left_word v.section_word) (left_word v.section_word))
       (both (a && b && c) d (both (a && b) c (both a b (own_section_is n v.number own) (not_of (is_even v.section_word) inside)) may) nothing)
       (eq-eqb (left_word v.section_word) (left_word v.section_word) refl))
 
   pub leave_may : (n : ℕ) → MayLeave v n → allowed t (event_at z i Leave (Section n) (left_word v.section_word)) ≡ true
-  leave_may n may = leave_by n may.own may.inside (left_of (has_no_lock v) (is_waiting v) (empty_length v.held.nodes may.unlocked)) (nothing_by may.unlocked)
+  leave_may n may = leave_by n may.own may.inside (left_of (has_no_lock v) (is_waiting v) (empty_length v.held.nodes may.unlocked)) (nothing_by z words vs right i v is may.unlocked)
 
   pub look_by : (pass : ℕ) → v.joined ≡ false → pass < v.layout.passes → v.number ≢ Some pass → is_even v.section_word ≡ true → has_to_look v ≡ true
       → allowed t (event_at z i LookSec (Section pass) 0) ≡ true
@@ -186,18 +91,18 @@ module _ (z : Layout) (words : List ℕ) (vs : List View) (right : InRule z word
       let a = not (is_number pass v.number) in
       let b = is_even v.section_word in
       let c = has_to_look v in
-      allowed_by LookSec (Section pass) 0 live (section_there pass there live) refl
+      allowed_by z words vs right i v is LookSec (Section pass) 0 live (section_there z words vs right i v is pass there live) refl
       (both (a && b && c) (eqb 0 0) (both (a && b) c (both a b (not_of (is_number pass v.number) (other_number pass v.number other)) even) looks) refl)
 
   pub look_may : (pass : ℕ) → MayLook v pass → allowed t (event_at z i LookSec (Section pass) 0) ≡ true
   look_may pass may =
       let c = not (is_empty v.batch && is_empty v.retired) in
-      look_by pass (alive (λ (x : View). (is_empty x.batch && is_empty x.retired) ≡ false) may.waiting (λ none. cc)) may.there may.other may.outside.even
+      look_by pass (alive z words vs right i v is (λ (x : View). (is_empty x.batch && is_empty x.retired) ≡ false) may.waiting (λ none. cc)) may.there may.other may.outside.even
       (ap (λ (b : Bool). cond b c (is_waiting v)) (empty_length v.held.nodes may.outside.unlocked) ∙ not_of (is_empty v.batch && is_empty v.retired) may.waiting)
 
   fill_node : (f : Field) (k value : ℕ) → is_lock f ≡ false → HasFreeNode v k → allowed t (event_at z i Fill (Node f k) value) ≡ true
   fill_node f k value other free =
-      allowed_by Fill (Node f k) value (alive (λ x. HasFreeNode x k) free (λ none. omega (arith, none)))
+      allowed_by z words vs right i v is Fill (Node f k) value (alive z words vs right i v is (λ x. HasFreeNode x k) free (λ none. omega (arith, none)))
       (at_most k z.nodes (slot_high z.nodes k (omega (arith, right.rule.slots.nodes.one k, one_term (own nodes_of k) vs i v at, free)))) refl
       (both (not (is_lock f)) (has k v.free.nodes) (not_of (is_lock f) other) (count-has k v.free.nodes free))
 
@@ -207,7 +112,7 @@ module _ (z : Layout) (words : List ℕ) (vs : List View) (right : InRule z word
   pub fill_may : (w : Word) (value : ℕ) → MayFill v w → allowed t (event_at z i Fill w value) ≡ true
   fill_may (Node f k) value may = fill_node f k value may.0 may.1
   fill_may (Entry p e) value may =
-      allowed_by Fill (Entry p e) value (alive (λ x. HasFreeEntry x e) may (λ none. omega (arith, none)))
+      allowed_by z words vs right i v is Fill (Entry p e) value (alive z words vs right i v is (λ x. HasFreeEntry x e) may (λ none. omega (arith, none)))
       (entry_is e (free_entry_some z vs right.meaning right.rule.slots i e v at may)
       (slot_high z.entries e (omega (arith, right.rule.slots.entries.one e, one_term (own entries_in e) vs i v at, may)))) refl
       (count-has e v.free.entries may)
@@ -217,19 +122,19 @@ module _ (z : Layout) (words : List ℕ) (vs : List View) (right : InRule z word
   stamp_by value few inside closed =
       let b = not (is_even v.section_word) in
       let c = is_none v.reading.opened in
-      allowed_by LoadStamp Stamp value (inside_alive inside) refl refl
+      allowed_by z words vs right i v is LoadStamp Stamp value (inside_alive z words vs right i v is inside) refl refl
       (both (is_stamp Stamp && b && c) (eqb value 0 || (eqb value 1 && has_announced v)) (both (is_stamp Stamp && b) c (both (is_stamp Stamp) b refl (not_of (is_even v.section_word) inside)) (none_is v.reading.opened closed)) few)
 
   pub head_may : (k : ℕ) (side : Side) → MayReadHead v k → allowed t (event_at z i LoadHead (Node (Head side) k) 0) ≡ true
   head_may k side may =
       let b = not (is_even v.section_word) in
       let c = is_reachable v k in
-      allowed_by LoadHead (Node (Head side) k) 0 (inside_alive may.inside) (reach_there (Head side) k may.reach) refl
+      allowed_by z words vs right i v is LoadHead (Node (Head side) k) 0 (inside_alive z words vs right i v is may.inside) (reach_there z words vs right i v is (Head side) k may.reach) refl
       (both (b && c) (eqb 0 0) (both b c (not_of (is_even v.section_word) may.inside) (reaches v k may.reach)) refl)
 
   module _ (e : ℕ) (stood : IsAtEntry v e) where
     entry_alive : v.joined ≡ false
-    entry_alive = alive (λ (x : View). x.reading.place ≡ AtEntry stood.node stood.side e stood.found) stood.place (λ none. cc)
+    entry_alive = alive z words vs right i v is (λ (x : View). x.reading.place ≡ AtEntry stood.node stood.side e stood.found) stood.place (λ none. cc)
 
     entry_high : e ≤ z.entries
     entry_high = subst (λ (y : Layout). e ≤ y.entries) (seat.layout entry_alive) stood.there
@@ -246,17 +151,17 @@ module _ (z : Layout) (words : List ℕ) (vs : List View) (right : InRule z word
 
   pub number_may : (e : ℕ) → MayReadNumber v e → allowed t (event_at z i LoadTs (Entry Number e) 0) ≡ true
   number_may e may =
-      allowed_by LoadTs (Entry Number e) 0 (entry_alive e may.at) (entry_is e may.at.some (entry_high e may.at)) refl
+      allowed_by z words vs right i v is LoadTs (Entry Number e) 0 (entry_alive e may.at) (entry_is e may.at.some (entry_high e may.at)) refl
       (both (is_part Number Number && stands_at v.reading.place e) (eqb 0 0) (both (is_part Number Number) (stands_at v.reading.place e) refl (stands e may.at)) refl)
 
   pub child_may : (e : ℕ) → MayReadChild v e → allowed t (event_at z i LoadPtr (Entry Child e) 0) ≡ true
   child_may e may =
-      allowed_by LoadPtr (Entry Child e) 0 (entry_alive e may.at) (entry_is e may.at.some (entry_high e may.at)) refl
+      allowed_by z words vs right i v is LoadPtr (Entry Child e) 0 (entry_alive e may.at) (entry_is e may.at.some (entry_high e may.at)) refl
       (both (is_part Child Child && stands_at v.reading.place e) (eqb 0 0) (both (is_part Child Child) (stands_at v.reading.place e) refl (stands e may.at)) refl)
 
   pub next_may : (e : ℕ) → MayReadNext v e → allowed t (event_at z i LoadNext (Entry Next e) 0) ≡ true
   next_may e may =
-      allowed_by LoadNext (Entry Next e) 0 (entry_alive e may.at) (entry_is e may.at.some (entry_high e may.at)) refl
+      allowed_by z words vs right i v is LoadNext (Entry Next e) 0 (entry_alive e may.at) (entry_is e may.at.some (entry_high e may.at)) refl
       (both (is_part Next Next && stands_at v.reading.place e && eqb 0 0) (may_go_on v v.reading.place e)
       (both (is_part Next Next && stands_at v.reading.place e) (eqb 0 0) (both (is_part Next Next) (stands_at v.reading.place e) refl (stands e may.at)) refl) (goes_on e may.at may.on))
 
@@ -295,7 +200,7 @@ module _ (z : Layout) (words : List ℕ) (vs : List View) (right : InRule z word
       let c = has e v.free.entries in
       let d = eqb (m (Entry Number e)) 0 in
       let locked : IsLocked v k = locks-count k v.held.nodes (found-locks k v.held.nodes may.node may.locked) in
-      allowed_by Prepare (Node (Head side) k) e (locked_alive k locked) (reach_there (Head side) k (inr (inr locked))) refl
+      allowed_by z words vs right i v is Prepare (Node (Head side) k) e (locked_alive z words vs right i v is k locked) (reach_there z words vs right i v is (Head side) k (inr (inr locked))) refl
       (both (is_slot_number e) (a && b && c && d) (below e 4294967296 may.small)
       (both (a && b && c) d
       (both (a && b) c
@@ -307,7 +212,7 @@ module _ (z : Layout) (words : List ℕ) (vs : List View) (right : InRule z word
   pub finalise_may : (e place : ℕ) → MayFinalise v e place → allowed t (event_at z i Finalise (Entry Number e) place) ≡ true
   finalise_may e place may =
       let high = pending_high e may.pending in
-      allowed_by Finalise (Entry Number e) place (alive (λ (x : View). x.update.raised ≡ Some place) may.raised (λ none. cc)) (entry_is e high.0 high.1) refl
+      allowed_by z words vs right i v is Finalise (Entry Number e) place (alive z words vs right i v is (λ (x : View). x.update.raised ≡ Some place) may.raised (λ none. cc)) (entry_is e high.0 high.1) refl
       (both (is_part Number Number && has e v.update.pending) (is_number place v.update.raised)
       (both (is_part Number Number) (has e v.update.pending) refl (count-has e v.update.pending may.pending)) (number_is place v.update.raised may.raised))
 
@@ -316,7 +221,7 @@ module _ (z : Layout) (words : List ℕ) (vs : List View) (right : InRule z word
       let b = not (is_even v.section_word) in
       let c = may_lock v k in
       let d = not (locks k v.held.nodes) in
-      allowed_by TryLock (Node Lock k) (n + 1) (inside_alive may.inside) (searched_there Lock k may.inside may.searched) refl
+      allowed_by z words vs right i v is TryLock (Node Lock k) (n + 1) (inside_alive z words vs right i v is may.inside) (searched_there z words vs right i v is Lock k may.inside may.searched) refl
       (both (is_lock Lock && b && c && d) (names_pass v.number (n + 1))
       (both (is_lock Lock && b && c) d (both (is_lock Lock && b) c (both (is_lock Lock) b refl (not_of (is_even v.section_word) may.inside)) (lock_tested v k may.searched))
       (not_of (locks k v.held.nodes) (never_of (locks k v.held.nodes) (λ held. may.unlocked (locks-count k v.held.nodes held)))))
@@ -324,37 +229,37 @@ module _ (z : Layout) (words : List ℕ) (vs : List View) (right : InRule z word
 
   pub unlock_may : (k : ℕ) → MayUnlock v k → allowed t (event_at z i Unlock (Node Lock k) 0) ≡ true
   unlock_may k may =
-      allowed_by Unlock (Node Lock k) 0 (locked_alive k may.locked) (reach_there Lock k (inr (inr may.locked))) refl
+      allowed_by z words vs right i v is Unlock (Node Lock k) 0 (locked_alive z words vs right i v is k may.locked) (reach_there z words vs right i v is Lock k (inr (inr may.locked))) refl
       (both (is_lock Lock && locks k v.held.nodes && nothing_pending m v && is_done_at k v.update) (eqb 0 0)
       (both (is_lock Lock && locks k v.held.nodes && nothing_pending m v) (is_done_at k v.update)
-      (both (is_lock Lock && locks k v.held.nodes) (nothing_pending m v) (both (is_lock Lock) (locks k v.held.nodes) refl (count-locks k v.held.nodes may.locked)) (done_by may.done may.marked))
+      (both (is_lock Lock && locks k v.held.nodes) (nothing_pending m v) (both (is_lock Lock) (locks k v.held.nodes) refl (count-locks k v.held.nodes may.locked)) (done_by z words vs right i v is may.done may.marked))
       may.set) refl)
 
   node_there : (f : Field) (k : ℕ) → IsInside v → k ≤ v.layout.nodes → is_there z (Node f k) ≡ true
-  node_there f k inside high = at_most k z.nodes (subst (λ (y : Layout). k ≤ y.nodes) (seat.layout (inside_alive inside)) high)
+  node_there f k inside high = at_most k z.nodes (subst (λ (y : Layout). k ≤ y.nodes) (seat.layout (inside_alive z words vs right i v is inside)) high)
 
   pub read_mark_may : (k : ℕ) → MayReadMark v k → allowed t (event_at z i LoadMark (Node Mark k) 0) ≡ true
   read_mark_may k may =
       let b = not (is_even v.section_word) in
-      allowed_by LoadMark (Node Mark k) 0 (inside_alive may.inside) (node_there Mark k may.inside may.there) refl
+      allowed_by z words vs right i v is LoadMark (Node Mark k) 0 (inside_alive z words vs right i v is may.inside) (node_there Mark k may.inside may.there) refl
       (both (true && b) (eqb 0 0) (both true b refl (not_of (is_even v.section_word) may.inside)) refl)
 
   pub mark_may : (k : ℕ) → MayMark v k → allowed t (event_at z i MarkNode (Node Mark k) 1) ≡ true
   mark_may k may =
-      allowed_by MarkNode (Node Mark k) 1 (locked_alive k may.locked) (reach_there Mark k (inr (inr may.locked))) refl
+      allowed_by z words vs right i v is MarkNode (Node Mark k) 1 (locked_alive z words vs right i v is k may.locked) (reach_there z words vs right i v is Mark k (inr (inr may.locked))) refl
       (both (true && locks k v.held.nodes && has k v.update.taken) (eqb 1 1)
       (both (true && locks k v.held.nodes) (has k v.update.taken) (both true (locks k v.held.nodes) refl (count-locks k v.held.nodes may.locked)) (count-has k v.update.taken may.taken)) refl)
 
   pair_may : (f : Field) (k : ℕ) → is_pair f ≡ true → MayReadPair v k → allowed t (event_at z i LoadKeyOrVal (Node f k) 0) ≡ true
   pair_may f k pair may =
       let b = not (is_even v.section_word) in
-      allowed_by LoadKeyOrVal (Node f k) 0 (inside_alive may.inside) (node_there f k may.inside may.there) refl
+      allowed_by z words vs right i v is LoadKeyOrVal (Node f k) 0 (inside_alive z words vs right i v is may.inside) (node_there f k may.inside may.there) refl
       (both (is_pair f && b) (eqb 0 0) (both (is_pair f) b pair (not_of (is_even v.section_word) may.inside)) refl)
 
   pub split_may : (nodes : ℕ) → MaySplit v nodes → allowed t (event_at z i SplitSeat Stamp nodes) ≡ true
   split_may nodes may =
       let rest = eqb nodes 1 && not (eqb (length v.free.nodes) 0) in
-      allowed_by SplitSeat Stamp nodes may.live refl refl
+      allowed_by z words vs right i v is SplitSeat Stamp nodes may.live refl refl
       (both (is_stamp Stamp) (eqb nodes 0 || rest) refl (elim may.few as (λ _. (eqb nodes 0 || rest) ≡ true) [
         | inl none ↦ left_of (eqb nodes 0) rest (eq-eqb nodes 0 none)
         | inr one ↦ right_of (eqb nodes 0) rest (both (eqb nodes 1) (not (eqb (length v.free.nodes) 0)) (eq-eqb nodes 1 one.0) (not_of (eqb (length v.free.nodes) 0) (some_length (length v.free.nodes) one.1)))
@@ -365,7 +270,7 @@ module _ (z : Layout) (words : List ℕ) (vs : List View) (right : InRule z word
       let a = not (eqb other i) in
       let n = is_none u.number && has_none_waiting u in
       let o = is_outside v && is_outside u in
-      allowed_by JoinSeat Stamp other may.live refl refl
+      allowed_by z words vs right i v is JoinSeat Stamp other may.live refl refl
       (both (is_stamp Stamp && a) (may_join_found v (slice_get vs other)) (both (is_stamp Stamp) a refl (not_of (eqb other i) (ne_eqb other i apart)))
       (ap (may_join_found v) found
       ∙ both (not u.joined) (n || o) (not_of u.joined may.other_live) (elim may.apart as (λ _. (n || o) ≡ true) [

@@ -21,7 +21,8 @@ use Rattle.core_invariant.proofs.OneView.{item_from_get, seat_at}
 use Rattle.core_laws.specs.ViewNeeds.{event_at}
 use Rattle.core_laws.specs.Waits.{MayLeaveWaiting, MayLookWaiting, LeaveWaitingLaw, LookWaitingLaw, NoLooksLaw, LockedStaysLaw}
 use Rattle.core_laws.proofs.Owners.{owners}
-use Rattle.core_laws.proofs.ViewNeeds.{leave_by, look_by, done_by, alive}
+use Rattle.core_laws.proofs.ViewNeeds.{leave_by, look_by}
+use Rattle.core_laws.proofs.AtWork.{done_by, alive}
 use Rattle.core_laws.proofs.ViewTests.{never_of, right_of}
 
 module _ (z : Layout) (words : List ℕ) (vs : List View) (right : InRule z words vs) (i : ℕ) (v : View) (is : slice_get vs i ≡ Some v) where

@@ -1,6 +1,7 @@
 pub mod NewChildren
 pub mod RaiseTests
 pub mod LinksLeft
+pub mod RaiseParts
 pub mod MayRaise
 pub mod HeldReady
 pub mod PlansRaise

@@ -17,4 +17,10 @@ pub mod Belows
 pub mod TurnPaths
 pub mod Reaching
 pub mod Resting
+pub mod Matched
+pub mod SetAway
+pub mod SetForms
+pub mod SetKnown
+pub mod SetNodes
+pub mod SetBelow
 pub mod Settling

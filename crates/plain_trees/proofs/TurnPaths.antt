@@ -14,7 +14,7 @@ use Rattle.plain_trees.specs.Turns.{HasKey, IsBelow, IsPath, LeadsBelow, TurnsHe
 use Rattle.plain_trees.proofs.Belows.{below_store}
 use Rattle.plain_trees.proofs.Nodes.{top-or-below}
 use Rattle.plain_trees.proofs.Reaching.{reached_in}
-use Rattle.plain_trees.proofs.Settling.{spelled-some}
+use Rattle.plain_trees.proofs.Matched.{spelled-some}
 
 module _ (g : Graph) where
   abbrev next : Side → ℕ → ℕ
