@@ -5,7 +5,6 @@ pub mod Ends
 pub mod Parts
 -- The node after another one.
 pub mod Next
--- The gap before a successor.
 -- Puts, and the removal of a node with at most one child.
 pub mod Steps
 -- The removal of a node with two children, whose successor is its right child.
