@@ -1,4 +1,4 @@
--- The need of a cut, as a computed truth value: no number that is read, now or later, selects an entry after this one.
+-- The need of a cut, as a computed truth value: no number that is read, now or later, selects an entry that is cut off.
 use Rattle.std.specs.Prelude.{ℕ, List, not, Bool, false, nat_lt, ◌==◌, ◌&&◌, ◌||◌, Option, Some, None}
 use Rattle.std.specs.List.{list_any}
 use Rattle.index_words.specs.declared.layout.Layout.{Layout}

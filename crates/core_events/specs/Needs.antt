@@ -29,7 +29,7 @@ is_successor k (Some u) = u.successor == k
 abbrev pub is_marked_out : Memory → Updating → ℕ → Bool
 is_marked_out m u k = is_marked_node m k || is_successor k u.unlinking
 
--- no entry of the view is without a written number, and no node that its update took out is unmarked, but for a
+-- no entry of the view is without a written number, and no node that its update took out is unmarked, except a
 -- successor that is still to be unlinked
 abbrev pub nothing_pending : Memory → View → Bool
 nothing_pending m v = length v.update.pending == 0 && list_all (is_marked_out m v.update) v.update.taken

@@ -40,8 +40,8 @@ abbrev pub may_leave : Memory → View → Word → ℕ → Bool
 may_leave m v w value =
     is_own_section v.number w && not (is_even v.section_word) && (has_no_lock v || is_waiting v) && nothing_pending m v && value == left_word v.section_word
 
--- the purpose of a look: with no lock held for retired slots or a batch, with locks for the wait. No law uses that
--- there are such slots; only a test checks it
+-- what a look is for: if no lock is held, retired slots or a batch; if locks are held, the wait. No law uses that there
+-- are such slots; only a test checks it
 abbrev pub has_to_look : View → Bool
 has_to_look v = cond (has_no_lock v) (not (is_empty v.batch && is_empty v.retired)) (is_waiting v)
 

@@ -16,7 +16,7 @@ pub enum Kind {
     Enter,
     /// Leaves a section: stores its own section word plus 1, or minus 1 at the last word of all.
     Leave,
-    /// Loads the section word of another pass, because of the retired slots.
+    /// Loads the section word of another pass, for retired slots or at the wait of a removal.
     LookSec,
     /// Stores to a word of a free slot of its own, but not to its lock.
     Fill,

@@ -38,8 +38,8 @@ abbrev pub has_let : Looks → Option ℕ → ℕ → Bool
 has_let looks None word = false
 has_let looks (Some pass) word = has pass looks.passed || list_any (is_late pass word) looks.found
 
--- Each node that is held so is one of the table. None is free, nor in its own batch, nor in the batch of a seat that
--- has passed this one; and before its raise the seat holds none that it has retired itself.
+-- Each node that is held so is one of the table. None is free, nor in the seat's own batch, nor in the batch of a seat
+-- that has passed this one; and before its raise the seat holds none that it has retired itself.
 pub record ReachesRight (z : Layout) (g : Graph) (vs : List View) (v : View) : Type 0 where
   pub there : (k : ℕ) → HoldsPlain g v k → k ≤ z.nodes
   pub unheld : (k : ℕ) → HoldsPlain g v k → sum_by (own_free nodes_of k) vs ≡ 0
