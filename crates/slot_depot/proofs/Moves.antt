@@ -43,7 +43,7 @@ weaker [] f all = tt
 weaker (b ∷ books) f all = (f b all.0, weaker books f all.1)
 
 module _ {T : Type 0} (home : T → List ℕ) (tag : T → ℕ) where
-  -- an opened book tells that the depot was opened
+  -- an opened book shows that the depot was opened
   even : (items : List T) (books : List Book) (seat : ℕ) (b : Book) → b.opened ≡ true → Ruled home tag items books → get_elem? books seat ≡ some b → (t : Terms) × AreEven home tag t items books × (b.terms ≡ t)
   even items books seat b opened rule at =
       ⊎_elim (λ (first : (books ≡ unopened ∷ []) × (items ≡ [])). absurd (true≢false (sym opened ∙ ap (λ (c : Book). c.opened) (unopened_alone books seat b first.0 at))))
