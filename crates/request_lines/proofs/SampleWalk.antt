@@ -35,7 +35,8 @@ texts_first text more inside some =
     ap (map strip_carriage_return) (slice_split_at (λ b. b == 10) text 10 more (inside_no_feeds text inside) refl)
     ∙ ap (λ first. first ∷ texts_of more) (strip_plain text inside some)
 
--- what was kept so far is the beginning of the input's session, and what holds of every session that is read holds of it
+-- what was kept so far is the beginning of the input's session, and what holds of every session that is read holds of
+-- it
 record IsRead (bytes : List ℕ) (p : Progress) (number : ℕ) (texts : List (List ℕ)) : Type 0 where
   half : IsHalfway bytes p number texts
   sound : IsSound p number
@@ -327,7 +328,7 @@ four_clients n most =
     let third = lines_walk bytes n 2 two (omega arith) most (next_client bytes n 1 (sample_lines 2 n ++ two) (omega arith) most second) in
     lines_walk bytes n 3 [] (omega arith) most (next_client bytes n 2 (sample_lines 3 n ++ []) (omega arith) most third)
 
--- behind the last line all clients have ended
+-- after the last line all clients have ended
 all_parts : (n : ℕ) (p : Progress) → IsAt n 3 n p → all_ended p ≡ sample_clients_parts n 4
 all_parts n p at =
     let some : (p.counts.clients == 0) ≡ false = grind (arith, nat_tests, at.clients) in
