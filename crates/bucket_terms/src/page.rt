@@ -3,8 +3,7 @@ use crate::{PageEntries, TokenPoint};
 use key_names::{Directory, NoMemory, Text};
 use std::alloc::Global;
 
-/// One return of a listing. It takes 16 bytes, and a rank has 32 bits in every directory; `PageEntries` keeps most in
-/// 8.
+/// One return of a listing, of 16 bytes: a rank has 32 bits in every directory. `PageEntries` keeps most in 8 bytes.
 #[derive(Clone, Copy, Debug, PartialEq, Eq)]
 pub enum PageEntry {
     /// A key, by the rank of its name, with its value.

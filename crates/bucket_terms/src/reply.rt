@@ -4,7 +4,7 @@ use crate::{ListQuery, Page, Shared, V1Query};
 /// The answer to a request.
 #[derive(Debug, Drop)]
 pub enum Reply {
-    /// 200. `was` tells whether the key was there before.
+    /// 200. `was` says whether the key was there before.
     Put {
         was: bool,
     },

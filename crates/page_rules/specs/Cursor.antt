@@ -19,7 +19,7 @@ pub record CursorView : Type 0 where
   pub entries : List PageEntry
   -- the rank from which the next pair is to be looked for; none where the page is settled
   pub next : Option ℕ
-  -- whether an entry is known to be left behind these
+  -- whether an entry is known to be left after these
   pub truncated : Bool
 
 -- the page that the cursor has made

@@ -196,8 +196,8 @@ impl<'a> PageCursor<'a> {
         }
     }
 
-    /// The page. Once nothing is left to take, it is that of the query on each map to whose page the cursor is on its
-    /// way.
+    /// The page. Once nothing is left to take, it is that of the query on each map to whose page the cursor is on
+    /// its way.
     pub fn finish(self) -> Page
         ensures entries { result ≡ page_so_far self.entry }
         ensures page { (point : Option TokenPoint) (m : List Pair) → IsMap m → IsOver self.entry m → IsOnWay self.entry point m

@@ -150,7 +150,8 @@ request_within n client i so_far command few before most clients requests entrie
     let now = entries_bound (suc i) in
     within_limits so_far command (omega arith) (omega arith) (omega arith) (omega arith)
 
--- the next request of a client is that of a command, where the counts, the request, its name and its record are
+-- a line with this command is the next request of the client, where the counts, the request, its name and its record
+-- that the command adds are those of this request
 step_by : (bytes text : List ℕ) (n client i : ℕ) (more : List ℕ) (p : Progress) (command : Command) → client < 4 → i < n → n ≤ 40000 → IsInside text → 0 < length text
     → reading_of text ≡ Ok command → IsAt n client i p
     → (counted p.counts command).clients ≡ p.counts.clients

@@ -119,7 +119,7 @@ module _ {T : Type 0} (home : T → List ℕ) (tag : T → ℕ) where
         },
       )
 
-  -- a book is changed in nothing that the rule speaks of, and another book is there, which is spent
+  -- a book changes in nothing that the rule speaks of, and there is one more book, which is spent
   forks : (seat : ℕ) (b after : Book) → b.opened ≡ true → after.opened ≡ b.opened → after.terms ≡ b.terms → after.shares ≡ b.shares → after.gave ≡ b.gave → after.took ≡ b.took
       → Forks (Ruled home tag) seat b after spent
   forks seat b after opened o t n g k items books rule at =
