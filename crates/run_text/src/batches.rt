@@ -1,6 +1,6 @@
 // A batch of pieces: their texts are put together concurrently, and are written in order.
-// Not rayon: it cuts a list in two for each processor and keeps the whole text; its chains are for thousands of light
-// items.
+// rayon is not used: it cuts a list in two for each processor and keeps the whole text; its chains are for thousands
+// of light items.
 ghost use Rattle.std.specs.Prelude.{◌≡◌, ◌<◌, ◌≤◌, length, OnOk};
 ghost use Rattle.std.specs.Thread.{IsSync};
 ghost use Rattle.run_text.specs.Pieces.{pieces_text};
@@ -16,8 +16,8 @@ use key_names::Directory;
 use outside_io::Sink;
 use std::thread::{Threads, join_mut, yield_now};
 
-/// Writes the texts of a batch, which are on the first sheets, and puts those of the next one on other sheets meanwhile,
-/// on other threads. If there is one sheet, the caller does one after the other.
+/// Writes the texts of a batch, which are on the first sheets, while other threads put those of the next one on other
+/// sheets. If there is one sheet, the caller does one after the other.
 pub(crate) fn write_beside<K: Sink, Rt: Threads + Sync>(
     rt: &Rt,
     sink: &mut K,

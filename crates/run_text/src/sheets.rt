@@ -46,8 +46,8 @@ impl Sheet {
         }
     }
 
-    /// A sheet without a text. It has room for one of this many lines and bytes, if available. The caller makes the room:
-    /// what the run has given back is the caller's memory, while a thread takes new memory.
+    /// A sheet without a text. It has room for one of this many lines and bytes, if available. The caller makes the
+    /// room: what the run has given back is the caller's memory, while a thread takes new memory.
     pub(crate) fn with_room(alloc: Global, lines: usize, bytes: usize) -> Sheet {
         let mut sheet = Sheet::empty(alloc);
         // Without the room the buffers grow as they are filled.
@@ -56,9 +56,9 @@ impl Sheet {
         sheet
     }
 
-    /// Puts the text of the piece in the place of what the sheet had. The sheet is filled on the stack of its thread: those
-    /// of other threads are next to it in memory, and where two processors write into one line of their caches by turns,
-    /// each waits for the other at every write.
+    /// Replaces what the sheet had by the text of the piece. The sheet is filled on the stack of its thread: those of
+    /// other threads are next to it in memory, and if two processors write into one cache line by turns, each waits
+    /// for the other at every write.
     pub(crate) fn fill(
         &mut self,
         dir: &Directory,

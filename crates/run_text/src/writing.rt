@@ -21,8 +21,8 @@ use std::{mem, thread};
 
 impl<'a> Pieces<'a> {
     /// Writes the text of the pieces, one write a line, or one a piece if the sink has a buffer. As many pieces are put
-    /// together at once as the machine runs threads, while the caller writes those before them, whose buffers serve again;
-    /// a text of no more bytes than a piece has starts no thread.
+    /// together at once as the machine runs threads, while the caller writes those before them, whose buffers are
+    /// reused; a text of no more bytes than a piece has starts no thread.
     pub fn write<K: Sink, Rt: Threads + Sync>(
         &self,
         rt: &Rt,
