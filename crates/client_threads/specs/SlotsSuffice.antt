@@ -10,13 +10,13 @@ use Rattle.bucket_terms.specs.RunParts.{updates_in}
 abbrev pub NoneWantsSlots : List Placed → Type 0
 NoneWantsSlots replies = All (λ (r : Placed). r.reply ≢ NoSlot) replies
 
--- in each legal run, a client with more node slots than requests that may make an update is not refused so
+-- in each legal run, a client with more node slots than requests that may make an update is not refused in this way
 abbrev pub SlotsSufficeLaw : Type 0
 SlotsSufficeLaw =
     (dir : List (List ℕ)) (parts : List (List RequestLine)) (slots : ℕ → ℕ) (run : Run) → IsLegal dir parts slots run
     → (c : ℕ) → c < length parts → updates_in (lines_of parts c) < slots c → NoneWantsSlots (replies_of run c)
 
--- and so no client is, where each has the slots that a session gives it
+-- and so no client is, if each has the slots that a session gives it
 abbrev pub OwnSlotsSufficeLaw : Type 0
 OwnSlotsSufficeLaw =
     (dir : List (List ℕ)) (parts : List (List RequestLine)) (run : Run) → IsLegal dir parts (slots_of parts) run
