@@ -25,7 +25,7 @@ size_of named part = size_for named (updates_in (request_lines part))
 abbrev pub sizes_of : Option ℕ → List ClientPart → List PassSize
 sizes_of named clients = map (size_of named) clients
 
--- there are some of these clients, but few, and they ask no more than a session may
+-- there is at least one of these clients, and there are no more clients and requests than a session may have
 pub record AreFew (clients : List ClientPart) : Type 0 where
   pub some : 0 < length clients
   pub few : length clients ≤ most_clients

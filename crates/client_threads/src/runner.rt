@@ -54,8 +54,8 @@ pub trait Runner<G: Gate + Sync> {
         ensures runs { OnOk result (runs self.new ≡ one_more (runs self.old)) }
         ensures never_fall { runs self.old ≤ runs self.new };
 
-    /// The same, and clients hand node slots to one another: each gives what it owns above `own` to a depot of this much
-    /// room, and takes one if it owns none. The first key's pass gets what is left at the end. There is a key.
+    /// The same, and clients hand node slots to one another: each gives what it owns above `own` to a depot of this
+    /// much room, and takes one if it owns none. The first key's pass gets what is left at the end. There is a key.
     ///
     /// # Errors
     /// Out of memory ends the run. Updates may have been made then, and the keys are gone.
