@@ -28,7 +28,7 @@ one_number words m n first second =
     let digits : decimal m ≡ decimal n = cc in
     same_decimal m n (omega (arith, first.most)) (omega (arith, second.most)) digits
 
--- after one beginning
+-- equal lists with the same beginning have the same rest
 append_same : (xs ys zs : List ℕ) → xs ++ ys ≡ xs ++ zs → ys ≡ zs
 append_same [] ys zs same = same
 append_same (x ∷ xs) ys zs same = let rest : xs ++ ys ≡ xs ++ zs = cc in append_same xs ys zs rest
@@ -67,7 +67,7 @@ abbrev third_byte : List ℕ → ℕ
 third_byte (a ∷ b ∷ c ∷ rest) = c
 third_byte others = 0
 
--- arguments have one of the two options of `run`
+-- the arguments do not have both options of `run`
 not_both_options : (words : List (List ℕ)) (m n : ℕ) → HasOption (codes "run") (codes "--slots") words m → HasOption (codes "run") (codes "--pool") words n → ⊥
 not_both_options words m n first second =
     elim first.spelled [
