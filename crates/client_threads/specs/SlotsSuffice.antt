@@ -1,5 +1,5 @@
 -- Helper: the headline does not rest on this file.
--- A client with more node slots than PUT and DELETE lines is not refused for want of slots.
+-- A client with more node slots than PUT, PUTNEW and DELETE lines is not refused for want of slots.
 use Rattle.std.specs.Prelude.{◌≢◌, ℕ, ◌<◌, List, length, All}
 use Rattle.bucket_terms.specs.declared.reply.Reply.TheVariants.{NoSlot}
 use Rattle.bucket_terms.specs.declared.reply.Placed.{Placed}

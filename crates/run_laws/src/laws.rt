@@ -6,8 +6,9 @@ ghost use Rattle.run_laws.specs.Renamed.{RenamedLaw};
 ghost use Rattle.run_laws.specs.RunRows.{RunRowsLaw};
 ghost use Rattle.run_laws.specs.Untouched.{UntouchedLaw};
 
-/// One client has one run: in a legal run of a session with one client that has more node slots than PUT and DELETE
-/// lines, each request is answered on what the client's own requests before it have made, and no two such runs differ.
+/// One client has one run: in a legal run of a session with one client that has more node slots than PUT, PUTNEW and
+/// DELETE lines, each request is answered on what the client's own requests before it have made, and no two such runs
+/// differ.
 pub fn one_client()
     ensures alone { AloneLaw }
     ensures one_run { OneRunLaw }

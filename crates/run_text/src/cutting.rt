@@ -79,7 +79,7 @@ struct First {
     entries: usize,
 }
 
-// The number of first replies in a piece, by the estimate of their bytes: at least one, however long its line is.
+// The first replies that make a piece, by the estimate of their bytes: at least one, however long its line is.
 fn first_piece(replies: &[Placed], name_bytes: usize) -> First
     requires { 0 < length replies.now }
     ensures some { 0 < result.count }
