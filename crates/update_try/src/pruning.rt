@@ -42,7 +42,7 @@ pub(crate) struct Stop {
 }
 
 /// The smaller of a number and the announced one; `word` is what the announcement holds.
-fn lower(number: u64, word: u64) -> u64
+pub fn lower(number: u64, word: u64) -> u64
     ensures smaller { result ≡ smaller number word }
     ensures low { result ≤ number }
 {
