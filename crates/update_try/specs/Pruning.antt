@@ -15,6 +15,7 @@ use Rattle.core_updates.specs.PlanEvents.{HoldsEntry}
 use Rattle.core_updates.specs.Plans.{link_at, link_of, next_link_of}
 use Rattle.plan_laws.specs.Looks.{IsUnmarked}
 use Rattle.plan_laws.specs.Prunes.{HasNumbered, IsCutting, StaysCutting, StaysNumbered}
+use Rattle.table_steps.specs.Passes.{HasSurplus}
 use Rattle.update_try.specs.Walked.{StandsOn, HoldsPart, KeepsHeads, KeepsNexts}
 use Rattle.update_try.specs.declared.pruning.Least.{Least}
 use Rattle.update_try.specs.declared.pruning.Stop.{Stop}
@@ -141,6 +142,10 @@ pub record ArePruned (v : View) (plan : Plan) (limit : ℕ) : Type 0 where
   pub is : v.reading.least ≡ Some least
   pub first : IsPruned v (link_at plan) least limit
   pub next : IfSome (next_link_of plan) (λ at. IsPruned v at least limit)
+
+-- the bundles in front of which a plan puts its entries were cut, or left to others by a pass that owns more than an even share
+abbrev pub ArePrunedOrLeft : View → Plan → ℕ → Type 0
+ArePrunedOrLeft v plan limit = HasSurplus v ⊎ ArePruned v plan limit
 
 -- so were both bundles of a node
 abbrev pub IsPrunedNode : View → ℕ → ℕ → ℕ → Type 0

@@ -8,7 +8,7 @@ ghost use Rattle.core_events.specs.Announcing.{smaller};
 ghost use Rattle.key_map.specs.Lists.{count};
 ghost use Rattle.plan_laws.specs.Prunes.{HasNumbered, KeepsPruned};
 ghost use Rattle.table_steps.specs.Passes.{IsSamePass};
-ghost use Rattle.update_try.specs.Pruning.{ArePruned, EndsAtLeast, GoesPast, HasGonePast, HasLookedAt, HasStopped, IsChanged, IsLeast, IsPruned, KeepsLeast, KeepsOthers, KeepsPlace, KeepsUpdate, KeepsWalks, StopsAt, walk_limit};
+ghost use Rattle.update_try.specs.Pruning.{ArePrunedOrLeft, EndsAtLeast, GoesPast, HasGonePast, HasLookedAt, HasStopped, IsChanged, IsLeast, IsPruned, KeepsLeast, KeepsOthers, KeepsPlace, KeepsUpdate, KeepsWalks, StopsAt, walk_limit};
 
 use crate::walking::walk_along;
 use core_trees::Link;
@@ -229,15 +229,20 @@ pub(crate) fn prune_link(pass: &mut TablePass<'_>, at: Link, own: Least, longest
     least
 }
 
-/// Cuts the bundles in front of which an update has put its entries. `number` is the one at which the pass reads.
+/// Cuts the bundles in front of which an update has put its entries. `number` is the one at which the pass reads. A pass
+/// that owns more than its share leaves them to passes that own too few, which gather them. Else a pass that takes out
+/// what another one puts would come to own all entries, since the entries of a node go to whoever takes it out.
 pub fn prune_all(pass: &mut TablePass<'_>, plan: &Plan, slots: &PlanSlots, number: u64)
     requires numbered { HasNumbered pass.old.view pass.old.number plan.now slots.now }
     requires least { pass.old.view.reading.least ≡ Some number }
     ensures same { IsSamePass pass.old pass.new }
     ensures numbered { HasNumbered pass.new.view pass.new.number plan.now slots.now }
-    ensures pruned { ArePruned pass.new.view plan.now (walk_limit pass.new.view) }
+    ensures pruned { ArePrunedOrLeft pass.new.view plan.now (walk_limit pass.new.view) }
     ensures keeps { KeepsPruned pass.old.view pass.new.view }
 {
+    if pass.has_surplus() {
+        return;
+    }
     let longest = longest_walk(pass);
     let own = Least {
         number,

@@ -3,7 +3,7 @@ use Rattle.index_words.specs.declared.view.reading.Reading.{Reading}
 use Rattle.core_updates.specs.declared.plan.Plan.{Plan}
 use Rattle.plan_laws.specs.Prunes.{HasNumbered}
 use Rattle.plan_laws.proofs.Prunes.{keeps_pruned, owned_is_pruned}
-use Rattle.update_try.specs.Pruning.{ArePruned, walk_limit}
+use Rattle.update_try.specs.Pruning.{ArePrunedOrLeft, walk_limit}
 use Rattle.update_try.proofs.FarSteps.{far_plan, near_plan}
 use Rattle.update_try.proofs.carry.end_update.Goals as goal
 
@@ -20,7 +20,7 @@ part-requires c =
     let is = far_plan c.args.plan.now c.in-Some.join (sym c.far_join.ensures ∙ c.in-Some.is) in
     record {
       numbered = subst (λ (x : Plan). HasNumbered q.view q.number x c.args.slots.now) is.plan_is c.prune_all.ensures.numbered;
-      pruned = subst (λ (x : Plan). ArePruned q.view x (walk_limit q.view)) is.plan_is c.prune_all.ensures.pruned;
+      pruned = subst (λ (x : Plan). ArePrunedOrLeft q.view x (walk_limit q.view)) is.plan_is c.prune_all.ensures.pruned;
       far = is.far;
       node = c.requires.node;
     }

@@ -1,4 +1,4 @@
-use Rattle.std.proofs.Common.{ℕ, ◌∙◌, sym, subst, Option}
+use Rattle.std.proofs.Common.{ℕ, ◌∙◌, inr, sym, subst, Option}
 use Rattle.std.specs.Prelude.{IfSome}
 use Rattle.core_trees.specs.declared.link.Link.{Link}
 use Rattle.core_updates.specs.Plans.{link_at}
@@ -67,13 +67,13 @@ returns-in-Some-clause-pruned c =
     let is = sym c.next_at.ensures ∙ c.in-Some.is in
     let there : IsPruned v (link_at plan) least limit
     = subst (λ (l : Link). IsPruned v l least limit) c.at.ensures (subst (λ (n : ℕ). IsPruned v c.at.result least n) longest first.pruned) in
-    record {
+    inr (record {
       least = low;
       is = second.least.least;
       first = pruned_lower w (link_at plan) least low limit second.lower
           (second.others (link_at plan) least limit (fronts_apart plan next c.requires.numbered.once is) there);
       next = subst (λ (o : Option Link). IfSome o (λ l. IsPruned w l low limit)) (sym is) (subst (λ (n : ℕ). IsPruned w next low n) longest second.pruned);
-    }
+    })
 
 pub returns-in_default-clause-pruned : goal.returns-in_default-clause-pruned
 returns-in_default-clause-pruned c =
@@ -85,9 +85,9 @@ returns-in_default-clause-pruned c =
     let stays = first.update.numbered p.number plan c.args.slots.now c.requires.numbered in
     let longest = c.longest_walk-longest.ensures ∙ limit_is p.view v stays.keeps in
     let least = c.prune_link-least.result.number in
-    record {
+    inr (record {
       least = least;
       is = first.least.least;
       first = subst (λ (l : Link). IsPruned v l least limit) c.at.ensures (subst (λ (n : ℕ). IsPruned v c.at.result least n) longest first.pruned);
       next = subst (λ (o : Option Link). IfSome o (λ l. IsPruned v l least limit)) (sym (sym c.next_at.ensures ∙ c.in_default.is)) tt;
-    }
+    })
