@@ -27,8 +27,8 @@ use std::marker::Model;
 use std::sync::Wait;
 use std::thread::Threads;
 
-/// Runs the client of each key on a thread of its own, with a depot of so much room, which is enough for all node slots,
-/// and closes it. The keys come back, and the replies.
+/// Runs the client of each key on a thread of its own, with a depot of this much room, which is enough for all node
+/// slots, and closes the depot. The keys come back, and the replies.
 pub(crate) fn pool_each<G: Gate + Sync, Rt: Threads + Wait + Sync>(
     rt: &Rt,
     alloc: Global,
@@ -71,7 +71,7 @@ impl Model for SeatedKey {
     ghost view = { λ j. record { key = j.key; seat = j.seat } };
 }
 
-// A depot for the node slots of the index, with so many seats and so much room.
+// A depot for the node slots of the index, with this many seats and this much room.
 fn open_depot(
     alloc: Global,
     index: &SharedIndex,
@@ -86,7 +86,7 @@ fn open_depot(
     ensures room { IfOk result (λ opened. opened.0.room ≡ room) }
     ensures unwritten { IfOk result (λ opened. Every IsUnwritten opened.1.items) }
 {
-    // No depot has more seats than that.
+    // No depot has more seats than this.
     let Ok(seats) = u32::try_from(seats) else {
         return Err(NoMemory);
     };
