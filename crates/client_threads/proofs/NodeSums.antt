@@ -1,5 +1,5 @@
 -- The node slots of all passes together, before a run with a depot and after it.
-use Rattle.std.proofs.Common.{◌≡◌, ℕ, zero, suc, ◌+◌, ◌*◌, ◌<◌, ◌≤◌, ◌==◌, cond, Bool, true, false, List, [], ◌∷◌, ◌++◌, Option, Some, None, IfSome, length, get_or, map, inl, inr, refl, sym, ap, ◌∙◌, subst, arith}
+use Rattle.std.proofs.Common.{◌≡◌, ℕ, zero, suc, ◌+◌, ◌*◌, ◌<◌, ◌≤◌, ◌==◌, cond, Bool, List, [], ◌∷◌, ◌++◌, Option, Some, None, IfSome, length, get_or, map, inl, inr, refl, sym, ap, ◌∙◌, subst, arith}
 use Rattle.std.specs.List.{concat, sum_by}
 use Rattle.std.proofs.Math.Nat.{mul-suc}
 use Rattle.std.proofs.lemmas.Bool.{cases_Bool}
@@ -7,8 +7,11 @@ use Rattle.std.proofs.lemmas.Bool.Decides.{nat_tests}
 use Rattle.std.proofs.lemmas.List.{length-append}
 use Rattle.std.proofs.lemmas.List.Sums.{sum_by-cons}
 use Rattle.key_map.specs.Lists.{count, Every}
+use Rattle.key_map.proofs.Counting.{count-append}
+use Rattle.bucket_terms.specs.PassView.{PassView}
 use Rattle.request_lines.specs.declared.session.ClientPart.{ClientPart}
 use Rattle.client_run.specs.Pooling.{KeepsNodes}
+use Rattle.slot_depot.specs.declared.book.Book.{Book}
 use Rattle.slot_depot.specs.Depots.{Seated, gave_by, took_by}
 use Rattle.table_rule.specs.Homes.{Home}
 use Rattle.table_steps.specs.Passes.{Pass}
@@ -55,25 +58,27 @@ length_concat {X} f (x ∷ xs) = omega (arith, length-append (f x) (concat (map 
 
 -- ---- lists in which each number stands equally often
 
+abbrev one_if : Bool → ℕ
+one_if b = cond b 1 0
+
 -- a list without one of its numbers
 record Without (n : ℕ) (xs : List ℕ) : Type 0 where
-  rest : List ℕ
-  long : length xs ≡ suc (length rest)
-  counts : (m : ℕ) → count m xs ≡ cond (n == m) 1 0 + count m rest
+  pub rest : List ℕ
+  pub long : length xs ≡ suc (length rest)
+  pub counts : (m : ℕ) → count m xs ≡ one_if (n == m) + count m rest
 
 without : (n : ℕ) (xs : List ℕ) → 0 < count n xs → Without n xs
 without n [] some = absurd (omega (arith, some))
-without n (x ∷ xs) some = elim (cases_Bool (x == n)) [
-  | inl here ↦ record { rest = xs; long = refl; counts = λ m. let same : x ≡ n = grind (arith, nat_tests) in ap (λ (k : ℕ). cond (k == m) 1 0 + count m xs) same }
-  | inr other ↦
-      let none : cond (x == n) 1 0 ≡ 0 = ap (λ (b : Bool). cond b 1 0) other in
-      let later = without n xs (omega (arith, some, none)) in
-      record {
-        rest = x ∷ later.rest;
-        long = omega (arith, later.long);
-        counts = λ m. omega (arith, later.counts m);
-      }
-]
+without n (x ∷ xs) some =
+    elim (cases_Bool (x == n)) [
+      | inl here ↦
+          let same : x ≡ n = grind (arith, nat_tests, here) in
+          record { rest = xs; long = refl; counts = λ m. ap (λ (k : ℕ). one_if (k == m) + count m xs) same }
+      | inr other ↦
+          let none : one_if (x == n) ≡ 0 = ap one_if other in
+          let later = without n xs (omega (arith, some, none)) in
+          record { rest = x ∷ later.rest; long = omega (arith, later.long); counts = λ m. omega (arith, later.counts m) }
+    ]
 
 counts_itself : (n : ℕ) (xs : List ℕ) → 0 < count n (n ∷ xs)
 counts_itself n xs = grind (arith, nat_tests)
@@ -93,7 +98,7 @@ fresh_nodes n number [] [] are = omega arith
 fresh_nodes n number [] (k ∷ keys) are = absurd are
 fresh_nodes n number (p ∷ clients) [] are = absurd are
 fresh_nodes n number (p ∷ clients) (k ∷ keys) are =
-    let here : owned k ≡ n = ap (λ (v : Rattle.bucket_terms.specs.PassView.PassView). v.nodes) are.0.shown_is in
+    let here : owned k ≡ n = ap (λ (v : PassView). v.nodes) are.0.shown_is in
     omega (arith, sum_by-cons owned k keys, here, fresh_nodes n (number + 1) clients keys are.1, mul-suc n (length keys))
 
 pub depot_fits : (named : Option ℕ) (clients : List ClientPart) (keys : List Pass) → AreFresh 0 (sizes_of named clients) keys → IfSome named (λ own. sum_by owned keys ≤ own * length keys)
@@ -108,7 +113,7 @@ jobs_fit keys seats jobs are =
 -- ---- what is left comes back
 
 -- the pass of a key, which was attached, and was detached again
-pub nodes_kept : (key attached left back : Pass) (book after : Rattle.slot_depot.specs.declared.book.Book.Book) → attached ≡ key → back ≡ left
+pub nodes_kept : (key attached left back : Pass) (book after : Book) → attached ≡ key → back ≡ left
     → KeepsNodes (shown attached) (shown left) book after → KeepsNodes (shown key) (shown back) book after
 nodes_kept key attached left back book after same same_back kept =
     subst (λ (p : Pass). KeepsNodes (shown p) (shown back) book after) same (subst (λ (p : Pass). KeepsNodes (shown attached) (shown p) book after) (sym same_back) kept)
@@ -143,7 +148,7 @@ given_is_taken left tags balance =
       length_concat gave_by left,
       length_concat took_by left,
       length-append (concat (map took_by left)) tags,
-      same_lengths (concat (map gave_by left)) (concat (map took_by left) ++ tags) (λ n. balance n ∙ sym (Rattle.key_map.proofs.Counting.count-append n (concat (map took_by left)) tags)),
+      same_lengths (concat (map gave_by left)) (concat (map took_by left) ++ tags) (λ n. balance n ∙ sym (count-append n (concat (map took_by left)) tags)),
     )
 
 -- so no slot is lost, where each client's book tells what its pass gave and took
