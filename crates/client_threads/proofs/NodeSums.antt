@@ -130,7 +130,7 @@ adopted_sum index (b ∷ old) (p ∷ new) n some adopted =
       adopted.nodes b p,
       ap length (adopted.first b p).mine,
       same_sums owned_or_used owned_or_used new old (omega (arith, adopted.keys))
-      (λ i d e lt. ap owned_or_used (adopted.others (suc i) d (omega arith) ∙ sym (get_or_within old i e d (omega (arith, adopted.keys, lt))))),
+          (λ i d e lt. ap owned_or_used (adopted.others (suc i) d (omega arith) ∙ sym (get_or_within old i e d (omega (arith, adopted.keys, lt))))),
     )
   where
     -- no default is read
@@ -165,7 +165,7 @@ none_lost index keys back new seats left tags some long also more unwritten each
       adopted_sum index back new (length tags) (omega (arith, some, long)) adopted,
       given_is_taken left tags balance,
       sums_le owned_or_used taken given keys back left long more
-      (λ i d e s lt.
-      let none = every_at IsUnwritten seats unwritten i s (omega (arith, also, lt)) in
-      omega (arith, each i d e s s lt, ap length none.gave, ap length none.took)),
+          (λ i d e s lt.
+          let none = every_at IsUnwritten seats unwritten i s (omega (arith, also, lt)) in
+          omega (arith, each i d e s s lt, ap length none.gave, ap length none.took)),
     )

@@ -46,5 +46,5 @@ returns g c =
       seat = subst (λ (j : SeatedKey). IsSameSeat j.seat c.run_pooled.new.seat) c.job.view_is c.in_ok-replies.ensures.seat;
       nodes =
           subst (λ (j : SeatedKey). KeepsNodes (shown j.key) (shown c.detach.result) j.seat.book c.run_pooled.new.seat.book) c.job.view_is
-          (nodes_kept _ c.attach-pass.result c.run_pooled.new.pass c.detach.result _ _ c.attach-pass.ensures.same c.detach.ensures.same c.in_ok-replies.ensures.ran.nodes);
+          (nodes_kept c.job.inside.key c.attach-pass.result c.run_pooled.new.pass c.detach.result c.job.inside.seat.book c.run_pooled.new.seat.book c.attach-pass.ensures.same c.detach.ensures.same c.in_ok-replies.ensures.ran.nodes);
     }
