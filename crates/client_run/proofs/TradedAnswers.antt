@@ -313,6 +313,7 @@ answers_alone dir own old new free last x book knows closed other step = record 
   refused = λ no_slot. step.ended.refused no_slot;
   empty = λ no_slot enough. absurd (false≢true (sym other ∙ refused_update dir old new last x step no_slot));
   given = λ update. absurd (false≢true (sym other ∙ update));
+  nodes = omega (arith, step.nodes);
 }
 
 -- an update with a top-up before and a hand-over after it
@@ -324,6 +325,17 @@ answers_traded dir own old a b new free last x book mid after knows topped step 
   refused = λ no_slot. still_short dir own old a b new last x knows topped.traded topped.never_lowers step handed.traded handed.kept handed.never_raises (step.ended.refused no_slot);
   empty = λ no_slot enough. looked_empty enough (refused_short dir a b last x step no_slot) topped.served;
   given = λ update. spare_later own new free book mid after topped.grown.fulls handed.given;
+  nodes =
+      omega (
+        arith,
+        topped.balance,
+        ap length topped.gave,
+        ap length topped.traded.mine,
+        step.nodes,
+        handed.balance,
+        ap length handed.took,
+        ap length handed.traded.mine,
+      );
 }
   where
     looked_empty : 4 ≤ old.entries → IsShort a → (1 ≤ a.nodes) ⊎ (book.empties < mid.empties) → book.empties < after.empties

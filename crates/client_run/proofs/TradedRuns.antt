@@ -11,7 +11,7 @@ use Rattle.bucket_terms.specs.LegalRun.{RequestLine, Answered, answered_lines, l
 use Rattle.bucket_terms.specs.RunParts.{updates_in}
 use Rattle.bucket_terms.specs.PassView.{PassView, IsShort}
 use Rattle.slot_depot.specs.declared.book.Book.{Book}
-use Rattle.client_run.specs.Pooling.{capped, is_no_slot, AnswersPooled, HasGivenSpare, HasGrown}
+use Rattle.client_run.specs.Pooling.{capped, is_no_slot, AnswersPooled, HasGivenSpare, HasGrown, KeepsNodes}
 use Rattle.client_run.proofs.Growing.{Running, answered_lines-push}
 use Rattle.client_run.proofs.TradedAnswers.{refused_update, spare_later}
 
@@ -24,6 +24,7 @@ pub record Trading (own : ℕ) (lines : List RequestLine) (old new : PassView) (
   pub empties : 4 * updates_in lines ≤ old.entries → count_by is_no_slot replies + book.empties ≤ after.empties
   pub left : old.left ≤ new.left + updates_in lines
   pub given : (front : List RequestLine) (l : RequestLine) → lines ≡ front ++ l ∷ [] → is_update l.request ≡ true → HasGivenSpare own new free book after
+  pub nodes : KeepsNodes old new book after
 
 pub trading_none : (own : ℕ) (old : PassView) (free : ℕ) (book : Book) → Trading own [] old old free book book []
 trading_none own old free book = record {
@@ -31,6 +32,7 @@ trading_none own old free book = record {
   empties = λ enough. omega arith;
   left = omega arith;
   given = λ front l e. let none = ap length e in absurd (omega (arith, length_push front l));
+  nodes = omega arith;
 }
 
 no_slot_is : (client line : ℕ) (at : Option ℕ) (reply : Reply) → is_no_slot (record { client = client; line = line; at = at; reply = reply }) ≡ true → reply ≡ NoSlot
@@ -82,4 +84,5 @@ module _ (dir : List (List ℕ)) (own : ℕ) (lines : List RequestLine) (old mid
     given = λ front m e update.
         let same : l ≡ m = (same_from_push lines front l m e).1 in
         spare_later own new free book written after book_grown.fulls (step.given (ap (λ (k : RequestLine). is_update k.request) same ∙ update));
+    nodes = omega (arith, trades.nodes, step.nodes);
   }

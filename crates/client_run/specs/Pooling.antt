@@ -51,6 +51,12 @@ pub record HasHandedOver (own : ℕ) (old new : PassView) (free : ℕ) (book aft
 abbrev pub capped : ℕ → PassView → PassView
 capped own pass = record pass { nodes = min own pass.nodes }
 
+-- no node slot is lost: what the pass owned and took, it owns or has given in the end, but for one at most for each update
+-- of its own that is new
+abbrev pub KeepsNodes : PassView → PassView → Book → Book → Type 0
+KeepsNodes old new book after =
+    old.nodes + length old.mine + length after.took + length book.gave ≤ new.nodes + length new.mine + length after.gave + length book.took
+
 -- whether the request was refused for want of slots
 abbrev pub is_no_slot : Placed → Bool
 is_no_slot placed = by_reply placed.reply
@@ -67,6 +73,7 @@ pub record AnswersPooled (dir : List (List ℕ)) (own : ℕ) (old new : PassView
   pub refused : a.placed.reply ≡ NoSlot → IsShort new
   pub empty : a.placed.reply ≡ NoSlot → 4 ≤ old.entries → book.empties < after.empties
   pub given : is_update a.asked.request ≡ true → HasGivenSpare own new free book after
+  pub nodes : KeepsNodes old new book after
 
 -- the client's requests were answered, in order, with a top-up before and a hand-over after each update
 pub record RanPooled (dir : List (List ℕ)) (own : ℕ) (lines : List RequestLine) (old new : PassView) (free : ℕ) (book after : Book) (replies : List Placed) : Type 0 where
@@ -81,3 +88,4 @@ pub record RanPooled (dir : List (List ℕ)) (own : ℕ) (lines : List RequestLi
   pub left : old.left ≤ new.left + updates_in lines
   -- if the last request may make an update, nothing is left to give away
   pub given : (front : List RequestLine) (l : RequestLine) → lines ≡ front ++ l ∷ [] → is_update l.request ≡ true → HasGivenSpare own new free book after
+  pub nodes : KeepsNodes old new book after

@@ -4,6 +4,8 @@ ghost use Rattle.std.specs.Prelude.{◌≡◌, ◌<◌, None, Some, Option, Cont
 ghost use Rattle.key_names.specs.Names.{IsRank};
 ghost use Rattle.bucket_terms.specs.declared.request.Request.TheVariants.{Put, PutNew, Delete, Head};
 ghost use Rattle.bucket_terms.specs.declared.reply.Reply.{Reply};
+ghost use Rattle.bucket_terms.specs.Gathering.{Gathered};
+ghost use Rattle.bucket_terms.specs.PassView.{KnowsOwn};
 ghost use Rattle.bucket_terms.specs.RunParts.{head_by};
 ghost use Rattle.client_run.specs.ClientRun.{answered, Answers, IsLaterLine};
 ghost use Rattle.client_run.specs.Listing.{HasPageInRange};
@@ -13,6 +15,35 @@ use bucket_terms::{KeyPass, Placed, Reply};
 use key_map::{New, PassError};
 use key_names::{Directory, Text};
 use std::sync::Wait;
+
+// Whose update it is, and of which key.
+#[derive(Clone, Copy)]
+struct Target {
+    client: u32,
+    key: u64,
+}
+
+// What comes before each update: the rank of its name, and the entries that the pass lacks.
+fn prepare<P: KeyPass, Rt: Wait>(
+    rt: &Rt,
+    pass: &mut P,
+    dir: &Directory,
+    name: &Text,
+    hint: Hint,
+) -> Target
+    requires closed { (P.view pass.old).opened ≡ None }
+    requires known { Contains dir.now name.now }
+    ensures number { result.client ≡ (P.view pass.old).number }
+    ensures mine { KnowsOwn (P.view pass.old) }
+    ensures rank { IsRank dir.now name.now result.key }
+    ensures gathered { Gathered (P.view pass.old) (P.view pass.new) }
+    ensures home { P.home pass.new ≡ P.home pass.old }
+{
+    let client = pass.client();
+    let key = rank_of(dir, name, hint);
+    pass.gather(rt);
+    Target { client, key }
+}
 
 // Answers a PUT of the record at place `val`.
 pub(crate) fn put<P: KeyPass, Rt: Wait>(
@@ -31,12 +62,10 @@ pub(crate) fn put<P: KeyPass, Rt: Wait>(
     ensures in_range { HasPageInRange dir.now result.reply }
     ensures home { P.home pass.new ≡ P.home pass.old }
 {
-    let client = pass.client();
-    let key = rank_of(dir, name, hint);
-    pass.gather(rt);
-    match pass.put(rt, line, key, val) {
-        Ok(done) => answer_at(client, line, done.at, Reply::Put { was: done.was }),
-        Err(PassError::NoSlot) => refused(client, line, Reply::NoSlot),
+    let target = prepare(rt, pass, dir, name, hint);
+    match pass.put(rt, line, target.key, val) {
+        Ok(done) => answer_at(target.client, line, done.at, Reply::Put { was: done.was }),
+        Err(PassError::NoSlot) => refused(target.client, line, Reply::NoSlot),
         Err(PassError::Spent) => unreachable!(),
     }
 }
@@ -59,13 +88,11 @@ pub(crate) fn put_new<P: KeyPass, Rt: Wait>(
     ensures in_range { HasPageInRange dir.now result.reply }
     ensures home { P.home pass.new ≡ P.home pass.old }
 {
-    let client = pass.client();
-    let key = rank_of(dir, name, hint);
-    pass.gather(rt);
-    match pass.put_new(rt, line, key, val) {
-        Ok(New::Made { at }) => answer_at(client, line, at, Reply::Put { was: false }),
-        Ok(New::Kept { at }) => answer_at(client, line, at, Reply::Exists),
-        Err(PassError::NoSlot) => refused(client, line, Reply::NoSlot),
+    let target = prepare(rt, pass, dir, name, hint);
+    match pass.put_new(rt, line, target.key, val) {
+        Ok(New::Made { at }) => answer_at(target.client, line, at, Reply::Put { was: false }),
+        Ok(New::Kept { at }) => answer_at(target.client, line, at, Reply::Exists),
+        Err(PassError::NoSlot) => refused(target.client, line, Reply::NoSlot),
         Err(PassError::Spent) => unreachable!(),
     }
 }
@@ -87,12 +114,10 @@ pub(crate) fn delete<P: KeyPass, Rt: Wait>(
     ensures in_range { HasPageInRange dir.now result.reply }
     ensures home { P.home pass.new ≡ P.home pass.old }
 {
-    let client = pass.client();
-    let key = rank_of(dir, name, hint);
-    pass.gather(rt);
-    match pass.remove(rt, line, key) {
-        Ok(done) => answer_at(client, line, done.at, Reply::Deleted),
-        Err(PassError::NoSlot) => refused(client, line, Reply::NoSlot),
+    let target = prepare(rt, pass, dir, name, hint);
+    match pass.remove(rt, line, target.key) {
+        Ok(done) => answer_at(target.client, line, done.at, Reply::Deleted),
+        Err(PassError::NoSlot) => refused(target.client, line, Reply::NoSlot),
         Err(PassError::Spent) => unreachable!(),
     }
 }

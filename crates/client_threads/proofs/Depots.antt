@@ -1,6 +1,6 @@
 -- The clients of a run with a depot: their seats, and what is left at the end.
-use Rattle.std.proofs.Common.{◌≡◌, ℕ, zero, suc, ◌+◌, ◌<◌, List, [], ◌∷◌, ◌++◌, Result, length, get_or, inl, inr, refl, sym, ap, ◌∙◌, subst, arith}
-use Rattle.std.specs.List.{insert, remove}
+use Rattle.std.proofs.Common.{◌≡◌, ℕ, zero, suc, ◌+◌, ◌<◌, ◌≤◌, List, [], ◌∷◌, ◌++◌, Result, length, get_or, inl, inr, refl, sym, ap, ◌∙◌, subst, arith}
+use Rattle.std.specs.List.{insert, remove, sum_by}
 use Rattle.std.proofs.lemmas.Bool.{cases_lt}
 use Rattle.std.proofs.lemmas.List.{length_push, get_or_append_left, get_or_push}
 use Rattle.key_map.specs.Lists.{Every}
@@ -8,7 +8,7 @@ use Rattle.bucket_terms.specs.declared.reply.Placed.{Placed}
 use Rattle.bucket_terms.specs.LegalRun.{RequestLine, lines_of}
 use Rattle.bucket_terms.specs.Pool.{Traded}
 use Rattle.client_run.specs.ClientRun.{RanClient}
-use Rattle.client_run.specs.Pooling.{capped, RanPooled}
+use Rattle.client_run.specs.Pooling.{capped, KeepsNodes, RanPooled}
 use Rattle.slot_depot.specs.declared.book.Book.{Book}
 use Rattle.slot_depot.specs.declared.book.Terms.{Terms}
 use Rattle.slot_depot.specs.Books.{terms_for}
@@ -17,8 +17,8 @@ use Rattle.table_rule.specs.Homes.{Home}
 use Rattle.table_steps.specs.Passes.{Pass}
 use Rattle.shared_index.specs.Keys.{IsKeyOf, home_of_index, home_of_pass}
 use Rattle.shared_index.specs.Shown.{shown}
-use Rattle.client_threads.specs.Depots.{SeatedKey, AreSeated, CanPoolOne, CanPoolEach, HasAdoptedFirst, IsSeatFor, PooledOne}
-use Rattle.client_threads.specs.Pools.{EndsShort, PooledOver, PooledToEnd, PooledOverEach}
+use Rattle.client_threads.specs.Depots.{SeatedKey, AreSeated, CanPoolOne, CanPoolEach, HasAdoptedFirst, IsSeatFor, IsUnwritten, PooledOne}
+use Rattle.client_threads.specs.Pools.{EndsShort, PooledOver, PooledToEnd, PooledOverEach, owned, owned_or_used}
 use Rattle.client_threads.specs.Runs.{CanRun, CanRunEach}
 use Rattle.client_threads.specs.Threads.{Ran, CameOf, AreParts}
 use Rattle.client_run.proofs.TradedAnswers.{traded_same}
@@ -37,6 +37,16 @@ module _ (index : Home) (depot : Opened) (room n : ℕ) where
 
   pub seats_opened : (seats : List Seated) → AreAllSeats depot seats → Every (IsDealt depot.id terms) seats → length seats ≡ n
   seats_opened seats all dealt = all.all ∙ ap (λ (t : Terms). t.seats) (same_terms seats all dealt)
+
+  pub room_opened : (seats : List Seated) → AreAllSeats depot seats → Every (IsDealt depot.id terms) seats → depot.room ≡ room
+  room_opened seats all dealt = sym all.room ∙ ap (λ (t : Terms). t.room) (same_terms seats all dealt)
+
+  pub seats_unwritten : (seats : List Seated) → Every (IsDealt depot.id terms) seats → Every IsUnwritten seats
+  seats_unwritten [] dealt = tt
+  seats_unwritten (s ∷ seats) dealt = (
+    record { gave = ap (λ (b : Book). b.gave) dealt.0.book_is; took = ap (λ (b : Book). b.took) dealt.0.book_is },
+    seats_unwritten seats dealt.1,
+  )
 
   pub seats_for : (seats : List Seated) → AreAllSeats depot seats → Every (IsDealt depot.id terms) seats → Every (IsSeatFor index depot) seats
   seats_for seats all dealt =
@@ -167,6 +177,14 @@ module _ {E : Type 0} (own : ℕ) (dir : List (List ℕ)) (index : Home) (parts 
       subst (λ (j : SeatedKey). PooledOver own dir index c (lines_of parts c) j.key (get_or back c e) (get_or replies c [])) (are.each c (record { key = d; seat = s }) d s within)
       (one c (record { key = d; seat = s }) e s within).over
 
+  -- each book tells what the pass of its client gave and took
+  pub kept_nodes : length keys ≡ length parts → (c : ℕ) (d e : Pass) (r s : Seated) → c < length keys
+      → KeepsNodes (shown (get_or keys c d)) (shown (get_or back c e)) (get_or seats c r).book (get_or left c s).book
+  kept_nodes long c d e r s lt =
+      let within : c < length jobs = omega (arith, are.keys_length, lt) in
+      subst (λ (j : SeatedKey). KeepsNodes (shown j.key) (shown (get_or back c e)) j.seat.book (get_or left c s).book) (are.each c (record { key = d; seat = r }) d r within)
+      (one c (record { key = d; seat = r }) e s within).nodes
+
   pub kept_seats : (i : ℕ) (d : Seated) → i < length left → IsSameSeat (get_or seats i d) (get_or left i d)
   kept_seats i d lt =
       let within : i < length jobs = omega (arith, apart.seats_length, came.one_each, lt) in
@@ -176,12 +194,13 @@ module _ {E : Type 0} (own : ℕ) (dir : List (List ℕ)) (index : Home) (parts 
 -- ---- what the first pass adopts
 
 -- the first key, which was taken out, is put back
-pub adopted_first : (index : Home) (old : List Pass) (first now : Pass) → 0 < length old → first ≡ get_or old 0 first → Traded (shown first) (shown now) → IsKeyOf index now
-    → HasAdoptedFirst index old (insert (remove old 0) 0 now)
-adopted_first index [] first now some is traded of = absurd (omega (arith, some))
-adopted_first index (key ∷ keys) first now some is traded of = record {
+pub adopted_first : (index : Home) (old : List Pass) (first now : Pass) (count : ℕ) → 0 < length old → first ≡ get_or old 0 first → Traded (shown first) (shown now)
+    → owned now ≡ owned first + count → IsKeyOf index now → HasAdoptedFirst index old count (insert (remove old 0) 0 now)
+adopted_first index [] first now count some is traded nodes of = absurd (omega (arith, some))
+adopted_first index (key ∷ keys) first now count some is traded nodes of = record {
   keys = refl;
   first = λ d e. subst (λ (p : Pass). Traded (shown p) (shown now)) is traded;
+  nodes = λ d e. nodes ∙ ap (λ (p : Pass). owned p + count) is;
   of = λ e. of;
   others = others;
 }
@@ -194,7 +213,7 @@ adopted_first index (key ∷ keys) first now some is traded of = record {
 
 module _ (own : ℕ) (dir : List (List ℕ)) (index : Home) (parts : List (List RequestLine)) (keys back new : List Pass) (replies : List (List Placed))
     (ran : (c : ℕ) (d e : Pass) → c < length parts → PooledOver own dir index c (lines_of parts c) (get_or keys c d) (get_or back c e) (get_or replies c []))
-    (long : length back ≡ length parts) (adopted : HasAdoptedFirst index back new) where
+    (count : ℕ) (long : length back ≡ length parts) (adopted : HasAdoptedFirst index back count new) where
   to_end : (c : ℕ) (d e : Pass) → c < length parts → PooledToEnd own dir index c (lines_of parts c) (get_or keys c d) (get_or new c e) (get_or replies c [])
   to_end zero d e lt = record {
     behind = get_or back 0 e;
@@ -214,5 +233,5 @@ module _ (own : ℕ) (dir : List (List ℕ)) (index : Home) (parts : List (List 
         others = λ after. same;
       }
 
-  pub pooled_over_each : length replies ≡ length parts → PooledOverEach own dir index parts keys new replies
-  pooled_over_each lists = record { keys = adopted.keys ∙ long; lists = lists; each = to_end }
+  pub pooled_over_each : length replies ≡ length parts → sum_by owned_or_used keys ≤ sum_by owned_or_used new → PooledOverEach own dir index parts keys new replies
+  pooled_over_each lists nodes = record { keys = adopted.keys ∙ long; lists = lists; each = to_end; nodes = nodes }

@@ -7,4 +7,5 @@ pub mod Threads
 pub mod Sums
 pub mod SlotsSuffice
 pub mod Depots
+pub mod NodeSums
 pub mod KeySets

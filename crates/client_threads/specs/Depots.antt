@@ -1,14 +1,15 @@
 -- Helper: the headline does not rest on this file.
 -- The results of the threads of a run with a depot.
-use Rattle.std.specs.Prelude.{◌≡◌, ℕ, ◌<◌, List, length, slice_index_or}
+use Rattle.std.specs.Prelude.{◌≡◌, ℕ, ◌+◌, ◌<◌, List, [], length, slice_index_or}
 use Rattle.bucket_terms.specs.LegalRun.{RequestLine, lines_of}
 use Rattle.bucket_terms.specs.Pool.{Traded}
+use Rattle.client_run.specs.Pooling.{KeepsNodes}
 use Rattle.slot_depot.specs.Depots.{Opened, Seated, IsSeatOf, IsSameSeat}
 use Rattle.table_rule.specs.Homes.{Home}
 use Rattle.table_steps.specs.Passes.{Pass}
 use Rattle.shared_index.specs.Keys.{IsKeyOf, home_of_index}
 use Rattle.shared_index.specs.Shown.{shown}
-use Rattle.client_threads.specs.Pools.{PooledOver}
+use Rattle.client_threads.specs.Pools.{PooledOver, owned}
 use Rattle.client_threads.specs.Runs.{CanRun}
 use Rattle.client_threads.specs.Threads.{CanRunOne, Ran}
 
@@ -29,6 +30,15 @@ pub record IsSeatFor (index : Home) (depot : Opened) (seat : Seated) : Type 0 wh
   pub of : IsSeatOf depot seat
   pub home : seat.book.terms.home ≡ home_of_index index
 
+-- nothing was given or taken from the seat yet
+pub record IsUnwritten (seat : Seated) : Type 0 where
+  pub gave : seat.book.gave ≡ []
+  pub took : seat.book.took ≡ []
+
+-- the node slots that the pass of a job's key owns
+abbrev pub owned_by_job : SeatedKey → ℕ
+owned_by_job job = owned job.key
+
 -- the key is that of a client, whose lines can be answered over its pass, and its seat is one of the depot
 pub record CanPoolOne (dir : List (List ℕ)) (index : Home) (depot : Opened) (parts : List (List RequestLine)) (job : SeatedKey) : Type 0 where
   pub can : CanRunOne dir index parts job.key
@@ -40,14 +50,17 @@ pub record CanPoolEach (dir : List (List ℕ)) (index : Home) (depot : Opened) (
   pub each : (c : ℕ) (d : SeatedKey) → c < length parts → CanRun dir index c (lines_of parts c) (slice_index_or jobs c d).key
   pub seats : (c : ℕ) (d : SeatedKey) → c < length parts → IsSeatFor index depot (slice_index_or jobs c d).seat
 
--- the result of a client: its lines were answered, and its seat is the same one
+-- the result of a client: its lines were answered, its seat is the same one, and the seat's book accounts for the node
+-- slots that its pass gave and took
 pub record PooledOne (own : ℕ) (dir : List (List ℕ)) (index : Home) (parts : List (List RequestLine)) (client : ℕ) (job : SeatedKey) (ran : Ran Seated) : Type 0 where
   pub over : PooledOver own dir index client (lines_of parts client) job.key ran.key ran.replies
   pub seat : IsSameSeat job.seat ran.seat
+  pub nodes : KeepsNodes (shown job.key) (shown ran.key) job.seat.book ran.seat.book
 
--- the first of the keys, of this index, has adopted some node slots, and the others are as they were
-pub record HasAdoptedFirst (index : Home) (old new : List Pass) : Type 0 where
+-- the first of the keys, of this index, has adopted so many node slots, and the others are as they were
+pub record HasAdoptedFirst (index : Home) (old : List Pass) (count : ℕ) (new : List Pass) : Type 0 where
   pub keys : length new ≡ length old
   pub first : (d e : Pass) → Traded (shown (slice_index_or old 0 d)) (shown (slice_index_or new 0 e))
+  pub nodes : (d e : Pass) → owned (slice_index_or new 0 e) ≡ owned (slice_index_or old 0 d) + count
   pub of : (e : Pass) → IsKeyOf index (slice_index_or new 0 e)
   pub others : (c : ℕ) (d : Pass) → 0 < c → slice_index_or new c d ≡ slice_index_or old c d

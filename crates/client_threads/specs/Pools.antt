@@ -1,6 +1,7 @@
 -- Helper: the headline does not rest on this file.
 -- What a runner has done whose clients hand node slots to one another through a depot.
-use Rattle.std.specs.Prelude.{◌≡◌, ℕ, ◌<◌, List, [], ◌∷◌, ◌++◌, length, Option, Some, None, slice_index_or}
+use Rattle.std.specs.Prelude.{◌≡◌, ℕ, ◌+◌, ◌<◌, ◌≤◌, List, [], ◌∷◌, ◌++◌, length, Option, Some, None, slice_index_or}
+use Rattle.std.specs.List.{sum_by}
 use Rattle.bucket_terms.specs.declared.reply.Placed.{Placed}
 use Rattle.bucket_terms.specs.declared.reply.Reply.TheVariants.{NoSlot}
 use Rattle.bucket_terms.specs.LegalRun.{RequestLine, Answered, answered_lines, lines_of}
@@ -20,6 +21,14 @@ abbrev pub named : NodeSlots → Option ℕ
 named AsAsked = None
 named (Named n) = Some n
 named (Pooled n) = Some n
+
+-- the node slots that the pass of a key owns
+abbrev pub owned : Pass → ℕ
+owned key = (shown key).nodes
+
+-- the same and one for each update that it has made, which is what an update uses at most
+abbrev pub owned_or_used : Pass → ℕ
+owned_or_used key = owned key + length (shown key).mine
 
 -- if the last of these lines was refused for want of slots, the pass lacks some
 abbrev pub EndsShort : List RequestLine → List Placed → PassView → Type 0
@@ -42,9 +51,11 @@ pub record PooledToEnd (own : ℕ) (dir : List (List ℕ)) (index : Home) (clien
   pub adopted : Traded (shown behind) (shown new)
   pub others : 0 < client → new ≡ behind
 
--- there is one key and one list of replies per client, and each client's lines were answered so
+-- there is one key and one list of replies per client, and each client's lines were answered so. What was left in the depot
+-- has come back: no node slot is lost, but for what updates use.
 pub record PooledOverEach (own : ℕ) (dir : List (List ℕ)) (index : Home) (parts : List (List RequestLine)) (old new : List Pass) (replies : List (List Placed)) : Type 0 where
   pub keys : length new ≡ length parts
   pub lists : length replies ≡ length parts
   pub each : (c : ℕ) (d e : Pass) → c < length parts
       → PooledToEnd own dir index c (lines_of parts c) (slice_index_or old c d) (slice_index_or new c e) (slice_index_or replies c [])
+  pub nodes : sum_by owned_or_used old ≤ sum_by owned_or_used new

@@ -1,9 +1,10 @@
 // The history of a session: its clients over one shared index, which is then closed.
-ghost use Rattle.std.specs.Prelude.{◌≡◌, ◌<◌, ◌≤◌, IfOk, OnOk, length};
+ghost use Rattle.std.specs.Prelude.{◌≡◌, ◌*◌, ◌<◌, ◌≤◌, IfOk, IfSome, OnOk, length};
+ghost use Rattle.std.specs.List.{sum_by};
 ghost use Rattle.outside_io.specs.Streams.{one_more};
 ghost use Rattle.client_threads.specs.Clients.{RanSession};
 ghost use Rattle.client_threads.specs.ClientSlots.{IsNamable};
-ghost use Rattle.client_threads.specs.Pools.{named};
+ghost use Rattle.client_threads.specs.Pools.{named, owned};
 ghost use Rattle.client_threads.specs.Runs.{CanRunEach, parts_of};
 ghost use Rattle.client_threads.specs.Behind.{RanBehindEach};
 ghost use Rattle.client_threads.specs.Sizes.{CanServe, sizes_of};
@@ -86,6 +87,7 @@ fn run_keys<G: Gate + Sync, R: Runner<G>, Rt: Threads + Wait + Sync>(
     requires can { CanRunEach dir.now index.now (parts_of session.now.clients) keys.items }
     requires some { 0 < length keys.items }
     requires few { length keys.items ≤ most_clients }
+    requires fits { IfSome (named slots) (λ own. sum_by owned keys.items ≤ own * length keys.items) }
     ensures ran { IfOk result (λ back. RanBehindEach (named slots) dir.now index.now (parts_of session.now.clients) keys.items back.items (R.replied runner.new)) }
     ensures runs { OnOk result (R.runs runner.new ≡ one_more (R.runs runner.old)) }
 {

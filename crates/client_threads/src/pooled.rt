@@ -1,13 +1,14 @@
 // A run whose clients hand node slots to one another through a depot.
-ghost use Rattle.std.specs.Prelude.{◌≡◌, ◌<◌, None, length, IfOk, slice_index_or};
+ghost use Rattle.std.specs.Prelude.{◌≡◌, ◌+◌, ◌<◌, ◌≤◌, None, length, IfOk, slice_index_or};
+ghost use Rattle.std.specs.List.{sum_by};
 ghost use Rattle.key_map.specs.Lists.{Every};
 ghost use Rattle.slot_depot.specs.Depots.{AreAllSeats};
 ghost use Rattle.table_steps.specs.Passes.{Pass as TheKey};
 ghost use Rattle.bucket_terms.specs.Pool.{Traded};
 ghost use Rattle.shared_index.specs.Keys.{IsKeyOf, home_of_index, home_of_note, home_of_pass};
 ghost use Rattle.shared_index.specs.Shown.{shown};
-ghost use Rattle.client_threads.specs.Depots.{AreSeated, CanPoolOne, CanPoolEach, HasAdoptedFirst, IsSeatFor, PooledOne};
-ghost use Rattle.client_threads.specs.Pools.{PooledOverEach};
+ghost use Rattle.client_threads.specs.Depots.{AreSeated, CanPoolOne, CanPoolEach, HasAdoptedFirst, IsSeatFor, IsUnwritten, PooledOne, owned_by_job};
+ghost use Rattle.client_threads.specs.Pools.{PooledOverEach, owned};
 ghost use Rattle.client_threads.specs.Runs.{CanRunEach, parts_of};
 ghost use Rattle.client_threads.specs.Threads.{CameOf};
 
@@ -26,8 +27,8 @@ use std::marker::Model;
 use std::sync::Wait;
 use std::thread::Threads;
 
-/// Runs the client of each key on a thread of its own, with a depot of this much room, and closes the depot. The keys
-/// come back, and the replies.
+/// Runs the client of each key on a thread of its own, with a depot of this much room, which is enough for all node
+/// slots, and closes the depot. The keys come back, and the replies.
 pub(crate) fn pool_each<G: Gate + Sync, Rt: Threads + Wait + Sync>(
     rt: &Rt,
     alloc: Global,
@@ -42,6 +43,7 @@ pub(crate) fn pool_each<G: Gate + Sync, Rt: Threads + Wait + Sync>(
     requires can { CanRunEach dir.now index.now (parts_of parts.now) keys.items }
     requires some { 0 < length keys.items }
     requires room { 0 < room }
+    requires fits { sum_by owned keys.items ≤ room }
     ensures { IfOk result (λ back. PooledOverEach own dir.now index.now (parts_of parts.now) keys.items back.0.items back.1.items) }
 {
     let (depot, seats) = open_depot(alloc, index, keys.len(), room)?;
@@ -69,7 +71,7 @@ impl Model for SeatedKey {
     ghost view = { λ j. record { key = j.key; seat = j.seat } };
 }
 
-// A depot for the node slots of the index, with this many seats.
+// A depot for the node slots of the index, with this many seats and this much room.
 fn open_depot(
     alloc: Global,
     index: &SharedIndex,
@@ -81,6 +83,8 @@ fn open_depot(
     ensures all { IfOk result (λ opened. AreAllSeats opened.0 opened.1.items) }
     ensures each { IfOk result (λ opened. Every (IsSeatFor index.now opened.0) opened.1.items) }
     ensures seats { IfOk result (λ opened. length opened.1.items ≡ seats) }
+    ensures room { IfOk result (λ opened. opened.0.room ≡ room) }
+    ensures unwritten { IfOk result (λ opened. Every IsUnwritten opened.1.items) }
 {
     // No depot has more seats than this.
     let Ok(seats) = u32::try_from(seats) else {
@@ -112,7 +116,7 @@ fn seated(
     Ok(jobs)
 }
 
-// Runs the client of each key at its seat, each on a thread of its own.
+// Runs the client of each key at its seat, each on a thread of its own. The depot has room for all their node slots.
 fn pool_jobs<G: Gate + Sync, Rt: Threads + Wait + Sync>(
     rt: &Rt,
     alloc: Global,
@@ -125,6 +129,7 @@ fn pool_jobs<G: Gate + Sync, Rt: Threads + Wait + Sync>(
     own: u32,
 ) -> Result<Vec<Result<RanPart<DepotSeat<Parcel>>, NoMemory>>, NoMemory>
     requires can { CanPoolEach dir.now index.now depot.now (parts_of parts.now) jobs.items }
+    requires fits { sum_by owned_by_job jobs.items ≤ depot.now.room }
     ensures { IfOk result (λ results. CameOf (PooledOne own dir.now index.now (parts_of parts.now)) jobs.items results.items) }
 {
     let run = |job: SeatedKey| -> Result<RanPart<DepotSeat<Parcel>>, NoMemory>
@@ -167,7 +172,7 @@ fn adopt_left(index: &SharedIndex, mut keys: Vec<PassKey>, left: Vec<Parcel>) ->
     requires of { (d : TheKey) → IsKeyOf index.now (slice_index_or keys.items 0 d) }
     requires closed { (d : TheKey) → (shown (slice_index_or keys.items 0 d)).opened ≡ None }
     requires left { Every (λ p. home_of_note p ≡ home_of_index index.now) left.items }
-    ensures { HasAdoptedFirst index.now keys.items result.items }
+    ensures { HasAdoptedFirst index.now keys.items (length left.items) result.items }
 {
     let mut pass = index.attach(keys.remove(0));
     adopt_all(&mut pass, left);
@@ -183,6 +188,7 @@ fn adopt_all(pass: &mut IndexPass<'_>, mut left: Vec<Parcel>)
     requires closed { (shown pass.old).opened ≡ None }
     requires left { Every (λ p. home_of_note p ≡ home_of_pass pass.old) left.items }
     ensures traded { Traded (shown pass.old) (shown pass.new) }
+    ensures nodes { (shown pass.new).nodes ≡ (shown pass.old).nodes + length left.items }
     ensures home { home_of_pass pass.new ≡ home_of_pass pass.old }
 {
     while let Some(parcel) = left.pop() {

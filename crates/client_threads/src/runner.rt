@@ -1,9 +1,10 @@
 // What runs the clients of a session.
 ghost use Rattle.std.specs.Prelude.{◌≡◌, ◌<◌, ◌≤◌, ℕ, List, [], length, IfOk, OnOk, slice_index_or};
 ghost use Rattle.bucket_terms.specs.declared.reply.Placed.{Placed as PlacedReply};
+ghost use Rattle.std.specs.List.{sum_by};
 ghost use Rattle.std.specs.Thread.{IsSync};
 ghost use Rattle.outside_io.specs.Streams.{one_more};
-ghost use Rattle.client_threads.specs.Pools.{PooledOverEach};
+ghost use Rattle.client_threads.specs.Pools.{PooledOverEach, owned};
 ghost use Rattle.client_threads.specs.Runs.{CanRunEach, RanOverEach, parts_of};
 
 use bucket_terms::Placed;
@@ -55,7 +56,8 @@ pub trait Runner<G: Gate + Sync> {
         ensures never_fall { runs self.old ≤ runs self.new };
 
     /// The same, and clients hand node slots to one another: each gives what it owns above `own` to a depot of this
-    /// much room, and takes one if it owns none. The first key's pass gets what is left at the end. There is a key.
+    /// much room, and takes one if it owns none. The first key's pass gets what is left at the end. There is a key, and
+    /// the depot has room for all node slots that the passes own.
     ///
     /// # Errors
     /// Out of memory ends the run. Updates may have been made then, and the keys are gone.
@@ -75,6 +77,7 @@ pub trait Runner<G: Gate + Sync> {
         requires can { CanRunEach dir.now index.now (parts_of session.now.clients) keys.items }
         requires some { 0 < length keys.items }
         requires room { 0 < room }
+        requires fits { sum_by owned keys.items ≤ room }
         ensures ran { IfOk result (λ back. PooledOverEach own dir.now index.now (parts_of session.now.clients) keys.items back.items (replied self.new)) }
         ensures runs { OnOk result (runs self.new ≡ one_more (runs self.old)) }
         ensures never_fall { runs self.old ≤ runs self.new };

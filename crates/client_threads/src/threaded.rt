@@ -1,9 +1,10 @@
 // The runner of the program: a thread for each client.
 ghost use Rattle.std.specs.Prelude.{◌≡◌, ◌<◌, ◌≤◌, [], length, IfOk, slice_index_or};
+ghost use Rattle.std.specs.List.{sum_by};
 ghost use Rattle.outside_io.specs.Streams.{one_more};
 ghost use Rattle.request_lines.specs.Session.{request_lines};
 ghost use Rattle.client_threads.specs.Runs.{CanRunEach, RanOver, RanOverEach, parts_of};
-ghost use Rattle.client_threads.specs.Pools.{PooledOverEach};
+ghost use Rattle.client_threads.specs.Pools.{PooledOverEach, owned};
 ghost use Rattle.client_threads.specs.Threads.{CanRunOne, CameOf, RanOne};
 ghost use Rattle.bucket_terms.specs.LegalRun.{lines_of};
 
@@ -108,6 +109,7 @@ impl Threaded {
         requires can { CanRunEach dir.now index.now (parts_of session.now.clients) keys.items }
         requires some { 0 < length keys.items }
         requires room { 0 < room }
+        requires fits { sum_by owned keys.items ≤ room }
         ensures ran { IfOk result (λ back. PooledOverEach own dir.now index.now (parts_of session.now.clients) keys.items back.items self.new.replied) }
         ensures runs { self.new.runs ≡ one_more self.old.runs }
         ensures never_fall { self.old.runs ≤ self.new.runs }

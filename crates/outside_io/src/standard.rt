@@ -108,7 +108,8 @@ impl Sink for StdSink {
         write_counted(&mut self.output, &mut self.faults, bytes)
     }
 
+    // Without memory for a buffer there is none, and each line is a write.
     fn is_buffered(&self) -> bool {
-        true
+        self.output.capacity() > 0
     }
 }

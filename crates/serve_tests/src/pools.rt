@@ -40,6 +40,45 @@ fn behind_the_last() -> &'static str {
         {\"Updates\":4}\n"
 }
 
+fn refused_beside_a_spare_slot() -> &'static str {
+    "{\"At\":1,\"Client\":0,\"Line\":2,\"Replaced\":false,\"Status\":200}\n\
+        {\"At\":2,\"Client\":0,\"Line\":3,\"Replaced\":false,\"Status\":200}\n\
+        {\"At\":null,\"Client\":0,\"Line\":4,\"Status\":503}\n\
+        {\"At\":3,\"Client\":1,\"Line\":6,\"Status\":204}\n\
+        {\"At\":1,\"Client\":0,\"Key\":\"a\",\"Line\":2,\"Verb\":\"PUT\"}\n\
+        {\"At\":2,\"Client\":0,\"Key\":\"b\",\"Line\":3,\"Verb\":\"PUT\"}\n\
+        {\"At\":3,\"Client\":1,\"Key\":\"a\",\"Line\":6,\"Verb\":\"DELETE\"}\n\
+        {\"Updates\":3}\n"
+}
+
+// Client 0 has used up its three slots before line 5, and client 1 has three to spare after line 11.
+fn three_handed_over() -> &'static str {
+    "CLIENT\nPUT a 1 e1 1\nPUT b 2 e2 2\nPUT c 3 e3 3\nPUT d 4 e4 4\nPUT e 5 e5 5\nPUT f 6 e6 6\n\
+        CLIENT\nDELETE a\nDELETE b\nDELETE c\n"
+}
+
+fn after_the_three() -> &'static str {
+    "{\"At\":1,\"Client\":0,\"Line\":2,\"Replaced\":false,\"Status\":200}\n\
+        {\"At\":2,\"Client\":0,\"Line\":3,\"Replaced\":false,\"Status\":200}\n\
+        {\"At\":3,\"Client\":0,\"Line\":4,\"Replaced\":false,\"Status\":200}\n\
+        {\"At\":7,\"Client\":0,\"Line\":5,\"Replaced\":false,\"Status\":200}\n\
+        {\"At\":8,\"Client\":0,\"Line\":6,\"Replaced\":false,\"Status\":200}\n\
+        {\"At\":9,\"Client\":0,\"Line\":7,\"Replaced\":false,\"Status\":200}\n\
+        {\"At\":4,\"Client\":1,\"Line\":9,\"Status\":204}\n\
+        {\"At\":5,\"Client\":1,\"Line\":10,\"Status\":204}\n\
+        {\"At\":6,\"Client\":1,\"Line\":11,\"Status\":204}\n\
+        {\"At\":1,\"Client\":0,\"Key\":\"a\",\"Line\":2,\"Verb\":\"PUT\"}\n\
+        {\"At\":2,\"Client\":0,\"Key\":\"b\",\"Line\":3,\"Verb\":\"PUT\"}\n\
+        {\"At\":3,\"Client\":0,\"Key\":\"c\",\"Line\":4,\"Verb\":\"PUT\"}\n\
+        {\"At\":4,\"Client\":1,\"Key\":\"a\",\"Line\":9,\"Verb\":\"DELETE\"}\n\
+        {\"At\":5,\"Client\":1,\"Key\":\"b\",\"Line\":10,\"Verb\":\"DELETE\"}\n\
+        {\"At\":6,\"Client\":1,\"Key\":\"c\",\"Line\":11,\"Verb\":\"DELETE\"}\n\
+        {\"At\":7,\"Client\":0,\"Key\":\"d\",\"Line\":5,\"Verb\":\"PUT\"}\n\
+        {\"At\":8,\"Client\":0,\"Key\":\"e\",\"Line\":6,\"Verb\":\"PUT\"}\n\
+        {\"At\":9,\"Client\":0,\"Key\":\"f\",\"Line\":7,\"Verb\":\"PUT\"}\n\
+        {\"Updates\":9}\n"
+}
+
 fn two_of_one_slot() -> &'static str {
     "CLIENT\nPUT a 1 e1 1\nPUT b 2 e2 2\nDELETE a\nHEAD a\n"
 }
@@ -66,6 +105,36 @@ fn a_client_uses_the_slot_that_another_frees(rt: HostRuntime) -> Result<(), Fail
     let input = handed_over().as_bytes();
     let seen = watched(&rt, rt.alloc(), &words, input, 2, holds, text)?;
     assert_eq!(rt; seen, all_right(4));
+    Ok(())
+}
+
+// The same session without a pool: the slot that client 1 has to spare is not handed over, so line 4 finds none.
+#[test]
+fn without_a_pool_no_slot_is_handed_over(rt: HostRuntime) -> Result<(), Fail> {
+    let holds = Holds::Both {
+        first: Held { line: 4, until: 6 },
+        second: Held { line: 6, until: 3 },
+    };
+    let words = ["run", "--slots", "2"];
+    let text = Some(refused_beside_a_spare_slot());
+    let input = handed_over().as_bytes();
+    let seen = watched(&rt, rt.alloc(), &words, input, 2, holds, text)?;
+    assert_eq!(rt; seen, all_right(4));
+    Ok(())
+}
+
+// Three slots lie in the depot at the same time, so it needs room for more than one.
+#[test]
+fn a_depot_holds_all_that_is_to_spare(rt: HostRuntime) -> Result<(), Fail> {
+    let holds = Holds::Both {
+        first: Held { line: 5, until: 11 },
+        second: Held { line: 9, until: 4 },
+    };
+    let words = ["run", "--pool", "3"];
+    let text = Some(after_the_three());
+    let input = three_handed_over().as_bytes();
+    let seen = watched(&rt, rt.alloc(), &words, input, 2, holds, text)?;
+    assert_eq!(rt; seen, all_right(9));
     Ok(())
 }
 

@@ -8,6 +8,7 @@ use Rattle.client_threads.specs.Pools.{named}
 use Rattle.client_threads.specs.Runs.{CanRunEach, parts_of}
 use Rattle.client_threads.specs.Sizes.{sizes_of}
 use Rattle.client_threads.proofs.Keys.{can_run, all_back, ran_session}
+use Rattle.client_threads.proofs.NodeSums.{depot_fits}
 use Rattle.client_threads.proofs.history.history_over.Goals as goal
 
 pub run_keys-requires-clause-can : goal.run_keys-requires-clause-can
@@ -24,6 +25,9 @@ pub run_keys-requires-clause-few : goal.run_keys-requires-clause-few
 run_keys-requires-clause-few g c κs within =
     let can : CanRunEach c.args.dir.now c.args.index (parts_of c.args.session.now.clients) c.args.keys.items = run_keys-requires-clause-can g c κs within in
     omega (arith, can.one_each, length-map c.args.session.now.clients request_lines, c.requires.can.few.few)
+
+pub run_keys-requires-clause-fits : goal.run_keys-requires-clause-fits
+run_keys-requires-clause-fits g c κs within = depot_fits (named c.args.slots) c.args.session.now.clients c.args.keys.items c.requires.fresh
 
 pub finish-requires : goal.finish-requires
 finish-requires g c =

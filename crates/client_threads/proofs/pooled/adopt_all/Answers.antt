@@ -1,4 +1,5 @@
-use Rattle.std.proofs.Common.{◌≡◌, ◌∙◌, subst}
+use Rattle.std.proofs.Common.{◌≡◌, ◌++◌, ◌∷◌, [], ap, length, arith, ◌∙◌, subst}
+use Rattle.std.proofs.lemmas.List.{length_push}
 use Rattle.key_map.specs.Lists.{Every}
 use Rattle.table_rule.specs.Homes.{Sat}
 use Rattle.shared_index.specs.Keys.{home_of_note, home_of_pass}
@@ -15,4 +16,5 @@ loop-parcel-preserved c =
       traded_on (shown c.args.pass.now) (shown c.loop-parcel.pass) (shown c.adopt.new.self) kept.0 c.adopt.ensures.adopted.traded,
       c.adopt.ensures.home ∙ kept.1,
       (every_front of c.pop.new.self.items c.in-Some.parcel (subst (Every of) c.in-Some.ensures.items kept.2)).0,
+      omega (arith, c.adopt.ensures.adopted.nodes, ap length c.in-Some.ensures.items, length_push c.pop.new.self.items c.in-Some.parcel, kept.3),
     )

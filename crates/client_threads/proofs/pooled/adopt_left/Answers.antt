@@ -1,4 +1,4 @@
-use Rattle.std.proofs.Common.{ap, ◌∙◌, subst, sym, arith}
+use Rattle.std.proofs.Common.{◌+◌, ap, ◌∙◌, length, subst, sym, arith}
 use Rattle.bucket_terms.specs.Pool.{Traded}
 use Rattle.table_steps.specs.Passes.{Pass}
 use Rattle.shared_index.specs.Keys.{home_of_pass}
@@ -14,7 +14,9 @@ returns c =
     subst (λ (p : Pass). Traded (shown first) (shown p)) (sym c.detach.ensures.same)
     (subst (λ (p : Pass). Traded (shown p) (shown c.adopt_all.new.pass)) c.attach-pass.ensures.same c.adopt_all.ensures.traded) in
     rw (c.in-Ok.ensures.items, c.remove.ensures.items)
-    (adopted_first c.args.index.now c.args.keys.items first now c.requires.some c.remove.ensures.value traded
+    (adopted_first c.args.index.now c.args.keys.items first now (length c.args.left.items) c.requires.some c.remove.ensures.value traded
+    (ap (λ (p : Pass). (shown p).nodes) c.detach.ensures.same ∙ c.adopt_all.ensures.nodes
+    ∙ ap (λ (p : Pass). (shown p).nodes + length c.args.left.items) c.attach-pass.ensures.same)
     (ap home_of_pass c.detach.ensures.same ∙ c.adopt_all.ensures.home ∙ ap home_of_pass c.attach-pass.ensures.same ∙ ap home_of_pass c.remove.ensures.value
     ∙ c.requires.of first))
 

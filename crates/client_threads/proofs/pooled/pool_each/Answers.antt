@@ -1,13 +1,21 @@
-use Rattle.std.proofs.Common.{◌<◌, length, arith}
+use Rattle.std.proofs.Common.{ℕ, ◌<◌, length, map, subst, sym, arith}
+use Rattle.std.proofs.lemmas.List.{length-map}
+use Rattle.table_steps.specs.Parcels.{parcel_node}
 use Rattle.shared_index.specs.Keys.{home_of_index}
+use Rattle.client_threads.specs.Depots.{HasAdoptedFirst}
 use Rattle.client_threads.specs.Runs.{parts_of}
-use Rattle.client_threads.proofs.Depots.{can_pool_each, pooled_over, kept_seats, seats_count, same_seats, same_homes, pooled_over_each}
+use Rattle.client_threads.proofs.Depots.{can_pool_each, kept_nodes, pooled_over, kept_seats, seats_count, same_seats, same_homes, pooled_over_each}
+use Rattle.client_threads.proofs.NodeSums.{jobs_fit, none_lost}
 use Rattle.client_threads.proofs.pooled.pool_each.Goals as goal
 
 pub pool_jobs-requires-clause-can : goal.pool_jobs-requires-clause-can
 pool_jobs-requires-clause-can g c κs within =
     can_pool_each c.args.dir.now c.args.index.now c.in_ok-depot.depot (parts_of c.args.parts.now) c.args.keys.items c.in_ok-depot.seats.items c.in_ok-jobs.jobs.items c.requires.can
     c.in_ok-depot.ensures.each c.in_ok-jobs.ensures
+
+pub pool_jobs-requires-clause-fits : goal.pool_jobs-requires-clause-fits
+pool_jobs-requires-clause-fits g c κs within =
+    omega (arith, jobs_fit c.args.keys.items c.in_ok-depot.seats.items c.in_ok-jobs.jobs.items c.in_ok-jobs.ensures, c.requires.fits, c.in_ok-depot.ensures.room)
 
 pub close-requires : goal.close-requires
 close-requires g c =
@@ -52,5 +60,13 @@ returns-in-Ok g c =
     pooled_over_each c.args.own c.args.dir.now c.args.index.now (parts_of c.args.parts.now) c.args.keys.items c.in_ok-keys.keys.items c.adopt_left.result.items c.in_ok-keys.replies.items
     (pooled_over c.args.own c.args.dir.now c.args.index.now (parts_of c.args.parts.now) c.args.keys.items c.in_ok-depot.seats.items c.in_ok-jobs.jobs.items c.in_ok-results.results.items
     c.in_ok-keys.keys.items c.in_ok-keys.seats.items c.in_ok-keys.replies.items c.in_ok-jobs.ensures c.in_ok-results.ensures c.in_ok-keys.ensures c.requires.can.one_each)
-    (omega (arith, c.in_ok-keys.ensures.keys_length, c.in_ok-results.ensures.one_each, c.in_ok-jobs.ensures.keys_length, c.requires.can.one_each)) c.adopt_left.ensures
+    (length c.in-Ok.left.items) (omega (arith, c.in_ok-keys.ensures.keys_length, c.in_ok-results.ensures.one_each, c.in_ok-jobs.ensures.keys_length, c.requires.can.one_each)) c.adopt_left.ensures
     (omega (arith, c.in_ok-keys.ensures.replies_length, c.in_ok-results.ensures.one_each, c.in_ok-jobs.ensures.keys_length, c.requires.can.one_each))
+    (none_lost c.args.index.now c.args.keys.items c.in_ok-keys.keys.items c.adopt_left.result.items c.in_ok-depot.seats.items c.in_ok-keys.seats.items (map parcel_node c.in-Ok.left.items) c.requires.some
+    (omega (arith, c.in_ok-keys.ensures.keys_length, c.in_ok-results.ensures.one_each, c.in_ok-jobs.ensures.keys_length))
+    (omega (arith, c.in_ok-jobs.ensures.keys_length, c.in_ok-jobs.ensures.seats_length))
+    (omega (arith, c.in_ok-keys.ensures.seats_length, c.in_ok-results.ensures.one_each, c.in_ok-jobs.ensures.keys_length)) c.in_ok-depot.ensures.unwritten
+    (kept_nodes c.args.own c.args.dir.now c.args.index.now (parts_of c.args.parts.now) c.args.keys.items c.in_ok-depot.seats.items c.in_ok-jobs.jobs.items c.in_ok-results.results.items
+    c.in_ok-keys.keys.items c.in_ok-keys.seats.items c.in_ok-keys.replies.items c.in_ok-jobs.ensures c.in_ok-results.ensures c.in_ok-keys.ensures c.requires.can.one_each)
+    c.in-Ok.ensures.balance
+    (subst (λ (n : ℕ). HasAdoptedFirst c.args.index.now c.in_ok-keys.keys.items n c.adopt_left.result.items) (sym (length-map c.in-Ok.left.items parcel_node)) c.adopt_left.ensures))

@@ -3,6 +3,7 @@ use Rattle.bucket_terms.specs.LegalRun.{RequestLine, lines_of}
 use Rattle.request_lines.specs.Session.{request_lines}
 use Rattle.request_lines.specs.SessionLaws.{IsAskable, Rise}
 use Rattle.client_run.specs.ClientRun.{IsLaterLine}
+use Rattle.client_run.specs.Pooling.{KeepsNodes}
 use Rattle.slot_depot.specs.Depots.{IsSameSeat}
 use Rattle.table_steps.specs.Passes.{Pass}
 use Rattle.shared_index.specs.Shown.{shown}
@@ -10,6 +11,7 @@ use Rattle.client_threads.specs.Depots.{SeatedKey}
 use Rattle.client_threads.specs.Runs.{parts_of}
 use Rattle.client_threads.proofs.Threads.{key_lines}
 use Rattle.client_threads.proofs.Depots.{pooled_key}
+use Rattle.client_threads.proofs.NodeSums.{nodes_kept}
 use Rattle.client_threads.proofs.pooled.pool_job.Goals as goal
 
 pub run_pooled-requires-clause-askable : goal.run_pooled-requires-clause-askable
@@ -42,4 +44,7 @@ returns g c =
           (key_lines c.args.parts.now c.args.job.key.number c.client.result c.index-parts-client.result number c.requires.can.there c.index-parts-client.is)
           c.in_ok-replies.ensures.ran c.in_ok-replies.ensures.home c.detach.ensures.same c.from_vec.ensures;
       seat = subst (λ (j : SeatedKey). IsSameSeat j.seat c.run_pooled.new.seat) c.job.view_is c.in_ok-replies.ensures.seat;
+      nodes =
+          subst (λ (j : SeatedKey). KeepsNodes (shown j.key) (shown c.detach.result) j.seat.book c.run_pooled.new.seat.book) c.job.view_is
+          (nodes_kept c.job.inside.key c.attach-pass.result c.run_pooled.new.pass c.detach.result c.job.inside.seat.book c.run_pooled.new.seat.book c.attach-pass.ensures.same c.detach.ensures.same c.in_ok-replies.ensures.ran.nodes);
     }
