@@ -11,7 +11,7 @@
 - What the scripts cannot use they refuse with one line: sessions and texts that are faulty or not of one another.
 
 The scripts run in the processes of this one, since starting Python takes longer than most of what they do. The long session and the
-examples have a process for each script, by the commands that examples/README.md shows.
+examples have a process for each script, by the commands that docs/FORMAT.md shows.
 """
 import argparse
 import collections
