@@ -10,8 +10,8 @@
   the whole session, byte for byte. A session of 20,000 lines over four ranges has the text of one run.
 - What the scripts cannot use they refuse with one line: sessions and texts that are faulty or not of one another.
 
-The scripts run in the processes of this one, since starting Python takes longer than most of what they do. The long session and the
-examples have a process for each script, by the commands that docs/FORMAT.md shows.
+The scripts of examples/ run inside this process and its workers, since starting Python takes longer than most of what
+they do. The long session has a process for each script, by the commands that docs/FORMAT.md shows.
 """
 import argparse
 import collections
@@ -297,7 +297,12 @@ def try_mixed():
             refused([EXAMPLES / "go_on", *written(folder, session=session, text=text)], b"", "go_on " + repr(session[:200]), wanted)
     with tempfile.TemporaryDirectory() as folder:
         refused([EXAMPLES / "go_on", Path(folder, "nowhere"), Path(folder, "text")], b"", "go_on nowhere", "nowhere: No such file or directory")
-        session, text = MANY_PUTS
+
+
+def try_wide():
+    """With --wide go_on prints more names than a session takes."""
+    session, text = MANY_PUTS
+    with tempfile.TemporaryDirectory() as folder:
         wide = text_of([EXAMPLES / "go_on", "--wide", *written(folder, session=session, text=text)], by=called)
         if sorted(wide.decode().splitlines()) != sorted(session.splitlines()):
             sys.exit("go_on --wide: other lines")
@@ -344,7 +349,7 @@ def main():
     counts = [rng.randint(1, 5) for _ in sessions]
     with ProcessPoolExecutor(4) as pool:
         longest = pool.submit(try_long, program, rng, options.lines)
-        others = [pool.submit(try_mixed), pool.submit(try_unsplit), pool.submit(try_spoiled, program)]
+        others = [pool.submit(try_mixed), pool.submit(try_wide), pool.submit(try_unsplit), pool.submit(try_spoiled, program)]
         others += [pool.submit(try_clients, program, EXAMPLES / (name + ".txt")) for name in ("clients", "compete", "pool")]
         others += [pool.submit(try_two_parts, program, session, cut) for session, cut in zip(sessions, cuts)]
         ranges = [pool.submit(try_ranges, program, session, count) for session, count in zip(sessions, counts)]
