@@ -4,6 +4,8 @@ What they cannot use ends the script with one line on standard error, which name
 """
 import json
 import re
+import sys
+from pathlib import Path
 from typing import NamedTuple, Optional
 from urllib.parse import unquote_to_bytes
 
@@ -30,8 +32,7 @@ STANDARD = "standard input"
 
 def text_of(path):
     try:
-        with open(path if path != STANDARD else 0, "rb") as file:
-            return file.read().decode()
+        return (sys.stdin.buffer.read() if path == STANDARD else Path(path).read_bytes()).decode()
     except OSError as error:
         stop("%s: %s" % (path, error.strerror))
     except UnicodeDecodeError:

@@ -9,16 +9,22 @@
 - A session is split into ranges, they are run as the page of by_ranges says it, and joined: the text is that of the model for
   the whole session, byte for byte. A session of 20,000 lines over four ranges has the text of one run.
 - What the scripts cannot use they refuse with one line: sessions and texts that are faulty or not of one another.
+
+The scripts of examples/ run inside this process and its workers, since starting Python takes longer than most of what
+they do. The long session has a process for each script, by the commands that docs/FORMAT.md shows.
 """
 import argparse
 import collections
+import io
 import json
 import random
+import runpy
 import subprocess
 import sys
 import tempfile
-from concurrent.futures import ThreadPoolExecutor
+from concurrent.futures import ProcessPoolExecutor
 from pathlib import Path
+from typing import NamedTuple
 
 sys.path.insert(0, str(Path(__file__).resolve().parent.parent / "models"))
 from one_client import Session
@@ -29,12 +35,42 @@ TOP = Path(__file__).resolve().parent.parent.parent
 EXAMPLES = TOP / "examples"
 
 
-def ran(words, given=b""):
+sys.path.insert(0, str(EXAMPLES))
+
+
+class Done(NamedTuple):
+    """What a script did that ran in this process."""
+
+    returncode: int
+    stdout: bytes
+    stderr: bytes
+
+
+def called(words, given=b""):
+    """Runs a script of examples/ in this process."""
+    kept = sys.argv, sys.stdin, sys.stdout, sys.stderr
+    out, err, status = io.TextIOWrapper(io.BytesIO()), io.StringIO(), 0
+    sys.argv, sys.stdin, sys.stdout, sys.stderr = [str(word) for word in words], io.TextIOWrapper(io.BytesIO(given)), out, err
+    try:
+        runpy.run_path(sys.argv[0], run_name="__main__")
+    except SystemExit as ended:
+        status = ended.code or 0
+    finally:
+        sys.argv, sys.stdin, sys.stdout, sys.stderr = kept
+    out.flush()
+    if isinstance(status, str):
+        print(status, file=err)
+        status = 1
+    return Done(status, out.buffer.getvalue(), err.getvalue().encode())
+
+
+def started(words, given=b""):
+    """Runs a command in a process of its own."""
     return subprocess.run([str(word) for word in words], input=given, capture_output=True)
 
 
-def text_of(words, given=b""):
-    done = ran(words, given)
+def text_of(words, given=b"", by=started):
+    done = by(words, given)
     if done.returncode != 0 or done.stderr:
         sys.exit("%s: status %d\n%s" % (words, done.returncode, done.stderr.decode()))
     return done.stdout
@@ -60,7 +96,7 @@ def compare(what, got, wanted):
 def gone_on(folder, program, session):
     """The session that go_on makes of this one and of its text."""
     paths = written(folder, session=session, text=text_of([program, "run"], session))
-    return text_of([EXAMPLES / "go_on", *paths])
+    return text_of([EXAMPLES / "go_on", *paths], by=called)
 
 
 def records_of(listing):
@@ -101,16 +137,26 @@ def try_clients(program, path):
 # ---- a session over ranges
 
 
-def over_ranges(folder, program, session, ranges):
+def run_round(program, todo):
+    """Runs the sessions of a round, one after another."""
+    for name in todo.decode().splitlines():
+        Path(name + ".out").write_bytes(text_of([program, "run"], Path(name + ".txt").read_bytes()))
+
+
+def run_round_at_once(program, todo):
+    run = ["xargs", "-P", "4", "-I", "NAME", "sh", "-c", "'%s' run < 'NAME.txt' > 'NAME.out'" % program]
+    text_of(run, todo)
+
+
+def over_ranges(folder, program, session, ranges, by=called, run=run_round):
     """The text of a session that runs over ranges, and how many rounds it took."""
     script, here = EXAMPLES / "by_ranges", Path(folder, "ranges")
-    text_of([script, "split", str(ranges), here], session)
+    text_of([script, "split", str(ranges), here], session, by)
     rounds = 0
-    while ran([script, "next", here]).returncode == 0:
+    while by([script, "next", here]).returncode == 0:
         rounds += 1
-        run = ["xargs", "-P", "4", "-I", "NAME", "sh", "-c", "'%s' run < 'NAME.txt' > 'NAME.out'" % program]
-        text_of(run, (here / "todo").read_bytes())
-    return text_of([script, "join", here]), rounds
+        run(program, (here / "todo").read_bytes())
+    return text_of([script, "join", here], by=by), rounds
 
 
 def try_ranges(program, session, ranges):
@@ -142,7 +188,7 @@ def long_session(rng, lines):
 def try_long(program, rng, lines):
     session = long_session(rng, lines)
     with tempfile.TemporaryDirectory() as folder:
-        text, rounds = over_ranges(folder, program, session, 4)
+        text, rounds = over_ranges(folder, program, session, 4, started, run_round_at_once)
     compare("%d lines over four ranges" % lines, text.decode(), text_of([program, "run"], session).decode())
     return rounds
 
@@ -173,6 +219,7 @@ def many_puts():
     return session, replies + journal + '{"Updates":%d}\n' % MANY
 
 
+MANY_PUTS = many_puts()
 # A session, a text, and what the one line has.
 MIXED = [
     (text_for(SESSION), SESSION, "session: line 1 is no line of a session"),
@@ -206,7 +253,7 @@ MIXED = [
     ("CLIENT\nDELETE \n", "", "session: line 2 has no key"),
     ("CLIENT\nHEAD %s\n" % ("a" * 1025), "", "session: line 2 has no key"),
     ("CLIENT\nPUT a x e 2\n", text_for("CLIENT\nPUT a 1 e 2\n"), "session: line 2 has no size, tag and time"),
-    (*many_puts(), "200001 names, and a session takes at most 200000 requests"),
+    (*MANY_PUTS, "200001 names, and a session takes at most 200000 requests"),
 ]
 # The number of ranges, a session, and what the one line has.
 UNSPLIT = [
@@ -238,7 +285,7 @@ SPOILED = [
 
 
 def refused(words, given, what, wanted):
-    done = ran(words, given if isinstance(given, bytes) else given.encode())
+    done = called(words, given if isinstance(given, bytes) else given.encode())
     said = done.stderr.decode()
     if (done.returncode, done.stdout, said.count("\n")) != (1, b"", 1) or wanted not in said:
         sys.exit("%s\n  got    %r, status %d\n  wanted %r" % (what, said[:500], done.returncode, wanted))
@@ -250,8 +297,14 @@ def try_mixed():
             refused([EXAMPLES / "go_on", *written(folder, session=session, text=text)], b"", "go_on " + repr(session[:200]), wanted)
     with tempfile.TemporaryDirectory() as folder:
         refused([EXAMPLES / "go_on", Path(folder, "nowhere"), Path(folder, "text")], b"", "go_on nowhere", "nowhere: No such file or directory")
-        wide = text_of([EXAMPLES / "go_on", "--wide", *written(folder, session=many_puts()[0], text=many_puts()[1])])
-        if sorted(wide.decode().splitlines()) != sorted(many_puts()[0].splitlines()):
+
+
+def try_wide():
+    """With --wide go_on prints more names than a session takes."""
+    session, text = MANY_PUTS
+    with tempfile.TemporaryDirectory() as folder:
+        wide = text_of([EXAMPLES / "go_on", "--wide", *written(folder, session=session, text=text)], by=called)
+        if sorted(wide.decode().splitlines()) != sorted(session.splitlines()):
             sys.exit("go_on --wide: other lines")
 
 
@@ -291,18 +344,19 @@ def main():
     options = parser.parse_args()
     program, rng = str(Path(options.program).resolve()), random.Random(options.seed)
     make_ready(program)
-    try_mixed()
-    try_unsplit()
-    try_spoiled(program)
     sessions = [Session(rng) for _ in range(options.sessions)]
     cuts = [rng.randint(0, len(session.lines) - 1) for session in sessions]
     counts = [rng.randint(1, 5) for _ in sessions]
-    with ThreadPoolExecutor(4) as pool:
-        list(pool.map(lambda each: try_two_parts(program, *each), zip(sessions, cuts)))
-        rounds = collections.Counter(pool.map(lambda each: try_ranges(program, *each), zip(sessions, counts)))
-    for name in ("clients", "compete", "pool"):
-        try_clients(program, EXAMPLES / (name + ".txt"))
-    longest = try_long(program, rng, options.lines)
+    with ProcessPoolExecutor(4) as pool:
+        longest = pool.submit(try_long, program, rng, options.lines)
+        others = [pool.submit(try_mixed), pool.submit(try_wide), pool.submit(try_unsplit), pool.submit(try_spoiled, program)]
+        others += [pool.submit(try_clients, program, EXAMPLES / (name + ".txt")) for name in ("clients", "compete", "pool")]
+        others += [pool.submit(try_two_parts, program, session, cut) for session, cut in zip(sessions, cuts)]
+        ranges = [pool.submit(try_ranges, program, session, count) for session, count in zip(sessions, counts)]
+        rounds = collections.Counter(each.result() for each in ranges)
+        for each in others:
+            each.result()
+        longest = longest.result()
     print("go_on and by_ranges: %d sessions in two parts, and over ranges, in rounds %s" % (len(sessions), sorted(rounds.items())))
     print("%d lines over four ranges in %d rounds, and %d refusals" % (options.lines, longest, len(MIXED) + len(UNSPLIT) + len(SPOILED) + 3))
 

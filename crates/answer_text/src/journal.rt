@@ -81,7 +81,7 @@ pub fn last_line(alloc: Global, updates: u64) -> Result<Text, NoMemory>
 }
 
 /// Appends the line of `last_line` to the buffer.
-pub fn push_last_line(out: &mut String, updates: u64) -> Result<(), NoMemory>
+pub(crate) fn push_last_line(out: &mut String, updates: u64) -> Result<(), NoMemory>
     ensures { OnOk result (string_bytes out.new ≡ string_bytes out.old ++ line_of (last_data updates)) }
 {
     push_count(out, updates)

@@ -15,5 +15,5 @@ mod plain;
 mod replies;
 
 pub use entry_texts::{EntryTexts, WantedTexts};
-pub use journal::{journal_line, last_line, push_journal_line, push_last_line};
+pub use journal::{journal_line, last_line, push_journal_line};
 pub use replies::{push_known_line, push_reply_line, reply_line};

@@ -1,5 +1,5 @@
 // Two threads at work over one shared index, from its opening to its close.
-ghost use Rattle.std.specs.Prelude.{◌≡◌, [], ◌∷◌, None, IfOk};
+ghost use Rattle.std.specs.Prelude.{◌≡◌, ◌<◌, ◌↔◌, true, [], ◌∷◌, length, None, IfOk};
 ghost use Rattle.shared_index.specs.Keys.{AreAllKeys, AreFresh, IsKeyOf};
 ghost use Rattle.two_threads.specs.Runs.{HandedOn, IsRun, LaidDown, sizes};
 
@@ -108,7 +108,8 @@ fn both_turns<Rt: Threads + Wait + Sync>(
 fn hand_on(index: &SharedIndex, first: PassKey, second: PassKey) -> (PassKey, PassKey, bool)
     requires first { IsKeyOf index.now first }
     requires second { IsKeyOf index.now second }
-    ensures { HandedOn index.now first second result.0 result.1 result.2 }
+    ensures handed { HandedOn index.now first second result.0 result.1 result.2 }
+    ensures if_free { (result.2 ≡ true) ↔ (0 < length first.view.free.nodes) }
 {
     let mut giver = index.attach(first);
     let mut taker = index.attach(second);

@@ -3,8 +3,8 @@ use Rattle.two_threads.proofs.Runs.{handed_back, kept_back, some_free, none_free
 use Rattle.two_threads.proofs.run.hand_on.Goals as goal
 use Rattle.two_threads.proofs.run.hand_on.Goals.{then-handed, else-handed}
 
-pub returns : goal.returns
-returns c =
+pub returns-clause-handed : goal.returns-clause-handed
+returns-clause-handed c =
     let giver = c.attach-giver in
     let taker = c.attach-taker in
     let free = c.slots-handed.result.free_nodes in

@@ -17,7 +17,7 @@ finish-requires g c =
           subst (AreAllKeys index) (sym c.in_ok-keys.ensures.items)
           (keys_back index c.args.dir.now c.args.query.now c.args.first c.args.second keys.0 keys.1 back.0 back.1 c.in_ok-early.early c.in_ok-early.other c.in_ok-late.late
           c.in_ok-late.last back.2 (subst (AreFresh 0 sizes) c.both-keys.ensures c.in_ok-index.ensures.fresh) c.in_ok-early.ensures.first c.in_ok-early.ensures.second
-          c.hand_on-giver.ensures c.in_ok-late.ensures.first c.in_ok-late.ensures.second
+          c.hand_on-giver.ensures.handed c.in_ok-late.ensures.first c.in_ok-late.ensures.second
           (subst (AreAllKeys index) c.both-keys.ensures c.in_ok-index.ensures.all));
     }
 
@@ -34,7 +34,7 @@ returns g c =
       run =
           run_is index c.args.dir.now c.args.query.now c.args.first c.args.second keys.0 keys.1 back.0 back.1 c.in_ok-early.early c.in_ok-early.other c.in_ok-late.late
           c.in_ok-late.last back.2 (subst (AreFresh 0 sizes) c.both-keys.ensures c.in_ok-index.ensures.fresh) c.in_ok-early.ensures.first c.in_ok-early.ensures.second
-          c.hand_on-giver.ensures c.in_ok-late.ensures.first c.in_ok-late.ensures.second
+          c.hand_on-giver.ensures.handed c.in_ok-late.ensures.first c.in_ok-late.ensures.second
           (record { first = first; second = second; handed = back.2; history = history }) refl refl refl
           (subst (λ (ks : List Pass). BeginsWithSeen ks history.items) two c.in-Ok.ensures.seen)
           (subst (λ (ks : List Pass). AreMadeBy ks history.items) two c.in-Ok.ensures.clients)
