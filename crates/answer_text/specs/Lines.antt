@@ -1,22 +1,16 @@
 -- The text of a run: one JSON object a line, whose members stand in the byte order of their names.
 use Rattle.std.specs.Prelude.{ℕ, ◌+◌, ◌==◌, ◌||◌, not, Bool, true, false, List, [], ◌∷◌, ◌++◌, length, codes, if◌then◌else◌, Option, Some, None, slice_index_or}
-use Rattle.std.specs.Option.{option_map, option_map_or}
-use Rattle.std.specs.List.{filter_map, flat_map}
-use Rattle.std.specs.Char.{is_ascii_alphanumeric}
+use Rattle.std.specs.{Option.option_map, Option.option_map_or, List.filter_map, List.flat_map, Char.is_ascii_alphanumeric}
 use Rattle.percent_encoding.specs.Percent.{percent_encode_byte}
 use Rattle.serde_json.specs.Data.{Data, null, boolean, string, number, unsigned, array, object, Members, no_members, member}
 use Rattle.serde_json.specs.View.{items_of}
 use Rattle.serde_json.specs.Written.{compact_text}
 use Rattle.key_names.specs.Names.{name_at}
-use Rattle.key_map.specs.declared.update.Update.{Update}
-use Rattle.key_map.specs.declared.update.Change.{Change}
+use Rattle.key_map.specs.declared.{update.Update.Update, update.Change.Change}
 use Rattle.key_map.specs.declared.update.Change.TheVariants.{Put as PutVal, Remove}
-use Rattle.bucket_terms.specs.declared.record.Record.{Record}
-use Rattle.bucket_terms.specs.declared.page.PageEntry.{PageEntry}
+use Rattle.bucket_terms.specs.declared.{record.Record.Record, page.PageEntry.PageEntry, reply.Reply.Reply, reply.Placed.Placed}
 use Rattle.bucket_terms.specs.declared.page.PageEntry.TheVariants.{Key, Group}
-use Rattle.bucket_terms.specs.declared.reply.Reply.{Reply}
 use Rattle.bucket_terms.specs.declared.reply.Reply.TheVariants.{Put, Exists, Deleted, Found, Missing, Listed, ListedV1, BadToken, NoSlot}
-use Rattle.bucket_terms.specs.declared.reply.Placed.{Placed}
 use Rattle.bucket_terms.specs.Listing.{group_text, next_token, page_point, next_marker}
 use Rattle.bucket_terms.specs.LegalRun.{Run}
 

@@ -1,22 +1,15 @@
 -- A legal run of a session: the updates that were made, in order, and a placed reply for each request.
 -- A session is seen here as each client's list of request lines.
 use Rattle.std.specs.Prelude.{◌≡◌, ℕ, zero, suc, ◌+◌, ◌-◌, ◌<◌, ◌≤◌, ◌⊎◌, ◌==◌, ◌&&◌, nat_lt, Bool, true, false, MatchBool, List, [], ◌∷◌, ◌++◌, length, count_by, filter, All, Any, Option, Some, None, is_some, IfSome, MatchOption, slice_get, slice_index_or}
-use Rattle.std.specs.List.{last_or}
-use Rattle.std.specs.Option.{option_map, unwrap_or}
+use Rattle.std.specs.{List.last_or, Option.option_map, Option.unwrap_or}
 use Rattle.key_names.specs.Names.{IsRank}
-use Rattle.key_map.specs.declared.update.Update.{Update}
-use Rattle.key_map.specs.declared.update.Change.{Change}
+use Rattle.key_map.specs.declared.{update.Update.Update, update.Change.Change}
 use Rattle.key_map.specs.declared.update.Change.TheVariants.{Put as PutVal, Remove}
 use Rattle.key_map.specs.KeyMap.{map_has, map_get, after}
-use Rattle.bucket_terms.specs.declared.list_query.ListQuery.{ListQuery}
-use Rattle.bucket_terms.specs.declared.token_point.TokenPoint.{TokenPoint}
-use Rattle.bucket_terms.specs.declared.token.Bound.{Bound}
-use Rattle.bucket_terms.specs.declared.page.Page.{Page}
-use Rattle.bucket_terms.specs.declared.request.Request.{Request}
+use Rattle.bucket_terms.specs.declared.{list_query.ListQuery.ListQuery, token_point.TokenPoint.TokenPoint, token.Bound.Bound, page.Page.Page}
+use Rattle.bucket_terms.specs.declared.{request.Request.Request, reply.Reply.Reply, reply.Placed.Placed}
 use Rattle.bucket_terms.specs.declared.request.Request.TheVariants.{Put, PutNew, Delete, Head, List as ListRequest, ListV1, Next}
-use Rattle.bucket_terms.specs.declared.reply.Reply.{Reply}
 use Rattle.bucket_terms.specs.declared.reply.Reply.TheVariants.{Put as PutReply, Exists, Deleted, Found, Missing, Listed, ListedV1, BadToken, NoSlot}
-use Rattle.bucket_terms.specs.declared.reply.Placed.{Placed}
 use Rattle.bucket_terms.specs.Listing.{IsTokenOf, next_token, bound_of, page_of, page_point, v1_page}
 
 -- one request and the number of its line
@@ -39,15 +32,12 @@ pub record Setting : Type 0 where
 
 -- ---- resolved requests
 
--- whether a listing goes on with a token: with one without a bound, or bound to its own prefix and delimiter
-abbrev pub IsBoundTo : Option Bound → ListQuery → Type 0
-IsBoundTo None query = Unit {0}
-IsBoundTo (Some bound) query = bound ≡ bound_of query
-
--- the point from which a listing goes on: none without a token, or that of the token whose text it is
+-- the point from which a listing goes on: none without a token, or that of the token whose text it is. A token without a
+-- bound fits each listing, and one with a bound a listing with this prefix and delimiter.
 abbrev pub IsPointOf : ListQuery → Option TokenPoint → Type 0
 IsPointOf query None = query.token ≡ []
-IsPointOf query (Some point) = (bound : Option Bound) × (IsBoundTo bound query × IsTokenOf (record { point = point; bound = bound }) query.token)
+IsPointOf query (Some point) =
+    (bound : Option Bound) × (IfSome bound (λ bound. bound ≡ bound_of query) × IsTokenOf (record { point = point; bound = bound }) query.token)
 
 -- the query and the point with which a listing goes on
 pub record Resumed : Type 0 where

@@ -2,23 +2,15 @@
 -- reference, ListObjectsV2: `Prefix`, `Delimiter`, `CommonPrefixes`, `StartAfter`, `MaxKeys`); continuation tokens; and
 -- listings of version 1.
 use Rattle.std.specs.Prelude.{◌≡◌, ℕ, ◌+◌, ◌/◌, ◌%◌, ◌≤◌, ◌==◌, ◌&&◌, Bool, true, false, not, nat_lt, if◌then◌else◌, List, [], ◌∷◌, ◌++◌, length, drop, take, map, filter, Option, Some, None, IfSome}
-use Rattle.std.specs.List.{dedup, last_or}
-use Rattle.std.specs.Option.{option_map, option_map_or}
-use Rattle.std.specs.Ordering.{is_lt}
-use Rattle.std.specs.Str.{bytes_eq, IsUtf8}
+use Rattle.std.specs.{List.dedup, List.last_or, Option.option_map, Option.option_map_or, Ordering.is_lt, Str.bytes_eq, Str.IsUtf8}
 use Rattle.base64.specs.Engines.{url_safe_no_pad}
 use Rattle.base64.specs.GeneralPurpose.{encode_of}
 use Rattle.key_names.specs.Names.{byte_order, name_at, begins_with, most_name_bytes, IsFine}
 use Rattle.key_map.specs.declared.pair.Pair.{Pair}
-use Rattle.bucket_terms.specs.declared.list_query.ListQuery.{ListQuery}
-use Rattle.bucket_terms.specs.declared.v1_query.V1Query.{V1Query}
-use Rattle.bucket_terms.specs.declared.token_point.TokenPoint.{TokenPoint}
+use Rattle.bucket_terms.specs.declared.{list_query.ListQuery.ListQuery, v1_query.V1Query.V1Query, token_point.TokenPoint.TokenPoint, token.Token.Token}
+use Rattle.bucket_terms.specs.declared.{token.Bound.Bound, page.PageEntry.PageEntry, page.Page.Page}
 use Rattle.bucket_terms.specs.declared.token_point.TokenPoint.TheVariants.{Key as AtKey, Group as AtGroup}
-use Rattle.bucket_terms.specs.declared.token.Token.{Token}
-use Rattle.bucket_terms.specs.declared.token.Bound.{Bound}
-use Rattle.bucket_terms.specs.declared.page.PageEntry.{PageEntry}
 use Rattle.bucket_terms.specs.declared.page.PageEntry.TheVariants.{Key, Group}
-use Rattle.bucket_terms.specs.declared.page.Page.{Page}
 
 -- whether `text` stands above `other` in the byte order
 abbrev pub is_above : List ℕ → List ℕ → Bool
@@ -48,12 +40,8 @@ group_len query name =
     else first_end query.delimiter (length query.prefix) (drop (length query.prefix) name)
 
 -- the entry of a pair: its common prefix, or else its key
-abbrev pub entry_by : Option ℕ → Pair → PageEntry
-entry_by (Some len) p = Group p.key len
-entry_by None p = Key p.key p.val
-
 abbrev pub entry_of : List (List ℕ) → ListQuery → Pair → PageEntry
-entry_of dir query p = entry_by (group_len query (name_at dir p.key)) p
+entry_of dir query p = option_map_or (Group p.key) (group_len query (name_at dir p.key)) (Key p.key p.val)
 
 -- the text of a common prefix
 abbrev pub group_text : List (List ℕ) → ℕ → ℕ → List ℕ

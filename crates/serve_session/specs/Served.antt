@@ -2,13 +2,9 @@
 use Rattle.std.specs.Prelude.{◌≡◌, ◌↔◌, ℕ, ◌≤◌, List, [], ◌∷◌, length, map, true, false, codes, Option, Some, None}
 use Rattle.key_names.specs.Names.{HoldsEachOnce}
 use Rattle.outside_io.specs.Streams.{one_more, IsReadToEnd}
-use Rattle.bucket_terms.specs.declared.reply.Placed.{Placed}
-use Rattle.bucket_terms.specs.declared.summary.Summary.{Summary}
+use Rattle.bucket_terms.specs.declared.{reply.Placed.Placed, summary.Summary.Summary}
 use Rattle.bucket_terms.specs.LegalRun.{RequestLine, Run, IsLegal, slots_under}
-use Rattle.request_lines.specs.declared.session.Asked.{Asked}
-use Rattle.request_lines.specs.declared.session.ClientPart.{ClientPart}
-use Rattle.request_lines.specs.declared.session.Session.{Session}
-use Rattle.request_lines.specs.declared.session_error.InputError.{InputError}
+use Rattle.request_lines.specs.declared.{session.Asked.Asked, session.ClientPart.ClientPart, session.Session.Session, session_error.InputError.InputError}
 use Rattle.request_lines.specs.Input.{IsSessionOf, most_input_bytes}
 use Rattle.request_lines.specs.CheckInput.{IsCheckInput, text_lines}
 use Rattle.request_lines.specs.Sample.{sample_text}
