@@ -58,12 +58,9 @@ IsRunOf old new replied run = (new ≡ one_more old) × (run.replies ≡ replied
 -- the first wrong one
 pub record IsVerdictOn (named : Option ℕ) (dir : List (List ℕ)) (session : Session) (text : List ℕ) (verdict : Verdict) : Type 0 where
   pub legal : (verdict ≡ Legal) ↔ HoldsOfRun named dir session (λ run written. text ≡ written)
-  pub wrong : (line : ℕ) → (verdict ≡ Wrong line) ↔ IsWrongLine (record {
-    dir = dir;
-    records = session.records;
-    parts = client_lines session.clients;
-    slots = slots_under named (client_lines session.clients);
-  }) (text_lines text) line
+  pub wrong : (line : ℕ) → (verdict ≡ Wrong line) ↔ IsWrongLine
+      (record { dir = dir; records = session.records; parts = client_lines session.clients; slots = slots_under named (client_lines session.clients) })
+      (text_lines text) line
 
 -- an input was read, and this is the verdict on the text that stands after its session
 pub record HasVerdict (named : Option ℕ) (before after : Option (List ℕ)) (verdict : Verdict) : Type 0 where
